@@ -1,0 +1,12 @@
+pub mod Agreement
+pub mod Copies
+pub mod Faults
+pub mod First
+pub mod FirstFaults
+pub mod Keyed
+pub mod Lists
+pub mod Maps
+pub mod Pointwise
+pub mod Ranges
+pub mod Sorted
+pub mod TextMaps

@@ -1,0 +1,10 @@
+use Rattle.std.proofs.Common.{◌∙◌}
+use Rattle.ebpf_base.specs.Copies.{maps_eq}
+use Rattle.ebpf_base.proofs.Agreement.{hashed_texts}
+use Rattle.ebpf_base.proofs.by_name.ByNamePartialEq.eq.Goals as goal
+
+pub returns : goal.returns
+returns g c =
+    c.eq.ensures
+    ∙ hashed_texts g.V.PartialEq.eq c.self.inside.entries c.other.inside.entries
+    ∙ (λ i. maps_eq g.V.PartialEq.eq (c.self.view_is i) (c.other.view_is i))

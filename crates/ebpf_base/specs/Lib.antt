@@ -1,0 +1,5 @@
+pub mod Copies
+pub mod Faults
+pub mod FirstFault
+pub mod Keyed
+pub mod Keys

@@ -1,0 +1,176 @@
+//! Values by name, seen as a finite map.
+
+ghost use Rattle.std.specs.Prelude.{◌≡◌, ℕ, ◌↔◌, OnOk, OnErr, OnSome, IfOk, IsTrue, MatchOption, Ok, Err, string_bytes};
+ghost use Rattle.std.specs.Option.{option_copied, option_copied_mut};
+ghost use Rattle.std.specs.Borrow.{LendsSo, sem};
+ghost use Rattle.std.specs.FinMap as map;
+ghost use Rattle.ebpf_base.specs.Copies.{AreCopies, maps_eq, maps_eq_laws};
+ghost use Rattle.ebpf_base.specs.Keys.{text_cmp, coded_text, by_bytes, lent_bytes, text_total};
+ghost use Rattle.std.specs.Map.{keys_of};
+ghost use Rattle.std.specs.List.{IsDistinct};
+ghost use Rattle.std.specs.String.{string_eq};
+ghost use Rattle.ebpf_base.specs.contracts.by_name.ByName.{the_row};
+
+use std::alloc::{AllocError, Global};
+use std::collections::HashMap;
+use std::marker::Model;
+use std::mem;
+
+/// Values by name. Contracts see the finite map alone, which says nothing of the order
+/// in which the `HashMap` holds its entries.
+#[derive(Debug, Drop)]
+pub struct ByName<V> {
+    entries: HashMap<String, V>,
+}
+
+impl<V> Model for ByName<V> {
+    ghost use Rattle.std.specs.FinMap as map;
+    ghost use Rattle.ebpf_base.specs.Keys.{text_cmp, coded_text, by_bytes};
+
+    ghost Value = { map.FinMap text_cmp V };
+
+    ghost coded = { map.code coded_text V.code };
+
+    ghost view = { λ a. map.from_entries (by_bytes a.entries.entries) };
+}
+
+impl<V> ByName<V> {
+    /// The empty map, without memory.
+    pub fn new(alloc: Global) -> Self
+        ensures { result ≡ map.empty }
+    {
+        ByName {
+            entries: HashMap::new(alloc),
+        }
+    }
+
+    /// The map that a `HashMap` holds, without memory.
+    pub fn from_map(entries: HashMap<String, V>) -> Self
+        ensures { result ≡ map.from_entries (by_bytes entries.entries) }
+    {
+        ByName { entries }
+    }
+
+    /// The map as a `HashMap`, without memory.
+    pub fn into_map(self) -> HashMap<String, V>
+        ensures { map.from_entries (by_bytes result.entries) ≡ self }
+    {
+        self.entries
+    }
+
+    /// The map, lent.
+    pub fn as_map(&self) -> &HashMap<String, V>
+        ensures { map.from_entries (by_bytes result.now.entries) ≡ self.now }
+    {
+        &self.entries
+    }
+
+    /// The number of keys.
+    pub fn len(&self) -> usize
+        ensures { result ≡ map.len self.now }
+    {
+        self.entries.len()
+    }
+
+    /// Whether no key is there.
+    pub fn is_empty(&self) -> bool
+        ensures { IsTrue result ↔ (self.now ≡ map.empty) }
+    {
+        self.entries.is_empty()
+    }
+
+    /// Whether a key is there.
+    pub fn contains_key(&self, name: &str) -> bool
+        ensures { result ≡ map.contains_key self.now name.now }
+    {
+        self.entries.contains_key(name)
+    }
+
+    /// The value at a name.
+    pub fn get(&self, name: &str) -> Option<&V>
+        ensures { option_copied result ≡ map.get self.now name.now }
+    {
+        self.entries.get(name)
+    }
+
+    /// The value at a name, to be written. What is left there when the borrow ends is the value there.
+    pub fn get_mut(&mut self, name: &str) -> Option<&mut V>
+        ensures* writes_back { sem 𝓛 (LendsSo (the_row V.row) V.row self.entry result (λ n w. OnSome result (n ≡ map.insert self.old name.now w)) (λ n. n ≡ self.old)) }
+        ensures value { option_copied_mut result ≡ map.get self.old name.now }
+    {
+        self.entries.get_mut(name)
+    }
+
+    /// Puts a value in the place of the one at a name, which comes back. `Err` gives the value back
+    /// where none is there. No memory is taken.
+    pub fn replace(&mut self, name: &str, value: V) -> Result<V, V>
+        ensures { MatchOption (map.get self.old name.now) ((result ≡ Err value) × (self.new ≡ self.old)) (λ before. (result ≡ Ok before) × (self.new ≡ map.insert self.old name.now value)) }
+    {
+        let Some(place) = self.entries.get_mut(name) else {
+            return Err(value);
+        };
+        Ok(mem::replace(place, value))
+    }
+
+    /// Takes a name out, and gives the value that was there.
+    pub fn remove(&mut self, name: &str) -> Option<V>
+        ensures value { result ≡ map.get self.old name.now }
+        ensures others { self.new ≡ map.remove self.old name.now }
+    {
+        self.entries.remove(name)
+    }
+}
+
+impl<V> ByName<V> {
+    /// The names in the order of their bytes.
+    pub fn names(&self, alloc: Global) -> Result<Vec<&str>, AllocError>
+        ensures { IfOk result (λ names. lent_bytes names.items ≡ keys_of (map.entries self.now)) }
+    {
+        let mut names = names_of(alloc, &self.entries)?;
+        names.sort_unstable();
+        Ok(names)
+    }
+}
+
+// The names as the map has them.
+fn names_of<V>(alloc: Global, entries: &HashMap<String, V>) -> Result<Vec<&str>, AllocError>
+    ensures names { IfOk result (λ names. lent_bytes names.items ≡ keys_of (by_bytes entries.now.entries)) }
+    ensures distinct { IsDistinct string_eq (keys_of entries.now.entries) }
+{
+    let mut names = Vec::with_capacity(alloc, entries.len())?;
+    for name in entries.keys() {
+        names.push(name.as_str())?;
+    }
+    Ok(names)
+}
+
+impl<V: Drop> ByName<V> {
+    /// Puts a value at a name, and gives the one that was there. Where no memory is found the map stays.
+    pub fn insert(&mut self, name: String, value: V) -> Result<Option<V>, AllocError>
+        ensures before { IfOk result (λ before. before ≡ map.get self.old (string_bytes name)) }
+        ensures ok { OnOk result (self.new ≡ map.insert self.old (string_bytes name) value) }
+        ensures err { OnErr result (self.new ≡ self.old) }
+    {
+        Ok(self.entries.insert(name, value)?)
+    }
+}
+
+impl<V: Clone> Clone for ByName<V> {
+    ghost is_clone = { AreCopies V.is_clone };
+
+    fn clone(&self) -> Result<ByName<V>, AllocError> {
+        Ok(ByName {
+            entries: self.entries.clone()?,
+        })
+    }
+}
+
+impl<V: PartialEq> PartialEq for ByName<V> {
+    ghost eq = { maps_eq V.eq };
+
+    ghost laws = { maps_eq_laws text_total V.PartialEq.laws };
+
+    fn eq(&self, other: &Self) -> bool {
+        self.entries == other.entries
+    }
+}

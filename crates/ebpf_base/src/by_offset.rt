@@ -1,0 +1,174 @@
+//! Values by offset in bytes, in order, seen as a finite map.
+
+ghost use Rattle.std.specs.Prelude.{◌≡◌, ℕ, ◌<◌, ◌^◌, ◌↔◌, length, OnOk, OnErr, OnSome, IfOk, IsTrue, MatchOption, Ok, Err};
+ghost use Rattle.std.specs.List.{find};
+ghost use Rattle.std.specs.Option.{option_copied, option_copied_mut, option_map};
+ghost use Rattle.std.specs.Borrow.{LendsSo, sem};
+ghost use Rattle.std.specs.FinMap as map;
+ghost use Rattle.ebpf_base.specs.Copies.{AreCopies, maps_eq, maps_eq_laws};
+ghost use Rattle.std.specs.Cmp.{nat_cmp_total};
+ghost use Rattle.std.specs.List.Sorted.{IsStrictlySortedBy};
+ghost use Rattle.std.specs.Map.{keys_of};
+ghost use Rattle.std.specs.Coded.{coded_ℕ};
+ghost use Rattle.std.specs.Ordering.{nat_cmp, is_le};
+ghost use Rattle.ebpf_base.specs.contracts.by_offset.ByOffset.{the_row};
+
+use std::alloc::{AllocError, Global};
+use std::collections::{BTreeMap, btree_map};
+use std::marker::Model;
+use std::mem;
+
+/// Values by offset in bytes. Contracts see the finite map alone.
+#[derive(Debug, Drop)]
+pub struct ByOffset<V> {
+    entries: BTreeMap<u64, V>,
+}
+
+impl<V> Model for ByOffset<V> {
+    ghost use Rattle.std.specs.FinMap as map;
+    ghost use Rattle.std.specs.Coded.{coded_ℕ};
+    ghost use Rattle.std.specs.Ordering.{nat_cmp};
+
+    ghost Value = { map.FinMap nat_cmp V };
+
+    ghost coded = { map.code coded_ℕ V.code };
+
+    ghost view = { λ a. map.from_entries a.entries.entries };
+}
+
+impl<V> ByOffset<V> {
+    /// The empty map, without memory.
+    pub fn new(alloc: Global) -> Self
+        ensures { result ≡ map.empty }
+    {
+        ByOffset {
+            entries: BTreeMap::new(alloc),
+        }
+    }
+
+    /// The map that a `BTreeMap` holds, without memory.
+    pub fn from_map(entries: BTreeMap<u64, V>) -> Self
+        ensures { result ≡ map.from_entries entries.entries }
+    {
+        ByOffset { entries }
+    }
+
+    /// The map as a `BTreeMap`, without memory.
+    pub fn into_map(self) -> BTreeMap<u64, V>
+        ensures { map.from_entries result.entries ≡ self }
+    {
+        self.entries
+    }
+
+    /// The map, lent.
+    pub fn as_map(&self) -> &BTreeMap<u64, V>
+        ensures { map.from_entries result.now.entries ≡ self.now }
+    {
+        &self.entries
+    }
+
+    /// The number of keys.
+    pub fn len(&self) -> usize
+        ensures { result ≡ map.len self.now }
+    {
+        self.entries.len()
+    }
+
+    /// Whether no key is there.
+    pub fn is_empty(&self) -> bool
+        ensures { IsTrue result ↔ (self.now ≡ map.empty) }
+    {
+        self.entries.is_empty()
+    }
+
+    /// Whether a key is there.
+    pub fn contains_key(&self, key: u64) -> bool
+        ensures { result ≡ map.contains_key self.now key }
+    {
+        self.entries.contains_key(&key)
+    }
+
+    /// The value at a key.
+    pub fn get(&self, key: u64) -> Option<&V>
+        ensures { option_copied result ≡ map.get self.now key }
+    {
+        self.entries.get(&key)
+    }
+
+    /// The value at a key, to be written. What is left there when the borrow ends is the value at the key.
+    pub fn get_mut(&mut self, key: u64) -> Option<&mut V>
+        ensures* writes_back { sem 𝓛 (LendsSo (the_row V.row) V.row self.entry result (λ n w. OnSome result (n ≡ map.insert self.old key w)) (λ n. n ≡ self.old)) }
+        ensures value { option_copied_mut result ≡ map.get self.old key }
+    {
+        self.entries.get_mut(&key)
+    }
+
+    /// The entries in the order of the offsets.
+    pub fn iter(&self) -> btree_map::Iter<'_, u64, V>
+        ensures all { result ≡ map.entries self.now }
+        ensures rising { IsStrictlySortedBy nat_cmp (keys_of result) }
+        ensures fits { length result < 2 ^ 63 }
+    {
+        self.entries.iter()
+    }
+
+    /// The first entry whose key is not below a key.
+    pub fn first_from(&self, key: u64) -> Option<(u64, &V)>
+        ensures { option_map (λ e. (e.0, e.1.now)) result ≡ find (λ e. is_le (nat_cmp key e.0)) (map.entries self.now) }
+    {
+        match self.entries.range(key..).next() {
+            Some((at, value)) => Some((*at, value)),
+            None => None,
+        }
+    }
+
+    /// Puts a value in the place of the one at a key, which comes back. `Err` gives the value back
+    /// where the key is not there. No memory is taken.
+    pub fn replace(&mut self, key: u64, value: V) -> Result<V, V>
+        ensures { MatchOption (map.get self.old key) ((result ≡ Err value) × (self.new ≡ self.old)) (λ before. (result ≡ Ok before) × (self.new ≡ map.insert self.old key value)) }
+    {
+        let Some(place) = self.entries.get_mut(&key) else {
+            return Err(value);
+        };
+        Ok(mem::replace(place, value))
+    }
+
+    /// Takes a key out, and gives the value that was there.
+    pub fn remove(&mut self, key: u64) -> Option<V>
+        ensures value { result ≡ map.get self.old key }
+        ensures others { self.new ≡ map.remove self.old key }
+    {
+        self.entries.remove(&key)
+    }
+}
+
+impl<V: Drop> ByOffset<V> {
+    /// Puts a value at a key, and gives the one that was there. Where no memory is found the map stays.
+    pub fn insert(&mut self, key: u64, value: V) -> Result<Option<V>, AllocError>
+        ensures before { IfOk result (λ before. before ≡ map.get self.old key) }
+        ensures ok { OnOk result (self.new ≡ map.insert self.old key value) }
+        ensures err { OnErr result (self.new ≡ self.old) }
+    {
+        Ok(self.entries.insert(key, value)?)
+    }
+}
+
+impl<V: Clone> Clone for ByOffset<V> {
+    ghost is_clone = { AreCopies V.is_clone };
+
+    fn clone(&self) -> Result<ByOffset<V>, AllocError> {
+        Ok(ByOffset {
+            entries: self.entries.clone()?,
+        })
+    }
+}
+
+impl<V: PartialEq> PartialEq for ByOffset<V> {
+    ghost eq = { maps_eq V.eq };
+
+    ghost laws = { maps_eq_laws nat_cmp_total V.PartialEq.laws };
+
+    fn eq(&self, other: &Self) -> bool {
+        self.entries.len() == other.entries.len() && self.entries == other.entries
+    }
+}

@@ -1,0 +1,46 @@
+//! Numbers at places of a file, in either byte order.
+
+ghost use Rattle.std.specs.Prelude.{◌≡◌, ◌+◌, ◌≤◌, length};
+ghost use Rattle.ebpf_btf.specs.Numbers.{number_at};
+
+use crate::endianness::Endianness;
+use byteorder::{BigEndian, ByteOrder, LittleEndian};
+
+/// The number in the two bytes from `place` on.
+#[tactic(auto, unfolding(crate::specs::Numbers::number_at))]
+pub fn read_u16(order: Endianness, bytes: &[u8], place: usize) -> u16
+    requires { place + 2 ≤ length bytes.now }
+    ensures { result ≡ number_at order 2 bytes.now place }
+{
+    let field = &bytes[place..];
+    match order {
+        Endianness::Little => LittleEndian::read_u16(field),
+        Endianness::Big => BigEndian::read_u16(field),
+    }
+}
+
+/// The number in the four bytes from `place` on.
+#[tactic(auto, unfolding(crate::specs::Numbers::number_at))]
+pub fn read_u32(order: Endianness, bytes: &[u8], place: usize) -> u32
+    requires { place + 4 ≤ length bytes.now }
+    ensures { result ≡ number_at order 4 bytes.now place }
+{
+    let field = &bytes[place..];
+    match order {
+        Endianness::Little => LittleEndian::read_u32(field),
+        Endianness::Big => BigEndian::read_u32(field),
+    }
+}
+
+/// The number in the eight bytes from `place` on.
+#[tactic(auto, unfolding(crate::specs::Numbers::number_at))]
+pub fn read_u64(order: Endianness, bytes: &[u8], place: usize) -> u64
+    requires { place + 8 ≤ length bytes.now }
+    ensures { result ≡ number_at order 8 bytes.now place }
+{
+    let field = &bytes[place..];
+    match order {
+        Endianness::Little => LittleEndian::read_u64(field),
+        Endianness::Big => BigEndian::read_u64(field),
+    }
+}

@@ -1,0 +1,5 @@
+pub mod Empty
+pub mod Ranges
+pub mod Texts
+pub mod Sound
+pub mod Tables

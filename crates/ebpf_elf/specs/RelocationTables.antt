@@ -1,0 +1,21 @@
+-- The sections with relocations (ELF-64 gABI, 'Relocation').
+use Rattle.std.specs.Prelude.{ℕ, ◌%◌, Bool, not, ◌&&◌, ◌||◌, List, nat_lt, ◌==◌, if◌then◌else◌}
+use Rattle.ebpf_elf.specs.declared.constants.TheConstants.{SHT_REL, SHT_RELA}
+use Rattle.ebpf_elf.specs.File.{section, section_count, is_inside}
+
+-- the size of an entry, by the kind of its section: Elf64_Rel has 16 bytes, Elf64_Rela 24
+abbrev pub relocation_size : ℕ → ℕ
+relocation_size kind = if kind == SHT_REL then 16 else 24
+
+-- The section j holds relocations against the symbol table in the section i: its kind is REL or RELA,
+-- its link is i, and its info is the section that is patched (0, at dynamic relocations, is none).
+unfoldable pub holds_relocations : List ℕ → ℕ → ℕ → Bool
+holds_relocations bytes i j =
+    ((section bytes j).kind == SHT_REL || (section bytes j).kind == SHT_RELA)
+    && not ((section bytes j).info == 0) && (section bytes j).link == i
+
+unfoldable pub is_bad_relocation_table : List ℕ → ℕ → Bool
+is_bad_relocation_table bytes j =
+    not (nat_lt (section bytes j).info (section_count bytes))
+    || not ((section bytes j).size % relocation_size (section bytes j).kind == 0)
+    || not (is_inside bytes (section bytes j).offset (section bytes j).size)

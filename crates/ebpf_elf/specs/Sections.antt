@@ -1,0 +1,36 @@
+-- The sections of a file (ELF-64 gABI, 'Sections').
+use Rattle.std.specs.Prelude.{ℕ, not, ◌&&◌, List, [], ◌∷◌, map, Option, ◌==◌, if◌then◌else◌}
+use Rattle.ebpf_base.specs.Faults.{Row}
+use Rattle.ebpf_elf.specs.declared.constants.TheConstants.{SHT_NOBITS}
+use Rattle.ebpf_elf.specs.declared.error.ElfReadError.{ElfReadError}
+use Rattle.ebpf_elf.specs.declared.error.ElfReadError.TheVariants.{BadSectionRange}
+use Rattle.ebpf_elf.specs.declared.header.SectionHeader.{SectionHeader}
+use Rattle.ebpf_elf.specs.File.{section, section_numbers, is_inside, range_of}
+use Rattle.ebpf_elf.specs.Strings.{section_names}
+use Rattle.ebpf_elf.specs.Names.{name_of}
+
+-- a section, by its number in a file
+pub record SectionOf : Type 0 where
+  pub file : List ℕ
+  pub index : ℕ
+
+-- its header
+abbrev pub header : SectionOf → SectionHeader
+header s = section s.file s.index
+
+-- the sections of a file, in order
+abbrev pub sections : List ℕ → List SectionOf
+sections bytes = map (λ i. record { file = bytes; index = i }) (section_numbers bytes)
+
+-- its name, where it can be read
+unfoldable pub section_name : SectionOf → Option (List ℕ)
+section_name s = name_of (section_names s.file) (header s).name
+
+-- a section of kind NOBITS occupies no space in the file, whatever its size
+unfoldable pub data_faults : SectionOf → List (Row ElfReadError)
+data_faults s =
+    (not ((header s).kind == SHT_NOBITS) && not (is_inside s.file (header s).offset (header s).size), BadSectionRange)
+    ∷ []
+
+unfoldable pub data_of : SectionOf → List ℕ
+data_of s = if (header s).kind == SHT_NOBITS then [] else range_of s.file (header s)

@@ -1,0 +1,121 @@
+//! A section of a file.
+
+ghost use Rattle.std.specs.Prelude.{◌≡◌, ◌<◌, ◌≤◌, None, Some, IfOk, IfErr};
+ghost use Rattle.ebpf_base.specs.Faults.{first_of, fault_of};
+ghost use Rattle.ebpf_elf.specs.File.{section};
+ghost use Rattle.ebpf_elf.specs.Relocations.{relocations};
+ghost use Rattle.ebpf_elf.specs.Sections.{SectionOf, header, section_name, data_faults, data_of};
+ghost use Rattle.ebpf_elf.specs.declared.error.ElfReadError.TheVariants.{BadStringTable};
+
+use crate::constants::SHT_NOBITS;
+use crate::entries::SectionIndex;
+use crate::error::ElfReadError;
+use crate::header::SectionHeader;
+use crate::layout::Layout;
+use crate::names::name_in;
+use crate::relocation_sections::RelocationSections;
+use crate::relocations::Relocations;
+use std::marker::Model;
+
+/// A section of a file. Contracts see the file and the section's number.
+#[derive(Clone, Drop)]
+pub struct ElfSection<'a> {
+    layout: Layout<'a>,
+    index: usize,
+    fields: SectionHeader,
+}
+
+impl<'a> Model for ElfSection<'a> {
+    ghost Value = { SectionOf };
+
+    ghost view = { λ s. record { file = s.layout.table.bytes.now; index = s.index } };
+
+    ghost invariant = { λ s. (s.index < s.layout.table.count) × (s.fields ≡ section s.layout.table.bytes.now s.index) };
+}
+
+/// The section with this number.
+pub fn section_of<'a>(layout: Layout<'a>, index: usize) -> ElfSection<'a>
+    requires { index < layout.table.count }
+    ensures file { result.file ≡ layout.entry.table.bytes.now }
+    ensures index { result.index ≡ index }
+{
+    ElfSection {
+        layout,
+        index,
+        fields: layout.table.header(index),
+    }
+}
+
+impl<'a> ElfSection<'a> {
+    /// The section's number, from 1 on.
+    pub fn index(&self) -> SectionIndex
+        ensures { result.0 ≡ self.now.index }
+    {
+        SectionIndex(self.index)
+    }
+
+    /// The section's type (sh_type), as 1 at PROGBITS and 8 at NOBITS.
+    pub fn kind_number(&self) -> u32
+        ensures { result ≡ (header self.now).kind }
+    {
+        self.fields.kind
+    }
+
+    /// The section's flags (sh_flags), as 2 at ALLOC and 4 at EXECINSTR.
+    pub fn flags(&self) -> u64
+        ensures { result ≡ (header self.now).flags }
+    {
+        self.fields.flags
+    }
+
+    /// The address of the section's first byte (sh_addr); 0 in most object files.
+    pub fn address(&self) -> u64
+        ensures { result ≡ (header self.now).address }
+    {
+        self.fields.address
+    }
+
+    /// The section's size in bytes (sh_size), also where it has no data in the file.
+    pub fn size(&self) -> u64
+        ensures { result ≡ (header self.now).size }
+    {
+        self.fields.size
+    }
+
+    /// The section's name, from the string table of the section names (sh_name).
+    ///
+    /// `BadStringTable` where no zero byte follows it in that table, or it is not UTF-8.
+    #[tactic(auto, unfolding(crate::specs::Sections::section_name))]
+    pub fn name(&self) -> Result<&'a str, ElfReadError>
+        ensures name { IfOk result (λ text. section_name self.now ≡ Some text.now) }
+        ensures none { IfErr result (λ _. section_name self.now ≡ None) }
+        ensures error { IfErr result (λ e. e ≡ BadStringTable) }
+    {
+        name_in(self.layout.names, self.fields.name as usize)
+    }
+
+    /// The section's bytes in the file (sh_offset, sh_size). A section of type NOBITS has none.
+    ///
+    /// `BadSectionRange` where they run past the end of the file.
+    #[tactic(auto, unfolding(crate::specs::Sections::data_faults, crate::specs::Sections::data_of))]
+    pub fn data(&self) -> Result<&'a [u8], ElfReadError>
+        ensures fault { fault_of result ≡ first_of (data_faults self.now) }
+        ensures bytes { IfOk result (λ part. part.now ≡ data_of self.now) }
+    {
+        if self.fields.kind == SHT_NOBITS {
+            return Ok(&[]);
+        }
+        self.layout
+            .table
+            .range(&self.fields)
+            .ok_or(ElfReadError::BadSectionRange)
+    }
+
+    /// The relocations of the section: the entries of the REL and RELA sections against the symbol table
+    /// whose target it is, in order.
+    pub fn relocations(&self) -> Relocations<'a>
+        ensures { result ≡ relocations self.now }
+    {
+        Relocations::new(RelocationSections::new(self.layout.symbols), self.index)
+    }
+}

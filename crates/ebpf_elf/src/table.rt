@@ -1,0 +1,132 @@
+//! The file's header and the table of section headers.
+
+ghost use Rattle.std.specs.Prelude.{◌≡◌, ◌↔◌, ◌+◌, ◌*◌, ◌<◌, ◌≤◌, ◌==◌, [], length, false, if◌then◌else◌, IfOk, IfSome, IsNone};
+ghost use Rattle.ebpf_base.specs.Faults.{first_of, fault_of};
+ghost use Rattle.ebpf_elf.specs.Faults.{identity_faults, table_faults};
+ghost use Rattle.ebpf_elf.specs.File.{order_of, table_start, section_count, section, is_inside, range_of};
+ghost use Rattle.ebpf_elf.specs.Strings.{is_string_table};
+
+use crate::constants::{ELFCLASS64, ELFDATA2LSB, ELFDATA2MSB, MAGIC, SHN_XINDEX, SHT_STRTAB};
+use crate::error::ElfReadError;
+use crate::header::{SectionHeader, read_header};
+use ebpf_btf::Endianness;
+use ebpf_btf::numbers::{read_u16, read_u64};
+
+/// The byte order of an ELF64 file.
+#[tactic(auto, unfolding(crate::specs::File::order_of, crate::specs::Faults::identity_faults))]
+pub fn identify(bytes: &[u8]) -> Result<Endianness, ElfReadError>
+    ensures fault { fault_of result ≡ first_of (identity_faults bytes.now) }
+    ensures order { IfOk result (λ order. order ≡ order_of bytes.now) }
+    ensures room { IfOk result (λ _. 64 ≤ length bytes.now) }
+{
+    if bytes.len() < 64 {
+        return Err(ElfReadError::TooShort);
+    }
+    if !bytes.starts_with(&MAGIC) {
+        return Err(ElfReadError::BadMagic);
+    }
+    if bytes[4] != ELFCLASS64 {
+        return Err(ElfReadError::NotElf64);
+    }
+    match bytes[5] {
+        ELFDATA2LSB => Ok(Endianness::Little),
+        ELFDATA2MSB => Ok(Endianness::Big),
+        _ => Err(ElfReadError::BadByteOrder),
+    }
+}
+
+/// Where the section headers of a file stand.
+#[derive(Clone, Copy)]
+pub struct SectionTable<'a> {
+    pub bytes: &'a [u8],
+    pub endianness: Endianness,
+    pub start: usize,
+    pub count: usize,
+    ghost order: { endianness ≡ order_of bytes.now },
+    ghost starts: { start ≡ table_start bytes.now },
+    ghost counts: { count ≡ section_count bytes.now },
+    ghost inside: { start + 64 * count ≤ length bytes.now },
+}
+
+/// The table of section headers. Without one its start is 0.
+#[tactic(auto, unfolding(crate::specs::Faults::table_faults, crate::specs::File::table_start, crate::specs::File::stated_count, crate::specs::File::header_size, crate::specs::File::names_index))]
+pub fn section_table<'a>(
+    endianness: Endianness,
+    bytes: &'a [u8],
+) -> Result<SectionTable<'a>, ElfReadError>
+    requires order { endianness ≡ order_of bytes.now }
+    requires room { 64 ≤ length bytes.now }
+    ensures fault { fault_of result ≡ first_of (if table_start bytes.now == 0 then [] else table_faults bytes.now) }
+    ensures bytes { IfOk result (λ table. table.bytes.now ≡ bytes.now) }
+    ensures some { IfOk result (λ table. 0 < table.start → 0 < table.count) }
+{
+    let start = read_u64(endianness, bytes, 40) as usize;
+    if start == 0 {
+        return Ok(SectionTable {
+            bytes,
+            endianness,
+            start: 0,
+            count: 0,
+        });
+    }
+    let count = read_u16(endianness, bytes, 60) as usize;
+    let names = read_u16(endianness, bytes, 62);
+    if count == 0 || names == SHN_XINDEX {
+        return Err(ElfReadError::ExtendedNumbering);
+    }
+    if read_u16(endianness, bytes, 58) != 64 {
+        return Err(ElfReadError::BadSectionTable);
+    }
+    if start > bytes.len() || 64 * count > bytes.len() - start {
+        return Err(ElfReadError::BadSectionTable);
+    }
+    Ok(SectionTable {
+        bytes,
+        endianness,
+        start,
+        count,
+    })
+}
+
+impl<'a> SectionTable<'a> {
+    /// The header of a section.
+    #[tactic(auto, unfolding(crate::specs::File::section))]
+    pub fn header(&self, index: usize) -> SectionHeader
+        requires { index < self.now.count }
+        ensures { result ≡ section self.now.bytes.now index }
+    {
+        read_header(self.endianness, self.bytes, self.start + 64 * index)
+    }
+
+    /// The range of a section, where it is inside the file.
+    pub fn range(&self, header: &SectionHeader) -> Option<&'a [u8]>
+        ensures none { IsNone result ↔ (is_inside self.now.bytes.now header.now.offset header.now.size ≡ false) }
+        ensures some { IfSome result (λ part. part.now ≡ range_of self.now.bytes.now header.now) }
+    {
+        let offset = header.offset as usize;
+        let size = header.size as usize;
+        if size == 0 {
+            return Some(&[]);
+        }
+        if offset > self.bytes.len() || size > self.bytes.len() - offset {
+            return None;
+        }
+        Some(&self.bytes[offset..offset + size])
+    }
+
+    /// The string table in a section, where it is one.
+    #[tactic(auto, unfolding(crate::specs::Strings::is_string_table))]
+    pub fn string_table(&self, index: usize) -> Option<&'a [u8]>
+        ensures none { IsNone result ↔ (is_string_table self.now.bytes.now index ≡ false) }
+        ensures some { IfSome result (λ part. part.now ≡ range_of self.now.bytes.now (section self.now.bytes.now index)) }
+    {
+        if index >= self.count {
+            return None;
+        }
+        let header = self.header(index);
+        if header.kind != SHT_STRTAB {
+            return None;
+        }
+        self.range(&header)
+    }
+}

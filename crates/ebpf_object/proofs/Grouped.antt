@@ -1,0 +1,35 @@
+-- One more symbol in its group.
+use Rattle.std.proofs.Common.{◌≡◌, ℕ, Bool, true, false, List, [], ◌∷◌, ◌++◌, filter, refl, ap, ◌∙◌, append_assoc, append-nil}
+use Rattle.std.specs.Prelude.{◌==◌, if◌then◌else◌}
+use Rattle.ebpf_elf.specs.Relocations.{target_of}
+use Rattle.ebpf_elf.specs.Sections.{SectionOf}
+use Rattle.ebpf_object.specs.Symbols.{SymbolValue, symbols_of, is_in}
+
+pub group_more : (group group' : List SymbolValue) (y : SymbolValue) (rest : List SymbolValue) (q : ℕ)
+    → group' ≡ group ++ symbols_of (y ∷ []) q → group' ++ symbols_of rest q ≡ group ++ symbols_of (y ∷ rest) q
+unfolding symbols_of
+group_more group group' y rest q e =
+    ap (λ g. g ++ filter (λ z. is_in q z.section_index) rest) e
+    ∙ append_assoc group _ _
+    ∙ ap (λ g. group ++ g) (split (is_in q y.section_index))
+  where
+    split : (b : Bool) → (if b then y ∷ [] else []) ++ filter (λ z. is_in q z.section_index) rest ≡ (if b then y ∷ filter (λ z. is_in q z.section_index) rest else filter (λ z. is_in q z.section_index) rest)
+    split true = refl
+    split false = refl
+
+-- nothing is left
+pub group_all : (group : List SymbolValue) (q : ℕ) → group ++ symbols_of [] q ≡ group
+unfolding symbols_of
+group_all group q = append-nil group
+
+-- one more relocation section in the group of its target
+pub target_more : (group group' : List SectionOf) (r : SectionOf) (rest : List SectionOf) (q : ℕ)
+    → group' ≡ (if target_of r == q then group ++ r ∷ [] else group) → group' ++ filter (λ s. target_of s == q) rest ≡ group ++ filter (λ s. target_of s == q) (r ∷ rest)
+target_more group group' r rest q e = ap (λ g. g ++ filter (λ s. target_of s == q) rest) e ∙ by_case (target_of r == q)
+  where
+    by_case : (b : Bool) → (if b then group ++ r ∷ [] else group) ++ filter (λ s. target_of s == q) rest ≡ group ++ (if b then r ∷ filter (λ s. target_of s == q) rest else filter (λ s. target_of s == q) rest)
+    by_case true = append_assoc group (r ∷ []) (filter (λ s. target_of s == q) rest)
+    by_case false = refl
+
+pub target_all : (group : List SectionOf) (q : ℕ) → group ++ filter (λ s. target_of s == q) [] ≡ group
+target_all group q = append-nil group

@@ -1,0 +1,3 @@
+pub mod AddedLemmas
+pub mod FromFile
+pub mod Grouped

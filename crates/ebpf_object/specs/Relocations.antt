@@ -1,0 +1,19 @@
+-- The relocations that an object keeps of a section.
+use Rattle.std.specs.Prelude.{ℕ, List, [], ◌∷◌, map}
+use Rattle.std.specs.FinMap.{FinMap, empty}
+use Rattle.std.specs.Ordering.{nat_cmp}
+use Rattle.ebpf_base.specs.Keyed.{put_all}
+use Rattle.ebpf_elf.specs.declared.entries.ElfRelocation.{ElfRelocation}
+
+-- a relocation, by its offset
+abbrev pub offset_of : ElfRelocation → ℕ × ElfRelocation
+offset_of r = (r.offset, r)
+
+-- the later of two at one offset stands
+abbrev pub kept_relocations : List ElfRelocation → FinMap nat_cmp ElfRelocation
+kept_relocations relocations = put_all empty (map offset_of relocations)
+
+-- an entry of the object, by the section's number; a section without relocations has none
+abbrev pub kept_at : ℕ → List ElfRelocation → List (ℕ × FinMap nat_cmp ElfRelocation)
+kept_at section [] = []
+kept_at section (r ∷ rest) = (section, kept_relocations (r ∷ rest)) ∷ []

@@ -1,0 +1,27 @@
+-- The symbols that a section has.
+use Rattle.std.specs.Prelude.{ℕ, Bool, true, false, ◌&&◌, not, List, length, Option, Some, None, ◌==◌, filter}
+use Rattle.ebpf_elf.specs.declared.entries.SymbolKind.{SymbolKind}
+use Rattle.ebpf_elf.specs.declared.entries.SymbolKind.TheVariants.{Text}
+
+-- a symbol, with its name
+pub record SymbolValue : Type 0 where
+  pub index : ℕ
+  pub section_index : Option ℕ
+  pub name : List ℕ
+  pub address : ℕ
+  pub size : ℕ
+  pub kind : SymbolKind
+  pub is_definition : Bool
+  pub is_weak : Bool
+
+abbrev pub is_text : SymbolKind → Bool
+is_text Text = true
+is_text _ = false
+
+abbrev pub is_in : ℕ → Option ℕ → Bool
+is_in section None = false
+is_in section (Some s) = s == section
+
+-- the symbols of a section, in order
+unfoldable pub symbols_of : List SymbolValue → ℕ → List SymbolValue
+symbols_of symbols section = filter (λ y. is_in section y.section_index) symbols

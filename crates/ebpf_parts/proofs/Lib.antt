@@ -1,0 +1,3 @@
+pub mod SlotLists
+pub mod Tables
+pub mod Walks

@@ -1,0 +1,5 @@
+pub mod Memory
+pub mod ProgramSections
+pub mod SectionKinds
+pub mod Sections
+pub mod Slots

@@ -1,0 +1,8 @@
+-- The one answer of parsing that no definition states: want of memory.
+use Rattle.std.specs.Prelude.{Bool, true, false}
+use Rattle.ebpf_parts.specs.declared.error.ParseError.{ParseError}
+use Rattle.ebpf_parts.specs.declared.error.ParseError.TheVariants.{OutOfMemory}
+
+abbrev pub is_memory : ParseError → Bool
+is_memory OutOfMemory = true
+is_memory _ = false

@@ -1,0 +1,101 @@
+//! Slots of eBPF byte code.
+
+ghost use Rattle.std.specs.Prelude.{◌≡◌, ◌+◌, ◌*◌, ◌/◌, ◌%◌, ◌<◌, ◌≤◌, length, IfOk};
+ghost use Rattle.ebpf_base.specs.Faults.{Refuses, first_of};
+ghost use Rattle.ebpf_parts.specs.Memory.{is_memory};
+ghost use Rattle.ebpf_parts.specs.Slots.{slot_at, slots_of, slot_bytes, code_faults, dst_of, src_of, registers};
+
+use crate::error::ParseError;
+use ebpf_btf::Endianness;
+use ebpf_btf::numbers::{read_u16, read_u32};
+use std::alloc::Global;
+
+/// A slot of eight bytes: an instruction, or the second half of a 16-byte load (RFC 9669, section 3).
+#[derive(Clone, Copy, Debug, Default, PartialEq, Eq)]
+pub struct bpf_insn {
+    /// The operation: the class in the low three bits.
+    pub code: u8,
+    /// The destination register in the low four bits, the source register in the high four.
+    pub regs: u8,
+    /// A signed offset, in slots or bytes by the operation.
+    pub off: i16,
+    /// A signed number.
+    pub imm: i32,
+}
+
+impl bpf_insn {
+    /// The destination register's number, 0 to 15.
+    pub fn dst_reg(&self) -> u8
+        ensures { result ≡ dst_of self.now }
+    {
+        self.regs % 16
+    }
+
+    /// The source register's number, 0 to 15.
+    pub fn src_reg(&self) -> u8
+        ensures { result ≡ src_of self.now }
+    {
+        self.regs / 16
+    }
+
+    /// The eight bytes of the slot.
+    pub fn to_bytes(&self) -> [u8; 8]
+        ensures { result ≡ slot_bytes self.now }
+    {
+        let [off_0, off_1] = self.off.to_le_bytes();
+        let [imm_0, imm_1, imm_2, imm_3] = self.imm.to_le_bytes();
+        [self.code, self.regs, off_0, off_1, imm_0, imm_1, imm_2, imm_3]
+    }
+
+    /// Writes the destination register's number alone.
+    pub fn set_dst_reg(&mut self, register: u8)
+        requires { register < 16 }
+        ensures { self.new ≡ record self.old { regs = registers (src_of self.old) register } }
+    {
+        let regs = self.regs;
+        self.regs = regs / 16 * 16 + register;
+    }
+
+    /// Writes the source register's number alone.
+    pub fn set_src_reg(&mut self, register: u8)
+        requires { register < 16 }
+        ensures { self.new ≡ record self.old { regs = registers register (dst_of self.old) } }
+    {
+        let regs = self.regs;
+        self.regs = register * 16 + regs % 16;
+    }
+}
+
+/// The slot in the eight bytes from `place` on.
+#[tactic(auto, unfolding(crate::specs::Slots::slot_at))]
+fn read_slot(bytes: &[u8], place: usize) -> bpf_insn
+    requires { place + 8 ≤ length bytes.now }
+    ensures { result ≡ slot_at bytes.now place }
+{
+    bpf_insn {
+        code: bytes[place],
+        regs: bytes[place + 1],
+        off: read_u16(Endianness::Little, bytes, place + 2).cast_signed(),
+        imm: read_u32(Endianness::Little, bytes, place + 4).cast_signed(),
+    }
+}
+
+/// The slots that the bytes are, one after the other.
+///
+/// # Errors
+///
+/// `InvalidProgramCode` where the number of bytes is no multiple of 8.
+#[tactic(auto, using(crate::proofs::SlotLists::slots_end), unfolding(crate::specs::Slots::slots_of, crate::specs::Slots::code_faults))]
+pub fn copy_instructions(alloc: Global, bytes: &[u8]) -> Result<Vec<bpf_insn>, ParseError>
+    ensures slots { IfOk result (λ slots. slots.items ≡ slots_of bytes.now) }
+    ensures fault { Refuses is_memory result (first_of (code_faults bytes.now)) }
+{
+    if bytes.len() % 8 != 0 {
+        return Err(ParseError::InvalidProgramCode);
+    }
+    let mut slots = Vec::new(alloc);
+    for k in 0..bytes.len() / 8 {
+        slots.push(read_slot(bytes, 8 * k))?;
+    }
+    Ok(slots)
+}

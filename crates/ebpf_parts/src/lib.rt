@@ -1,0 +1,14 @@
+//! The parts of an eBPF object: slots, programs, sections, and why an object can't be parsed.
+#![tactic(auto)]
+
+mod error;
+pub mod insn;
+mod program_section;
+pub mod programs;
+mod section;
+mod section_kind;
+
+pub use error::ParseError;
+pub use program_section::ProgramSection;
+pub use section::{Relocation, Section};
+pub use section_kind::EbpfSectionKind;

@@ -1,0 +1,179 @@
+//! A section, as it is parsed.
+
+ghost use Rattle.std.specs.Prelude.{◌≡◌, ◌==◌, ◌∷◌, ◌++◌, [], ℕ, IfOk, OnOk, Some, None, filter};
+ghost use Rattle.std.specs.List.{flat_map};
+ghost use Rattle.ebpf_base.specs.Faults.{Refuses, or_else, fault_of};
+ghost use Rattle.ebpf_elf.specs.Relocations.{relocations, relocation_sections, target_of, entries_of};
+ghost use Rattle.ebpf_elf.specs.Sections.{header, data_of, section_name};
+ghost use Rattle.ebpf_parts.specs.Memory.{is_memory};
+ghost use Rattle.ebpf_parts.specs.Sections.{SectionValue, section_of, section_fault, target_fault, data_fault, name_fault};
+
+use crate::error::ParseError;
+use crate::section_kind::EbpfSectionKind;
+use ebpf_base::Items;
+use ebpf_elf::{ElfRelocationSection, ElfSection, SectionIndex};
+use std::alloc::Global;
+use std::marker::Model;
+
+/// A relocation: the place in its section that is patched, in bytes, the size of the patch in bits,
+/// and the number of the symbol that it names.
+pub use ebpf_elf::ElfRelocation as Relocation;
+
+/// A section with what parsing reads of it. Its name and its bytes are borrowed from the file.
+#[derive(Debug, Drop)]
+pub struct Section<'a> {
+    /// The number of the section.
+    pub index: SectionIndex,
+    /// What it is for.
+    pub kind: EbpfSectionKind,
+    /// Its address.
+    pub address: u64,
+    /// Its name.
+    pub name: &'a str,
+    /// Its data; none where it occupies no space in the file.
+    pub bytes: &'a [u8],
+    /// Its size in bytes, as its header states it.
+    pub size: u64,
+    /// Its relocations, in order.
+    pub relocations: Items<Relocation>,
+}
+
+impl<'a> Model for Section<'a> {
+    ghost Value = { SectionValue };
+
+    ghost view = { λ s. record { index = s.index; kind = s.kind; address = s.address; name = s.name.now; bytes = s.bytes.now; size = s.size; relocations = s.relocations } };
+}
+
+/// The name of a section.
+fn name_of<'a>(section: &ElfSection<'a>) -> Result<&'a str, ParseError>
+    ensures name { IfOk result (λ name. section_name section.now ≡ Some name.now) }
+    ensures fault { fault_of result ≡ name_fault section.now }
+{
+    match section.name() {
+        Ok(name) => Ok(name),
+        Err(error) => Err(ParseError::SectionError {
+            index: section.index().0,
+            error,
+        }),
+    }
+}
+
+/// The data of a section.
+fn data_of<'a>(section: &ElfSection<'a>) -> Result<&'a [u8], ParseError>
+    ensures data { IfOk result (λ part. part.now ≡ data_of section.now) }
+    ensures fault { fault_of result ≡ data_fault section.now }
+{
+    match section.data() {
+        Ok(part) => Ok(part),
+        Err(error) => Err(ParseError::SectionError {
+            index: section.index().0,
+            error,
+        }),
+    }
+}
+
+/// The relocations of a section, each against a symbol.
+fn relocations_of(alloc: Global, section: &ElfSection<'_>) -> Result<Items<Relocation>, ParseError>
+    ensures list { IfOk result (λ kept. kept ≡ relocations section.now) }
+    ensures fault { Refuses is_memory result (target_fault (relocations section.now)) }
+{
+    let mut kept = Items::new(alloc);
+    for relocation in section.relocations() {
+        if relocation.symbol_index == 0 {
+            return Err(ParseError::UnsupportedRelocationTarget);
+        }
+        kept.push(relocation)?;
+    }
+    Ok(kept)
+}
+
+/// Adds the relocations of one relocation section, each against a symbol.
+fn add_entries(
+    kept: &mut Items<Relocation>,
+    table: &ElfRelocationSection<'_>,
+) -> Result<(), ParseError>
+    ensures list { OnOk result (kept.new ≡ kept.old ++ entries_of table.now) }
+    ensures fault { Refuses is_memory result (target_fault (entries_of table.now)) }
+{
+    for relocation in table.relocations() {
+        if relocation.symbol_index == 0 {
+            return Err(ParseError::UnsupportedRelocationTarget);
+        }
+        kept.push(relocation)?;
+    }
+    Ok(())
+}
+
+/// The relocations of some relocation sections, one after the other, each against a symbol.
+#[tactic(auto, using(crate::proofs::Tables::tables_more, crate::proofs::Tables::tables_none, crate::proofs::Tables::target_append))]
+fn entries_of_all(
+    alloc: Global,
+    tables: &[ElfRelocationSection<'_>],
+) -> Result<Items<Relocation>, ParseError>
+    ensures list { IfOk result (λ kept. kept ≡ flat_map entries_of tables.now) }
+    ensures fault { Refuses is_memory result (target_fault (flat_map entries_of tables.now)) }
+{
+    let mut kept = Items::new(alloc);
+    for table in tables {
+        add_entries(&mut kept, table)?;
+    }
+    Ok(kept)
+}
+
+impl<'a> Section<'a> {
+    /// A section of a file, with its name, its data and its relocations.
+    ///
+    /// # Errors
+    ///
+    /// `SectionError` with `BadStringTable` where the name can't be read, then with `BadSectionRange`
+    /// where the data is outside the file; then `UnsupportedRelocationTarget` where a relocation names
+    /// symbol 0.
+    #[tactic(auto, unfolding(crate::specs::Sections::section_of, crate::specs::Sections::section_fault))]
+    pub fn from_elf(alloc: Global, section: &ElfSection<'a>) -> Result<Section<'a>, ParseError>
+        ensures section { IfOk result (λ s. s ≡ section_of section.now) }
+        ensures fault { Refuses is_memory result (section_fault section.now) }
+    {
+        let name = name_of(section)?;
+        let bytes = data_of(section)?;
+        let relocations = relocations_of(alloc, section)?;
+        Ok(Section {
+            index: section.index(),
+            kind: EbpfSectionKind::from_elf(name, section),
+            address: section.address(),
+            name,
+            bytes,
+            size: section.size(),
+            relocations,
+        })
+    }
+
+    /// The same from the file's relocation sections whose target it is, for a caller that has
+    /// gathered them.
+    ///
+    /// # Errors
+    ///
+    /// Those of `from_elf`.
+    #[tactic(auto, unfolding(crate::specs::Sections::section_of, crate::specs::Sections::section_fault))]
+    pub fn with_relocations(
+        alloc: Global,
+        section: &ElfSection<'a>,
+        tables: &[ElfRelocationSection<'_>],
+    ) -> Result<Section<'a>, ParseError>
+        requires { tables.now ≡ filter (λ r. target_of r == section.now.index) (relocation_sections section.now.file) }
+        ensures section { IfOk result (λ s. s ≡ section_of section.now) }
+        ensures fault { Refuses is_memory result (section_fault section.now) }
+    {
+        let name = name_of(section)?;
+        let bytes = data_of(section)?;
+        let relocations = entries_of_all(alloc, tables)?;
+        Ok(Section {
+            index: section.index(),
+            kind: EbpfSectionKind::from_elf(name, section),
+            address: section.address(),
+            name,
+            bytes,
+            size: section.size(),
+            relocations,
+        })
+    }
+}
