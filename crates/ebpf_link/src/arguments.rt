@@ -105,8 +105,14 @@ impl<'a> Found<'a> {
         match place {
             Place::File if self.file.is_none() => Some(Found { file: text, ..self }),
             Place::Btf if self.btf.is_none() => Some(Found { btf: text, ..self }),
-            Place::Kallsyms if self.kallsyms.is_none() => Some(Found { kallsyms: text, ..self }),
-            Place::Program if self.program.is_none() => Some(Found { program: text, ..self }),
+            Place::Kallsyms if self.kallsyms.is_none() => Some(Found {
+                kallsyms: text,
+                ..self
+            }),
+            Place::Program if self.program.is_none() => Some(Found {
+                program: text,
+                ..self
+            }),
             _ => None,
         }
     }

@@ -66,11 +66,7 @@ fn variant_of(error: &ParseError) -> &'static str {
 }
 
 /// Writes the program of a name.
-fn write_named<'a, W: Write>(
-    object: &Object,
-    name: &'a str,
-    out: &mut W,
-) -> Result<(), Failure<'a>>
+fn write_named<'a, W: Write>(object: &Object, name: &'a str, out: &mut W) -> Result<(), Failure<'a>>
     ensures { OnOk result (IsSome (map.get object.now.programs name.now)) }
 {
     let Some(program) = object.programs.get(name) else {
@@ -86,7 +82,11 @@ fn write_named<'a, W: Write>(
 }
 
 /// Writes all programs of an object, in byte order of their names.
-fn write_all<W: Write>(alloc: Global, object: &Object, out: &mut W) -> Result<(), Failure<'static>> {
+fn write_all<W: Write>(
+    alloc: Global,
+    object: &Object,
+    out: &mut W,
+) -> Result<(), Failure<'static>> {
     let Ok(names) = object.programs.names(alloc) else {
         return Err(Failure::Memory);
     };

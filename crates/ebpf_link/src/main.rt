@@ -4,16 +4,14 @@
 mod arguments;
 mod link;
 mod program_text;
-
 #[cfg(test)]
 mod tests;
 
 use crate::arguments::{Words, WordsError, read_words};
 use crate::link::{cannot_read, run_link};
-use std::env;
-use std::fs;
 use std::io::{self, BufWriter, ErrorKind};
 use std::process::ExitCode;
+use std::{env, fs};
 
 /// Prints the usage line, as a refusal of the words.
 fn usage(rt: &impl Eprint) -> u8 {
@@ -46,13 +44,23 @@ fn link_file(rt: &HostRuntime, words: &Words) -> u8 {
         return no_memory(rt);
     };
     let none: &[u8] = &[];
-    run_link(rt.alloc(), words, file.as_slice(), None, none, &mut out, &mut rt.stderr())
+    run_link(
+        rt.alloc(),
+        words,
+        file.as_slice(),
+        None,
+        none,
+        &mut out,
+        &mut rt.stderr(),
+    )
 }
 
 fn main(rt: HostRuntime) -> ExitCode {
     let words = match gather(&rt) {
         Ok(words) => words,
-        Err(error) if matches!(error.kind(), ErrorKind::OutOfMemory) => return ExitCode::from(no_memory(&rt)),
+        Err(error) if matches!(error.kind(), ErrorKind::OutOfMemory) => return ExitCode::from(
+            no_memory(&rt),
+        ),
         Err(_) => return ExitCode::from(usage(&rt)),
     };
     let status = match read_words(rt.alloc(), words.as_slice()) {

@@ -55,7 +55,10 @@ fn prints_the_slots(rt: HostRuntime) -> Result<(), Fail> {
     let file = call_object(rt.alloc())?;
     let run = run(rt.alloc(), file.as_slice(), None)?;
     assert_eq!(rt; run.status, 0);
-    assert_eq!(rt; run.out.as_slice(), b"program p slots 2\n85 10 00 00 ff ff ff ff\n95 00 00 00 00 00 00 00\n".as_slice());
+    assert_eq!(rt;
+        run.out.as_slice(),
+        b"program p slots 2\n85 10 00 00 ff ff ff ff\n95 00 00 00 00 00 00 00\n".as_slice()
+    );
     assert_eq!(rt; run.err.len(), 0);
     Ok(())
 }
@@ -78,7 +81,10 @@ fn names_the_parse_error(rt: HostRuntime) -> Result<(), Fail> {
     let run = run(rt.alloc(), file.as_slice(), None)?;
     assert_eq!(rt; run.status, 1);
     assert_eq!(rt; run.out.len(), 0);
-    assert_eq!(rt; run.err.as_slice(), b"ebpf-link: parse: ElfError\n".as_slice());
+    assert_eq!(rt;
+        run.err.as_slice(),
+        b"ebpf-link: parse: ElfError\n".as_slice()
+    );
     Ok(())
 }
 
@@ -107,10 +113,16 @@ fn prints_by_name(rt: HostRuntime) -> Result<(), Fail> {
     let file = two_programs(rt.alloc())?;
     let both = run(rt.alloc(), file.as_slice(), None)?;
     assert_eq!(rt; both.status, 0);
-    assert_eq!(rt; both.out.as_slice(), b"program a slots 0\nprogram b slots 1\n95 00 00 00 00 00 00 00\n".as_slice());
+    assert_eq!(rt;
+        both.out.as_slice(),
+        b"program a slots 0\nprogram b slots 1\n95 00 00 00 00 00 00 00\n".as_slice()
+    );
     let one = run(rt.alloc(), file.as_slice(), Some("b"))?;
     assert_eq!(rt; one.status, 0);
-    assert_eq!(rt; one.out.as_slice(), b"program b slots 1\n95 00 00 00 00 00 00 00\n".as_slice());
+    assert_eq!(rt;
+        one.out.as_slice(),
+        b"program b slots 1\n95 00 00 00 00 00 00 00\n".as_slice()
+    );
     Ok(())
 }
 
@@ -135,7 +147,15 @@ fn says_that_it_cannot_write(rt: HostRuntime) -> Result<(), Fail> {
     let words = read_words(rt.alloc(), words.as_slice())?;
     let mut err = Vec::new(rt.alloc());
     let none: &[u8] = &[];
-    let status = run_link(rt.alloc(), &words, file.as_slice(), None, none, &mut Full, &mut err);
+    let status = run_link(
+        rt.alloc(),
+        &words,
+        file.as_slice(),
+        None,
+        none,
+        &mut Full,
+        &mut err,
+    );
     assert_eq!(rt; status, 1);
     assert_eq!(rt; err.as_slice(), b"ebpf-link: cannot write\n".as_slice());
     Ok(())
@@ -145,14 +165,28 @@ fn says_that_it_cannot_write(rt: HostRuntime) -> Result<(), Fail> {
 fn says_that_it_cannot_read(rt: HostRuntime) -> Result<(), Fail> {
     let mut err = Vec::new(rt.alloc());
     assert_eq!(rt; cannot_read("no/such.o", &mut err), 1);
-    assert_eq!(rt; err.as_slice(), b"ebpf-link: cannot read no/such.o\n".as_slice());
+    assert_eq!(rt;
+        err.as_slice(),
+        b"ebpf-link: cannot read no/such.o\n".as_slice()
+    );
     assert_eq!(rt; cannot_read("no/such.o", &mut Full), 1);
     Ok(())
 }
 
 #[test]
 fn reads_words_in_any_order(rt: HostRuntime) -> Result<(), Fail> {
-    let words = texts(rt.alloc(), &["--program", "--x", "file.o", "--btf", "types", "--kallsyms", "--btf"])?;
+    let words = texts(
+        rt.alloc(),
+        &[
+            "--program",
+            "--x",
+            "file.o",
+            "--btf",
+            "types",
+            "--kallsyms",
+            "--btf",
+        ],
+    )?;
     let words = read_words(rt.alloc(), words.as_slice())?;
     assert_eq!(rt; words.file.as_str(), "file.o");
     assert!(rt; words.program.is_some_and(|text| text.as_str() == "--x"));

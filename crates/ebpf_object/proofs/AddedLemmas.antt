@@ -18,7 +18,7 @@ all_more terms p symbols s rest = λ i. record {
   programs = put_all-flat_map (λ t. programs_in terms t (symbols_at symbols t)) p.programs s rest i;
   functions = put_all-flat_map (λ t. functions_in t (symbols_at symbols t)) p.functions s rest i;
   relocations = put_all-flat_map relocations_in p.relocations s rest i;
-  section_infos = put_all-flat_map name_in p.section_infos s rest i
+  section_infos = put_all-flat_map name_in p.section_infos s rest i;
 }
 
 -- the same of a section of a file, which may hold type information

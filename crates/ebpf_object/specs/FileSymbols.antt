@@ -21,7 +21,7 @@ symbol_of s = record {
   size = (entry s).size;
   kind = kind_of (entry s);
   is_definition = is_definition (entry s);
-  is_weak = is_weak (entry s)
+  is_weak = is_weak (entry s);
 }
 
 -- the symbols of a file by index

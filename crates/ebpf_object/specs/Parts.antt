@@ -72,7 +72,7 @@ added terms p s symbols = record {
   programs = put_all p.programs (programs_in terms s symbols);
   functions = put_all p.functions (functions_in s symbols);
   relocations = put_all p.relocations (relocations_in s);
-  section_infos = put_all p.section_infos (name_in s)
+  section_infos = put_all p.section_infos (name_in s);
 }
 
 -- ---- all sections but those of type information, in order
@@ -96,7 +96,7 @@ all_added terms p symbols rest = record {
   programs = put_all p.programs (flat_map (λ s. programs_in terms s (symbols_at symbols s)) rest);
   functions = put_all p.functions (flat_map (λ s. functions_in s (symbols_at symbols s)) rest);
   relocations = put_all p.relocations (flat_map relocations_in rest);
-  section_infos = put_all p.section_infos (flat_map name_in rest)
+  section_infos = put_all p.section_infos (flat_map name_in rest);
 }
 
 abbrev pub no_parts : Parts

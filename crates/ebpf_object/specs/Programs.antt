@@ -24,15 +24,15 @@ program_function s y = record {
   name = y.name;
   section_index = s.index;
   section_offset = y.address;
-  instructions = slots_of (program_bytes s y)
+  instructions = slots_of (program_bytes s y);
 }
 
 -- why a symbol's program can't be read
 unfoldable pub program_stop : SectionValue → SymbolValue → Option ParseError
 program_stop s y = first_in (
     ((nat_lt y.address s.address || nat_lt (length s.bytes) (y.address + y.size), InvalidSymbol y.index (Some y.name)) ∷ [])
-  ∷ code_faults (program_bytes s y)
-  ∷ [])
+    ∷ code_faults (program_bytes s y)
+    ∷ [])
 
 -- the functions of a section's programs, by symbol, and the first fault among them
 abbrev pub program_functions : SectionValue → List SymbolValue → List Function

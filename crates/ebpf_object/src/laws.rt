@@ -16,5 +16,4 @@ pub fn later_entries_stand()
     ensures symbols { LaterStands nat_cmp Symbol }
     ensures relocations { LaterStands nat_cmp ElfRelocation }
     ensures section_infos { LaterStands text_cmp SectionIndex }
-{
-}
+{}

@@ -131,7 +131,8 @@ impl Parts {
         }
         let section = Section::with_relocations(alloc, section, tables)?;
         self.add_kind(alloc, terms, &section, symbols)?;
-        self.section_infos.insert(String::from_str(alloc, section.name)?, section.index)?;
+        self.section_infos
+            .insert(String::from_str(alloc, section.name)?, section.index)?;
         Ok(())
     }
 }

@@ -15,16 +15,16 @@ begins_with prefix name = starts_with nat_eq name prefix
 unfoldable pub named_kinds : List ℕ → List (Bool × EbpfSectionKind)
 named_kinds name =
     (begins_with (codes "license") name, License)
-  ∷ (begins_with (codes "version") name, Version)
-  ∷ (begins_with (codes "maps") name, Maps)
-  ∷ (begins_with (codes ".maps") name, BtfMaps)
-  ∷ (begins_with (codes ".text") name, Text)
-  ∷ (begins_with (codes ".bss") name, Bss)
-  ∷ (begins_with (codes ".data") name, Data)
-  ∷ (begins_with (codes ".rodata") name, Rodata)
-  ∷ (bytes_eq name (codes ".BTF"), Btf)
-  ∷ (bytes_eq name (codes ".BTF.ext"), BtfExt)
-  ∷ []
+    ∷ (begins_with (codes "version") name, Version)
+    ∷ (begins_with (codes "maps") name, Maps)
+    ∷ (begins_with (codes ".maps") name, BtfMaps)
+    ∷ (begins_with (codes ".text") name, Text)
+    ∷ (begins_with (codes ".bss") name, Bss)
+    ∷ (begins_with (codes ".data") name, Data)
+    ∷ (begins_with (codes ".rodata") name, Rodata)
+    ∷ (bytes_eq name (codes ".BTF"), Btf)
+    ∷ (bytes_eq name (codes ".BTF.ext"), BtfExt)
+    ∷ []
 
 -- a section of instructions: PROGBITS with the flags ALLOC and EXECINSTR, and not empty
 abbrev pub is_code : SectionHeader → Bool

@@ -35,7 +35,7 @@ section_of s = record {
   name = name_or_empty s;
   bytes = data_of s;
   size = (header s).size;
-  relocations = relocations s
+  relocations = relocations s;
 }
 
 -- a name that can't be read

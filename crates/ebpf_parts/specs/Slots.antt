@@ -27,7 +27,7 @@ slot_at bytes place = record {
   code = slice_index bytes place;
   regs = slice_index bytes (place + 1);
   off = cast_signed w16 (number_at Little 2 bytes (place + 2));
-  imm = cast_signed w32 (number_at Little 4 bytes (place + 4))
+  imm = cast_signed w32 (number_at Little 4 bytes (place + 4));
 }
 
 -- the slots that the bytes are, one after the other

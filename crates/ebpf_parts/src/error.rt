@@ -17,27 +17,49 @@ pub enum ParseError {
     #[error("{0}")]
     BtfError(BtfError),
     #[error("the license has no null terminator")]
-    MissingLicenseNullTerminator { bytes: Items<u8> },
+    MissingLicenseNullTerminator {
+        bytes: Items<u8>,
+    },
     #[error("the license is invalid")]
-    InvalidLicense { bytes: Items<u8> },
+    InvalidLicense {
+        bytes: Items<u8>,
+    },
     #[error("the kernel version is invalid")]
-    InvalidKernelVersion { bytes: Items<u8> },
+    InvalidKernelVersion {
+        bytes: Items<u8>,
+    },
     #[error("section {index}: {error}")]
-    SectionError { index: usize, error: ElfReadError },
+    SectionError {
+        index: usize,
+        error: ElfReadError,
+    },
     #[error("a relocation has no target")]
     UnsupportedRelocationTarget,
     #[error("invalid program section `{section}`")]
-    InvalidProgramSection { section: Text },
+    InvalidProgramSection {
+        section: Text,
+    },
     #[error("the program code is no whole instructions")]
     InvalidProgramCode,
     #[error("invalid definition of the map `{name}`")]
-    InvalidMapDefinition { name: Text },
+    InvalidMapDefinition {
+        name: Text,
+    },
     #[error("two symbols in section {section_index} at address {address}")]
-    SymbolTableConflict { section_index: usize, address: u64 },
+    SymbolTableConflict {
+        section_index: usize,
+        address: u64,
+    },
     #[error("no symbol in section {section_index} at address {address}")]
-    UnknownSymbol { section_index: usize, address: u64 },
+    UnknownSymbol {
+        section_index: usize,
+        address: u64,
+    },
     #[error("symbol {index} is invalid")]
-    InvalidSymbol { index: usize, name: Option<Text> },
+    InvalidSymbol {
+        index: usize,
+        name: Option<Text>,
+    },
     #[error("the symbol `{name}` has {sym_size} bytes, the data {data_size}")]
     InvalidGlobalData {
         name: Text,
@@ -45,13 +67,21 @@ pub enum ParseError {
         data_size: usize,
     },
     #[error("no symbol `{name}`")]
-    SymbolNotFound { name: Text },
+    SymbolNotFound {
+        name: Text,
+    },
     #[error("no map in section {index}")]
-    MapNotFound { index: usize },
+    MapNotFound {
+        index: usize,
+    },
     #[error("the symbol of map {i} has no name")]
-    MapSymbolNameNotFound { i: usize },
+    MapSymbolNameNotFound {
+        i: usize,
+    },
     #[error("no symbols in the section `{section_name}`")]
-    NoSymbolsForSection { section_name: Text },
+    NoSymbolsForSection {
+        section_name: Text,
+    },
     #[error("the object has no type information")]
     NoBTF,
     #[error("out of memory")]

@@ -44,7 +44,9 @@ impl bpf_insn {
     {
         let [off_0, off_1] = self.off.to_le_bytes();
         let [imm_0, imm_1, imm_2, imm_3] = self.imm.to_le_bytes();
-        [self.code, self.regs, off_0, off_1, imm_0, imm_1, imm_2, imm_3]
+        [
+            self.code, self.regs, off_0, off_1, imm_0, imm_1, imm_2, imm_3,
+        ]
     }
 
     /// Writes the destination register's number alone.

@@ -18,34 +18,63 @@ use std::alloc::Global;
 pub enum ProgramSection {
     KRetProbe,
     KProbe,
-    UProbe { sleepable: bool, multi: bool },
-    URetProbe { sleepable: bool, multi: bool },
+    UProbe {
+        sleepable: bool,
+        multi: bool,
+    },
+    URetProbe {
+        sleepable: bool,
+        multi: bool,
+    },
     TracePoint,
     SocketFilter,
-    Xdp { frags: bool, attach_type: XdpAttachType },
+    Xdp {
+        frags: bool,
+        attach_type: XdpAttachType,
+    },
     SkMsg,
-    SkSkbStream { kind: SkSkbKind },
+    SkSkbStream {
+        kind: SkSkbKind,
+    },
     SockOps,
     SchedClassifier,
-    CgroupSkb { attach_type: Option<CgroupSkbAttachType> },
-    CgroupSockAddr { attach_type: CgroupSockAddrAttachType },
+    CgroupSkb {
+        attach_type: Option<CgroupSkbAttachType>,
+    },
+    CgroupSockAddr {
+        attach_type: CgroupSockAddrAttachType,
+    },
     CgroupSysctl,
-    CgroupSockopt { attach_type: CgroupSockoptAttachType },
+    CgroupSockopt {
+        attach_type: CgroupSockoptAttachType,
+    },
     LircMode2,
     PerfEvent,
     RawTracePoint,
-    Lsm { sleepable: bool },
+    Lsm {
+        sleepable: bool,
+    },
     LsmCgroup,
     BtfTracePoint,
-    FEntry { sleepable: bool },
-    FExit { sleepable: bool },
+    FEntry {
+        sleepable: bool,
+    },
+    FExit {
+        sleepable: bool,
+    },
     FlowDissector,
     Extension,
     SkLookup,
-    SkReuseport { attach_type: SkReuseportAttachType },
-    CgroupSock { attach_type: CgroupSockAttachType },
+    SkReuseport {
+        attach_type: SkReuseportAttachType,
+    },
+    CgroupSock {
+        attach_type: CgroupSockAttachType,
+    },
     CgroupDevice,
-    Iter { sleepable: bool },
+    Iter {
+        sleepable: bool,
+    },
 }
 
 /// The text before the first slash.

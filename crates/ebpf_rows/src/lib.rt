@@ -4,4 +4,6 @@
 #[cfg(test)]
 mod call_object;
 #[cfg(test)]
+mod outcome;
+#[cfg(test)]
 mod programs;

@@ -124,7 +124,11 @@ impl SampleFile {
     }
 
     /// Adds a section of relocations of the section `target`, each an offset, a symbol and a type.
-    pub fn relocations(&mut self, target: u32, entries: &[(u64, u32, u32)]) -> Result<(), AllocError> {
+    pub fn relocations(
+        &mut self,
+        target: u32,
+        entries: &[(u64, u32, u32)],
+    ) -> Result<(), AllocError> {
         let mut bytes = Vec::new(*self.body.allocator());
         for (offset, symbol, kind) in entries {
             bytes.extend_from_slice(&offset.to_le_bytes())?;
@@ -169,7 +173,9 @@ impl SampleFile {
     pub fn finish(mut self) -> Result<Vec<u8>, AllocError> {
         let (symbols, names) = self.tables()?;
         let start = names.offset.saturating_add(names.size);
-        let count = u16::try_from(self.sections.len()).unwrap_or(0).saturating_add(3);
+        let count = u16::try_from(self.sections.len())
+            .unwrap_or(0)
+            .saturating_add(3);
         let mut out = Vec::new(*self.body.allocator());
         put_header(&mut out, start, count, 2)?;
         out.extend_from_slice(self.body.get(64..).unwrap_or(&[]))?;

@@ -23,7 +23,7 @@ loop-section-init c =
       from = subst (AllFrom file) (sym items) (all_from file);
       parts = ap (λ p. all_added terms p ys (flat_map read_of c.into_iter-section-iterator.result)) empty
           ∙ ap (λ r. all_added terms no_parts ys (flat_map read_of r)) items;
-      fault = ap (first_some (λ s. fault_at (symbols_of ys s.index) s)) items
+      fault = ap (first_some (λ s. fault_at (symbols_of ys s.index) s)) items;
     }
 
 pub add_section-requires : goal.add_section-requires
@@ -31,7 +31,7 @@ add_section-requires c =
     let front : c.loop-section.section-iterator ≡ c.in-Some.section ∷ c.next.new.self = search rules in
     let of_file : c.in-Some.section.file ≡ c.args.file.now = (subst (AllFrom c.args.file.now) front c.loop-section.invariant.from).0 in
     let found : c.of.result.now ≡ filter (λ r. target_of r == c.in-Some.section.index) (relocation_sections c.args.file.now) =
-        c.of.ensures ∙ c.in_ok-tables.ensures.groups c.index-index.result.0 ∙ ap (λ q. filter (λ r. target_of r == q) (relocation_sections c.args.file.now)) c.index-index.ensures in
+    c.of.ensures ∙ c.in_ok-tables.ensures.groups c.index-index.result.0 ∙ ap (λ q. filter (λ r. target_of r == q) (relocation_sections c.args.file.now)) c.index-index.ensures in
     found ∙ ap (λ file. filter (λ r. target_of r == c.in-Some.section.index) (relocation_sections file)) (sym of_file)
 
 pub loop-section-preserved : goal.loop-section-preserved
@@ -49,5 +49,5 @@ loop-section-preserved c =
       parts = ap (λ p. all_added terms p ys (flat_map read_of c.next.new.self)) (put ∙ ap (added_at terms c.loop-section.parts s) of_section)
           ∙ sym (ap (λ r. all_added terms c.loop-section.parts ys (flat_map read_of r)) front ∙ one_more terms c.loop-section.parts ys s c.next.new.self)
           ∙ c.loop-section.invariant.parts;
-      fault = grind (arith, common_steps, front, clear)
+      fault = grind (arith, common_steps, front, clear);
     }

@@ -12,5 +12,5 @@ abbrev pub invariant-loop-section : goal.invariant-loop-section
 invariant-loop-section l = record {
   from : AllFrom l.file l.section-iterator;
   parts : all_added l.terms l.parts (file_symbols l.file) (flat_map read_of l.section-iterator) ≡ parts_of l.terms l.file;
-  fault : first_some (λ s. fault_at (symbols_of (file_symbols l.file) s.index) s) l.section-iterator ≡ sections_fault l.file
+  fault : first_some (λ s. fault_at (symbols_of (file_symbols l.file) s.index) s) l.section-iterator ≡ sections_fault l.file;
 }

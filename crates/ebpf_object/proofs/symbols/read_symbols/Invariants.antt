@@ -11,5 +11,5 @@ abbrev pub invariant-loop-symbol : goal.invariant-loop-symbol
 invariant-loop-symbol l = record {
   table : put_all l.symbols.table (map kept_of (map symbol_of l.symbol-iterator)) ≡ symbol_table (file_symbols l.file);
   groups : (q : ℕ) → group_at l.symbols.groups.groups q ++ symbols_of (map symbol_of l.symbol-iterator) q ≡ symbols_of (file_symbols l.file) q;
-  fault : first_some symbol_fault l.symbol-iterator ≡ symbols_fault l.file
+  fault : first_some symbol_fault l.symbol-iterator ≡ symbols_fault l.file;
 }

@@ -7,5 +7,5 @@ use Rattle.ebpf_parts.proofs.section.add_entries.Given as goal
 abbrev pub invariant-loop-relocation : goal.invariant-loop-relocation
 invariant-loop-relocation l = record {
   list : l.kept ++ l.relocation-iterator ≡ l.fn.kept ++ entries_of l.table;
-  fault : target_fault l.relocation-iterator ≡ target_fault (entries_of l.table)
+  fault : target_fault l.relocation-iterator ≡ target_fault (entries_of l.table);
 }

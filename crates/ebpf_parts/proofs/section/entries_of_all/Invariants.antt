@@ -8,5 +8,5 @@ use Rattle.ebpf_parts.proofs.section.entries_of_all.Given as goal
 abbrev pub invariant-loop-table : goal.invariant-loop-table
 invariant-loop-table l = record {
   list : l.kept ++ flat_map entries_of (drop l.table-index l.tables) ≡ flat_map entries_of l.tables;
-  fault : target_fault (flat_map entries_of (drop l.table-index l.tables)) ≡ target_fault (flat_map entries_of l.tables)
+  fault : target_fault (flat_map entries_of (drop l.table-index l.tables)) ≡ target_fault (flat_map entries_of l.tables);
 }

@@ -7,5 +7,5 @@ use Rattle.ebpf_parts.proofs.section.relocations_of.Given as goal
 abbrev pub invariant-loop-relocation : goal.invariant-loop-relocation
 invariant-loop-relocation l = record {
   list : l.kept ++ l.relocation-iterator ≡ relocations l.section;
-  fault : target_fault l.relocation-iterator ≡ target_fault (relocations l.section)
+  fault : target_fault l.relocation-iterator ≡ target_fault (relocations l.section);
 }

@@ -1,0 +1,113 @@
+//! What parsing gives, as a text.
+
+use ebpf_object::Object;
+use std::alloc::{AllocError, Global};
+
+/// A line for each program, in byte order of their names.
+fn put_programs(alloc: Global, text: &mut String, object: &Object) -> Result<(), AllocError> {
+    for name in object.programs.names(alloc)? {
+        if let Some(program) = object.programs.get(name) {
+            let (section, address) = program.function_key();
+            let kind = program.section;
+            writeln!(text, "program {name} {kind:?} at {section} {address}")?;
+        }
+    }
+    Ok(())
+}
+
+/// A line for each function, by its key.
+fn put_functions(text: &mut String, object: &Object) -> Result<(), AllocError> {
+    for ((section, address), function) in object.functions.iter() {
+        let name = function.name.as_str();
+        let offset = function.section_offset;
+        let slots = function.instructions.len();
+        writeln!(
+            text,
+            "function {name} at {section} {address} offset {offset} slots {slots}"
+        )?;
+    }
+    Ok(())
+}
+
+/// A line for each symbol, by its number.
+fn put_symbols(alloc: Global, text: &mut String, object: &Object) -> Result<(), AllocError> {
+    for index in object.symbol_table.indices(alloc)? {
+        if let Some(symbol) = object.symbol_table.get(index) {
+            let kind = symbol.kind;
+            let section = symbol.section_index;
+            let size = symbol.size;
+            let definition = symbol.is_definition;
+            writeln!(
+                text,
+                "symbol {index} {kind:?} in {section:?} size {size} defined {definition}"
+            )?;
+        }
+    }
+    Ok(())
+}
+
+/// A line for each relocation, by its section and its offset.
+fn put_relocations(text: &mut String, object: &Object) -> Result<(), AllocError> {
+    for (section, relocations) in object.relocations.iter() {
+        for (offset, relocation) in relocations.iter() {
+            let symbol = relocation.symbol_index;
+            let size = relocation.size;
+            writeln!(
+                text,
+                "relocation at {section} {offset} size {size} symbol {symbol}"
+            )?;
+        }
+    }
+    Ok(())
+}
+
+/// A line for each name of a section, in byte order.
+fn put_names(alloc: Global, text: &mut String, object: &Object) -> Result<(), AllocError> {
+    for name in object.section_infos.names(alloc)? {
+        if let Some(section) = object.section_infos.get(name) {
+            let index = section.0;
+            writeln!(text, "section {index} {name}")?;
+        }
+    }
+    Ok(())
+}
+
+/// The tables of an object.
+fn described(alloc: Global, object: &Object) -> Result<String, AllocError> {
+    let mut text = String::new(alloc);
+    put_programs(alloc, &mut text, object)?;
+    put_functions(&mut text, object)?;
+    put_symbols(alloc, &mut text, object)?;
+    put_relocations(&mut text, object)?;
+    put_names(alloc, &mut text, object)?;
+    Ok(text)
+}
+
+/// The programs and functions of the object that the bytes are, or the error.
+pub fn outcome(alloc: Global, bytes: &[u8]) -> Result<String, AllocError> {
+    match Object::parse(alloc, bytes) {
+        Ok(object) => {
+            let mut text = String::new(alloc);
+            put_programs(alloc, &mut text, &object)?;
+            put_functions(&mut text, &object)?;
+            Ok(text)
+        }
+        Err(error) => format!(in alloc; "{error:?}"),
+    }
+}
+
+/// All tables of the object that the bytes are, or the error.
+pub fn whole_outcome(alloc: Global, bytes: &[u8]) -> Result<String, AllocError> {
+    match Object::parse(alloc, bytes) {
+        Ok(object) => described(alloc, &object),
+        Err(error) => format!(in alloc; "{error:?}"),
+    }
+}
+
+/// The license of the object that the bytes are.
+pub fn license_of(alloc: Global, bytes: &[u8]) -> Result<Vec<u8>, AllocError> {
+    match Object::parse(alloc, bytes) {
+        Ok(object) => object.license.as_slice().to_vec(alloc),
+        Err(_) => Ok(Vec::new(alloc)),
+    }
+}
