@@ -1,2 +1,10 @@
+pub mod Additions
+pub mod Format
 pub mod Memory
+pub mod Next
 pub mod Numbers
+pub mod Reading
+pub mod Steps
+pub mod Strings
+pub mod TypeInfo
+pub mod Types

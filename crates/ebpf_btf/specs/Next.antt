@@ -1,0 +1,13 @@
+-- What follows an answer.
+use Rattle.std.specs.Prelude.{Option, Some, None, Result, Ok, Err}
+use Rattle.ebpf_btf.specs.declared.error.BtfError.{BtfError}
+
+-- what an option leads to, or else what stands without it
+abbrev pub if_some : {A X : Type 0} → Option A → (A → X) → X → X
+if_some None next other = other
+if_some (Some x) next other = next x
+
+-- what follows an answer that is no fault
+abbrev pub if_ok : {A X : Type 0} → Result A BtfError → (A → Result X BtfError) → Result X BtfError
+if_ok (Ok x) next = next x
+if_ok (Err e) next = Err e

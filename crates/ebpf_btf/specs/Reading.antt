@@ -1,0 +1,94 @@
+-- What bytes give, and their first fault: the header of `.BTF` and its two parts (the kernel's
+-- Documentation/bpf/btf.rst, 2. "BTF Type and String Encoding"; struct btf_header).
+use Rattle.std.specs.Prelude.{◌≡◌, ℕ, zero, suc, ◌+◌, ◌∷◌, ◌++◌, [], List, length, Option, Some, None, Result, Ok, Err, option_map, nat_lt, not, ◌==◌, if◌then◌else◌, slice_range}
+use Rattle.ebpf_base.specs.Faults.{first_of}
+use Rattle.ebpf_btf.specs.declared.endianness.Endianness.{Endianness}
+use Rattle.ebpf_btf.specs.declared.error.BtfError.{BtfError}
+use Rattle.ebpf_btf.specs.declared.error.BtfError.TheVariants.{InvalidHeader, InvalidTypeInfo}
+use Rattle.ebpf_btf.specs.declared.kind.BtfKind.{BtfKind}
+use Rattle.ebpf_btf.specs.declared.types.BtfType.{BtfType}
+use Rattle.ebpf_btf.specs.declared.types.BtfType.TheVariants.{Unknown}
+use Rattle.ebpf_btf.specs.Format.{AreTypesAt, word, info_at, kind_in, spelled, end_of}
+use Rattle.ebpf_btf.specs.Numbers.{number_at}
+use Rattle.ebpf_btf.specs.Next.{if_some}
+use Rattle.ebpf_btf.specs.TypeInfo.{TypeInfo}
+
+-- ---- the header; offsets count from its end
+
+unfoldable pub magic : Endianness → List ℕ → ℕ
+magic o bytes = number_at o 2 bytes 0
+
+unfoldable pub header_length : Endianness → List ℕ → ℕ
+header_length o bytes = word o bytes 4
+
+-- where the types begin and end
+unfoldable pub types_start : Endianness → List ℕ → ℕ
+types_start o bytes = header_length o bytes + word o bytes 8
+
+unfoldable pub types_end : Endianness → List ℕ → ℕ
+types_end o bytes = types_start o bytes + word o bytes 12
+
+-- where the strings begin and end
+unfoldable pub strings_start : Endianness → List ℕ → ℕ
+strings_start o bytes = header_length o bytes + word o bytes 16
+
+unfoldable pub strings_end : Endianness → List ℕ → ℕ
+strings_end o bytes = strings_start o bytes + word o bytes 20
+
+unfoldable pub header_fault : Endianness → List ℕ → Option BtfError
+header_fault o bytes = first_of (
+    (nat_lt (length bytes) 24, InvalidHeader)
+    ∷ (not (magic o bytes == 0xEB9F), InvalidHeader)
+    ∷ (nat_lt (header_length o bytes) 24, InvalidHeader)
+    ∷ (nat_lt (length bytes) (types_end o bytes), InvalidHeader)
+    ∷ (nat_lt (length bytes) (strings_end o bytes), InvalidHeader)
+    ∷ [])
+
+-- the strings, each byte of them
+unfoldable pub strings_in : Endianness → List ℕ → List ℕ
+strings_in o bytes = slice_range bytes (strings_start o bytes) (strings_end o bytes)
+
+-- ---- what bytes spell
+
+-- The header is sound, and its two parts are some types after void, and the strings.
+pub record Spells (o : Endianness) (bytes : List ℕ) (info : TypeInfo) : Type 0 where
+  pub header : header_fault o bytes ≡ None
+  pub types : (ts : List BtfType) × (info.types ≡ Unknown ∷ ts) × AreTypesAt o bytes (types_start o bytes) (types_end o bytes) ts
+  pub strings : info.strings ≡ strings_in o bytes
+
+-- ---- what is read
+
+-- the type at a place, of a kind that is known, and the place after it, where that is not past the end
+abbrev pub up_to : Endianness → List ℕ → ℕ → ℕ → BtfKind → Option (BtfType × ℕ)
+up_to o bytes place end kind =
+    if nat_lt end (end_of o bytes place kind) then None else Some (spelled o bytes place kind, end_of o bytes place kind)
+
+-- the first type from a place up to an end, and the place after it; none where it is cut or of no kind
+unfoldable pub type_before : Endianness → List ℕ → ℕ → ℕ → Option (BtfType × ℕ)
+type_before o bytes place end =
+    if nat_lt end (place + 12) then None
+    else if_some (kind_in (info_at o bytes place)) (λ kind. up_to o bytes place end kind) None
+
+-- types that follow others
+abbrev pub with_front : List BtfType → Option (List BtfType) → Option (List BtfType)
+with_front front types = option_map (λ ts. front ++ ts) types
+
+-- All types from a place up to an end, of which there are at most `left`.
+unfoldable pub types_from : ℕ → Endianness → List ℕ → ℕ → ℕ → Option (List BtfType)
+types_from zero o bytes place end = if place == end then Some [] else None
+types_from (suc left) o bytes place end =
+    if place == end then Some []
+    else if_some (type_before o bytes place end) (λ found. with_front (found.0 ∷ []) (types_from left o bytes found.1 end)) None
+
+-- no more types than bytes stand in the part
+unfoldable pub types_in : Endianness → List ℕ → Option (List BtfType)
+types_in o bytes = types_from (word o bytes 12) o bytes (types_start o bytes) (types_end o bytes)
+
+-- with void before the types, and the strings
+abbrev pub with_strings : Endianness → List ℕ → Option (List BtfType) → Result TypeInfo BtfError
+with_strings o bytes None = Err InvalidTypeInfo
+with_strings o bytes (Some ts) = Ok (record { types = ts; strings = strings_in o bytes })
+
+-- the type information of some bytes, or their first fault
+unfoldable pub type_info_of : Endianness → List ℕ → Result TypeInfo BtfError
+type_info_of o bytes = if_some (header_fault o bytes) (λ e. Err e) (with_strings o bytes (with_front (Unknown ∷ []) (types_in o bytes)))

@@ -1,0 +1,73 @@
+-- Types that stand for others, and sizes.
+use Rattle.std.specs.Prelude.{ℕ, ◌*◌, ◌^◌, zero, suc, List, Option, Some, None, Result, Ok, Err, nat_lt, slice_get, if◌then◌else◌}
+use Rattle.ebpf_btf.specs.declared.error.BtfError.{BtfError}
+use Rattle.ebpf_btf.specs.declared.error.BtfError.TheVariants.{InvalidTypeInfo, UnexpectedBtfType, UnknownBtfType, MaximumTypeDepth}
+use Rattle.ebpf_btf.specs.declared.types.BtfType.{BtfType}
+use Rattle.ebpf_btf.specs.declared.types.BtfType.TheVariants.{Const, Volatile, Restrict, Ptr, Typedef, Func, Array, Var, TypeTag}
+use Rattle.ebpf_btf.specs.Next.{if_ok, if_some}
+use Rattle.ebpf_btf.specs.Types.{size_word}
+
+-- How many types a resolution looks at: the one that it starts from, and 32 that it follows to.
+abbrev pub looks : ℕ
+looks = 33
+
+-- the type that has an id
+abbrev pub type_at : List BtfType → ℕ → Result BtfType BtfError
+type_at types id = if_some (slice_get types id) (λ t. Ok t) (Err (UnknownBtfType id))
+
+-- ---- resolution
+
+-- the id of the type that a TYPEDEF, VOLATILE, CONST, RESTRICT or TYPE_TAG stands for
+unfoldable pub modified : BtfType → Option ℕ
+modified (Typedef _ id) = Some id
+modified (Volatile _ id) = Some id
+modified (Const _ id) = Some id
+modified (Restrict _ id) = Some id
+modified (TypeTag _ id) = Some id
+modified _ = None
+
+-- the first type from an id on that stands for no other, where `left` types may be looked at
+unfoldable pub resolved_from : ℕ → List BtfType → ℕ → ℕ → Result ℕ BtfError
+resolved_from zero types start id = Err (MaximumTypeDepth start)
+resolved_from (suc left) types start id =
+    if_ok (type_at types id) (λ t.
+    if_some (modified t) (λ next. resolved_from left types start next) (Ok id))
+
+abbrev pub resolved : List BtfType → ℕ → Result ℕ BtfError
+resolved types id = resolved_from looks types id id
+
+-- ---- sizes in bytes
+
+-- the size that a type has of its own: 8 of a PTR, else the one that it states
+unfoldable pub own_size : BtfType → Option ℕ
+own_size (Ptr _ _) = Some 8
+own_size t = size_word t
+
+-- the id of the type that another is sized by: what it stands for, a variable's or function's type, an element
+unfoldable pub sized_by : BtfType → Option ℕ
+sized_by (Var _ id _) = Some id
+sized_by (Func _ id) = Some id
+sized_by (Array _ id _ _) = Some id
+sized_by t = modified t
+
+-- how many of that type it has
+unfoldable pub repeats : BtfType → ℕ
+repeats (Array _ _ _ n) = n
+repeats _ = 1
+
+-- a product of 32 bits
+abbrev pub times : ℕ → ℕ → Result ℕ BtfError
+times m n = if nat_lt (m * n) (2 ^ 32) then Ok (m * n) else Err InvalidTypeInfo
+
+-- the size of `count` of the types with an id, where `left` types may be looked at
+unfoldable pub size_from : ℕ → List BtfType → ℕ → ℕ → ℕ → Result ℕ BtfError
+size_from zero types start count id = Err (MaximumTypeDepth start)
+size_from (suc left) types start count id =
+    if_ok (type_at types id) (λ t.
+    if_some (own_size t) (λ size. times count size) (
+    if_some (sized_by t)
+    (λ next. if_ok (times count (repeats t)) (λ all. size_from left types start all next))
+    (Err (UnexpectedBtfType id))))
+
+abbrev pub size_of : List BtfType → ℕ → Result ℕ BtfError
+size_of types id = size_from looks types id 1 id

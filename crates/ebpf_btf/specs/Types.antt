@@ -1,0 +1,123 @@
+-- What types say of themselves (the kernel's Documentation/bpf/btf.rst, 2.2 "Type Encoding").
+use Rattle.std.specs.Prelude.{ℕ, ◌/◌, ◌%◌, ◌^◌, Bool, false, List, Option, Some, None, ◌==◌, if◌then◌else◌}
+use Rattle.ebpf_btf.specs.declared.kind.BtfKind.{BtfKind}
+use Rattle.ebpf_btf.specs.declared.kind.BtfKind.TheVariants as kinds
+use Rattle.ebpf_btf.specs.declared.members.BtfMember.{BtfMember}
+use Rattle.ebpf_btf.specs.declared.types.BtfType.{BtfType}
+use Rattle.ebpf_btf.specs.declared.types.BtfType.TheVariants.{Unknown, Fwd, Const, Volatile, Restrict, Ptr, Typedef, Func, Int, Float, Enum, Array, Struct, Union, FuncProto, Var, DataSec, DeclTag, TypeTag, Enum64}
+
+unfoldable pub kind_of : BtfType → BtfKind
+kind_of Unknown = kinds.Unknown
+kind_of (Fwd _ _) = kinds.Fwd
+kind_of (Const _ _) = kinds.Const
+kind_of (Volatile _ _) = kinds.Volatile
+kind_of (Restrict _ _) = kinds.Restrict
+kind_of (Ptr _ _) = kinds.Ptr
+kind_of (Typedef _ _) = kinds.Typedef
+kind_of (Func _ _) = kinds.Func
+kind_of (Int _ _ _) = kinds.Int
+kind_of (Float _ _) = kinds.Float
+kind_of (Enum _ _ _ _) = kinds.Enum
+kind_of (Array _ _ _ _) = kinds.Array
+kind_of (Struct _ _ _ _) = kinds.Struct
+kind_of (Union _ _ _ _ _) = kinds.Union
+kind_of (FuncProto _ _ _) = kinds.FuncProto
+kind_of (Var _ _ _) = kinds.Var
+kind_of (DataSec _ _ _) = kinds.DataSec
+kind_of (DeclTag _ _ _) = kinds.DeclTag
+kind_of (TypeTag _ _) = kinds.TypeTag
+kind_of (Enum64 _ _ _ _) = kinds.Enum64
+
+-- the number of a kind in `.BTF`
+unfoldable pub kind_number : BtfKind → ℕ
+kind_number kinds.Unknown = 0
+kind_number kinds.Int = 1
+kind_number kinds.Ptr = 2
+kind_number kinds.Array = 3
+kind_number kinds.Struct = 4
+kind_number kinds.Union = 5
+kind_number kinds.Enum = 6
+kind_number kinds.Fwd = 7
+kind_number kinds.Typedef = 8
+kind_number kinds.Volatile = 9
+kind_number kinds.Const = 10
+kind_number kinds.Restrict = 11
+kind_number kinds.Func = 12
+kind_number kinds.FuncProto = 13
+kind_number kinds.Var = 14
+kind_number kinds.DataSec = 15
+kind_number kinds.Float = 16
+kind_number kinds.DeclTag = 17
+kind_number kinds.TypeTag = 18
+kind_number kinds.Enum64 = 19
+
+-- whether a type is of a kind
+abbrev pub is_kind : BtfKind → BtfType → Bool
+is_kind kind t = kind_number (kind_of t) == kind_number kind
+
+-- the offset of the name
+unfoldable pub name_of : BtfType → ℕ
+name_of Unknown = 0
+name_of (Fwd name _) = name
+name_of (Const name _) = name
+name_of (Volatile name _) = name
+name_of (Restrict name _) = name
+name_of (Ptr name _) = name
+name_of (Typedef name _) = name
+name_of (Func name _) = name
+name_of (Int name _ _) = name
+name_of (Float name _) = name
+name_of (Enum name _ _ _) = name
+name_of (Array name _ _ _) = name
+name_of (Struct name _ _ _) = name
+name_of (Union name _ _ _ _) = name
+name_of (FuncProto name _ _) = name
+name_of (Var name _ _) = name
+name_of (DataSec name _ _) = name
+name_of (DeclTag name _ _) = name
+name_of (TypeTag name _) = name
+name_of (Enum64 name _ _ _) = name
+
+-- the size in bytes that a type states
+unfoldable pub size_word : BtfType → Option ℕ
+size_word (Int _ size _) = Some size
+size_word (Struct _ size _ _) = Some size
+size_word (Union _ size _ _ _) = Some size
+size_word (Enum _ size _ _) = Some size
+size_word (Enum64 _ size _ _) = Some size
+size_word (Float _ size) = Some size
+size_word (DataSec _ size _) = Some size
+size_word _ = None
+
+-- the id of the type that a type holds
+unfoldable pub type_word : BtfType → Option ℕ
+type_word (Ptr _ id) = Some id
+type_word (Typedef _ id) = Some id
+type_word (Volatile _ id) = Some id
+type_word (Const _ id) = Some id
+type_word (Restrict _ id) = Some id
+type_word (TypeTag _ id) = Some id
+type_word (DeclTag _ id _) = Some id
+type_word (Var _ id _) = Some id
+type_word (Func _ id) = Some id
+type_word (FuncProto _ id _) = Some id
+type_word _ = None
+
+unfoldable pub members_of : BtfType → Option (List BtfMember)
+members_of (Struct _ _ _ members) = Some members
+members_of (Union _ _ _ members _) = Some members
+members_of _ = None
+
+-- whether the offsets of members have sizes of bit fields in them
+unfoldable pub has_bit_fields : BtfType → Bool
+has_bit_fields (Struct _ _ flag _) = flag
+has_bit_fields (Union _ _ flag _ _) = flag
+has_bit_fields _ = false
+
+-- the place of a member in bits
+unfoldable pub bit_offset : BtfType → BtfMember → ℕ
+bit_offset t member = if has_bit_fields t then member.offset % 2 ^ 24 else member.offset
+
+-- the size in bits of a member that is a bit field, else 0
+unfoldable pub bit_field_size : BtfType → BtfMember → ℕ
+bit_field_size t member = if has_bit_fields t then member.offset / 2 ^ 24 else 0

@@ -1,0 +1,87 @@
+//! Names of types.
+
+ghost use Rattle.std.specs.Prelude.{◌≡◌, ◌==◌, IfOk, IfErr, IfSome, Ok};
+ghost use Rattle.std.specs.Option.{ok_or};
+ghost use Rattle.std.specs.Cow.{cow_str_bytes};
+ghost use Rattle.ebpf_base.specs.Faults.{Refuses, Gives, fault_of};
+ghost use Rattle.ebpf_btf.specs.Memory.{is_memory};
+ghost use Rattle.ebpf_btf.specs.Strings.{type_name, is_text, is_named, id_of_name};
+ghost use Rattle.ebpf_btf.specs.Types.{is_kind};
+ghost use Rattle.ebpf_btf.specs.declared.error.BtfError.TheVariants.{OutOfMemory, UnknownBtfTypeName};
+
+use crate::btf::Btf;
+use crate::error::BtfError;
+use crate::kind::BtfKind;
+use crate::types::BtfType;
+use ebpf_base::Text;
+use std::alloc::Global;
+use std::borrow::CowStr;
+
+/// Whether a type is of a kind.
+#[tactic(auto, unfolding(crate::specs::Types::kind_number))]
+fn is_kind(ty: &BtfType, kind: BtfKind) -> bool
+    ensures { result ≡ is_kind kind ty.now }
+{
+    ty.kind() == kind
+}
+
+impl Btf {
+    /// The name of a type, as `string_at` gives it: the empty text where it has none.
+    ///
+    /// `InvalidStringOffset` where the name can't be read, `OutOfMemory` as in `string_at`.
+    pub fn type_name(&self, ty: &BtfType) -> Result<CowStr<'_, Global>, BtfError>
+        ensures name { IfOk result (λ name. type_name self.now ty.now ≡ Ok (cow_str_bytes name)) }
+        ensures fault { Refuses is_memory result (fault_of (type_name self.now ty.now)) }
+    {
+        self.string_at(ty.name_offset())
+    }
+
+    /// A copy of a type's name, for errors. None where it can't be read, or where memory is refused.
+    pub fn err_type_name(&self, ty: &BtfType) -> Option<Text>
+        ensures { IfSome result (λ name. type_name self.now ty.now ≡ Ok name) }
+    {
+        let Ok(name) = self.type_name(ty) else {
+            return None;
+        };
+        Text::from_str(self.allocator(), name.as_str()).ok()
+    }
+
+    /// Whether a name can be read and is this one.
+    fn has_name(&self, ty: &BtfType, name: &str) -> Result<bool, BtfError>
+        ensures same { IfOk result (λ b. b ≡ is_text name.now (type_name self.now ty.now)) }
+        ensures memory { IfErr result (λ e. e ≡ OutOfMemory) }
+    {
+        match self.type_name(ty) {
+            Ok(text) => Ok(text.as_str() == name),
+            Err(BtfError::OutOfMemory) => Err(BtfError::OutOfMemory),
+            Err(_) => Ok(false),
+        }
+    }
+
+    /// The lowest id of a kind and name.
+    fn find_named(&self, name: &str, kind: BtfKind) -> Result<Option<u32>, BtfError>
+        ensures found { IfOk result (λ id. id ≡ id_of_name self.now name.now kind) }
+        ensures memory { IfErr result (λ e. e ≡ OutOfMemory) }
+    {
+        for (id, ty) in self.types().iter().enumerate() {
+            if is_kind(ty, kind) && self.has_name(ty, name)? {
+                return Ok(Some(id as u32));
+            }
+        }
+        Ok(None)
+    }
+
+    /// The lowest id of a type with this kind and name. A name that can't be read is no name.
+    ///
+    /// `UnknownBtfTypeName` where there is none, `OutOfMemory` where memory is refused.
+    pub fn id_by_type_name_kind(&self, name: &str, kind: BtfKind) -> Result<u32, BtfError>
+        ensures { Gives is_memory result (ok_or (id_of_name self.now name.now kind) (UnknownBtfTypeName name.now)) }
+    {
+        match self.find_named(name, kind)? {
+            Some(id) => Ok(id),
+            None => Err(BtfError::UnknownBtfTypeName {
+                type_name: Text::from_str(self.allocator(), name)?,
+            }),
+        }
+    }
+}

@@ -1,0 +1,58 @@
+//! Texts in the strings.
+
+ghost use Rattle.std.specs.Prelude.{◌≡◌, ◌==◌, IfOk, Ok};
+ghost use Rattle.std.specs.List.{position};
+ghost use Rattle.std.specs.Option.{option_copied};
+ghost use Rattle.std.specs.Cow.{cow_str_bytes};
+ghost use Rattle.std.specs.Str.Lossy.{utf8_lossy};
+ghost use Rattle.ebpf_base.specs.Faults.{Refuses, fault_of};
+ghost use Rattle.ebpf_btf.specs.Memory.{is_memory};
+ghost use Rattle.ebpf_btf.specs.Strings.{before_zero, text_at};
+
+use crate::error::BtfError;
+use std::alloc::{AllocError, Global};
+use std::borrow::CowStr;
+
+/// The place of the first zero byte.
+fn zero_place(bytes: &[u8]) -> Option<usize>
+    ensures { result ≡ position (λ b. b == 0) bytes.now }
+{
+    bytes.iter().position(|b| *b == 0)
+}
+
+/// The bytes up to the first zero byte.
+fn before_zero(bytes: &[u8]) -> Option<&[u8]>
+    ensures { option_copied result ≡ before_zero bytes.now }
+{
+    match zero_place(bytes) {
+        Some(end) => Some(&bytes[..end]),
+        None => None,
+    }
+}
+
+/// The text of some bytes, where each wrong sequence is U+FFFD. It is a copy only where one is wrong.
+#[tactic(auto, using(crate::proofs::Texts::lossy_text))]
+fn lossy(alloc: Global, bytes: &[u8]) -> Result<CowStr<'_, Global>, AllocError>
+    ensures { IfOk result (λ text. cow_str_bytes text ≡ utf8_lossy bytes.now) }
+{
+    match str::from_utf8(bytes) {
+        Ok(text) => Ok(CowStr::Borrowed(text)),
+        Err(_) => Ok(CowStr::Owned(String::from_utf8_lossy(alloc, bytes)?)),
+    }
+}
+
+/// The text at an offset of the strings.
+#[tactic(auto, unfolding(crate::specs::Strings::text_at))]
+pub fn read_text(alloc: Global, strings: &[u8], offset: u32) -> Result<CowStr<'_, Global>, BtfError>
+    ensures text { IfOk result (λ text. text_at strings.now offset ≡ Ok (cow_str_bytes text)) }
+    ensures fault { Refuses is_memory result (fault_of (text_at strings.now offset)) }
+{
+    let place = offset as usize;
+    if place > strings.len() {
+        return Err(BtfError::InvalidStringOffset { offset: place });
+    }
+    let Some(bytes) = before_zero(&strings[place..]) else {
+        return Err(BtfError::InvalidStringOffset { offset: place });
+    };
+    Ok(lossy(alloc, bytes)?)
+}

@@ -1,0 +1,6 @@
+//! What no clause says: bytes from outside.
+
+mod answers;
+mod blobs;
+mod members;
+mod reading;

@@ -1,0 +1,280 @@
+//! A type.
+
+ghost use Rattle.std.specs.Prelude.{◌≡◌};
+ghost use Rattle.std.specs.Option.{option_copied};
+ghost use Rattle.ebpf_btf.specs.Types.{kind_of, name_of, size_word, type_word, members_of, has_bit_fields, bit_offset, bit_field_size};
+
+use crate::fallback::BoxedFallback;
+use crate::kind::BtfKind;
+use crate::members::{BtfEnum, BtfEnum64, BtfMember, BtfParam, DataSecEntry};
+use ebpf_base::Items;
+
+/// A type (`struct btf_type` and what follows it), by its kind.
+///
+/// `name_offset` is the offset of the name in the strings, 0 where the type has none; `size` is in bytes;
+/// `btf_type` and other fields that end in `_type` are ids of types.
+#[derive(Debug, Drop)]
+pub enum BtfType {
+    /// No type, or `void`.
+    Unknown,
+    /// A struct or, where `kind_flag` is set, a union that is declared and not defined.
+    Fwd {
+        name_offset: u32,
+        kind_flag: bool,
+    },
+    /// `const`.
+    Const {
+        name_offset: u32,
+        btf_type: u32,
+    },
+    /// `volatile`.
+    Volatile {
+        name_offset: u32,
+        btf_type: u32,
+    },
+    /// `restrict`.
+    Restrict {
+        name_offset: u32,
+        btf_type: u32,
+    },
+    /// A pointer.
+    Ptr {
+        name_offset: u32,
+        btf_type: u32,
+    },
+    /// A name for a type.
+    Typedef {
+        name_offset: u32,
+        btf_type: u32,
+    },
+    /// A function; `btf_type` is its FUNC_PROTO.
+    Func {
+        name_offset: u32,
+        btf_type: u32,
+    },
+    /// An integer. `int_data` has the encoding in bits 24 to 27 (1: signed), the bit offset in bits 16 to 23
+    /// and the number of bits in bits 0 to 7.
+    Int {
+        name_offset: u32,
+        size: u32,
+        int_data: u32,
+    },
+    /// A floating point number.
+    Float {
+        name_offset: u32,
+        size: u32,
+    },
+    /// An enumeration with values of up to 32 bits, signed where `kind_flag` is set.
+    Enum {
+        name_offset: u32,
+        size: u32,
+        kind_flag: bool,
+        variants: Items<BtfEnum>,
+    },
+    /// An array of `len` elements.
+    Array {
+        name_offset: u32,
+        element_type: u32,
+        index_type: u32,
+        len: u32,
+    },
+    /// A struct. Where `kind_flag` is set, members have sizes of bit fields.
+    Struct {
+        name_offset: u32,
+        size: u32,
+        kind_flag: bool,
+        members: Items<BtfMember>,
+    },
+    /// A union. Where `kind_flag` is set, members have sizes of bit fields.
+    Union {
+        name_offset: u32,
+        size: u32,
+        kind_flag: bool,
+        members: Items<BtfMember>,
+        enum64_fallback: Option<BoxedFallback>,
+    },
+    /// What a function takes, and in `btf_type` what it gives.
+    FuncProto {
+        name_offset: u32,
+        btf_type: u32,
+        params: Items<BtfParam>,
+    },
+    /// A variable.
+    Var {
+        name_offset: u32,
+        btf_type: u32,
+        linkage: u32,
+    },
+    /// A section with variables.
+    DataSec {
+        name_offset: u32,
+        size: u32,
+        entries: Items<DataSecEntry>,
+    },
+    /// A tag of a declaration, or of the member or parameter `component_index`.
+    DeclTag {
+        name_offset: u32,
+        btf_type: u32,
+        component_index: u32,
+    },
+    /// A tag of a type.
+    TypeTag {
+        name_offset: u32,
+        btf_type: u32,
+    },
+    /// An enumeration with values of 64 bits, signed where `kind_flag` is set.
+    Enum64 {
+        name_offset: u32,
+        size: u32,
+        kind_flag: bool,
+        variants: Items<BtfEnum64>,
+    },
+}
+
+impl BtfType {
+    /// The kind.
+    #[tactic(auto, unfolding(crate::specs::Types::kind_of))]
+    pub fn kind(&self) -> BtfKind
+        ensures { result ≡ kind_of self.now }
+    {
+        match self {
+            BtfType::Unknown => BtfKind::Unknown,
+            BtfType::Fwd { .. } => BtfKind::Fwd,
+            BtfType::Const { .. } => BtfKind::Const,
+            BtfType::Volatile { .. } => BtfKind::Volatile,
+            BtfType::Restrict { .. } => BtfKind::Restrict,
+            BtfType::Ptr { .. } => BtfKind::Ptr,
+            BtfType::Typedef { .. } => BtfKind::Typedef,
+            BtfType::Func { .. } => BtfKind::Func,
+            BtfType::Int { .. } => BtfKind::Int,
+            BtfType::Float { .. } => BtfKind::Float,
+            BtfType::Enum { .. } => BtfKind::Enum,
+            BtfType::Array { .. } => BtfKind::Array,
+            BtfType::Struct { .. } => BtfKind::Struct,
+            BtfType::Union { .. } => BtfKind::Union,
+            BtfType::FuncProto { .. } => BtfKind::FuncProto,
+            BtfType::Var { .. } => BtfKind::Var,
+            BtfType::DataSec { .. } => BtfKind::DataSec,
+            BtfType::DeclTag { .. } => BtfKind::DeclTag,
+            BtfType::TypeTag { .. } => BtfKind::TypeTag,
+            BtfType::Enum64 { .. } => BtfKind::Enum64,
+        }
+    }
+
+    /// The offset of the name in the strings; 0 of `Unknown`.
+    #[tactic(auto, unfolding(crate::specs::Types::name_of))]
+    pub fn name_offset(&self) -> u32
+        ensures { result ≡ name_of self.now }
+    {
+        match self {
+            BtfType::Unknown => 0,
+            BtfType::Fwd { name_offset, .. }
+            | BtfType::Const { name_offset, .. }
+            | BtfType::Volatile { name_offset, .. }
+            | BtfType::Restrict { name_offset, .. }
+            | BtfType::Ptr { name_offset, .. }
+            | BtfType::Typedef { name_offset, .. }
+            | BtfType::Func { name_offset, .. }
+            | BtfType::Int { name_offset, .. }
+            | BtfType::Float { name_offset, .. }
+            | BtfType::Enum { name_offset, .. }
+            | BtfType::Array { name_offset, .. }
+            | BtfType::Struct { name_offset, .. }
+            | BtfType::Union { name_offset, .. }
+            | BtfType::FuncProto { name_offset, .. }
+            | BtfType::Var { name_offset, .. }
+            | BtfType::DataSec { name_offset, .. }
+            | BtfType::DeclTag { name_offset, .. }
+            | BtfType::TypeTag { name_offset, .. }
+            | BtfType::Enum64 { name_offset, .. } => *name_offset,
+        }
+    }
+
+    /// The size in bytes that an INT, STRUCT, UNION, ENUM, ENUM64, FLOAT or DATASEC states; None of others.
+    #[tactic(auto, unfolding(crate::specs::Types::size_word))]
+    pub fn size(&self) -> Option<u32>
+        ensures { result ≡ size_word self.now }
+    {
+        match self {
+            BtfType::Int { size, .. }
+            | BtfType::Struct { size, .. }
+            | BtfType::Union { size, .. }
+            | BtfType::Enum { size, .. }
+            | BtfType::Enum64 { size, .. }
+            | BtfType::Float { size, .. }
+            | BtfType::DataSec { size, .. } => Some(*size),
+            _ => None,
+        }
+    }
+
+    /// The id of the type that a PTR, TYPEDEF, VOLATILE, CONST, RESTRICT, TYPE_TAG, DECL_TAG, VAR, FUNC or
+    /// FUNC_PROTO (there what the function gives) holds; None of others.
+    #[tactic(auto, unfolding(crate::specs::Types::type_word))]
+    pub fn btf_type(&self) -> Option<u32>
+        ensures { result ≡ type_word self.now }
+    {
+        match self {
+            BtfType::Ptr { btf_type, .. }
+            | BtfType::Typedef { btf_type, .. }
+            | BtfType::Volatile { btf_type, .. }
+            | BtfType::Const { btf_type, .. }
+            | BtfType::Restrict { btf_type, .. }
+            | BtfType::TypeTag { btf_type, .. }
+            | BtfType::DeclTag { btf_type, .. }
+            | BtfType::Var { btf_type, .. }
+            | BtfType::Func { btf_type, .. }
+            | BtfType::FuncProto { btf_type, .. } => Some(*btf_type),
+            _ => None,
+        }
+    }
+
+    /// The members of a STRUCT or UNION, in order; None of others.
+    #[tactic(auto, unfolding(crate::specs::Types::members_of))]
+    pub fn members(&self) -> Option<&[BtfMember]>
+        ensures { option_copied result ≡ members_of self.now }
+    {
+        match self {
+            BtfType::Struct { members, .. } | BtfType::Union { members, .. } => {
+                Some(members.as_slice())
+            }
+            _ => None,
+        }
+    }
+
+    /// Whether the `kind_flag` of a STRUCT or UNION is set.
+    #[tactic(auto, unfolding(crate::specs::Types::has_bit_fields))]
+    fn has_bit_fields(&self) -> bool
+        ensures { result ≡ has_bit_fields self.now }
+    {
+        match self {
+            BtfType::Struct { kind_flag, .. } | BtfType::Union { kind_flag, .. } => *kind_flag,
+            _ => false,
+        }
+    }
+
+    /// The place in bits of a member of this type: with `kind_flag` the 24 low bits of its offset, else the
+    /// offset.
+    #[tactic(auto, unfolding(crate::specs::Types::bit_offset))]
+    pub fn member_bit_offset(&self, member: &BtfMember) -> u32
+        ensures { result ≡ bit_offset self.now member.now }
+    {
+        if self.has_bit_fields() {
+            member.offset & 0xff_ffff
+        } else {
+            member.offset
+        }
+    }
+
+    /// The size in bits of a member of this type that is a bit field: with `kind_flag` the 8 high bits of its
+    /// offset, else 0. It is 0 of a member that is no bit field.
+    #[tactic(auto, unfolding(crate::specs::Types::bit_field_size))]
+    pub fn member_bit_field_size(&self, member: &BtfMember) -> u32
+        ensures { result ≡ bit_field_size self.now member.now }
+    {
+        if self.has_bit_fields() {
+            member.offset >> 24
+        } else {
+            0
+        }
+    }
+}
