@@ -1,6 +1,14 @@
+pub mod CandidateRows
+pub mod Comparing
+pub mod Copies
+pub mod ExtSections
+pub mod Fields
 pub mod InOrder
 pub mod Looks
-pub mod Texts
 pub mod OneAfterOther
+pub mod RecordPlaces
+pub mod Refusals
+pub mod RelocationLists
+pub mod RowRange
 pub mod Spelling
-pub mod Copies
+pub mod Texts

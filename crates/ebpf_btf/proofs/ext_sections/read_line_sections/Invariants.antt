@@ -1,0 +1,15 @@
+use Rattle.std.proofs.Common.{◌≡◌, ◌-◌, ◌≤◌}
+use Rattle.std.specs.FinMap.{empty, insert}
+use Rattle.ebpf_btf.specs.ExtReading.{line_section, sections_from}
+use Rattle.ebpf_btf.proofs.ExtSections.{fold_ok}
+use Rattle.ebpf_btf.proofs.ext_sections.read_line_sections.Given as goal
+
+abbrev pub invariant-loop-place : goal.invariant-loop-place
+invariant-loop-place l = record {
+  within : l.place ≤ l.part.end;
+  rest : fold_ok (λ kept e. insert kept e.0 e.1) l.sections (sections_from (l.part.end - l.place) (line_section l.order l.bytes l.btf.strings l.part.record_size l.part.end) l.place l.part.end)
+      ≡ fold_ok (λ kept e. insert kept e.0 e.1) empty (sections_from (l.part.end - l.part.place) (line_section l.order l.bytes l.btf.strings l.part.record_size l.part.end) l.part.place l.part.end);
+}
+
+abbrev pub decreases-loop-place : goal.decreases-loop-place
+decreases-loop-place l = l.part.end - l.place

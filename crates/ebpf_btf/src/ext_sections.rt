@@ -1,0 +1,163 @@
+//! The sections of `.BTF.ext`, read from bytes.
+
+ghost use Rattle.std.specs.Prelude.{◌≡◌, ◌-◌, ◌≤◌, ◌<◌, [], length, IfOk};
+ghost use Rattle.std.specs.FinMap as map;
+ghost use Rattle.ebpf_base.specs.Faults.{Gives};
+ghost use Rattle.ebpf_btf.specs.ExtReading.{by_names, func_section, line_section, relocation_section, sections_from};
+ghost use Rattle.ebpf_btf.specs.Memory.{is_memory};
+
+use crate::btf::Btf;
+use crate::endianness::Endianness;
+use crate::error::BtfError;
+use crate::ext_infos::{FuncSecInfo, LineSecInfo};
+use crate::ext_part::{Part, SECTION_HEAD, read_section_head};
+use crate::ext_records::{read_func_records, read_line_records, read_relocations};
+use crate::relocation::Relocation;
+use ebpf_base::{ByName, Items, Text};
+use std::alloc::Global;
+
+/// The least length of a record on functions in bytes.
+const FUNC_RECORD: u32 = 8;
+
+/// The least length of a record on lines in bytes.
+const LINE_RECORD: u32 = 16;
+
+/// The least length of a relocation in bytes.
+const RELOCATION: u32 = 16;
+
+/// The name of the section at a place, what is said of its functions, and the place after it.
+#[tactic(auto, unfolding(crate::specs::ExtReading::section_with, crate::specs::ExtReading::func_said, crate::specs::ExtFormat::func_infos))]
+fn read_func_section(
+    alloc: Global,
+    order: Endianness,
+    bytes: &[u8],
+    btf: &Btf,
+    part: Part,
+    place: usize,
+) -> Result<((Text, FuncSecInfo), usize), BtfError>
+    requires before { place < part.end }
+    requires inside { part.end ≤ length bytes.now }
+    ensures found { Gives is_memory result (func_section order bytes.now btf.now.strings part.record_size part.end place) }
+{
+    let head = read_section_head(order, bytes, part, FUNC_RECORD, place)?;
+    let name = Text::from_str(alloc, btf.string_at(head.name_offset)?.as_str())?;
+    let size = part.record_size as usize;
+    let count = head.count as usize;
+    let infos = FuncSecInfo {
+        sec_name_offset: head.name_offset,
+        num_info: head.count,
+        func_info: read_func_records(alloc, order, bytes, place + SECTION_HEAD, size, count)?,
+    };
+    Ok(((name, infos), head.next))
+}
+
+/// The sections of a part, by their names; of those with equal names the later.
+pub fn read_func_sections(
+    alloc: Global,
+    order: Endianness,
+    bytes: &[u8],
+    btf: &Btf,
+    part: Part,
+) -> Result<ByName<FuncSecInfo>, BtfError>
+    requires before { part.place ≤ part.end }
+    requires inside { part.end ≤ length bytes.now }
+    ensures { Gives is_memory result (by_names (sections_from (part.end - part.place) (func_section order bytes.now btf.now.strings part.record_size part.end) part.place part.end)) }
+{
+    let mut sections = ByName::new(alloc);
+    let mut place = part.place;
+    while place < part.end {
+        let ((name, infos), next) = read_func_section(alloc, order, bytes, btf, part, place)?;
+        sections.insert(name.into_string(), infos)?;
+        place = next;
+    }
+    Ok(sections)
+}
+
+/// The name of the section at a place, what is said of its lines, and the place after it.
+#[tactic(auto, unfolding(crate::specs::ExtReading::section_with, crate::specs::ExtReading::line_said, crate::specs::ExtFormat::line_infos))]
+fn read_line_section(
+    alloc: Global,
+    order: Endianness,
+    bytes: &[u8],
+    btf: &Btf,
+    part: Part,
+    place: usize,
+) -> Result<((Text, LineSecInfo), usize), BtfError>
+    requires before { place < part.end }
+    requires inside { part.end ≤ length bytes.now }
+    ensures found { Gives is_memory result (line_section order bytes.now btf.now.strings part.record_size part.end place) }
+{
+    let head = read_section_head(order, bytes, part, LINE_RECORD, place)?;
+    let name = Text::from_str(alloc, btf.string_at(head.name_offset)?.as_str())?;
+    let size = part.record_size as usize;
+    let count = head.count as usize;
+    let infos = LineSecInfo {
+        sec_name_offset: head.name_offset,
+        num_info: head.count,
+        line_info: read_line_records(alloc, order, bytes, place + SECTION_HEAD, size, count)?,
+    };
+    Ok(((name, infos), head.next))
+}
+
+/// The sections of a part, by their names; of those with equal names the later.
+pub fn read_line_sections(
+    alloc: Global,
+    order: Endianness,
+    bytes: &[u8],
+    btf: &Btf,
+    part: Part,
+) -> Result<ByName<LineSecInfo>, BtfError>
+    requires before { part.place ≤ part.end }
+    requires inside { part.end ≤ length bytes.now }
+    ensures { Gives is_memory result (by_names (sections_from (part.end - part.place) (line_section order bytes.now btf.now.strings part.record_size part.end) part.place part.end)) }
+{
+    let mut sections = ByName::new(alloc);
+    let mut place = part.place;
+    while place < part.end {
+        let ((name, infos), next) = read_line_section(alloc, order, bytes, btf, part, place)?;
+        sections.insert(name.into_string(), infos)?;
+        place = next;
+    }
+    Ok(sections)
+}
+
+/// The offset of a section's name, its relocations, and the place after the section.
+#[tactic(auto, unfolding(crate::specs::ExtReading::section_with, crate::specs::ExtReading::relocations_said))]
+fn read_relocation_section(
+    alloc: Global,
+    order: Endianness,
+    bytes: &[u8],
+    part: Part,
+    place: usize,
+) -> Result<((u32, Items<Relocation>), usize), BtfError>
+    requires before { place < part.end }
+    requires inside { part.end ≤ length bytes.now }
+    ensures found { Gives is_memory result (relocation_section order bytes.now part.record_size part.end place) }
+{
+    let head = read_section_head(order, bytes, part, RELOCATION, place)?;
+    let size = part.record_size as usize;
+    let count = head.count as usize;
+    let relocations = read_relocations(alloc, bytes, place + SECTION_HEAD, size, count)?;
+    Ok(((head.name_offset, relocations), head.next))
+}
+
+/// The sections of a part, in order.
+pub fn read_relocation_sections(
+    alloc: Global,
+    order: Endianness,
+    bytes: &[u8],
+    part: Part,
+) -> Result<Items<(u32, Items<Relocation>)>, BtfError>
+    requires before { part.place ≤ part.end }
+    requires inside { part.end ≤ length bytes.now }
+    ensures { Gives is_memory result (sections_from (part.end - part.place) (relocation_section order bytes.now part.record_size part.end) part.place part.end) }
+{
+    let mut sections = Items::new(alloc);
+    let mut place = part.place;
+    while place < part.end {
+        let (section, next) = read_relocation_section(alloc, order, bytes, part, place)?;
+        sections.push(section)?;
+        place = next;
+    }
+    Ok(sections)
+}

@@ -1,0 +1,60 @@
+//! Two types, one on each side of a comparison.
+
+ghost use Rattle.std.specs.Prelude.{◌≡◌, IfOk, IfErr, Ok, Err};
+ghost use Rattle.ebpf_btf.specs.Compatibility.{both, both_begin_at_0, first_bit, resolved_type, same_kind};
+
+use crate::btf::Btf;
+use crate::error::BtfError;
+use crate::types::BtfType;
+
+/// The ids of a type of an object and of one of a kernel.
+#[derive(Clone, Copy)]
+pub struct Pair {
+    pub local: u32,
+    pub target: u32,
+}
+
+/// A pair where there is a type on both sides.
+pub fn both(local: Option<u32>, target: Option<u32>) -> Option<Pair>
+    ensures { result ≡ both local target }
+{
+    match (local, target) {
+        (Some(local), Some(target)) => Some(Pair { local, target }),
+        _ => None,
+    }
+}
+
+/// The type that an id leads to, past those that stand for others.
+pub fn resolved_type(btf: &Btf, type_id: u32) -> Result<&BtfType, BtfError>
+    ensures found { IfOk result (λ t. resolved_type btf.now.types type_id ≡ Ok t.now) }
+    ensures fault { IfErr result (λ e. resolved_type btf.now.types type_id ≡ Err e) }
+{
+    let resolved = btf.resolve_type(type_id)?;
+    btf.type_by_id(resolved)
+}
+
+/// Whether two types are of one kind.
+#[tactic(auto, unfolding(crate::specs::Types::kind_number))]
+pub fn same_kind(local: &BtfType, target: &BtfType) -> bool
+    ensures { result ≡ same_kind local.now target.now }
+{
+    local.kind() as u8 == target.kind() as u8
+}
+
+/// The bit of its bytes at which an INT begins; others begin at 0.
+#[tactic(auto, unfolding(crate::specs::Compatibility::first_bit))]
+fn first_bit(ty: &BtfType) -> u32
+    ensures { result ≡ first_bit ty.now }
+{
+    match ty {
+        BtfType::Int { int_data, .. } => (int_data >> 16) & 0xff,
+        _ => 0,
+    }
+}
+
+/// Whether two types begin at bit 0 of their bytes.
+pub fn both_begin_at_0(local: &BtfType, target: &BtfType) -> bool
+    ensures { result ≡ both_begin_at_0 local.now target.now }
+{
+    first_bit(local) == 0 && first_bit(target) == 0
+}
