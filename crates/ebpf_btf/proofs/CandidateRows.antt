@@ -20,7 +20,7 @@ use Rattle.ebpf_btf.specs.Candidates.{candidates, is_candidate, name_fault}
 use Rattle.ebpf_btf.specs.EssentialNames.{essential_name}
 use Rattle.ebpf_btf.specs.Strings.{before_zero, text_at, text_or_fault, type_name}
 use Rattle.ebpf_btf.specs.TypeInfo.{TypeInfo}
-use Rattle.ebpf_btf.specs.TypeRows.{Row, kept_fault, key_row, row_cmp, row_of, row_total, rows, rows_from}
+use Rattle.ebpf_btf.specs.TypeRows.{Row, kept_fault, key_row, row_cmp, row_total, rows, rows_from}
 use Rattle.ebpf_btf.specs.Types.{kind_number, kind_of, is_kind, name_of}
 use Rattle.ebpf_btf.specs.declared.error.BtfError.TheVariants.{InvalidStringOffset}
 use Rattle.ebpf_btf.proofs.RowRange.{filter_sorted}

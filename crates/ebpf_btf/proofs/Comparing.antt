@@ -1,5 +1,5 @@
 -- One pair of a comparison of types, and one pair of parameters.
-use Rattle.std.proofs.Common.{◌≡◌, ◌-◌, ◌+◌, ◌<◌, ◌≤◌, ℕ, zero, suc, Bool, true, false, List, [], ◌∷◌, if◌then◌else◌, Option, Some, None, Result, Ok, Err, ◌⊎◌, inl, inr, refl, sym, ap, ◌∙◌, arith}
+use Rattle.std.proofs.Common.{◌≡◌, ℕ, zero, suc, true, false, List, [], ◌∷◌, if◌then◌else◌, Option, Some, None, Result, Ok, Err, ◌⊎◌, inl, inr, refl, sym, ◌∙◌}
 use Rattle.std.specs.List.{zip}
 use Rattle.ebpf_btf.specs.declared.compatible_types.Verdict.{Verdict}
 use Rattle.ebpf_btf.specs.declared.compatible_types.Verdict.TheVariants.{Alike, Different}

@@ -1,6 +1,6 @@
 -- The bytes of `.BTF.ext` (the kernel's Documentation/bpf/btf.rst, 4.2 ".BTF.ext section"; struct btf_ext_header,
 -- struct btf_ext_info_sec, and in include/uapi/linux/bpf.h struct bpf_core_relo).
-use Rattle.std.specs.Prelude.{◌≡◌, ℕ, ◌+◌, ◌*◌, ◌/◌, Bool, List, [], ◌∷◌, ◌++◌, map, length, Option, Some, None, Result, Ok, Err, nat_lt, not, ◌&&◌, ◌==◌, if◌then◌else◌}
+use Rattle.std.specs.Prelude.{ℕ, ◌+◌, ◌*◌, ◌/◌, List, [], ◌∷◌, ◌++◌, map, length, Option, None, Result, Ok, Err, nat_lt, not, ◌&&◌, ◌==◌, if◌then◌else◌}
 use Rattle.std.specs.List.{range_with_len}
 use Rattle.ebpf_base.specs.Faults.{first_of}
 use Rattle.ebpf_btf.specs.declared.endianness.Endianness.{Endianness}
@@ -12,12 +12,10 @@ use Rattle.ebpf_btf.specs.declared.ext_infos.bpf_line_info.{bpf_line_info}
 use Rattle.ebpf_btf.specs.declared.ext_infos.FuncSecInfo.{FuncSecInfo}
 use Rattle.ebpf_btf.specs.declared.ext_infos.LineSecInfo.{LineSecInfo}
 use Rattle.ebpf_btf.specs.declared.relocation.Relocation.{Relocation}
-use Rattle.ebpf_btf.specs.declared.relocation.RelocationKind.{RelocationKind}
 use Rattle.ebpf_btf.specs.Format.{items_at, word}
 use Rattle.ebpf_btf.specs.Reading.{header_length, magic}
 use Rattle.ebpf_btf.specs.RelocationKinds.{relocation_kind}
 use Rattle.ebpf_btf.specs.Next.{if_some, if_ok}
-use Rattle.ebpf_btf.specs.Strings.{text_at}
 
 -- ---- the header; offsets count from its end
 

@@ -1,5 +1,5 @@
 -- What the bytes of `.BTF.ext` give, and their first fault: part by part, and in a part section by section.
-use Rattle.std.specs.Prelude.{◌≡◌, ℕ, zero, suc, ◌+◌, ◌-◌, List, [], ◌∷◌, Option, Some, None, Result, Ok, Err, ◌==◌, fold, if◌then◌else◌}
+use Rattle.std.specs.Prelude.{ℕ, zero, suc, ◌+◌, ◌-◌, List, [], ◌∷◌, Result, Ok, Err, ◌==◌, if◌then◌else◌}
 use Rattle.std.specs.FinMap.{FinMap, empty}
 use Rattle.ebpf_base.specs.Keyed.{put_all}
 use Rattle.ebpf_base.specs.Keys.{text_cmp}
@@ -9,7 +9,7 @@ use Rattle.ebpf_btf.specs.declared.error.BtfError.TheVariants.{InvalidInfo}
 use Rattle.ebpf_btf.specs.declared.ext_infos.FuncSecInfo.{FuncSecInfo}
 use Rattle.ebpf_btf.specs.declared.ext_infos.LineSecInfo.{LineSecInfo}
 use Rattle.ebpf_btf.specs.declared.relocation.Relocation.{Relocation}
-use Rattle.ebpf_btf.specs.ExtFormat.{ext_header_fault, func_part, line_part, relocation_part, part_fault, part_length, record_size, sections_start, sections_end, section_name, section_count, section_end, section_fault, func_infos, line_infos, relocations_at}
+use Rattle.ebpf_btf.specs.ExtFormat.{ext_header_fault, func_part, line_part, relocation_part, part_fault, record_size, sections_start, sections_end, section_name, section_count, section_end, section_fault, func_infos, line_infos, relocations_at}
 use Rattle.ebpf_btf.specs.Next.{if_some, if_ok}
 use Rattle.ebpf_btf.specs.Strings.{text_at}
 

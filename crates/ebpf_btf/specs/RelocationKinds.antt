@@ -1,5 +1,5 @@
 -- The kinds of CO-RE relocations by their numbers (the kernel's include/uapi/linux/bpf.h, enum bpf_core_relo_kind).
-use Rattle.std.specs.Prelude.{◌≡◌, ℕ, Option, Some, None, ◌==◌, if◌then◌else◌}
+use Rattle.std.specs.Prelude.{ℕ, Option, Some, None, ◌==◌, if◌then◌else◌}
 use Rattle.ebpf_btf.specs.declared.relocation.RelocationKind.{RelocationKind}
 use Rattle.ebpf_btf.specs.declared.relocation.RelocationKind.TheVariants.{FieldByteOffset, FieldByteSize, FieldExists, FieldSigned, FieldLShift64, FieldRShift64, TypeIdLocal, TypeIdTarget, TypeExists, TypeSize, EnumVariantExists, EnumVariantValue}
 

@@ -36,9 +36,9 @@ pub struct BtfExt {
     pub func_info: FuncInfo,
     /// What is said of lines, by the names of their sections.
     pub line_info: LineInfo,
-    relocations: Items<(u32, Items<Relocation>)>,
-    func_info_rec_size: u32,
-    line_info_rec_size: u32,
+    pub(crate) relocations: Items<(u32, Items<Relocation>)>,
+    pub(crate) func_info_rec_size: u32,
+    pub(crate) line_info_rec_size: u32,
 }
 
 impl Model for BtfExt {

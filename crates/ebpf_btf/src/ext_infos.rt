@@ -31,7 +31,7 @@ pub struct bpf_line_info {
 }
 
 /// What is said of the functions of a section (`struct btf_ext_info_sec`).
-#[derive(Clone, Debug, Drop, PartialEq)]
+#[derive(Debug, Drop, PartialEq)]
 pub struct FuncSecInfo {
     /// The offset of the section's name in the strings.
     pub sec_name_offset: u32,
@@ -42,7 +42,7 @@ pub struct FuncSecInfo {
 }
 
 /// What is said of the lines of a section (`struct btf_ext_info_sec`).
-#[derive(Clone, Debug, Drop, PartialEq)]
+#[derive(Debug, Drop, PartialEq)]
 pub struct LineSecInfo {
     /// The offset of the section's name in the strings.
     pub sec_name_offset: u32,
@@ -53,21 +53,21 @@ pub struct LineSecInfo {
 }
 
 /// What is said of functions, by the names of their sections.
-#[derive(Clone, Debug, Drop, PartialEq)]
+#[derive(Debug, Drop, PartialEq)]
 pub struct FuncInfo {
     /// By the names of sections.
     pub sections: ByName<FuncSecInfo>,
-    /// The memory that copies are made in.
-    pub alloc: Global,
+    /// The memory that empty lists name.
+    pub(crate) alloc: Global,
 }
 
 /// What is said of lines, by the names of their sections.
-#[derive(Clone, Debug, Drop, PartialEq)]
+#[derive(Debug, Drop, PartialEq)]
 pub struct LineInfo {
     /// By the names of sections.
     pub sections: ByName<LineSecInfo>,
-    /// The memory that copies are made in.
-    pub alloc: Global,
+    /// The memory that empty lists name.
+    pub(crate) alloc: Global,
 }
 
 impl FuncInfo {
@@ -77,11 +77,7 @@ impl FuncInfo {
         ensures { IfOk result (λ info. info ≡ func_info_at self.now.sections name.now) }
     {
         match self.sections.get(name) {
-            Some(info) => Ok(FuncSecInfo {
-                sec_name_offset: info.sec_name_offset,
-                num_info: info.num_info,
-                func_info: info.func_info.copied()?,
-            }),
+            Some(funcs) => funcs.clone(),
             None => Ok(FuncSecInfo {
                 sec_name_offset: 0,
                 num_info: 0,
@@ -98,11 +94,7 @@ impl LineInfo {
         ensures { IfOk result (λ info. info ≡ line_info_at self.now.sections name.now) }
     {
         match self.sections.get(name) {
-            Some(info) => Ok(LineSecInfo {
-                sec_name_offset: info.sec_name_offset,
-                num_info: info.num_info,
-                line_info: info.line_info.copied()?,
-            }),
+            Some(lines) => lines.clone(),
             None => Ok(LineSecInfo {
                 sec_name_offset: 0,
                 num_info: 0,

@@ -9,6 +9,7 @@ mod endianness;
 mod error;
 mod essential_name;
 mod ext;
+mod ext_clones;
 mod ext_infos;
 mod ext_part;
 mod ext_records;
@@ -42,8 +43,3 @@ pub use members::{BtfEnum, BtfEnum64, BtfMember, BtfParam, DataSecEntry, Enum64V
 pub use relocation::{Relocation, RelocationKind};
 pub use type_index::TypeIndex;
 pub use types::BtfType;
-
-#[cfg(test)]
-mod tests;
-#[cfg(test)]
-mod tests_compatibility;

@@ -1,4 +1,4 @@
-use Rattle.std.proofs.Common.{◌≡◌, ◌∙◌, sym, arith}
+use Rattle.std.proofs.Common.{◌∙◌, sym, arith}
 use Rattle.ebpf_btf.specs.Memory.{is_memory}
 use Rattle.ebpf_btf.proofs.Fields.{fields_local_fault, fields_target_fault, fields_next}
 use Rattle.ebpf_btf.proofs.Refusals.{exact, handed_on}

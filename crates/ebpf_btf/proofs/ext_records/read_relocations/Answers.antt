@@ -1,4 +1,4 @@
-use Rattle.std.proofs.Common.{◌≡◌, sym, ◌∙◌}
+use Rattle.std.proofs.Common.{sym, ◌∙◌}
 use Rattle.std.proofs.lemmas.Result.{err_from_is_err_and}
 use Rattle.ebpf_btf.specs.ExtFormat.{relocation_at}
 use Rattle.ebpf_btf.proofs.RelocationLists.{relocations_none, list_more, list_cut}

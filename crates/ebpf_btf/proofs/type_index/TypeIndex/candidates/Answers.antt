@@ -1,4 +1,4 @@
-use Rattle.std.proofs.Common.{◌≡◌, ap, ◌∙◌, sym}
+use Rattle.std.proofs.Common.{◌≡◌, ap, ◌∙◌}
 use Rattle.ebpf_btf.specs.EssentialNames.{essential_name}
 use Rattle.ebpf_btf.proofs.CandidateRows.{candidates_found}
 use Rattle.ebpf_btf.proofs.type_index.TypeIndex.candidates.Goals as goal
