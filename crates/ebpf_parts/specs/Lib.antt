@@ -1,5 +1,11 @@
+pub mod AttachTypes
+pub mod Maps
+pub mod MapTypes
 pub mod Memory
+pub mod Numbers
+pub mod Pinning
 pub mod ProgramSections
+pub mod ProgramTypes
 pub mod SectionKinds
 pub mod Sections
 pub mod Slots

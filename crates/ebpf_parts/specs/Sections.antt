@@ -1,5 +1,5 @@
 -- Sections, as they are parsed.
-use Rattle.std.specs.Prelude.{ℕ, Bool, List, [], ◌∷◌, Option, Some, None, ◌==◌, unwrap_or, is_some, if◌then◌else◌, option_map}
+use Rattle.std.specs.Prelude.{ℕ, List, [], Option, Some, None, ◌==◌, unwrap_or, is_some, if◌then◌else◌, option_map}
 use Rattle.std.specs.List.{list_any}
 use Rattle.ebpf_base.specs.Faults.{or_else, first_of}
 use Rattle.ebpf_elf.specs.Relocations.{relocations}

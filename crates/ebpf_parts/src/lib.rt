@@ -1,12 +1,15 @@
 //! The parts of an eBPF object: slots, programs, sections, and why an object can't be parsed.
 #![tactic(auto)]
 
+mod binding;
 mod error;
 pub mod insn;
+pub mod maps;
 mod program_section;
 pub mod programs;
 mod section;
 mod section_kind;
+mod section_name;
 
 pub use error::ParseError;
 pub use program_section::ProgramSection;

@@ -1,15 +1,16 @@
 //! What the name of a program's section says of the program.
 
-ghost use Rattle.std.specs.Prelude.{◌≡◌, IfOk, IfSome, IfNone, Some, None};
+ghost use Rattle.std.specs.Prelude.{◌≡◌, IfOk, Some};
 ghost use Rattle.ebpf_base.specs.Faults.{Refuses};
 ghost use Rattle.ebpf_parts.specs.Memory.{is_memory};
-ghost use Rattle.ebpf_parts.specs.ProgramSections.{first_piece, program_section, program_section_fault};
+ghost use Rattle.ebpf_parts.specs.ProgramSections.{program_section, program_section_fault};
 
 use crate::error::ParseError;
 use crate::programs::{
     CgroupSkbAttachType, CgroupSockAddrAttachType, CgroupSockAttachType, CgroupSockoptAttachType,
     SkReuseportAttachType, SkSkbKind, XdpAttachType,
 };
+use crate::section_name::program_section;
 use ebpf_base::Text;
 use std::alloc::Global;
 
@@ -75,26 +76,6 @@ pub enum ProgramSection {
     Iter {
         sleepable: bool,
     },
-}
-
-/// The text before the first slash.
-fn first_piece(name: &str) -> &str
-    ensures { result.now ≡ first_piece name.now }
-{
-    match name.split_once('/') {
-        Some((first, _)) => first,
-        None => name,
-    }
-}
-
-/// The kind that a name says.
-fn program_section(name: &str) -> Option<ProgramSection>
-    ensures { result ≡ program_section name.now }
-{
-    match first_piece(name) {
-        "kprobe" => Some(ProgramSection::KProbe),
-        _ => None,
-    }
 }
 
 impl ProgramSection {

@@ -1,0 +1,136 @@
+-- Maps, and what may be read and set of them.
+use Rattle.std.specs.Prelude.{ℕ, List, [], Option, Some, None, ◌==◌, option_map, if◌then◌else◌}
+use Rattle.ebpf_parts.specs.declared.section_kind.EbpfSectionKind.{EbpfSectionKind}
+use Rattle.ebpf_parts.specs.declared.section_kind.EbpfSectionKind.TheVariants.{Undefined, BtfMaps}
+use Rattle.ebpf_parts.specs.declared.maps.definition.bpf_map_def.{bpf_map_def}
+use Rattle.ebpf_parts.specs.declared.maps.definition.BtfMapDef.{BtfMapDef}
+use Rattle.ebpf_parts.specs.declared.maps.legacy.LegacyMap.{LegacyMap}
+use Rattle.ebpf_parts.specs.declared.maps.btf.BtfMap.{BtfMap}
+use Rattle.ebpf_parts.specs.declared.maps.either.Map.{Map}
+use Rattle.ebpf_parts.specs.declared.maps.either.Map.TheVariants.{Legacy, Btf}
+use Rattle.ebpf_parts.specs.declared.maps.info.bpf_map_info.{bpf_map_info}
+use Rattle.ebpf_parts.specs.declared.maps.pinning.PinningType.{PinningType}
+use Rattle.ebpf_parts.specs.declared.maps.pinning.PinningType.TheVariants as pinned
+
+abbrev pub map_type_of : Map → ℕ
+map_type_of (Legacy m) = m.def.map_type
+map_type_of (Btf m) = m.def.map_type
+
+abbrev pub key_size_of : Map → ℕ
+key_size_of (Legacy m) = m.def.key_size
+key_size_of (Btf m) = m.def.key_size
+
+abbrev pub value_size_of : Map → ℕ
+value_size_of (Legacy m) = m.def.value_size
+value_size_of (Btf m) = m.def.value_size
+
+abbrev pub max_entries_of : Map → ℕ
+max_entries_of (Legacy m) = m.def.max_entries
+max_entries_of (Btf m) = m.def.max_entries
+
+abbrev pub map_flags_of : Map → ℕ
+map_flags_of (Legacy m) = m.def.map_flags
+map_flags_of (Btf m) = m.def.map_flags
+
+-- a fixed struct has no room for it
+abbrev pub map_extra_of : Map → ℕ
+map_extra_of (Legacy m) = 0
+map_extra_of (Btf m) = m.def.map_extra
+
+abbrev pub pinning_of : Map → PinningType
+pinning_of (Legacy m) = m.def.pinning
+pinning_of (Btf m) = m.def.pinning
+
+abbrev pub bytes_of : Map → List ℕ
+bytes_of (Legacy m) = m.bytes
+bytes_of (Btf m) = m.bytes
+
+abbrev pub section_index_of : Map → ℕ
+section_index_of (Legacy m) = m.section_index
+section_index_of (Btf m) = m.section_index
+
+abbrev pub section_kind_of : Map → EbpfSectionKind
+section_kind_of (Legacy m) = m.section_kind
+section_kind_of (Btf m) = BtfMaps
+
+abbrev pub symbol_index_of : Map → Option ℕ
+symbol_index_of (Legacy m) = m.symbol_index
+symbol_index_of (Btf m) = Some m.symbol_index
+
+-- the map with another value size
+abbrev pub with_value_size : Map → ℕ → Map
+with_value_size (Legacy m) size = Legacy (record m { def = record m.def { value_size = size } })
+with_value_size (Btf m) size = Btf (record m { def = record m.def { value_size = size } })
+
+-- the map with another number of entries
+abbrev pub with_max_entries : Map → ℕ → Map
+with_max_entries (Legacy m) entries = Legacy (record m { def = record m.def { max_entries = entries } })
+with_max_entries (Btf m) entries = Btf (record m { def = record m.def { max_entries = entries } })
+
+-- the map with other data
+abbrev pub with_bytes : Map → List ℕ → Map
+with_bytes (Legacy m) bytes = Legacy (record m { bytes = bytes })
+with_bytes (Btf m) bytes = Btf (record m { bytes = bytes })
+
+-- a map that no section declares, without data and without an inner map
+abbrev pub legacy_map : bpf_map_def → LegacyMap
+legacy_map def = record {
+  def = def;
+  inner_def = None;
+  section_index = 0;
+  section_kind = Undefined;
+  symbol_index = None;
+  bytes = [];
+}
+
+abbrev pub btf_map : BtfMapDef → BtfMap
+btf_map def = record {
+  def = def;
+  inner_def = None;
+  section_index = 0;
+  symbol_index = 0;
+  bytes = [];
+}
+
+-- the map that a map of maps holds
+abbrev pub inner_of : Map → Option Map
+inner_of (Legacy m) = option_map (λ def. Legacy (legacy_map def)) m.inner_def
+inner_of (Btf m) = option_map (λ def. Btf (btf_map def)) m.inner_def
+
+-- A map as the kernel describes it: the value's type says that it is a map with type information, since
+-- a map without keys, as a Bloom filter, has no type of its key.
+abbrev pub described_map : bpf_map_info → PinningType → Map
+described_map info pinned =
+    if info.btf_value_type_id == 0
+    then Legacy (legacy_map (record {
+      map_type = info.type_;
+      key_size = info.key_size;
+      value_size = info.value_size;
+      max_entries = info.max_entries;
+      map_flags = info.map_flags;
+      id = info.id;
+      pinning = pinned;
+    }))
+    else Btf (btf_map (record {
+      map_type = info.type_;
+      key_size = info.key_size;
+      value_size = info.value_size;
+      max_entries = info.max_entries;
+      map_flags = info.map_flags;
+      map_extra = info.map_extra;
+      pinning = pinned;
+      btf_key_type_id = info.btf_key_type_id;
+      btf_value_type_id = info.btf_value_type_id;
+    }))
+
+-- the map of plain numbers
+abbrev pub map_from_params : ℕ → ℕ → ℕ → ℕ → ℕ → Map
+map_from_params map_type key_size value_size max_entries flags = Legacy (legacy_map (record {
+  map_type = map_type;
+  key_size = key_size;
+  value_size = value_size;
+  max_entries = max_entries;
+  map_flags = flags;
+  id = 0;
+  pinning = pinned.None;
+}))

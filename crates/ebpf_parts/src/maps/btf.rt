@@ -1,0 +1,52 @@
+//! Maps by type information.
+
+ghost use Rattle.std.specs.Prelude.{◌≡◌};
+ghost use Rattle.ebpf_parts.specs.Maps.{btf_map};
+
+use crate::maps::definition::BtfMapDef;
+use ebpf_base::Items;
+use std::alloc::{AllocError, Global};
+
+/// A map that type information describes.
+#[derive(Debug, Drop)]
+pub struct BtfMap {
+    /// What the declaration says.
+    pub def: BtfMapDef,
+    /// What it says of the maps that a map of maps holds.
+    pub inner_def: Option<BtfMapDef>,
+    /// The number of the section that declares it, 0 where none does.
+    pub section_index: usize,
+    /// The number of the symbol that names it, 0 where none does.
+    pub symbol_index: usize,
+    /// The data that it begins with.
+    pub bytes: Items<u8>,
+}
+
+impl BtfMap {
+    /// A map that no section declares, without data and without an inner map.
+    pub(crate) fn unplaced(alloc: Global, def: BtfMapDef) -> BtfMap
+        ensures { result ≡ btf_map def }
+    {
+        BtfMap {
+            def,
+            inner_def: None,
+            section_index: 0,
+            symbol_index: 0,
+            bytes: Items::new(alloc),
+        }
+    }
+}
+
+impl Clone for BtfMap {
+    ghost is_clone = { λ old copy. copy ≡ old };
+
+    fn clone(&self) -> Result<BtfMap, AllocError> {
+        Ok(BtfMap {
+            def: self.def,
+            inner_def: self.inner_def,
+            section_index: self.section_index,
+            symbol_index: self.symbol_index,
+            bytes: self.bytes.copied()?,
+        })
+    }
+}
