@@ -1,0 +1,10 @@
+pub mod Modulo
+pub mod InStep
+pub mod Searched
+pub mod CallSteps
+pub mod ByNumber
+pub mod Keys
+pub mod NumberedKeys
+pub mod CallsRefer
+pub mod Finished
+pub mod SoFar

@@ -1,8 +1,12 @@
 //! The functions of an object.
 
+ghost use Rattle.std.specs.Prelude.{◌≡◌, IfOk};
+
 use ebpf_base::{Items, Text};
+use ebpf_btf::{FuncSecInfo, LineSecInfo};
 use ebpf_elf::SectionIndex;
 use ebpf_parts::insn::bpf_insn;
+use std::alloc::AllocError;
 
 /// A function: the slots from one place of a section on.
 #[derive(Debug, Drop)]
@@ -17,4 +21,52 @@ pub struct Function {
     pub section_offset: usize,
     /// Its slots.
     pub instructions: Items<bpf_insn>,
+    /// What `.BTF.ext` says of it and, once linked, of the functions after it, by slot.
+    pub func_info: FuncSecInfo,
+    /// What `.BTF.ext` says of its lines, by slot.
+    pub line_info: LineSecInfo,
+    /// The size of a record on functions in the file, in bytes; 0 without one.
+    pub func_info_rec_size: u32,
+    /// The size of a record on lines in the file, in bytes; 0 without one.
+    pub line_info_rec_size: u32,
+}
+
+/// A copy of what is said of functions.
+fn copy_func_info(info: &FuncSecInfo) -> Result<FuncSecInfo, AllocError>
+    ensures { IfOk result (λ copy. copy ≡ info.now) }
+{
+    Ok(FuncSecInfo {
+        sec_name_offset: info.sec_name_offset,
+        num_info: info.num_info,
+        func_info: info.func_info.copied()?,
+    })
+}
+
+/// A copy of what is said of lines.
+fn copy_line_info(info: &LineSecInfo) -> Result<LineSecInfo, AllocError>
+    ensures { IfOk result (λ copy. copy ≡ info.now) }
+{
+    Ok(LineSecInfo {
+        sec_name_offset: info.sec_name_offset,
+        num_info: info.num_info,
+        line_info: info.line_info.copied()?,
+    })
+}
+
+impl Clone for Function {
+    ghost is_clone = { λ old copy. copy ≡ old };
+
+    fn clone(&self) -> Result<Function, AllocError> {
+        Ok(Function {
+            address: self.address,
+            name: self.name.clone()?,
+            section_index: self.section_index,
+            section_offset: self.section_offset,
+            instructions: self.instructions.copied()?,
+            func_info: copy_func_info(&self.func_info)?,
+            line_info: copy_line_info(&self.line_info)?,
+            func_info_rec_size: self.func_info_rec_size,
+            line_info_rec_size: self.line_info_rec_size,
+        })
+    }
 }

@@ -1,9 +1,22 @@
-//! The functions and symbols of an eBPF object, on which its relocation works.
+//! The functions, symbols and externs of an eBPF object, and its relocation.
 #![tactic(auto)]
 
+mod calls;
+mod error;
+mod extern_desc;
 mod function;
+mod linkable;
+mod linking;
+mod numbered;
+mod numbers;
+mod place;
 mod symbol;
+mod walk;
 
 pub use ebpf_parts::Relocation;
+pub use error::{EbpfRelocationError, RelocationError};
+pub use extern_desc::ExternDesc;
 pub use function::Function;
+pub use linkable::Linkable;
+pub use linking::{ProgramKey, relocate_calls};
 pub use symbol::Symbol;

@@ -1,7 +1,11 @@
 //! The symbols of an object.
 
+ghost use Rattle.std.specs.Prelude.{◌≡◌, IfOk};
+ghost use Rattle.ebpf_reloc.specs.Symbols.{is_extern};
+
 use ebpf_base::Text;
 use ebpf_elf::SymbolKind;
+use std::alloc::AllocError;
 
 /// A symbol of the file's symbol table.
 #[derive(Debug, Drop)]
@@ -22,4 +26,42 @@ pub struct Symbol {
     pub is_definition: bool,
     /// Whether it may stay without a definition.
     pub is_weak: bool,
+}
+
+impl Symbol {
+    /// Whether it names something of the kernel: it has no section, no definition and no type.
+    pub fn is_extern(&self) -> bool
+        ensures { result ≡ is_extern self.now }
+    {
+        self.section_index.is_none()
+            && !self.is_definition
+            && matches!(self.kind, SymbolKind::Unknown)
+    }
+}
+
+/// A copy of a name that may be there.
+fn copy_name(name: &Option<Text>) -> Result<Option<Text>, AllocError>
+    ensures { IfOk result (λ copy. copy ≡ name.now) }
+{
+    match name {
+        Some(name) => Ok(Some(name.clone()?)),
+        None => Ok(None),
+    }
+}
+
+impl Clone for Symbol {
+    ghost is_clone = { λ old copy. copy ≡ old };
+
+    fn clone(&self) -> Result<Symbol, AllocError> {
+        Ok(Symbol {
+            index: self.index,
+            section_index: self.section_index,
+            name: copy_name(&self.name)?,
+            address: self.address,
+            size: self.size,
+            kind: self.kind,
+            is_definition: self.is_definition,
+            is_weak: self.is_weak,
+        })
+    }
 }

@@ -1,0 +1,289 @@
+-- What linking gives, from functions by their numbers to functions by their keys.
+use Rattle.std.proofs.Common.{◌≡◌, ◌≢◌, ℕ, ◌+◌, ◌<◌, Bool, true, false, List, [], ◌∷◌, ◌++◌, map, length, Option, Some, None, refl, sym, ap, ◌∙◌, subst, inl, inr, arith}
+use Rattle.std.specs.Prelude.{slice_get, pos, ◌-ℤ◌, Result, Ok, Err, if◌then◌else◌, ◌||◌}
+use Rattle.ebpf_base.specs.Faults.{first_of}
+use Rattle.ebpf_btf.specs.declared.ext_infos.bpf_func_info.{bpf_func_info}
+use Rattle.ebpf_btf.specs.declared.ext_infos.bpf_line_info.{bpf_line_info}
+use Rattle.ebpf_parts.specs.declared.insn.bpf_insn.{bpf_insn}
+use Rattle.ebpf_linker.specs.declared.body.LinkedProgram.{LinkedProgram}
+use Rattle.ebpf_linker.specs.Slots.{relinked}
+use Rattle.ebpf_linker.specs.Functions.{Reference, Nothing, Faulty, Names, References, Functions, Content, or_empty, content_at, body, Among, Distinct, last_of, total, BeginsAt, Becomes, Linked}
+use Rattle.ebpf_linker.specs.Order.{KeyPath}
+use Rattle.ebpf_linker.specs.Faults.{same, has_some, agree, checked, linking, content_fault, append_fault, Base, StandsAt, Faultless, LeastFault, first_line}
+use Rattle.ebpf_linker.specs.Records.{func_moved, line_moved, func_records, line_records, linked_func_info, linked_line_info, has_lines, count_if}
+use Rattle.ebpf_linker.specs.Result.{IsProgram, IsLinking}
+use Rattle.ebpf_linker.specs.Renaming.{renamed, Numbers, answer_named}
+use Rattle.ebpf_linker.proofs.Bases.{total_le}
+use Rattle.ebpf_linker.proofs.Visits.{same_visits}
+use Rattle.ebpf_linker.proofs.Renamed.{SameReferences, AllNumbers, number_at, all_numbers, among_to, among_from, last_to, last_number, numbers_of, distinct_from, faulty_from, distinct_to, walk_numbers, reached_number, walk_to, walk_from, simple_to, simple_from, end_from, key_path_to, key_path_from, key_path_number, in_order_to}
+
+some_map : {D E : Type 0} → (D → E) → Option D → Option E
+some_map name None = None
+some_map name (Some d) = Some (name d)
+
+rows_named : {D E : Type 0} (name : D → E) (b c : Bool) (d f : D) → first_of ((b, name d) ∷ (c, name f) ∷ []) ≡ some_map name (first_of ((b, d) ∷ (c, f) ∷ []))
+unfolding some_map
+rows_named name true c d f = refl
+rows_named name false true d f = refl
+rows_named name false false d f = refl
+
+some_from : {D E : Type 0} (name : D → E) (o : Option D) (e : E) → some_map name o ≡ Some e → (d : D) × (o ≡ Some d) × (name d ≡ e)
+unfolding some_map
+some_from name None e h = cc
+some_from name (Some d) e h = (d, refl, cc)
+
+some_to : {D E : Type 0} (name : D → E) (o : Option D) (d : D) → o ≡ Some d → some_map name o ≡ Some (name d)
+unfolding some_map
+some_to name o d h = ap (some_map name) h
+
+module _ {M D K E : Type 0} (G : Functions M D) (F : Functions K E) (IsNumber : M → Type 0) (key : M → K) (name : D → E) (num : Numbers G F IsNumber key name) where
+  -- references as they stand, and where a program is linked
+
+  references_same : SameReferences G.reference F.reference IsNumber key name
+  references_same = record { reference = num.reference; closed = num.closed; apart = num.apart }
+
+  content_to : (m : M) → IsNumber m → content_at F (key m) ≡ content_at G m
+  content_to m is = ap or_empty (num.content m is)
+
+  agree_to : (p k : M) → IsNumber p → IsNumber k → agree F (key p) (key k) ≡ agree G p k
+  agree_to p k is ik = ap (λ (c : Content). same (has_some c.func_info) (has_some (content_at F (key p)).func_info)) (content_to k ik) ∙ ap (λ (c : Content). same (has_some (content_at G k).func_info) (has_some c.func_info)) (content_to p is)
+
+  renamed_if : (b : Bool) (k : M) (d : D) → ◌≡◌ {A = Reference K E} (if b then Names (key k) else Faulty (name d)) (renamed key name (if b then Names k else Faulty d))
+  renamed_if true k d = refl
+  renamed_if false k d = refl
+
+  checked_to : (p : M) (r : Reference M D) → IsNumber p → ((k : M) → r ≡ Names k → IsNumber k) → checked F (key p) (renamed key name r) ≡ renamed key name (checked G p r)
+  checked_to p Nothing is closed = refl
+  checked_to p (Faulty d) is closed = refl
+  checked_to p (Names k) is closed =
+      let ik = closed k refl in
+      ap (λ (b : Bool). if b then Names (key k) else Faulty (F.mismatch (key k))) (agree_to p k is ik)
+      ∙ ap (λ (e : E). if agree G p k then Names (key k) else Faulty e) (num.mismatch k ik)
+      ∙ renamed_if (agree G p k) k (G.mismatch k)
+
+  named_if : (b : Bool) (d : D) (k m : M) → ◌≡◌ {A = Reference M D} (if b then Names k else Faulty d) (Names m) → ◌≡◌ {A = Reference M D} (Names k) (Names m)
+  named_if true d k m h = h
+  named_if false d k m h = cc
+
+  checked_names : (p : M) (r : Reference M D) (m : M) → checked G p r ≡ Names m → r ≡ Names m
+  checked_names p Nothing m e = cc
+  checked_names p (Faulty d) m e = cc
+  checked_names p (Names k) m e = named_if (agree G p k) (G.mismatch k) k m e
+
+  linking_same : (p : M) → IsNumber p → SameReferences (linking G p) (linking F (key p)) IsNumber key name
+  linking_same p is =
+      record {
+        reference = λ m i im. ap (checked F (key p)) (num.reference m i im) ∙ checked_to p (G.reference m i) is (λ k e. num.closed m k i im e);
+        closed = λ m k i im e. num.closed m k i im (checked_names p (G.reference m i) k e);
+        apart = num.apart;
+      }
+
+  -- sizes and places
+
+  body_to : (m : M) → IsNumber m → body F (key m) ≡ body G m
+  body_to m is = ap (λ (c : Content). c.slots) (content_to m is)
+
+  total_to : (ms : List M) → AllNumbers IsNumber ms → total F (map key ms) ≡ total G ms
+  total_to [] all = refl
+  total_to (m ∷ ms) all = let e = ap length (body_to m all.0) in omega (arith, e, total_to ms all.1)
+
+  append_to : (m : M) (b : ℕ) → IsNumber m → append_fault F (key m) b ≡ some_map name (append_fault G m b)
+  append_to m b is =
+      ap (λ (c : Content). content_fault c b (F.too_long (key m)) (F.stray_line (key m))) (content_to m is)
+      ∙ ap (λ (e : E). content_fault (content_at G m) b e (F.stray_line (key m))) (num.too_long m is)
+      ∙ ap (λ (e : E). content_fault (content_at G m) b (name (G.too_long m)) e) (num.stray_line m is)
+      ∙ rows_named name _ _ (G.too_long m) (G.stray_line m)
+
+  -- faults
+
+  module _ (R : References M D) (S : References K E) (refs : SameReferences R S IsNumber key name) (p : M) (is : IsNumber p) where
+    base_to : (path : List ℕ) (b : ℕ) → Base G R p path b → Base F S (key p) path b
+    base_to path b h =
+        let all = all_numbers IsNumber key h.earlier (λ m a. let (x, q, bf) = h.before m a in key_path_number R S IsNumber key name refs p m x is q) in
+        record {
+          earlier = map key h.earlier;
+          once = distinct_to R S IsNumber key name refs h.earlier all h.once;
+          before = λ k a.
+              let (m, at, e) = among_from IsNumber key h.earlier k a in
+              let (x, q, bf) = h.before m at in
+              (x, subst (λ (u : K). KeyPath S (key p) u x) e (key_path_to R S IsNumber key name refs p m x is (number_at IsNumber key h.earlier m all at) q), bf);
+          all = λ k x q bf.
+              let (m, im, e) = end_from R S IsNumber key name refs p x q.keys k is q.simple q.ends in
+              let q' = key_path_from R S IsNumber key name refs p m x is im (subst (λ (u : K). KeyPath S (key p) u x) (sym e) q) in
+              subst (Among (map key h.earlier)) e (among_to IsNumber key h.earlier m (h.all m x q' bf));
+          size = h.size ∙ sym (total_to (p ∷ h.earlier) (is, all));
+        }
+
+    base_from : (path : List ℕ) (b : ℕ) → Base F S (key p) path b → Base G R p path b
+    base_from path b h =
+        let (ms, are, all) = numbers_of IsNumber key h.earlier (λ k a. let (x, q, bf) = h.before k a in end_from R S IsNumber key name refs p x q.keys k is q.simple q.ends) in
+        record {
+          earlier = ms;
+          once = distinct_from IsNumber key ms (subst Distinct (sym are) h.once);
+          before = λ m a.
+              let (x, q, bf) = h.before (key m) (subst (λ (u : List K). Among u (key m)) are (among_to IsNumber key ms m a)) in
+              (x, key_path_from R S IsNumber key name refs p m x is (number_at IsNumber key ms m all a) q, bf);
+          all = λ m x q bf.
+              let im = key_path_number R S IsNumber key name refs p m x is q in
+              let a = h.all (key m) x (key_path_to R S IsNumber key name refs p m x is im q) bf in
+              let (n, b', e) = among_from IsNumber key ms (key m) (subst (λ (u : List K). Among u (key m)) (sym are) a) in
+              subst (Among ms) (refs.apart n m (number_at IsNumber key ms n all b') im e) b';
+          size = h.size ∙ ap (λ (u : List K). total F (key p ∷ u)) (sym are) ∙ total_to (p ∷ ms) (is, all);
+        }
+
+    stands_to : (path : List ℕ) (x : ℕ) (d : D) → StandsAt G R p path x d → StandsAt F S (key p) path x (name d)
+    stands_to path x d (inl h) =
+        let il = last_number IsNumber key p h.keys is (walk_numbers R S IsNumber key name refs p path h.keys is h.simple.walk) in
+        inl (record {
+          keys = map key h.keys;
+          simple = simple_to R S IsNumber key name refs p path h.keys is h.simple;
+          fault = ap (λ (u : K). S u x) (last_to IsNumber key p h.keys) ∙ refs.reference (last_of p h.keys) x il ∙ ap (renamed key name) h.fault;
+        })
+    stands_to path x d (inr h) =
+        let im = key_path_number R S IsNumber key name refs p h.key (path ++ x ∷ []) is h.path_is in
+        inr (record {
+          key = key h.key;
+          base = h.base;
+          path_is = key_path_to R S IsNumber key name refs p h.key (path ++ x ∷ []) is im h.path_is;
+          base_is = base_to (path ++ x ∷ []) h.base h.base_is;
+          fault = append_to h.key h.base im ∙ some_to name (append_fault G h.key h.base) d h.fault;
+        })
+
+    stands_from : (path : List ℕ) (x : ℕ) (e : E) → StandsAt F S (key p) path x e → (d : D) × StandsAt G R p path x d
+    stands_from path x e (inl h) =
+        let (ms, are, s) = simple_from R S IsNumber key name refs p path h.keys is h.simple in
+        let il = last_number IsNumber key p ms is (walk_numbers R S IsNumber key name refs p path ms is s.walk) in
+        let end : key (last_of p ms) ≡ last_of (key p) h.keys = sym (last_to IsNumber key p ms) ∙ ap (last_of (key p)) are in
+        let (d, f, n) = faulty_from key name (R (last_of p ms) x) e (sym (refs.reference (last_of p ms) x il) ∙ ap (λ (u : K). S u x) end ∙ h.fault) in
+        (d, inl (record { keys = ms; simple = s; fault = f }))
+    stands_from path x e (inr h) =
+        let (m, im, k) = end_from R S IsNumber key name refs p (path ++ x ∷ []) h.path_is.keys h.key is h.path_is.simple h.path_is.ends in
+        let fault : append_fault F (key m) h.base ≡ Some e = ap (λ (u : K). append_fault F u h.base) k ∙ h.fault in
+        let (d, f, n) = some_from name (append_fault G m h.base) e (sym (append_to m h.base im) ∙ fault) in (
+          d,
+          inr (record {
+            key = m;
+            base = h.base;
+            path_is = key_path_from R S IsNumber key name refs p m (path ++ x ∷ []) is im (subst (λ (u : K). KeyPath S (key p) u (path ++ x ∷ [])) (sym k) h.path_is);
+            base_is = base_from (path ++ x ∷ []) h.base h.base_is;
+            fault = f;
+          }),
+        )
+
+    faultless_to : Faultless G R p → Faultless F S (key p)
+    faultless_to h path x e s = let (d, t) = stands_from path x e s in h path x d t
+
+    least_to : (d : D) → LeastFault G R p d → LeastFault F S (key p) (name d)
+    least_to d (path, x, s, least) = (path, x, stands_to path x d s, λ other y e t b. let (f, u) = stands_from other y e t in least other y f u b)
+
+  -- the linked program
+
+  begins_to : (ms : List M) (m : M) (b : ℕ) → AllNumbers IsNumber ms → BeginsAt G ms m b → BeginsAt F (map key ms) (key m) b
+  begins_to [] m b all h = absurd h
+  begins_to (n ∷ ms) m b all (inl h) = inl (ap key h.0, h.1)
+  begins_to (n ∷ ms) m b all (inr (c, e, h)) = inr (c, e ∙ ap (λ (s : List bpf_insn). length s + c) (sym (body_to n all.0)), begins_to ms m c all.1 h)
+
+  begins_from : (ms : List M) (k : K) (b : ℕ) → AllNumbers IsNumber ms → BeginsAt F (map key ms) k b → (m : M) × IsNumber m × (key m ≡ k) × BeginsAt G ms m b
+  begins_from [] k b all h = absurd h
+  begins_from (n ∷ ms) k b all (inl h) = (n, all.0, h.0, inl (refl, h.1))
+  begins_from (n ∷ ms) k b all (inr (c, e, h)) =
+      let (m, im, is, g) = begins_from ms k c all.1 h in (m, im, is, inr (c, e ∙ ap (λ (s : List bpf_insn). length s + c) (body_to n all.0), g))
+
+  becomes_to : (p : M) (ms : List M) (x : ℕ) (r : Reference M D) (s t : bpf_insn) → IsNumber p → AllNumbers IsNumber ms → Becomes G p ms x r s t → Becomes F (key p) (map key ms) x (renamed key name r) s t
+  becomes_to p ms x Nothing s t is all h = h
+  becomes_to p ms x (Faulty d) s t is all h = h
+  becomes_to p ms x (Names m) s t is all (c, b, e) =
+      (c, begins_to ms m c all b, e ∙ ap (λ (u : List bpf_insn). relinked s (pos (length u + c) -ℤ pos (x + 1))) (sym (body_to p is)))
+
+  linked_to : (p : M) (ms : List M) (out : List bpf_insn) → IsNumber p → AllNumbers IsNumber ms → Linked G p ms out → Linked F (key p) (map key ms) out
+  linked_to p ms out is all h =
+      record {
+        once = distinct_to G.reference F.reference IsNumber key name references_same ms all h.once;
+        reached = λ k a.
+            let (m, b, e) = among_from IsNumber key ms k a in
+            let (x, q, ns, w, end) = h.reached m b in
+            (x, q, map key ns, walk_to G.reference F.reference IsNumber key name references_same p (x ∷ q) ns is w, last_to IsNumber key p ns ∙ ap key end ∙ e);
+        complete = λ k (x, q, ks, w, end).
+            let (ns, are, v) = walk_from G.reference F.reference IsNumber key name references_same p (x ∷ q) ks is w in
+            let e : key (last_of p ns) ≡ k = sym (last_to IsNumber key p ns) ∙ ap (last_of (key p)) are ∙ end in
+            subst (Among (map key ms)) e (among_to IsNumber key ms (last_of p ns) (h.complete (last_of p ns) (x, q, ns, v, refl)));
+        resolved = λ k i a lt ne.
+            let (m, b, e) = among_from IsNumber key (p ∷ ms) k a in
+            let im = number_at IsNumber key (p ∷ ms) m (is, all) b in
+            let r = num.reference m i im in
+            let e' : F.reference k i ≡ renamed key name (G.reference m i) = ap (λ (u : K). F.reference u i) (sym e) ∙ r in
+            let ne' : G.reference m i ≢ Nothing = λ (z : G.reference m i ≡ Nothing). ne (e' ∙ ap (renamed key name) z) in
+            let lt' : i < length (body G m) = let z = ap length (body_to m im) in let y = ap (λ (u : K). length (body F u)) e in omega (arith, z, y) in
+            let (n, names, c) = h.resolved m i b lt' ne' in
+            (key n, e' ∙ ap (renamed key name) names, among_to IsNumber key ms n c);
+        size = h.size ∙ sym (total_to (p ∷ ms) (is, all));
+        slots = λ k b i s begins at.
+            let (m, im, e, g) = begins_from (p ∷ ms) k b (is, all) begins in
+            let at' : slice_get (body G m) i ≡ Some s = ap (λ (u : List bpf_insn). slice_get u i) (sym (body_to m im)) ∙ ap (λ (u : K). slice_get (body F u) i) e ∙ at in
+            let (t, there, becomes) = h.slots m b i s g at' in
+            let e' : renamed key name (G.reference m i) ≡ F.reference k i = sym (num.reference m i im) ∙ ap (λ (u : K). F.reference u i) e in
+            (t, there, subst (λ (r : Reference K E). Becomes F (key p) (map key ms) (b + i) r s t) e' (becomes_to p ms (b + i) (G.reference m i) s t is all becomes));
+      }
+
+  -- its records
+
+  funcs_to : (b : ℕ) (ms : List M) → AllNumbers IsNumber ms → func_records F b (map key ms) ≡ func_records G b ms
+  funcs_to b [] all = refl
+  funcs_to b (m ∷ ms) all =
+      ap (λ (c : Content). map (func_moved b) c.func_info ++ func_records F (b + length c.slots) (map key ms)) (content_to m all.0)
+      ∙ ap (λ (u : List bpf_func_info). map (func_moved b) (content_at G m).func_info ++ u) (funcs_to (b + length (body G m)) ms all.1)
+
+  lines_to : (b : ℕ) (ms : List M) → AllNumbers IsNumber ms → line_records F b (map key ms) ≡ line_records G b ms
+  lines_to b [] all = refl
+  lines_to b (m ∷ ms) all =
+      ap (λ (c : Content). map (line_moved (first_line c.line_info) b) c.line_info ++ line_records F (b + length c.slots) (map key ms)) (content_to m all.0)
+      ∙ ap (λ (u : List bpf_line_info). map (line_moved (first_line (content_at G m).line_info) b) (content_at G m).line_info ++ u) (lines_to (b + length (body G m)) ms all.1)
+
+  func_info_to : (p : M) (ms : List M) → IsNumber p → AllNumbers IsNumber ms → linked_func_info F (key p) (map key ms) ≡ linked_func_info G p ms
+  func_info_to p ms is all =
+      ap (λ (c : Content). c.func_info ++ func_records F (length c.slots) (map key ms)) (content_to p is)
+      ∙ ap (λ (u : List bpf_func_info). (content_at G p).func_info ++ u) (funcs_to (length (body G p)) ms all)
+
+  line_info_to : (p : M) (ms : List M) → IsNumber p → AllNumbers IsNumber ms → linked_line_info F (key p) (map key ms) ≡ linked_line_info G p ms
+  line_info_to p ms is all =
+      ap (λ (c : Content). c.line_info ++ line_records F (length c.slots) (map key ms)) (content_to p is)
+      ∙ ap (λ (u : List bpf_line_info). (content_at G p).line_info ++ u) (lines_to (length (body G p)) ms all)
+
+  has_some_to : (ms : List M) → has_some (map key ms) ≡ has_some ms
+  has_some_to [] = refl
+  has_some_to (m ∷ ms) = refl
+
+  has_lines_to : (ms : List M) → AllNumbers IsNumber ms → has_lines F (map key ms) ≡ has_lines G ms
+  has_lines_to [] all = refl
+  has_lines_to (m ∷ ms) all =
+      ap (λ (c : Content). has_some c.line_info || has_lines F (map key ms)) (content_to m all.0)
+      ∙ ap (λ (b : Bool). has_some (content_at G m).line_info || b) (has_lines_to ms all.1)
+
+  program_to : (p : M) (ms : List M) (l : LinkedProgram) → IsNumber p → IsProgram G p ms l → IsProgram F (key p) (map key ms) l
+  program_to p ms l is h =
+      let all = all_numbers IsNumber key ms (λ m a. reached_number G.reference F.reference IsNumber key name references_same p m is (h.linked.reached m a)) in
+      let linked = linked_to p ms l.slots is all h.linked in
+      let functions : (k : K) → Among (map key ms) k → (c : Content) × (F.content k ≡ Some c) = λ k a.
+      let (m, b, e) = among_from IsNumber key ms k a in
+      let (c, there) = h.functions m b in
+      (c, ap F.content (sym e) ∙ num.content m (number_at IsNumber key ms m all b) ∙ there) in
+      record {
+        linked = linked;
+        order = in_order_to G.reference F.reference IsNumber key name references_same p ms is all h.order;
+        visits = λ refer on. same_visits F (key p) (map key ms) l.slots linked refer on;
+        func_info = h.func_info ∙ sym (func_info_to p ms is all);
+        line_info = h.line_info ∙ sym (line_info_to p ms is all);
+        func_count = h.func_count ∙ ap (λ (b : Bool). count_if b l.func_info) (sym (has_some_to ms));
+        line_count = h.line_count ∙ ap (λ (b : Bool). count_if b l.line_info) (sym (has_lines_to ms all));
+        functions = functions;
+        bound = λ every covers.
+            let le = total_le F F.reference (map key ms) every linked.once (λ k a. let (c, there) = functions k a in covers k c there) in
+            let size = linked.size in
+            omega (arith, le, size);
+        faultless = faultless_to (linking G p) (linking F (key p)) (linking_same p is) p is h.faultless;
+      }
+
+  -- what is said of linking by numbers holds by keys
+  pub carried : (p : M) → IsNumber p → (answer : Result LinkedProgram D) → IsLinking G p answer → IsLinking F (key p) (answer_named name answer)
+  carried p is (Ok l) (ms, h) = (map key ms, program_to p ms l is h)
+  carried p is (Err d) h = least_to (linking G p) (linking F (key p)) (linking_same p is) p is d h

@@ -1,0 +1,224 @@
+-- The slots so far, and the least fault of linking.
+use Rattle.std.proofs.Common.{◌≡◌, ◌≢◌, ℕ, zero, suc, ◌+◌, ◌<◌, ◌≤◌, Bool, true, false, List, [], ◌∷◌, ◌++◌, length, take, reverse, Option, Some, None, refl, sym, ap, ◌∙◌, subst, inl, inr, arith}
+use Rattle.std.specs.Prelude.{slice_get, slice_index_or, MatchOption}
+use Rattle.std.proofs.lemmas.Bool.{ltb-false, cases_Bool}
+use Rattle.std.proofs.lemmas.Option.{slice_get_within}
+use Rattle.std.proofs.lemmas.List.{take-append-le}
+use Rattle.ebpf_base.specs.Faults.{first_of}
+use Rattle.ebpf_linker.specs.declared.reference.Fault.{Fault}
+use Rattle.ebpf_linker.specs.declared.reference.Target.{Target}
+use Rattle.ebpf_linker.specs.declared.reference.Target.TheVariants.{Function, Nowhere}
+use Rattle.ebpf_linker.specs.declared.reference.Call.{Call}
+use Rattle.ebpf_linker.specs.declared.search.Open.{Open}
+use Rattle.ebpf_linker.specs.Functions.{Nothing, Names, Functions, Among, Walk, last_of, total, body}
+use Rattle.ebpf_linker.specs.Order.{Before, KeyPath}
+use Rattle.ebpf_linker.specs.Faults.{Base, CopyFault, StandsAt, Faultless, LeastFault, append_fault}
+use Rattle.ebpf_linker.specs.Answer.{IsOrder, IsFound}
+use Rattle.ebpf_linker.specs.Numbered.{of_target}
+use Rattle.ebpf_linker.specs.Steps.{refs, Sought, rising, Search, opened, StepTo, target_of}
+use Rattle.ebpf_linker.proofs.Paths.{before_cases, distinct_more, last_of_last, walk_more, walk_same}
+use Rattle.ebpf_linker.proofs.Held.{Found, at_index}
+use Rattle.ebpf_linker.proofs.Cursor.{Apart, path_of, keys_of, walk_of, keys_found, keys_distinct, not_nil}
+use Rattle.ebpf_linker.proofs.Searched.{First, State, begins_with, distinct_places, among_place, key_path, before_found, held_top, plain_before, fault_here, push_at, ended}
+use Rattle.ebpf_linker.proofs.Past.{earlier, fits_at}
+
+pub record Counted (F : Functions ℕ Fault) (o : List ℕ) (u : ℕ) : Type 0 where
+  pub used : u ≡ total F o
+  pub room : (j k : ℕ) → 0 < j → slice_get o j ≡ Some k → u ≤ 2147483647
+  pub fits : (j k : ℕ) → 0 < j → slice_get o j ≡ Some k → append_fault F k (total F (take j o)) ≡ None
+
+first_none : {E : Type 0} (b c : Bool) (d e : E) → first_of ((b, d) ∷ (c, e) ∷ []) ≡ None → b ≡ false
+first_none true c d e h = cc
+first_none false c d e h = refl
+
+take_all : (o ys : List ℕ) → take (length o) (o ++ ys) ≡ o
+take_all [] ys = refl
+take_all (x ∷ o) ys = ap (λ (u : List ℕ). x ∷ u) (take_all o ys)
+
+module _ (F : Functions ℕ Fault) where
+  total_more : (o : List ℕ) (k : ℕ) → total F (o ++ k ∷ []) ≡ total F o + length (body F k)
+  total_more [] k = omega arith
+  total_more (m ∷ o) k = omega (arith, total_more o k)
+
+module _ (F : Functions ℕ Fault) (N : ℕ) (C : ℕ → List Call) (p : ℕ) where
+  counted_more : (o : List ℕ) (u k : ℕ) → Counted F o u → append_fault F k u ≡ None → Counted F (o ++ k ∷ []) (u + length (body F k))
+  counted_more o u k h fit =
+      let lt = ltb-false 2147483647 (u + length (body F k)) (first_none _ _ _ _ fit) in
+      record {
+        used = omega (arith, h.used, total_more F o k);
+        room = λ j m pos at. lt;
+        fits = λ j m pos at.
+            elim (push_at N C p o k j m at) [
+              | inl x ↦
+                  let e = take-append-le j o (k ∷ []) (omega (arith, x.0)) in
+                  ap (λ (v : List ℕ). append_fault F m (total F v)) e ∙ h.fits j m pos x.1
+              | inr x ↦
+                  let e : total F (take j (o ++ k ∷ [])) ≡ u = ap (λ (v : ℕ). total F (take v (o ++ k ∷ []))) x.0 ∙ ap (total F) (take_all o (k ∷ [])) ∙ sym h.used in
+                  ap (append_fault F m) e ∙ ap (λ (v : ℕ). append_fault F v u) (sym x.1) ∙ fit
+            ];
+      }
+
+  counted_append : (s t : Search) (top : Open) (k : ℕ) → Counted F s.order s.used → (o : Option Fault) → append_fault F k s.used ≡ o → MatchOption o ((t ≡ opened F top s k) × (◌≡◌ {A = Option Fault} None None)) (λ e. ◌≡◌ {A = Option Fault} None (Some e)) → Counted F t.order t.used
+  counted_append s t top k h None fit a = subst (λ (u : Search). Counted F u.order u.used) (sym a.0) (counted_more s.order s.used k h fit)
+  counted_append s t top k h (Some e) fit a = cc
+
+  pub counted : (s t : Search) (top : Open) → Counted F s.order s.used → (g : Option Target) → StepTo F top s t None g → Counted F t.order t.used
+  counted s t top h None a = subst (λ (u : Search). Counted F u.order u.used) (sym a.0) h
+  counted s t top h (Some (Nowhere d)) a = cc
+  counted s t top h (Some (Function k)) a =
+      elim (cases_Bool (slice_index_or s.found k false)) [
+        | inl e ↦ let b = rw e at a in subst (λ (u : Search). Counted F u.order u.used) (sym b.0) h
+        | inr e ↦ let b = rw e at a in counted_append s t top k h (append_fault F k s.used) refl b
+      ]
+
+  -- a function found whose copy can't be
+  not_here : (ks : List ℕ) (j : ℕ) (path : List ℕ) (e : Fault) → Apart (p ∷ ks) → ((j k : ℕ) → 0 < j → slice_get (p ∷ ks) j ≡ Some k → First C p (p ∷ ks) j k) → ((j k : ℕ) → 0 < j → slice_get (p ∷ ks) j ≡ Some k → append_fault F k (total F (take j (p ∷ ks))) ≡ None) → (h : CopyFault F (refs C) p path e) → 0 < j → slice_get (p ∷ ks) j ≡ Some h.key → ⊥
+  not_here ks zero path e apart firsts fits h pos at = omega arith
+  not_here ks (suc j) path e apart firsts fits h pos at = fits_at F N C p ks j path e apart firsts h at (fits (suc j) h.key (omega arith) at)
+
+  no_copy_fault : (o path : List ℕ) (f : List Bool) (s : List Open) (u : ℕ) (e : Fault) → State N C p o f s → Counted F o u → (h : CopyFault F (refs C) p path e) → Found o (length o) (Names h.key) → ⊥
+  no_copy_fault o path f s u e st n h found =
+      let (ks, is) = begins_with N C p o p st.start in
+      let (j, pos, lt, at) = found in
+      let apart = subst Apart is st.apart in
+      let firsts = subst (λ (v : List ℕ). (j k : ℕ) → 0 < j → slice_get v j ≡ Some k → First C p v j k) is st.firsts in
+      let fits = subst (λ (v : List ℕ). (j k : ℕ) → 0 < j → slice_get v j ≡ Some k → append_fault F k (total F (take j v)) ≡ None) is n.fits in
+      not_here ks j path e apart firsts fits h pos (ap (λ (v : List ℕ). slice_get v j) (sym is) ∙ at)
+
+  -- no fault of any kind before the cursor
+  none_before : Sought N C → (o : List ℕ) (f : List Bool) (s : List Open) (top : Open) (r : Call) (u : ℕ) → State N C p o f (s ++ top ∷ []) → Counted F o u → slice_get (C top.function) top.next ≡ Some r → (other : List ℕ) (y : ℕ) (d : Fault) → StandsAt F (refs C) p other y d → Before (other ++ y ∷ []) (path_of C p (top ∷ reverse s) ++ r.slot ∷ []) → ⊥
+  none_before sound o f s top r u h n at other y d (inl g) b = plain_before N C p sound o top (reverse s) r h.start (held_top N C p o s top h.held) at other y d g b
+  none_before sound o f s top r u h n at other y d (inr g) b =
+      let found = before_found N C p sound o top (reverse s) r h.start (held_top N C p o s top h.held) at (other ++ y ∷ []) g.path_is.keys g.path_is.simple g.path_is.some b in
+      no_copy_fault o (other ++ y ∷ []) f (s ++ top ∷ []) u d h n g (subst (λ (v : ℕ). Found o (length o) (Names v)) g.path_is.ends found)
+
+  lower : (ks path : List ℕ) (j k m : ℕ) → KeyPath (refs C) p k path → (first : First C p (p ∷ ks) (suc j) m) → (m ≡ k → ⊥) → (Found (p ∷ ks) (length (p ∷ ks)) (Names k) → ⊥) → slice_get ks j ≡ Some m → Before first.path path
+  lower ks path j k m kp first ne fresh at =
+      elim (before_cases first.path path) [
+        | inl b ↦ b
+        | inr (inl e) ↦
+            let keys : first.keys ≡ kp.keys = walk_same (refs C) p path first.keys kp.keys (subst (λ (v : List ℕ). Walk (refs C) p v first.keys) e first.simple.walk) kp.simple.walk in
+            absurd (ne (sym first.ends ∙ ap (last_of p) keys ∙ kp.ends))
+        | inr (inr b) ↦
+            let (i, pos, lt, ai) = first.least path kp.keys kp.simple kp.some b in
+            let in' = slice_get_within (p ∷ ks) i (last_of p kp.keys) ai in
+            absurd (fresh (i, pos, in', ai ∙ ap Some kp.ends))
+      ]
+
+  -- the functions found are those with lower key paths
+  base_now : (ks o path : List ℕ) (k : ℕ) → o ≡ p ∷ ks → Apart o → ((j m : ℕ) → 0 < j → slice_get o j ≡ Some m → First C p o j m) → KeyPath (refs C) p k path → ((m : ℕ) (y : List ℕ) → KeyPath (refs C) p m y → Before y path → Found o (length o) (Names m)) → (Found o (length o) (Names k) → ⊥) → Base F (refs C) p path (total F o)
+  base_now ks o path k is apart firsts kp found fresh =
+      let apart' = subst Apart is apart in
+      let firsts' = subst (λ (v : List ℕ). (j m : ℕ) → 0 < j → slice_get v j ≡ Some m → First C p v j m) is firsts in
+      let found' = subst (λ (v : List ℕ). (m : ℕ) (y : List ℕ) → KeyPath (refs C) p m y → Before y path → Found v (length v) (Names m)) is found in
+      let fresh' = subst (λ (v : List ℕ). Found v (length v) (Names k) → ⊥) is fresh in
+      record {
+        earlier = ks;
+        once = distinct_places N C p ks (λ i l m ai al. let e = apart'.apart (suc i) (suc l) m (omega arith) (omega arith) ai al in omega (arith, e));
+        before = λ m a.
+            let (j, at) = among_place N C p ks m a in
+            let first = firsts' (suc j) m (omega arith) at in
+            let q = key_path N C p (p ∷ ks) (suc j) m apart' (omega arith) at first in
+            let lt = slice_get_within ks j m at in
+            (first.path, q, lower ks path j k m kp first (λ e. fresh' (suc j, omega arith, omega arith, at ∙ ap Some e)) fresh' at);
+        all = λ m y q b. let (j, pos, lt, at) = found' m y q b in earlier F N C p ks j m pos at;
+        size = ap (total F) is;
+      }
+
+  -- the function that can't have a copy
+  past_now : Sought N C → (o : List ℕ) (f : List Bool) (s : List Open) (top : Open) (r : Call) (k u : ℕ) (e : Fault) → State N C p o f (s ++ top ∷ []) → Counted F o u → slice_get (C top.function) top.next ≡ Some r → r.target ≡ Function k → slice_index_or f k false ≡ false → append_fault F k u ≡ Some e → CopyFault F (refs C) p (path_of C p (top ∷ reverse s) ++ r.slot ∷ []) e
+  past_now sound o f s top r k u e h n at to flag bad =
+      let held = held_top N C p o s top h.held in
+      let fresh = h.unmarked k flag in
+      let es = top ∷ reverse s in
+      let w = walk_of C p (rising sound) o (length o) top (reverse s) h.start held in
+      let leads : refs C (last_of p (keys_of C p es)) r.slot ≡ Names k = rw w.1 ((at_index (C top.function) 0 top.next r (sound.rises top.function) at).1 ∙ ap of_target to) in
+      let start = begins_with N C p o p h.start in
+      let path = path_of C p es ++ r.slot ∷ [] in
+      let kp : KeyPath (refs C) p k path = record {
+        keys = keys_of C p es ++ k ∷ [];
+        simple = record {
+          walk = walk_more (refs C) p (path_of C p es) (keys_of C p es) r.slot k w.0 leads;
+          once = distinct_more (keys_of C p es) k (keys_distinct C p o (length o) top (reverse s) h.apart held) (λ a. fresh (keys_found C p o (length o) top (reverse s) k held a));
+        };
+        ends = last_of_last p (keys_of C p es) k;
+        some = not_nil (path_of C p es) r.slot;
+        least = λ other others q ne ends b. fresh (subst (λ (v : ℕ). Found o (length o) (Names v)) ends (before_found N C p sound o top (reverse s) r h.start held at other others q ne b));
+      } in
+      let found : (m : ℕ) (y : List ℕ) → KeyPath (refs C) p m y → Before y path → Found o (length o) (Names m) = λ m y q b. subst (λ (v : ℕ). Found o (length o) (Names v)) q.ends (before_found N C p sound o top (reverse s) r h.start held at y q.keys q.simple q.some b) in
+      record {
+        key = k;
+        base = total F o;
+        path_is = kp;
+        base_is = base_now start.0 o path k start.1 h.apart h.firsts kp found (λ x. fresh x);
+        fault = ap (append_fault F k) (sym n.used) ∙ bad;
+      }
+
+  refused_append : Sought N C → (s t : Search) (top : Open) (d : Fault) (r : Call) (k : ℕ) → State N C p s.order s.found (s.pending ++ top ∷ []) → Counted F s.order s.used → slice_get (C top.function) top.next ≡ Some r → r.target ≡ Function k → slice_index_or s.found k false ≡ false → (o : Option Fault) → append_fault F k s.used ≡ o → MatchOption o ((t ≡ opened F top s k) × (◌≡◌ {A = Option Fault} (Some d) None)) (λ e. ◌≡◌ {A = Option Fault} (Some d) (Some e)) → LeastFault F (refs C) p d
+  refused_append sound s t top d r k h n at to flag None fit a = cc (a.1)
+  refused_append sound s t top d r k h n at to flag (Some e) bad a =
+      let same : e ≡ d = cc in
+      (path_of C p (top ∷ reverse s.pending), r.slot, inr (past_now sound s.order s.found s.pending top r k s.used d h n at to flag (bad ∙ ap Some same)), λ other y g q v. none_before sound s.order s.found s.pending top r s.used h n at other y g q v)
+
+  refused_at : Sought N C → (s t : Search) (top : Open) (d : Fault) → State N C p s.order s.found (s.pending ++ top ∷ []) → Counted F s.order s.used → (r : Call) → slice_get (C top.function) top.next ≡ Some r → (g : Target) → r.target ≡ g → StepTo F top s t (Some d) (Some g) → LeastFault F (refs C) p d
+  refused_at sound s t top d h n r at (Nowhere g) to a =
+      let same : g ≡ d = cc in
+      let held = held_top N C p s.order s.pending top h.held in
+      (path_of C p (top ∷ reverse s.pending), r.slot, inl (fault_here N C p sound s.order top (reverse s.pending) r d h.start h.apart held at (to ∙ ap Nowhere same)), λ other y e q v. none_before sound s.order s.found s.pending top r s.used h n at other y e q v)
+  refused_at sound s t top d h n r at (Function k) to a =
+      elim (cases_Bool (slice_index_or s.found k false)) [
+        | inl e ↦ let b = rw e at a in cc (b.1)
+        | inr e ↦ let b = rw e at a in refused_append sound s t top d r k h n at to e (append_fault F k s.used) refl b
+      ]
+
+  pub refused : Sought N C → (s t : Search) (top : Open) (d : Fault) → State N C p s.order s.found (s.pending ++ top ∷ []) → Counted F s.order s.used → (c : Option Call) → slice_get (C top.function) top.next ≡ c → StepTo F top s t (Some d) (target_of c) → LeastFault F (refs C) p d
+  refused sound s t top d h n None at a = cc (a.1)
+  refused sound s t top d h n (Some r) at a = refused_at sound s t top d h n r at r.target refl a
+
+  -- the end
+
+  walk_among : (ks path keys : List ℕ) → IsOrder (refs C) p ks → Walk (refs C) p path keys → Among (p ∷ ks) (last_of p keys)
+  walk_among ks [] [] order w = inl refl
+  walk_among ks [] (k ∷ keys) order w = absurd w
+  walk_among ks (x ∷ path) keys order w = inr (order.complete (last_of p keys) (x, path, keys, w, refl))
+
+  key_reached : (ks path : List ℕ) (k : ℕ) → IsOrder (refs C) p ks → (keys : List ℕ) → path ≢ [] → Walk (refs C) p path keys → last_of p keys ≡ k → Among ks k
+  key_reached ks [] k order keys ne w e = absurd (ne refl)
+  key_reached ks (x ∷ path) k order keys ne w e = order.complete k (x, path, keys, w, e)
+
+  faultless : (ks : List ℕ) (f : List Bool) (u : ℕ) → State N C p (p ∷ ks) f [] → Counted F (p ∷ ks) u → IsOrder (refs C) p ks → Faultless F (refs C) p
+  faultless ks f u st n order path x e (inl h) =
+      let some : refs C (last_of p h.keys) x ≢ Nothing = λ (z : refs C (last_of p h.keys) x ≡ Nothing). cc (h.fault) in
+      let (m, is, a) = order.resolved (last_of p h.keys) x (walk_among ks path h.keys order h.simple.walk) some in
+      cc (h.fault, is)
+  faultless ks f u st n order path x e (inr h) =
+      let a = key_reached ks (path ++ x ∷ []) h.key order h.path_is.keys h.path_is.some h.path_is.simple.walk h.path_is.ends in
+      let (j, at) = among_place N C p ks h.key a in
+      let lt = slice_get_within ks j h.key at in
+      no_copy_fault (p ∷ ks) (path ++ x ∷ []) f [] u e st n h (suc j, omega arith, omega arith, at)
+
+  roomy : (ks : List ℕ) (u : ℕ) → Counted F (p ∷ ks) u → (k : ℕ) → Among ks k → total F (p ∷ ks) ≤ 2147483647
+  roomy ks u n k a =
+      let (j, at) = among_place N C p ks k a in
+      let z = n.room (suc j) k (omega arith) at in
+      omega (arith, z, n.used)
+
+  nil_length : {X : Type 0} (xs : List X) → length xs ≡ 0 → xs ≡ []
+  nil_length [] e = refl
+  nil_length (x ∷ xs) e = absurd (omega arith)
+
+  pub found_all : (o : List ℕ) (f : List Bool) (s : List Open) (u : ℕ) → length s ≡ 0 → State N C p o f s → Counted F o u → (ks : List ℕ) × (o ≡ p ∷ ks) × IsFound F (refs C) p ks
+  found_all o f s u e h n =
+      let (ks, is, order) = ended N C p o f s e h in
+      let st = subst (λ (v : List ℕ). State N C p v f []) is (subst (State N C p o f) (nil_length s e) h) in
+      let n' = subst (λ (v : List ℕ). Counted F v u) is n in
+      (ks, is, record { order = order; faultless = faultless ks f u st n' order; fits = λ j k at. n'.fits (suc j) k (omega arith) at; room = roomy ks u n' })
+
+pub counted_first : (F : Functions ℕ Fault) (p u : ℕ) (o : List ℕ) → o ≡ p ∷ [] → u ≡ length (body F p) → Counted F o u
+counted_first F p u o e len =
+    let w = ap (total F) e in
+    record {
+      used = omega (arith, len, w);
+      room = λ j k pos at. let q = slice_get_within o j k at in let v = ap length e in absurd (omega (arith, q, v, pos));
+      fits = λ j k pos at. let q = slice_get_within o j k at in let v = ap length e in absurd (omega (arith, q, v, pos));
+    }

@@ -1,0 +1,21 @@
+pub mod Paths
+pub mod Visits
+pub mod Bases
+pub mod Held
+pub mod Cursor
+pub mod Searched
+pub mod Ends
+pub mod Copying
+pub mod Whole
+pub mod Placed
+pub mod Plain
+pub mod Readying
+pub mod Moved
+pub mod RecordWalks
+pub mod Past
+pub mod Counted
+pub mod Seen
+pub mod Soundly
+pub mod Renamed
+pub mod Carry
+mod Rows

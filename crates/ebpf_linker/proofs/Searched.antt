@@ -1,0 +1,375 @@
+-- The state of the search, its steps, and what holds when it ends.
+use Rattle.std.proofs.Common.{◌≡◌, ◌≢◌, ℕ, zero, suc, ◌+◌, ◌<◌, ◌≤◌, ◌⊎◌, Bool, true, false, List, [], ◌∷◌, ◌++◌, length, Option, Some, None, refl, sym, ap, ◌∙◌, subst, inl, inr, arith, length-append, length-set, get_or-set_same, get_or-set_other, reverse, replicate}
+use Rattle.std.specs.Prelude.{slice_get}
+use Rattle.std.proofs.lemmas.Bool.{cases_eq, cases_lt}
+use Rattle.std.proofs.lemmas.Option.{slice_get_within}
+use Rattle.ebpf_linker.specs.declared.reference.Fault.{Fault}
+use Rattle.ebpf_linker.specs.declared.reference.Target.{Target}
+use Rattle.ebpf_linker.specs.declared.reference.Target.TheVariants.{Function, Nowhere}
+use Rattle.ebpf_linker.specs.declared.reference.Call.{Call}
+use Rattle.ebpf_linker.specs.declared.search.Open.{Open}
+use Rattle.ebpf_linker.specs.Functions.{Reference, Nothing, Faulty, Names, Among, Distinct, Walk, last_of, Reached}
+use Rattle.ebpf_linker.specs.Order.{Before, Simple, KeyPath, HasFault}
+use Rattle.ebpf_linker.specs.Numbered.{of_target}
+use Rattle.ebpf_linker.specs.Steps.{refs, Sought, rising}
+use Rattle.ebpf_linker.proofs.Paths.{before_trans, before_cases, distinct_front, distinct_more, last_of_last, walk_more, walk_same, walk_last}
+use Rattle.ebpf_linker.proofs.Held.{get_more, get_back, get_end, at_index, indexed, rises_index, Found, found_up, found_more, Settled, Held, held_entry}
+use Rattle.std.specs.Bool.{MatchBool}
+use Rattle.std.specs.Prelude.{slice_index_or, slice_set, MatchOption}
+use Rattle.std.proofs.lemmas.List.{reverse-append, length-replicate}
+use Rattle.std.proofs.lemmas.Option.{slice_get_cases}
+use Rattle.ebpf_linker.specs.Numbered.{IsIn}
+use Rattle.ebpf_linker.specs.Functions.{Functions}
+use Rattle.ebpf_linker.specs.Faults.{append_fault}
+use Rattle.ebpf_linker.specs.Steps.{Search, passed, opened, StepTo, target_of, Advanced}
+use Rattle.ebpf_linker.specs.Answer.{IsOrder}
+use Rattle.ebpf_linker.proofs.Held.{held_pop, held_next, held_push}
+use Rattle.ebpf_linker.proofs.Cursor.{Apart, path_of, keys_of, walk_of, keys_found, keys_distinct, cursor, not_nil}
+
+-- k, at place j of the order, is reached by a walk before which each walk leads to an earlier function
+pub record First (C : ℕ → List Call) (p : ℕ) (o : List ℕ) (j k : ℕ) : Type 0 where
+  pub path : List ℕ
+  pub keys : List ℕ
+  pub simple : Simple (refs C) p path keys
+  pub some : path ≢ []
+  pub ends : last_of p keys ≡ k
+  pub least : (q qs : List ℕ) → Simple (refs C) p q qs → q ≢ [] → Before q path → (i : ℕ) × (0 < i) × (i < j) × (slice_get o i ≡ Some (last_of p qs))
+
+pub record State (N : ℕ) (C : ℕ → List Call) (p : ℕ) (o : List ℕ) (f : List Bool) (s : List Open) : Type 0 where
+  pub held : Held C o (length o) (reverse s)
+  pub start : slice_get o 0 ≡ Some p
+  pub flags : length f ≡ N
+  pub marked : (k : ℕ) → slice_index_or f k false ≡ true → Found o (length o) (Names k)
+  pub unmarked : (k : ℕ) → slice_index_or f k false ≡ false → Found o (length o) (Names k) → ⊥
+  pub apart : Apart o
+  pub firsts : (j k : ℕ) → 0 < j → slice_get o j ≡ Some k → First C p o j k
+  pub within : (j k : ℕ) → slice_get o j ≡ Some k → k < N
+
+not_within : (cs : List Call) (i : ℕ) → slice_get cs i ≡ None → length cs ≤ i
+not_within cs i e =
+    elim (slice_get_cases cs i).1 [ inl x ↦ cc (x.2) | inr x ↦ x.0 ]
+
+module _ (N : ℕ) (C : ℕ → List Call) (p : ℕ) where
+  pub first_more : (o ys : List ℕ) (j k : ℕ) → First C p o j k → First C p (o ++ ys) j k
+  first_more o ys j k h =
+      record {
+        path = h.path;
+        keys = h.keys;
+        simple = h.simple;
+        some = h.some;
+        ends = h.ends;
+        least = λ q qs w ne b. let (i, pos, lt, at) = h.least q qs w ne b in (i, pos, lt, get_more o ys i (last_of p qs) at);
+      }
+
+  pub upto_next : Sought N C → (e : Open) (r : Call) → slice_get (C e.function) e.next ≡ Some r → (i : ℕ) (s : Call) → slice_get (C e.function) i ≡ Some s → s.slot < r.slot → i < e.next
+  upto_next sound e r at i s at' lt = rises_index (C e.function) 0 i e.next s r (sound.rises e.function) at' at lt
+
+  -- the last reference of a simple walk before the cursor
+  pub before_found : Sought N C → (o : List ℕ) (e : Open) (es : List Open) (r : Call) → slice_get o 0 ≡ Some p → Held C o (length o) (e ∷ es) → slice_get (C e.function) e.next ≡ Some r → (q qs : List ℕ) → Simple (refs C) p q qs → q ≢ [] → Before q (path_of C p (e ∷ es) ++ r.slot ∷ []) → Found o (length o) (Names (last_of p qs))
+  before_found sound o e es r start held at [] qs w ne b = absurd (ne refl)
+  before_found sound o e es r start held at (x ∷ q) qs w ne b =
+      let l = walk_last (refs C) p x q qs w.walk in
+      let once : Distinct l.keys = distinct_front l.keys (l.key ∷ []) (subst Distinct l.keys_are w.once) in
+      let some : refs C (last_of p l.keys) l.slot ≢ Nothing = λ (z : refs C (last_of p l.keys) l.slot ≡ Nothing). cc (l.leads) in
+      let b' = subst (λ (u : List ℕ). Before u (path_of C p (e ∷ es) ++ r.slot ∷ [])) l.path_is b in
+      let found = cursor C p (rising sound) o (length o) e es r.slot start held (upto_next sound e r at) l.path l.keys l.slot l.walk once some b' in
+      let end : last_of p qs ≡ l.key = ap (last_of p) l.keys_are ∙ last_of_last p l.keys l.key in
+      rw end (subst (Found o (length o)) l.leads found)
+
+  -- the function that is opened now
+  pub first_now : Sought N C → (o : List ℕ) (k : ℕ) (e : Open) (es : List Open) (r : Call) → slice_get o 0 ≡ Some p → Apart o → Held C o (length o) (e ∷ es) → slice_get (C e.function) e.next ≡ Some r → r.target ≡ Function k → (Found o (length o) (Names k) → ⊥) → First C p (o ++ k ∷ []) (length o) k
+  first_now sound o k e es r start apart held at to fresh =
+      let w = walk_of C p (rising sound) o (length o) e es start held in
+      let leads : refs C (last_of p (keys_of C p (e ∷ es))) r.slot ≡ Names k = rw w.1 ((at_index (C e.function) 0 e.next r (sound.rises e.function) at).1 ∙ ap of_target to) in
+      record {
+        path = path_of C p (e ∷ es) ++ r.slot ∷ [];
+        keys = keys_of C p (e ∷ es) ++ k ∷ [];
+        simple = record {
+          walk = walk_more (refs C) p (path_of C p (e ∷ es)) (keys_of C p (e ∷ es)) r.slot k w.0 leads;
+          once = distinct_more (keys_of C p (e ∷ es)) k (keys_distinct C p o (length o) e es apart held) (λ a. fresh (keys_found C p o (length o) e es k held a));
+        };
+        some = not_nil (path_of C p (e ∷ es)) r.slot;
+        ends = last_of_last p (keys_of C p (e ∷ es)) k;
+        least = λ q qs s ne b.
+            let (i, pos, lt, is) = before_found sound o e es r start held at q qs s ne b in
+            (i, pos, lt, get_more o (k ∷ []) i (last_of p qs) is);
+      }
+
+  -- no reference before the cursor leads nowhere
+  pub plain_before : Sought N C → (o : List ℕ) (e : Open) (es : List Open) (r : Call) → slice_get o 0 ≡ Some p → Held C o (length o) (e ∷ es) → slice_get (C e.function) e.next ≡ Some r → (other : List ℕ) (y : ℕ) (g : Fault) → HasFault (refs C) p other y g → Before (other ++ y ∷ []) (path_of C p (e ∷ es) ++ r.slot ∷ []) → ⊥
+  plain_before sound o e es r start held at other y g h b =
+      let some : refs C (last_of p h.keys) y ≢ Nothing = λ (z : refs C (last_of p h.keys) y ≡ Nothing). cc (h.fault) in
+      let found = cursor C p (rising sound) o (length o) e es r.slot start held (upto_next sound e r at) other h.keys y h.simple.walk h.simple.once some b in
+      let no_ : Found o (length o) (Faulty g) = subst (Found o (length o)) h.fault found in
+      no_
+
+  -- a reference that leads nowhere
+  pub fault_here : Sought N C → (o : List ℕ) (e : Open) (es : List Open) (r : Call) (d : Fault) → slice_get o 0 ≡ Some p → Apart o → Held C o (length o) (e ∷ es) → slice_get (C e.function) e.next ≡ Some r → r.target ≡ Nowhere d → HasFault (refs C) p (path_of C p (e ∷ es)) r.slot d
+  fault_here sound o e es r d start apart held at to =
+      let w = walk_of C p (rising sound) o (length o) e es start held in
+      let is : refs C (last_of p (keys_of C p (e ∷ es))) r.slot ≡ Faulty d = rw w.1 ((at_index (C e.function) 0 e.next r (sound.rises e.function) at).1 ∙ ap of_target to) in
+      record { keys = keys_of C p (e ∷ es); simple = record { walk = w.0; once = keys_distinct C p o (length o) e es apart held }; fault = is }
+
+  -- what stands at a place of a list with one more
+  pub push_at : (o : List ℕ) (k j m : ℕ) → slice_get (o ++ k ∷ []) j ≡ Some m → ((j < length o) × (slice_get o j ≡ Some m)) ⊎ ((j ≡ length o) × (k ≡ m))
+  push_at o k j m at =
+      elim (cases_lt j (length o)) [
+        | inl below ↦ inl (below, get_back o (k ∷ []) j m below at)
+        | inr above ↦
+            let lt = slice_get_within (o ++ k ∷ []) j m at in
+            let same : j ≡ length o = omega (arith, length-append o (k ∷ []), lt) in
+            let at' : slice_get (o ++ k ∷ []) (length o) ≡ Some m = subst (λ (u : ℕ). slice_get (o ++ k ∷ []) u ≡ Some m) same at in
+            inr (same, cc (at', get_end o k))
+      ]
+
+  found_push : (o : List ℕ) (k m : ℕ) → Found (o ++ k ∷ []) (length (o ++ k ∷ [])) (Names m) → Found o (length o) (Names m) ⊎ (k ≡ m)
+  found_push o k m (j, pos, lt, at) = elim (push_at o k j m at) [ inl x ↦ inl (j, pos, x.0, x.1) | inr x ↦ inr x.1 ]
+
+  pub apart_push : (o : List ℕ) (k : ℕ) → Apart o → (Found o (length o) (Names k) → ⊥) → Apart (o ++ k ∷ [])
+  apart_push o k a fresh =
+      record {
+        apart = λ i j m pi pj ai aj.
+            elim (push_at o k i m ai) [
+              | inl x ↦ elim (push_at o k j m aj) [ inl y ↦ a.apart i j m pi pj x.1 y.1 | inr y ↦ absurd (fresh (i, pi, x.0, x.1 ∙ ap Some (sym y.1))) ]
+              | inr x ↦ elim (push_at o k j m aj) [ inl y ↦ absurd (fresh (j, pj, y.0, y.1 ∙ ap Some (sym x.1))) | inr y ↦ x.0 ∙ sym y.0 ]
+            ];
+      }
+
+  -- the steps
+
+  pub held_top : (o : List ℕ) (s : List Open) (top : Open) → Held C o (length o) (reverse (s ++ top ∷ [])) → Held C o (length o) (top ∷ reverse s)
+  held_top o s top h = subst (Held C o (length o)) (reverse-append s (top ∷ [])) h
+
+  top_held : (o : List ℕ) (s : List Open) (top : Open) → Held C o (length o) (top ∷ reverse s) → Held C o (length o) (reverse (s ++ top ∷ []))
+  top_held o s top h = subst (Held C o (length o)) (sym (reverse-append s (top ∷ []))) h
+
+  pub top_within : (o : List ℕ) (f : List Bool) (s : List Open) (top : Open) → State N C p o f (s ++ top ∷ []) → top.function < N
+  top_within o f s top h = h.within top.copy top.function (held_entry C o (length o) top (reverse s) (held_top o s top h.held)).function
+
+  step_over : (o : List ℕ) (f : List Bool) (s : List Open) (top : Open) → State N C p o f (s ++ top ∷ []) → length (C top.function) ≤ top.next → State N C p o f s
+  step_over o f s top h over =
+      record { held = held_pop C o (length o) top (reverse s) over (held_top o s top h.held); start = h.start; flags = h.flags; marked = h.marked; unmarked = h.unmarked; apart = h.apart; firsts = h.firsts; within = h.within }
+
+  step_next : (o : List ℕ) (f : List Bool) (s : List Open) (top : Open) (r : Call) (k : ℕ) → State N C p o f (s ++ top ∷ []) → slice_get (C top.function) top.next ≡ Some r → r.target ≡ Function k → slice_index_or f k false ≡ true → State N C p o f (s ++ record top { next = top.next + 1 } ∷ [])
+  step_next o f s top r k h at to flag =
+      let found : Found o (length o) (of_target r.target) = rw to (h.marked k flag) in
+      record { held = top_held o s (record top { next = top.next + 1 }) (held_next C o (length o) top (reverse s) r at found (held_top o s top h.held)); start = h.start; flags = h.flags; marked = h.marked; unmarked = h.unmarked; apart = h.apart; firsts = h.firsts; within = h.within }
+
+  step_push : Sought N C → (o : List ℕ) (f : List Bool) (s : List Open) (top : Open) (r : Call) (k : ℕ) → State N C p o f (s ++ top ∷ []) → slice_get (C top.function) top.next ≡ Some r → r.target ≡ Function k → slice_index_or f k false ≡ false → State N C p (o ++ k ∷ []) (slice_set f k true) ((s ++ top ∷ []) ++ record { copy = length o; function = k; next = 0 } ∷ [])
+  step_push sound o f s top r k h at to flag =
+      let held = held_top o s top h.held in
+      let new : Open = record { copy = length o; function = k; next = 0 } in
+      let size : length (o ++ k ∷ []) ≡ length o + 1 = omega (arith, length-append o (k ∷ [])) in
+      let pushed = held_push C o k top (reverse s) r at to held in
+      let fresh = h.unmarked k flag in
+      let top_at = (held_entry C o (length o) top (reverse s) held) in
+      let some : 0 < length o = omega (arith, top_at.below) in
+      let inside : k < N = subst (IsIn N) to (sound.within top.function top.next r at) in
+      let inside' : k < length f = omega (arith, h.flags) in
+      let first = first_now sound o k top (reverse s) r h.start h.apart held at to fresh in
+      record {
+        held = subst (Held C (o ++ k ∷ []) (length (o ++ k ∷ []))) (sym (reverse-append (s ++ top ∷ []) (new ∷ []) ∙ ap (λ (u : List Open). new ∷ u) (reverse-append s (top ∷ [])))) (subst (λ (u : ℕ). Held C (o ++ k ∷ []) u (new ∷ top ∷ reverse s)) (sym size) pushed);
+        start = get_more o (k ∷ []) 0 p h.start;
+        flags = length-set f k true ∙ h.flags;
+        marked = λ m flag'.
+            elim (cases_eq m k) [
+              | inl same ↦ (length o, some, omega (arith, size), get_end o k ∙ ap Some (sym same))
+              | inr other ↦
+                  let was : slice_index_or f m false ≡ true = sym (get_or-set_other f k m true false other) ∙ flag' in
+                  found_up (o ++ k ∷ []) (length o) (length (o ++ k ∷ [])) (Names m) (omega (arith, size)) (found_more o (k ∷ []) (length o) (Names m) (h.marked m was))
+            ];
+        unmarked = λ m flag' found.
+            elim (cases_eq m k) [
+              | inl same ↦ cc (get_or-set_same f k true false inside')
+              | inr other ↦
+                  let was : slice_index_or f m false ≡ false = sym (get_or-set_other f k m true false other) ∙ flag' in
+                  elim (found_push o k m found) [ inl old ↦ h.unmarked m was old | inr is ↦ other (sym is) ]
+            ];
+        apart = apart_push o k h.apart fresh;
+        firsts = λ j m pos at'.
+            elim (push_at o k j m at') [
+              | inl x ↦ first_more o (k ∷ []) j m (h.firsts j m pos x.1)
+              | inr (same, is) ↦ subst (λ (u : ℕ). First C p (o ++ k ∷ []) u m) (sym same) (subst (First C p (o ++ k ∷ []) (length o)) is first)
+            ];
+        within = λ j m at'.
+            elim (push_at o k j m at') [ inl x ↦ h.within j m x.1 | inr x ↦ subst (λ (u : ℕ). u < N) x.1 inside ];
+      }
+
+  to_state : (o o' : List ℕ) (f f' : List Bool) (s s' : List Open) → o' ≡ o → f' ≡ f → s' ≡ s → State N C p o f s → State N C p o' f' s'
+  to_state o o' f f' s s' e g h st = subst (λ (u : List ℕ). State N C p u f' s') (sym e) (subst (λ (u : List Bool). State N C p o u s') (sym g) (subst (State N C p o f) (sym h) st))
+
+  step_append : (F : Functions ℕ Fault) → Sought N C → (s t : Search) (top : Open) → State N C p s.order s.found (s.pending ++ top ∷ []) → (r : Call) → slice_get (C top.function) top.next ≡ Some r → (k : ℕ) → r.target ≡ Function k → slice_index_or s.found k false ≡ false → (o : Option Fault) → MatchOption o ((t ≡ opened F top s k) × (◌≡◌ {A = Option Fault} None None)) (λ e. ◌≡◌ {A = Option Fault} None (Some e)) → State N C p t.order t.found t.pending
+  step_append F sound s t top h r at k to flag None a =
+      subst (λ (u : Search). State N C p u.order u.found u.pending) (sym a.0) (step_push sound s.order s.found s.pending top r k h at to flag)
+  step_append F sound s t top h r at k to flag (Some e) a = cc
+
+  step_flag : (F : Functions ℕ Fault) → Sought N C → (s t : Search) (top : Open) → State N C p s.order s.found (s.pending ++ top ∷ []) → (r : Call) → slice_get (C top.function) top.next ≡ Some r → (k : ℕ) → r.target ≡ Function k → (b : Bool) → slice_index_or s.found k false ≡ b → MatchBool b ((t ≡ passed top s) × (◌≡◌ {A = Option Fault} None None)) (MatchOption (append_fault F k s.used) ((t ≡ opened F top s k) × (◌≡◌ {A = Option Fault} None None)) (λ e. ◌≡◌ {A = Option Fault} None (Some e))) → State N C p t.order t.found t.pending
+  step_flag F sound s t top h r at k to true flag a =
+      subst (λ (u : Search). State N C p u.order u.found u.pending) (sym a.0) (step_next s.order s.found s.pending top r k h at to flag)
+  step_flag F sound s t top h r at k to false flag a = step_append F sound s t top h r at k to flag (append_fault F k s.used) a
+
+  step_to : (F : Functions ℕ Fault) → Sought N C → (s t : Search) (top : Open) → State N C p s.order s.found (s.pending ++ top ∷ []) → (r : Call) → slice_get (C top.function) top.next ≡ Some r → (g : Target) → r.target ≡ g → StepTo F top s t None (Some g) → State N C p t.order t.found t.pending
+  step_to F sound s t top h r at (Nowhere d) to a = cc
+  step_to F sound s t top h r at (Function k) to a = step_flag F sound s t top h r at k to (slice_index_or s.found k false) refl a
+
+  stepped : (F : Functions ℕ Fault) → Sought N C → (s t : Search) (top : Open) → State N C p s.order s.found (s.pending ++ top ∷ []) → (c : Option Call) → slice_get (C top.function) top.next ≡ c → StepTo F top s t None (target_of c) → State N C p t.order t.found t.pending
+  stepped F sound s t top h None at a =
+      let over : length (C top.function) ≤ top.next = not_within (C top.function) top.next at in
+      subst (λ (u : Search). State N C p u.order u.found u.pending) (sym a.0) (step_over s.order s.found s.pending top h over)
+  stepped F sound s t top h (Some r) at a = step_to F sound s t top h r at r.target refl a
+
+  -- one step of the search, by its contract
+  pub advanced : (F : Functions ℕ Fault) → Sought N C → (s t : Search) (top : Open) → State N C p s.order s.found (s.pending ++ top ∷ []) → Advanced F C top s t None → State N C p t.order t.found t.pending
+  advanced F sound s t top h a = stepped F sound s t top h (slice_get (C top.function) top.next) refl a
+
+  -- the end
+
+  pub among_place : (o : List ℕ) (k : ℕ) → Among o k → (j : ℕ) × (slice_get o j ≡ Some k)
+  among_place [] k a = absurd a
+  among_place (m ∷ o) k (inl e) = (0, ap Some e)
+  among_place (m ∷ o) k (inr a) = let (j, at) = among_place o k a in (suc j, at)
+
+  pub place_among : (o : List ℕ) (j k : ℕ) → slice_get o j ≡ Some k → Among o k
+  place_among [] j k at = cc
+  place_among (m ∷ o) zero k at = inl cc
+  place_among (m ∷ o) (suc j) k at = inr (place_among o j k at)
+
+  -- no two places hold one number
+  pub distinct_places : (o : List ℕ) → ((i j k : ℕ) → slice_get o i ≡ Some k → slice_get o j ≡ Some k → i ≡ j) → Distinct o
+  distinct_places [] h = tt
+  distinct_places (m ∷ o) h = (
+    λ a. let (j, at) = among_place o m a in let e = h 0 (suc j) m refl at in omega (arith, e),
+    distinct_places o (λ i j k ai aj. let e = h (suc i) (suc j) k ai aj in omega (arith, e)),
+  )
+
+  -- each reference of each function found leads to one found
+  closed : (o : List ℕ) → Settled C o (length o) [] → (j k x : ℕ) → slice_get o j ≡ Some k → refs C k x ≢ Nothing → Found o (length o) (refs C k x)
+  closed o s j k x at some =
+      let r = indexed (C k) x some in
+      subst (Found o (length o)) (sym r.is) (s.leads j k r.index r.call (slice_get_within o j k at) at (λ a. a) r.at)
+
+  nil_end : (o : List ℕ) (m : ℕ) (ks : List ℕ) → Walk (refs C) m [] ks → Found o (length o) (Names m) → Found o (length o) (Names (last_of m ks))
+  nil_end o m [] w h = h
+  nil_end o m (k ∷ ks) w h = absurd w
+
+  found_among : (ks : List ℕ) (k : ℕ) → Found (p ∷ ks) (length (p ∷ ks)) (Names k) → Among ks k
+  found_among ks k (zero, pos, lt, at) = absurd (omega arith)
+  found_among ks k (suc j, pos, lt, at) = place_among ks j k at
+
+  names_among : (ks : List ℕ) (r : Reference ℕ Fault) → Found (p ∷ ks) (length (p ∷ ks)) r → (m : ℕ) × (r ≡ Names m) × Among ks m
+  names_among ks Nothing h = absurd h
+  names_among ks (Faulty d) h = absurd h
+  names_among ks (Names m) h = (m, refl, found_among ks m h)
+
+  reached_path : (k : ℕ) (q qs : List ℕ) → Walk (refs C) p q qs → q ≢ [] → last_of p qs ≡ k → Reached (refs C) p k
+  reached_path k [] qs w ne e = absurd (ne refl)
+  reached_path k (x ∷ q) qs w ne e = (x, q, qs, w, e)
+
+  reached_by : {o : List ℕ} {j : ℕ} (k : ℕ) → First C p o j k → Reached (refs C) p k
+  reached_by k h = reached_path k h.path h.keys h.simple.walk h.some h.ends
+
+  walk_found : (o : List ℕ) → Settled C o (length o) [] → (j k : ℕ) (q ks : List ℕ) (x : ℕ) → slice_get o j ≡ Some k → Walk (refs C) k (x ∷ q) ks → Found o (length o) (Names (last_of k ks))
+  walk_found o s j k q [] x at w = absurd w
+  walk_found o s j k [] (m ∷ ks) x at w =
+      let some : refs C k x ≢ Nothing = λ (z : refs C k x ≡ Nothing). cc (w.0) in
+      let found = subst (Found o (length o)) w.0 (closed o s j k x at some) in
+      nil_end o m ks w.1 found
+  walk_found o s j k (y ∷ q) (m ∷ ks) x at w =
+      let some : refs C k x ≢ Nothing = λ (z : refs C k x ≡ Nothing). cc (w.0) in
+      let (i, pos, lt, is) = subst (Found o (length o)) w.0 (closed o s j k x at some) in
+      walk_found o s i m q ks y is w.1
+
+  pub key_path : (o : List ℕ) (j k : ℕ) → Apart o → 0 < j → slice_get o j ≡ Some k → (h : First C p o j k) → KeyPath (refs C) p k h.path
+  key_path o j k apart pos at h =
+      record {
+        keys = h.keys;
+        simple = h.simple;
+        ends = h.ends;
+        some = h.some;
+        least = λ other others w ne ends b.
+            let (i, pi, lt, ai) = h.least other others w ne b in
+            let e = apart.apart i j k pi pos (ai ∙ ap Some ends) at in
+            omega (arith, e);
+      }
+
+  -- an earlier function has the lower key path
+  pub in_order : (o : List ℕ) (i j k m : ℕ) (x y : List ℕ) → Apart o → 0 < i → i < j → slice_get o i ≡ Some k → slice_get o j ≡ Some m → First C p o i k → KeyPath (refs C) p k x → KeyPath (refs C) p m y → Before x y
+  in_order o i j k m x y apart pos lt ai aj h kx ky =
+      let early : Before y h.path → ⊥ = λ b. let (l, pl, ltl, al) = h.least y ky.keys ky.simple ky.some b in let e = apart.apart l j m pl (omega arith) (al ∙ ap Some ky.ends) aj in omega (arith, e) in
+      elim (before_cases x y) [
+        | inl b ↦ b
+        | inr (inl e) ↦
+            let keys : kx.keys ≡ ky.keys = walk_same (refs C) p x kx.keys ky.keys kx.simple.walk (subst (λ (u : List ℕ). Walk (refs C) p u ky.keys) (sym e) ky.simple.walk) in
+            let same : k ≡ m = sym kx.ends ∙ ap (last_of p) keys ∙ ky.ends in
+            let l = apart.apart i j m pos (omega arith) (ai ∙ ap Some same) aj in
+            absurd (omega (arith, l))
+        | inr (inr b) ↦
+            elim (before_cases x h.path) [
+              | inl c ↦ absurd (early (before_trans y x h.path b c))
+              | inr (inl e) ↦ absurd (early (subst (Before y) e b))
+              | inr (inr c) ↦ absurd (kx.least h.path h.keys h.simple h.some h.ends c)
+            ]
+      ]
+
+  pub finished : (ks : List ℕ) (f : List Bool) → State N C p (p ∷ ks) f [] → IsOrder (refs C) p ks
+  finished ks f h =
+      record {
+        once = distinct_places ks (λ i j k ai aj. let e = h.apart.apart (suc i) (suc j) k (omega arith) (omega arith) ai aj in omega (arith, e));
+        reached = λ k a. let (j, at) = among_place ks k a in reached_by k (h.firsts (suc j) k (omega arith) at);
+        complete = λ k r. found_among ks k (subst (λ (u : ℕ). Found (p ∷ ks) (length (p ∷ ks)) (Names u)) r.4 (walk_found (p ∷ ks) h.held 0 p r.1 r.2 r.0 refl r.3));
+        resolved = λ k x a some. let (j, at) = among_place (p ∷ ks) k a in names_among ks (refs C k x) (closed (p ∷ ks) h.held j k x at some);
+        order = (
+          λ k a. let (j, at) = among_place ks k a in let first = h.firsts (suc j) k (omega arith) at in (first.path, key_path (p ∷ ks) (suc j) k h.apart (omega arith) at first),
+          λ i j k m x y lt ai aj kx ky. in_order (p ∷ ks) (suc i) (suc j) k m x y h.apart (omega arith) (omega arith) ai aj (h.firsts (suc i) k (omega arith) ai) kx ky,
+        );
+      }
+
+  nil_length : {X : Type 0} (xs : List X) → length xs ≡ 0 → xs ≡ []
+  nil_length [] e = refl
+  nil_length (x ∷ xs) e = absurd (omega arith)
+
+  pub begins_with : (o : List ℕ) (k : ℕ) → slice_get o 0 ≡ Some k → (ks : List ℕ) × (o ≡ k ∷ ks)
+  begins_with [] k e = cc
+  begins_with (m ∷ ks) k e = (ks, cc)
+
+  pub ended : (o : List ℕ) (f : List Bool) (s : List Open) → length s ≡ 0 → State N C p o f s → (ks : List ℕ) × (o ≡ p ∷ ks) × IsOrder (refs C) p ks
+  ended o f s e h =
+      let (ks, is) = begins_with o p h.start in
+      (ks, is, finished ks f (subst (λ (u : List ℕ). State N C p u f []) is (subst (State N C p o f) (nil_length s e) h)))
+
+  get_replicate : (n k : ℕ) → slice_index_or (replicate n false) k false ≡ false
+  get_replicate zero k = refl
+  get_replicate (suc n) zero = refl
+  get_replicate (suc n) (suc k) = get_replicate n k
+
+  found_none : (r : Reference ℕ Fault) → Found (p ∷ []) 1 r → ⊥
+  found_none Nothing h = h
+  found_none (Faulty d) h = h
+  found_none (Names k) h = omega (arith, h.1, h.2)
+
+  only_one : (j k : ℕ) → p < N → slice_get (p ∷ []) j ≡ Some k → k < N
+  only_one zero k within at = let e : p ≡ k = cc in omega arith
+  only_one (suc j) k within at = cc
+
+  started_so : p < N → State N C p (p ∷ []) (replicate N false) (record { copy = 0; function = p; next = 0 } ∷ [])
+  started_so within =
+      record {
+        held = (
+          record { leads = λ c f i r lt at apart call. let z : c ≡ 0 = omega arith in absurd (apart (inl (sym z))) },
+          record { function = refl; below = omega arith; done = record { leads = λ i r lt at. absurd (omega arith) } },
+          refl,
+        );
+        start = refl;
+        flags = length-replicate N false;
+        marked = λ k e. cc (get_replicate N k);
+        unmarked = λ k e h. found_none (Names k) h;
+        apart = record { apart = λ i j k pi pj ai aj. let z = slice_get_within (p ∷ []) i k ai in absurd (omega (arith, z)) };
+        firsts = λ j k pos at. let z = slice_get_within (p ∷ []) j k at in absurd (omega (arith, z));
+        within = λ j k at. only_one j k within at;
+      }
+
+  -- the state at the start
+  pub started : (o : List ℕ) (f : List Bool) (s : List Open) → p < N → o ≡ p ∷ [] → f ≡ replicate N false → s ≡ record { copy = 0; function = p; next = 0 } ∷ [] → State N C p o f s
+  started o f s within eo ef es =
+      let first : Open = record { copy = 0; function = p; next = 0 } in
+      to_state (p ∷ []) o (replicate N false) f (first ∷ []) s eo ef es (started_so within)

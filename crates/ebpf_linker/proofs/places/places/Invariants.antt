@@ -1,0 +1,5 @@
+use Rattle.ebpf_linker.proofs.Placed.{Placing}
+use Rattle.ebpf_linker.proofs.places.places.Given as goal
+
+abbrev pub invariant-loop-function : goal.invariant-loop-function
+invariant-loop-function l = Placing l.bodies l.first l.functions l.bases.items l.end l.function-index

@@ -1,0 +1,75 @@
+use Rattle.std.proofs.Common.{◌≡◌, ℕ, ◌+◌, ◌<◌, List, [], ◌∷◌, ◌++◌, length, replicate, false, rules, refl, sym, ap, ◌∙◌, subst, arith, Option}
+use Rattle.std.specs.Prelude.{slice_get, Err, Ok}
+use Rattle.ebpf_linker.specs.declared.reference.Fault.{Fault}
+use Rattle.ebpf_linker.specs.declared.search.Open.{Open}
+use Rattle.ebpf_linker.specs.Functions.{Content}
+use Rattle.ebpf_linker.specs.Numbered.{functions}
+use Rattle.ebpf_linker.specs.Steps.{Advanced, search_at, seen, target_of}
+use Rattle.ebpf_linker.proofs.Searched.{State, advanced, started}
+use Rattle.ebpf_linker.proofs.Counted.{counted, refused, found_all, counted_first}
+use Rattle.ebpf_linker.proofs.Ends.{less_left, left_in, unfound}
+use Rattle.ebpf_linker.proofs.Seen.{sought, finds, content_read}
+use Rattle.ebpf_linker.proofs.search.search.Goals as goal
+
+pub loop-top-init : goal.loop-top-init
+loop-top-init c =
+    let B = c.args.bodies.now in
+    let C = c.args.calls.now in
+    let first : Open = record { copy = 0; function = c.args.start; next = 0 } in
+    let o : c.push.new.self.items ≡ c.args.start ∷ [] = c.in_ok-push.ensures.items ∙ ap (λ (u : List ℕ). u ++ c.args.start ∷ []) c.new-order.ensures.items in
+    let s : c.push-2.new.self.items ≡ first ∷ [] = c.in_ok-push-2.ensures.items ∙ ap (λ (u : List Open). u ++ first ∷ []) c.new-pending.ensures.items in
+    let fs : c.in_ok-found.found.items ≡ replicate (length B) false = search rules in
+    record {
+      state = started (length B) (seen B C c.args.start) c.args.start _ _ _ c.requires.start o fs s;
+      counted = counted_first (functions B C) c.args.start _ c.push.new.self.items o (ap (λ (u : Content). length u.slots) (sym (content_read B c.args.start _ c.requires.start)));
+    }
+
+pub returns-in-Some-step : goal.returns-in-Some-step
+returns-in-Some-step c =
+    let B = c.args.bodies.now in
+    let C = c.args.calls.now in
+    let p = c.args.start in
+    let F = functions B C in
+    let s = search_at c.loop-top.order.items c.loop-top.found.items c.pop.new.self.items c.loop-top.used in
+    let t = search_at c.advance.new.order.items c.advance.new.found.items c.advance.new.pending.items c.advance.new.used in
+    let top = c.in-Some.top in
+    let st = subst (State (length B) (seen B C p) p c.loop-top.order.items c.loop-top.found.items) c.in-Some.ensures.items c.loop-top.invariant.state in
+    let a = subst (λ (u : Option Fault). Advanced F (seen B C p) top s t u) c.in-Some-step.is c.in_ok-step.ensures in
+    finds B C p (Err c.in-Some-step.fault) (refused F (length B) (seen B C p) p (sought B p (length B) C c.requires.sound) s t top c.in-Some-step.fault st c.loop-top.invariant.counted (slice_get (seen B C p top.function) top.next) refl a)
+
+pub loop-top-smaller : goal.loop-top-smaller
+loop-top-smaller c =
+    let B = c.args.bodies.now in
+    let C = c.args.calls.now in
+    let p = c.args.start in
+    let F = functions B C in
+    let s = search_at c.loop-top.order.items c.loop-top.found.items c.pop.new.self.items c.loop-top.used in
+    let t = search_at c.advance.new.order.items c.advance.new.found.items c.advance.new.pending.items c.advance.new.used in
+    let top = c.in-Some.top in
+    let a = subst (λ (u : Option Fault). Advanced F (seen B C p) top s t u) c.in_default-step.is c.in_ok-step.ensures in
+    let less = less_left F (length B) (seen B C p) top s t (sought B p (length B) C c.requires.sound) c.loop-top.invariant.state.flags a in
+    subst (λ (u : List Open). unfound c.advance.new.found.items (seen B C p) 0 + left_in (seen B C p) c.advance.new.pending.items < unfound c.loop-top.found.items (seen B C p) 0 + left_in (seen B C p) u) (sym c.in-Some.ensures.items) less
+
+pub loop-top-preserved : goal.loop-top-preserved
+loop-top-preserved c =
+    let B = c.args.bodies.now in
+    let C = c.args.calls.now in
+    let p = c.args.start in
+    let F = functions B C in
+    let s = search_at c.loop-top.order.items c.loop-top.found.items c.pop.new.self.items c.loop-top.used in
+    let t = search_at c.advance.new.order.items c.advance.new.found.items c.advance.new.pending.items c.advance.new.used in
+    let top = c.in-Some.top in
+    let st = subst (State (length B) (seen B C p) p c.loop-top.order.items c.loop-top.found.items) c.in-Some.ensures.items c.loop-top.invariant.state in
+    let a = subst (λ (u : Option Fault). Advanced F (seen B C p) top s t u) c.in_default-step.is c.in_ok-step.ensures in
+    record {
+      state = advanced (length B) (seen B C p) p F (sought B p (length B) C c.requires.sound) s t top st a;
+      counted = counted F (length B) (seen B C p) p s t top c.loop-top.invariant.counted (target_of (slice_get (seen B C p top.function) top.next)) a;
+    }
+
+pub returns : goal.returns
+returns c =
+    let B = c.args.bodies.now in
+    let C = c.args.calls.now in
+    let p = c.args.start in
+    let empty : length c.loop-top.pending.items ≡ 0 = omega (arith, c.loop-top.pending.ok.0, c.in_default.ensures.cases.0) in
+    finds B C p (Ok c.loop-top.order) (found_all (functions B C) (length B) (seen B C p) p c.loop-top.order.items c.loop-top.found.items c.loop-top.pending.items c.loop-top.used empty c.loop-top.invariant.state c.loop-top.invariant.counted)

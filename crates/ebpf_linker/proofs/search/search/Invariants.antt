@@ -1,0 +1,16 @@
+use Rattle.ebpf_linker.specs.Numbered.{functions}
+use Rattle.ebpf_linker.specs.Steps.{seen, search_at}
+use Rattle.ebpf_linker.proofs.Searched.{State}
+use Rattle.ebpf_linker.proofs.Counted.{Counted}
+use Rattle.ebpf_linker.proofs.Ends.{left_of}
+use Rattle.std.proofs.Common.{length}
+use Rattle.ebpf_linker.proofs.search.search.Given as goal
+
+abbrev pub invariant-loop-top : goal.invariant-loop-top
+invariant-loop-top l = record {
+  state : State (length l.bodies) (seen l.bodies l.calls l.start) l.start l.order.items l.found.items l.pending.items;
+  counted : Counted (functions l.bodies l.calls) l.order.items l.used;
+}
+
+abbrev pub decreases-loop-top : goal.decreases-loop-top
+decreases-loop-top l = left_of (seen l.bodies l.calls l.start) (search_at l.order.items l.found.items l.pending.items l.used)

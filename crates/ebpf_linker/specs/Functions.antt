@@ -1,0 +1,92 @@
+-- Functions by their keys, what their slots refer to, and what a linked program is.
+use Rattle.std.specs.Prelude.{◌≡◌, ◌≢◌, ℕ, ◌+◌, ◌<◌, pos, ◌-ℤ◌, ◌⊎◌, List, [], ◌∷◌, length, Option, Some, None, slice_get}
+use Rattle.ebpf_btf.specs.declared.ext_infos.bpf_func_info.{bpf_func_info}
+use Rattle.ebpf_btf.specs.declared.ext_infos.bpf_line_info.{bpf_line_info}
+use Rattle.ebpf_parts.specs.declared.insn.bpf_insn.{bpf_insn}
+use Rattle.ebpf_linker.specs.Slots.{relinked}
+
+-- what a slot refers to: no function, one that can't be had, or the function at a key
+pub data Reference (K E : Type 0) : Type 0 where
+  Nothing : Reference K E
+  Faulty : E → Reference K E
+  Names : K → Reference K E
+
+-- what the slots of functions refer to
+abbrev pub References : Type 0 → Type 0 → Type 0
+References K E = K → ℕ → Reference K E
+
+-- a function: its slots, and the records on functions and on lines that stand in it
+pub record Content : Type 0 where
+  pub slots : List bpf_insn
+  pub func_info : List bpf_func_info
+  pub line_info : List bpf_line_info
+
+-- Functions: what stands at each key that is one, what slot i of the function at a key refers to, and the names of
+-- what may be wrong with the function at a key.
+pub record Functions (K E : Type 0) : Type 0 where
+  pub content : K → Option Content
+  pub reference : References K E
+  pub mismatch : K → E
+  pub too_long : K → E
+  pub stray_line : K → E
+
+abbrev pub or_empty : Option Content → Content
+or_empty None = record { slots = []; func_info = []; line_info = [] }
+or_empty (Some c) = c
+
+module _ {K : Type 0} where
+  abbrev pub Among : List K → K → Type 0
+  Among [] k = ⊥
+  Among (m ∷ ks) k = (m ≡ k) ⊎ Among ks k
+
+  abbrev pub Distinct : List K → Type 0
+  Distinct [] = Unit {0}
+  Distinct (m ∷ ks) = (Among ks m → ⊥) × Distinct ks
+
+  -- the last of some keys, or from where there are none
+  abbrev pub last_of : K → List K → K
+  last_of from [] = from
+  last_of from (k ∷ ks) = last_of k ks
+
+module _ {K E : Type 0} where
+  -- what stands at a key, nothing where no function does
+  abbrev pub content_at : Functions K E → K → Content
+  content_at F k = or_empty (F.content k)
+
+  abbrev pub body : Functions K E → K → List bpf_insn
+  body F k = (content_at F k).slots
+
+  -- from the function at a key, these slots lead to these keys, one after the other
+  abbrev pub Walk : References K E → K → List ℕ → List K → Type 0
+  Walk R from [] [] = Unit {0}
+  Walk R from (x ∷ path) (k ∷ keys) = (R from x ≡ Names k) × Walk R k path keys
+  Walk R from [] (k ∷ keys) = ⊥
+  Walk R from (x ∷ path) [] = ⊥
+
+  abbrev pub Reached : References K E → K → K → Type 0
+  Reached R p k = (x : ℕ) × (path : List ℕ) × (keys : List K) × Walk R p (x ∷ path) keys × (last_of p keys ≡ k)
+
+  -- how many slots these functions have
+  abbrev pub total : Functions K E → List K → ℕ
+  total F [] = 0
+  total F (k ∷ ks) = length (body F k) + total F ks
+
+  -- laid out one after the other, one of these functions is k and begins at b
+  abbrev pub BeginsAt : Functions K E → List K → K → ℕ → Type 0
+  BeginsAt F [] k b = ⊥
+  BeginsAt F (m ∷ ks) k b = ((m ≡ k) × (b ≡ 0)) ⊎ ((c : ℕ) × (b ≡ length (body F m) + c) × BeginsAt F ks k c)
+
+-- a slot s, at this place of the linked program of p and the functions ks, has become t
+abbrev pub Becomes : {K E : Type 0} → Functions K E → K → List K → ℕ → Reference K E → bpf_insn → bpf_insn → Type 0
+Becomes F p ks place Nothing s t = t ≡ s
+Becomes F p ks place (Faulty e) s t = ⊥
+Becomes F p ks place (Names k) s t = (c : ℕ) × BeginsAt F ks k c × (t ≡ relinked s (pos (length (body F p) + c) -ℤ pos (place + 1)))
+
+-- out is p and then each function that its references reach, once
+pub record Linked {K E : Type 0} (F : Functions K E) (p : K) (ks : List K) (out : List bpf_insn) : Type 0 where
+  pub once : Distinct ks
+  pub reached : (k : K) → Among ks k → Reached F.reference p k
+  pub complete : (k : K) → Reached F.reference p k → Among ks k
+  pub resolved : (k : K) (i : ℕ) → Among (p ∷ ks) k → i < length (body F k) → F.reference k i ≢ Nothing → (m : K) × (F.reference k i ≡ Names m) × Among ks m
+  pub size : length out ≡ total F (p ∷ ks)
+  pub slots : (k : K) (b i : ℕ) (s : bpf_insn) → BeginsAt F (p ∷ ks) k b → slice_get (body F k) i ≡ Some s → (t : bpf_insn) × (slice_get out (b + i) ≡ Some t) × Becomes F p ks (b + i) (F.reference k i) s t

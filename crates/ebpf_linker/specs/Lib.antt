@@ -1,0 +1,13 @@
+pub mod Slots
+pub mod Functions
+pub mod Order
+pub mod Faults
+pub mod Machine
+pub mod Records
+pub mod Numbered
+pub mod Answer
+pub mod Image
+pub mod Ready
+pub mod Result
+pub mod Steps
+pub mod Renaming

@@ -1,0 +1,129 @@
+-- The flow of control of the separate functions and of the linked program.
+use Rattle.std.specs.Prelude.{◌≡◌, ◌≢◌, ℕ, zero, suc, ◌-◌, ℤ, pos, negsuc, ◌+ℤ◌, Bool, true, nat_lt, if◌then◌else◌, ◌⊎◌, List, [], ◌∷◌, map, length, Option, Some, None, slice_get}
+use Rattle.ebpf_parts.specs.declared.insn.bpf_insn.{bpf_insn}
+use Rattle.ebpf_linker.specs.Slots.{Flow, Return, Enter, Wide, Jump, Branch, Next, flow, slot_at, is_pseudo_call}
+use Rattle.ebpf_linker.specs.Functions.{Reference, Nothing, Faulty, Names, Functions, body, Among}
+
+-- code over places of some kind: the slot at a place, the place so many slots further, and where a call goes
+pub record Code (P : Type 0) : Type 0 where
+  pub fetch : P → Option bpf_insn
+  pub moved : P → ℤ → P
+  pub entry : P → bpf_insn → Option P
+
+pub record State (P : Type 0) : Type 0 where
+  pub place : P
+  pub stack : List P
+  pub decisions : List Bool
+
+pub data Turn (P : Type 0) : Type 0 where
+  Goes : State P → Turn P
+  Ends : Turn P
+  Waits : Turn P
+  Leaves : Turn P
+
+pub data Stop : Type 0 where
+  Going : Stop
+  Ended : Stop
+  Waiting : Stop
+  Left : Stop
+
+pub record Run (P : Type 0) : Type 0 where
+  pub visited : List P
+  pub stop : Stop
+
+module _ {P : Type 0} where
+  abbrev pub pops : List Bool → List P → Turn P
+  pops ds [] = Ends
+  pops ds (x ∷ xs) = Goes (record { place = x; stack = xs; decisions = ds })
+
+  abbrev pub enters : P → List P → List Bool → Option P → Turn P
+  enters back stack ds None = Leaves
+  enters back stack ds (Some x) = Goes (record { place = x; stack = back ∷ stack; decisions = ds })
+
+  abbrev pub decides : P → P → List P → List Bool → Turn P
+  decides there here stack [] = Waits
+  decides there here stack (d ∷ ds) = Goes (record { place = (if d then there else here); stack = stack; decisions = ds })
+
+  -- one step at a slot
+  abbrev pub follow : Code P → State P → bpf_insn → Flow → Turn P
+  follow c s i Return = pops s.decisions s.stack
+  follow c s i Enter = enters (c.moved s.place (pos 1)) s.stack s.decisions (c.entry s.place i)
+  follow c s i Wide = Goes (record s { place = c.moved s.place (pos 2) })
+  follow c s i (Jump d) = Goes (record s { place = c.moved (c.moved s.place (pos 1)) d })
+  follow c s i (Branch d) = decides (c.moved (c.moved s.place (pos 1)) d) (c.moved s.place (pos 1)) s.stack s.decisions
+  follow c s i Next = Goes (record s { place = c.moved s.place (pos 1) })
+
+  abbrev pub turn_at : Code P → State P → Option bpf_insn → Turn P
+  turn_at c s None = Leaves
+  turn_at c s (Some i) = follow c s i (flow i)
+
+  abbrev pub after : (State P → Run P) → P → Turn P → Run P
+  after rest x (Goes s) = record { visited = x ∷ (rest s).visited; stop = (rest s).stop }
+  after rest x Ends = record { visited = x ∷ []; stop = Ended }
+  after rest x Waits = record { visited = x ∷ []; stop = Waiting }
+  after rest x Leaves = record { visited = []; stop = Left }
+
+  -- at most n steps
+  abbrev pub run : Code P → ℕ → State P → Run P
+  run c zero s = record { visited = []; stop = Going }
+  run c (suc n) s = after (run c n) s.place (turn_at c s (c.fetch s.place))
+
+  abbrev pub begin : P → List Bool → State P
+  begin x ds = record { place = x; stack = []; decisions = ds }
+
+module _ {K : Type 0} where
+  abbrev pub start_of : Option K → Option (K × ℤ)
+  start_of None = None
+  start_of (Some k) = Some (k, pos 0)
+
+module _ {K E : Type 0} where
+  abbrev pub key_of : Reference K E → Option K
+  key_of Nothing = None
+  key_of (Faulty e) = None
+  key_of (Names k) = Some k
+
+  abbrev pub reference_at : Functions K E → K → ℤ → Reference K E
+  reference_at F k (pos n) = F.reference k n
+  reference_at F k (negsuc n) = Nothing
+
+  -- the separate functions: a place is a key and a slot
+  abbrev pub separate : Functions K E → Code (K × ℤ)
+  separate F = record {
+    fetch = λ x. slot_at (body F x.0) x.1;
+    moved = λ x d. (x.0, x.1 +ℤ d);
+    entry = λ x i. start_of (key_of (reference_at F x.0 x.1));
+  }
+
+  -- the name of a place in these functions, laid out one after the other
+  abbrev pub named : Functions K E → List K → ℕ → Option (K × ℤ)
+  named F [] x = None
+  named F (k ∷ ks) x = if nat_lt x (length (body F k)) then Some (k, pos x) else named F ks (x - length (body F k))
+
+  abbrev pub name : Functions K E → List K → ℤ → Option (K × ℤ)
+  name F ks (pos x) = named F ks x
+  name F ks (negsuc x) = None
+
+-- one list of slots
+abbrev pub flat : List bpf_insn → Code ℤ
+flat out = record {
+  fetch = λ x. slot_at out x;
+  moved = λ x d. x +ℤ d;
+  entry = λ x i. Some ((x +ℤ pos 1) +ℤ i.imm);
+}
+
+module _ {K E : Type 0} where
+  -- under every list of decisions both visit the same slots, in the same order
+  abbrev pub SameVisits : Functions K E → K → List K → List bpf_insn → Type 0
+  SameVisits F p ks out =
+      (ds : List Bool) (n : ℕ)
+      → (run (separate F) n (begin (p, pos 0) ds)).stop ≢ Left
+      → (map (name F (p ∷ ks)) (run (flat out) n (begin (pos 0) ds)).visited ≡ map Some (run (separate F) n (begin (p, pos 0) ds)).visited)
+      × ((run (flat out) n (begin (pos 0) ds)).stop ≡ (run (separate F) n (begin (p, pos 0) ds)).stop)
+
+  -- each pseudo call is a reference
+  abbrev pub CallsRefer : Functions K E → Type 0
+  CallsRefer F = (k : K) (i : ℕ) (s : bpf_insn) → slice_get (body F k) i ≡ Some s → is_pseudo_call s ≡ true → F.reference k i ≢ Nothing
+
+  -- each reference of these functions stands on a pseudo call or a wide load
+  abbrev pub OnCallsOrLoads : Functions K E → List K → Type 0
+  OnCallsOrLoads F ks = (k : K) (i : ℕ) (s : bpf_insn) → Among ks k → slice_get (body F k) i ≡ Some s → F.reference k i ≢ Nothing → (is_pseudo_call s ≡ true) ⊎ (s.code ≡ 0x18)

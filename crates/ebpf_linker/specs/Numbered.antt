@@ -1,0 +1,67 @@
+-- Functions by their numbers.
+use Rattle.std.specs.Prelude.{ℕ, ◌+◌, ◌<◌, ◌≤◌, ◌==◌, if◌then◌else◌, Bool, true, nat_lt, List, [], ◌∷◌, Option, Some, None, slice_get, Vec, All}
+use Rattle.std.specs.declared.alloc.Global.{Global}
+use Rattle.ebpf_linker.specs.declared.body.Body.{Body}
+use Rattle.ebpf_linker.specs.declared.reference.Fault.{Fault}
+use Rattle.ebpf_linker.specs.declared.reference.Fault.TheVariants.{FunctionInfoMismatch, ProgramTooLong, InvalidLineInfo}
+use Rattle.ebpf_linker.specs.declared.reference.Target.{Target}
+use Rattle.ebpf_linker.specs.declared.reference.Target.TheVariants.{Function, Nowhere}
+use Rattle.ebpf_linker.specs.declared.reference.Call.{Call}
+use Rattle.ebpf_linker.specs.Functions.{Reference, Nothing, Faulty, Names, Content, Functions, or_empty}
+
+abbrev pub of_target : Target → Reference ℕ Fault
+of_target (Function k) = Names k
+of_target (Nowhere e) = Faulty e
+
+-- what a slot refers to, by the references of its function
+abbrev pub referred : List Call → ℕ → Reference ℕ Fault
+referred [] x = Nothing
+referred (c ∷ cs) x = if c.slot == x then of_target c.target else referred cs x
+
+abbrev pub items_of : Option (Vec Call Global) → List Call
+items_of None = []
+items_of (Some v) = v.items
+
+-- the references of function k
+abbrev pub calls_at : List (Vec Call Global) → ℕ → List Call
+calls_at C k = items_of (slice_get C k)
+
+abbrev pub content_of : Body → Content
+content_of b = record { slots = b.slots.now; func_info = b.func_info.now; line_info = b.line_info.now }
+
+abbrev pub option_content : Option Body → Option Content
+option_content None = None
+option_content (Some b) = Some (content_of b)
+
+-- what function k is
+abbrev pub content_in : List Body → ℕ → Content
+content_in B k = or_empty (option_content (slice_get B k))
+
+-- functions by their numbers, with these bodies and these references
+abbrev pub functions : List Body → List (Vec Call Global) → Functions ℕ Fault
+functions B C = record {
+  content = λ k. option_content (slice_get B k);
+  reference = λ k x. referred (calls_at C k) x;
+  mismatch = λ k. FunctionInfoMismatch k;
+  too_long = λ k. ProgramTooLong k;
+  stray_line = λ k. InvalidLineInfo k;
+}
+
+-- slots from low on, each above the one before
+abbrev pub Rises : ℕ → List Call → Type 0
+Rises low [] = Unit {0}
+Rises low (c ∷ cs) = (low ≤ c.slot) × Rises (c.slot + 1) cs
+
+-- a target is one of n functions
+abbrev pub IsIn : ℕ → Target → Type 0
+IsIn n (Function k) = k < n
+IsIn n (Nowhere e) = Unit {0}
+
+abbrev pub is_in : ℕ → Target → Bool
+is_in n (Function k) = nat_lt k n
+is_in n (Nowhere e) = true
+
+-- the references of each function rise, and lead to one of n functions
+pub record Sound (n : ℕ) (C : List (Vec Call Global)) : Type 0 where
+  pub rises : (k : ℕ) → Rises 0 (calls_at C k)
+  pub within : (k : ℕ) → All (λ c. IsIn n c.target) (calls_at C k)

@@ -1,0 +1,45 @@
+-- What a slot does to the flow of control (RFC 9669, sections 4.3 and 5.4).
+use Rattle.std.specs.Prelude.{ℕ, ◌/◌, ◌%◌, ℤ, pos, negsuc, Bool, false, ◌&&◌, ◌||◌, not, ◌==◌, if◌then◌else◌, List, Option, None, slice_get}
+use Rattle.ebpf_parts.specs.declared.insn.bpf_insn.{bpf_insn}
+use Rattle.ebpf_parts.specs.Slots.{dst_of, src_of, registers}
+
+abbrev pub is_zero : ℤ → Bool
+is_zero (pos n) = n == 0
+is_zero (negsuc n) = false
+
+-- A call of a function of the same object, relative to this place: class 5 in the low three bits of the code and
+-- 0x80 in the others, source 1, destination 0, offset 0.
+abbrev pub is_pseudo_call : bpf_insn → Bool
+is_pseudo_call slot = (slot.code == 0x85) && ((src_of slot == 1) && ((dst_of slot == 0) && is_zero slot.off))
+
+-- where control goes after a slot
+pub data Flow : Type 0 where
+  Return : Flow
+  Enter : Flow
+  Wide : Flow
+  Jump : (by : ℤ) → Flow
+  Branch : (by : ℤ) → Flow
+  Next : Flow
+
+-- a jump that a condition decides: class 5 or 6, the operation none of 0 (always), 8 (call) and 9 (exit)
+abbrev pub is_branch : ℕ → Bool
+is_branch code =
+    ((code % 8 == 5) || (code % 8 == 6)) && (not (code / 16 == 0) && (not (code / 16 == 8) && not (code / 16 == 9)))
+
+unfoldable pub flow : bpf_insn → Flow
+flow slot =
+    if slot.code == 0x95 then Return
+    else (if is_pseudo_call slot then Enter
+    else (if slot.code == 0x18 then Wide
+    else (if slot.code == 0x05 then Jump slot.off
+    else (if slot.code == 0x06 then Jump slot.imm
+    else (if is_branch slot.code then Branch slot.off else Next)))))
+
+-- the slot at a whole number, which has none below 0 or past the end
+abbrev pub slot_at : List bpf_insn → ℤ → Option bpf_insn
+slot_at slots (pos n) = slice_get slots n
+slot_at slots (negsuc n) = None
+
+-- a slot that names this distance to what it refers to
+abbrev pub relinked : bpf_insn → ℤ → bpf_insn
+relinked slot d = record slot { imm = d; regs = (if is_pseudo_call slot then slot.regs else registers 4 (dst_of slot)) }

@@ -1,0 +1,86 @@
+-- One step of the search for functions.
+use Rattle.std.specs.Prelude.{◌≡◌, ℕ, ◌+◌, Bool, true, false, if◌then◌else◌, List, [], ◌∷◌, ◌++◌, length, map, Option, Some, None, slice_get, slice_set, slice_index_or, MatchOption, Vec}
+use Rattle.std.specs.Bool.{MatchBool}
+use Rattle.std.specs.declared.alloc.Global.{Global}
+use Rattle.ebpf_linker.specs.declared.body.Body.{Body}
+use Rattle.ebpf_linker.specs.declared.reference.Fault.{Fault}
+use Rattle.ebpf_linker.specs.declared.reference.Fault.TheVariants.{FunctionInfoMismatch}
+use Rattle.ebpf_linker.specs.declared.reference.Target.{Target}
+use Rattle.ebpf_linker.specs.declared.reference.Target.TheVariants.{Function, Nowhere}
+use Rattle.ebpf_linker.specs.declared.reference.Call.{Call}
+use Rattle.ebpf_linker.specs.declared.search.Open.{Open}
+use Rattle.ebpf_linker.specs.Functions.{References, Functions, body}
+use Rattle.ebpf_linker.specs.Faults.{same, has_some, append_fault}
+use Rattle.ebpf_linker.specs.Numbered.{referred, calls_at, content_in, Rises, IsIn}
+
+-- where a reference leads, where the program p is linked
+abbrev pub target_seen : List Body → ℕ → Target → Target
+target_seen B p (Nowhere e) = Nowhere e
+target_seen B p (Function k) =
+    if same (has_some (content_in B k).func_info) (has_some (content_in B p).func_info) then Function k else Nowhere (FunctionInfoMismatch k)
+
+abbrev pub call_seen : List Body → ℕ → Call → Call
+call_seen B p c = record { slot = c.slot; target = target_seen B p c.target }
+
+-- the references of function k, where the program p is linked
+abbrev pub seen : List Body → List (Vec Call Global) → ℕ → ℕ → List Call
+seen B C p k = map (call_seen B p) (calls_at C k)
+
+-- what slots refer to, by the references of each function
+abbrev pub refs : (ℕ → List Call) → References ℕ Fault
+refs C k x = referred (C k) x
+
+-- the references of each function rise
+pub record Rising (C : ℕ → List Call) : Type 0 where
+  pub rises : (k : ℕ) → Rises 0 (C k)
+
+-- .. and lead to one of N functions
+pub record Sought (N : ℕ) (C : ℕ → List Call) : Type 0 where
+  pub rises : (k : ℕ) → Rises 0 (C k)
+  pub within : (k i : ℕ) (c : Call) → slice_get (C k) i ≡ Some c → IsIn N c.target
+
+abbrev pub rising : {N : ℕ} {C : ℕ → List Call} → Sought N C → Rising C
+rising sound = record { rises = sound.rises }
+
+-- the search: the functions in their order, which of all were found, those that are open, and the slots so far
+pub record Search : Type 0 where
+  pub order : List ℕ
+  pub found : List Bool
+  pub pending : List Open
+  pub used : ℕ
+
+abbrev pub search_at : List ℕ → List Bool → List Open → ℕ → Search
+search_at order found pending used = record { order = order; found = found; pending = pending; used = used }
+
+-- the reference was followed to a function that was found before
+abbrev pub passed : Open → Search → Search
+passed top s = record s { pending = s.pending ++ record top { next = top.next + 1 } ∷ [] }
+
+-- .. to function k, which is opened
+abbrev pub opened : Functions ℕ Fault → Open → Search → ℕ → Search
+opened F top s k = record {
+  order = s.order ++ k ∷ [];
+  found = slice_set s.found k true;
+  pending = (s.pending ++ top ∷ []) ++ record { copy = length s.order; function = k; next = 0 } ∷ [];
+  used = s.used + length (body F k);
+}
+
+-- function k is opened where it can have a copy
+abbrev pub Entered : Functions ℕ Fault → Open → Search → Search → Option Fault → ℕ → Type 0
+Entered F top s t r k = MatchOption (append_fault F k s.used) ((t ≡ opened F top s k) × (r ≡ None)) (λ e. r ≡ Some e)
+
+-- what one step does, by the reference that is next in the function on top, which was taken off
+abbrev pub StepTo : Functions ℕ Fault → Open → Search → Search → Option Fault → Option Target → Type 0
+StepTo F top s t r None = (t ≡ s) × (r ≡ None)
+StepTo F top s t r (Some (Nowhere e)) = r ≡ Some e
+StepTo F top s t r (Some (Function k)) =
+    MatchBool (slice_index_or s.found k false)
+    ((t ≡ passed top s) × (r ≡ None))
+    (Entered F top s t r k)
+
+abbrev pub target_of : Option Call → Option Target
+target_of None = None
+target_of (Some c) = Some c.target
+
+abbrev pub Advanced : Functions ℕ Fault → (ℕ → List Call) → Open → Search → Search → Option Fault → Type 0
+Advanced F C top s t r = StepTo F top s t r (target_of (slice_get (C top.function) top.next))

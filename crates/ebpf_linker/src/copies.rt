@@ -1,0 +1,75 @@
+//! The slots of a linked program.
+
+ghost use Rattle.std.specs.Prelude.{◌≡◌, ℕ, ◌+◌, ◌<◌, ◌≤◌, ◌^◌, ◌++◌, length, IfOk, OnOk, All};
+ghost use Rattle.ebpf_linker.specs.Functions.{Among};
+ghost use Rattle.ebpf_linker.specs.Image.{became, copied, laid, size_of};
+ghost use Rattle.ebpf_linker.specs.Numbered.{IsIn, Rises, Sound, of_target, calls_at};
+
+use crate::body::Body;
+use crate::reference::{Call, Target};
+use crate::slot::{distance, relinked};
+use ebpf_parts::insn::bpf_insn;
+use std::alloc::{AllocError, Global};
+
+// A slot at a place, by where its reference leads.
+fn linked_slot(slot: bpf_insn, place: usize, target: Target, bases: &[usize]) -> bpf_insn
+    requires place { place < 2 ^ 31 }
+    requires within { IsIn (length bases.now) target }
+    requires bases { All (λ base. base < 2 ^ 31) bases.now }
+    ensures { result ≡ became bases.now place (of_target target) slot }
+{
+    match target {
+        Target::Nowhere(_) => slot,
+        Target::Function(callee) => relinked(slot, distance(place, bases[callee])),
+    }
+}
+
+// Appends a copy of a function.
+fn append(
+    out: &mut Vec<bpf_insn>,
+    body: &[bpf_insn],
+    calls: &[Call],
+    bases: &[usize],
+) -> Result<(), AllocError>
+    requires rises { Rises 0 calls.now }
+    requires within { All (λ call. IsIn (length bases.now) call.target) calls.now }
+    requires short { 0 < length calls.now → length out.old.items + length body.now ≤ 2147483647 }
+    requires bases { All (λ base. base < 2 ^ 31) bases.now }
+    ensures { OnOk result (out.new.items ≡ out.old.items ++ copied bases.now calls.now (length out.old.items) 0 body.now) }
+{
+    let mut next = 0;
+    for (i, slot) in body.iter().enumerate() {
+        let place = out.len();
+        match calls.get(next) {
+            Some(call) if call.slot == i => {
+                next += 1;
+                out.push(linked_slot(*slot, place, call.target, bases))?;
+            }
+            _ => out.push(*slot)?,
+        }
+    }
+    Ok(())
+}
+
+/// Copies of these functions, one after the other, each reference leading to where its function begins.
+pub fn lay(
+    alloc: Global,
+    bodies: &[Body<'_>],
+    calls: &[Vec<Call>],
+    order: &[usize],
+    bases: &[usize],
+) -> Result<Vec<bpf_insn>, AllocError>
+    requires calls { length calls.now ≡ length bodies.now }
+    requires sound { Sound (length bodies.now) calls.now }
+    requires bases { length bases.now ≡ length bodies.now }
+    requires order { All (λ k. k < length bodies.now) order.now }
+    requires short { (k : ℕ) → 0 < length (calls_at calls.now k) → Among order.now k → size_of bodies.now order.now ≤ 2147483647 }
+    requires below { All (λ b. b < 2 ^ 31) bases.now }
+    ensures { IfOk result (λ out. out.items ≡ laid bodies.now calls.now bases.now 0 order.now) }
+{
+    let mut out = Vec::new(alloc);
+    for function in order {
+        append(&mut out, bodies[*function].slots, &calls[*function], bases)?;
+    }
+    Ok(out)
+}

@@ -1,0 +1,19 @@
+//! The linker of numbered functions: a program, followed by every function that its references reach.
+#![tactic(auto)]
+
+mod body;
+mod copies;
+mod places;
+mod program;
+mod records;
+mod reference;
+mod search;
+pub mod slot;
+mod soundness;
+#[cfg(test)]
+mod tests;
+
+pub use body::{Body, LinkedProgram};
+pub use program::link;
+pub use reference::{Call, Fault, Target};
+pub use soundness::is_sound;

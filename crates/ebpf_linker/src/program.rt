@@ -1,0 +1,72 @@
+//! Linking a program.
+
+ghost use Rattle.std.specs.Prelude.{◌≡◌, ℕ, ◌+◌, ◌<◌, ◌∷◌, length, IfOk};
+ghost use Rattle.ebpf_linker.specs.Numbered.{Sound, functions};
+ghost use Rattle.ebpf_linker.specs.Ready.{IsReady};
+ghost use Rattle.ebpf_linker.specs.Result.{IsLinking, IsProgram};
+
+use crate::body::{Body, LinkedProgram};
+use crate::copies::lay;
+use crate::places::places;
+use crate::records::{count_if, func_records, has_lines, line_records};
+use crate::reference::{Call, Fault};
+use crate::search::search;
+use ebpf_base::Items;
+use std::alloc::{AllocError, Global};
+
+// The program with copies of these functions; `order` is the program and them.
+fn assemble(
+    alloc: Global,
+    bodies: &[Body<'_>],
+    calls: &[Vec<Call>],
+    start: usize,
+    order: &[usize],
+    copies: &[usize],
+) -> Result<LinkedProgram, AllocError>
+    requires calls { length calls.now ≡ length bodies.now }
+    requires sound { Sound (length bodies.now) calls.now }
+    requires ready { IsReady bodies.now calls.now start copies.now }
+    requires order { order.now ≡ start ∷ copies.now }
+    ensures { IfOk result (λ program. IsProgram (functions bodies.now calls.now) start copies.now program) }
+{
+    let bases = places(alloc, bodies, bodies[start].slots.len(), copies)?;
+    let slots = lay(alloc, bodies, calls, order, &bases)?;
+    let func_info = func_records(alloc, bodies, start, copies)?;
+    let line_info = line_records(alloc, bodies, start, copies)?;
+    let func_count = count_if(!copies.is_empty(), &func_info);
+    let line_count = count_if(has_lines(bodies, copies), &line_info);
+    Ok(LinkedProgram {
+        slots: Items::from_vec(slots),
+        func_info: Items::from_vec(func_info),
+        line_info: Items::from_vec(line_info),
+        func_count,
+        line_count,
+    })
+}
+
+/// The program `start`, followed by a copy of each function that its references reach, once. The copies stand in
+/// the order in which a walk comes to them that follows the references of each function slot by slot, and those of
+/// a function that is copied at once. A slot that refers names the distance from the slot after it to the copy;
+/// where it is no call its source register becomes 4.
+///
+/// # Errors
+///
+/// The first fault on that walk: a reference that leads nowhere, `FunctionInfoMismatch`, `ProgramTooLong`,
+/// `InvalidLineInfo`.
+pub fn link(
+    alloc: Global,
+    bodies: &[Body<'_>],
+    calls: &[Vec<Call>],
+    start: usize,
+) -> Result<Result<LinkedProgram, Fault>, AllocError>
+    requires start { start < length bodies.now }
+    requires calls { length calls.now ≡ length bodies.now }
+    requires sound { Sound (length bodies.now) calls.now }
+    ensures { IfOk result (λ answer. IsLinking (functions bodies.now calls.now) start answer) }
+{
+    let order = match search(alloc, bodies, calls, start)? {
+        Ok(order) => order,
+        Err(fault) => return Ok(Err(fault)),
+    };
+    Ok(Ok(assemble(alloc, bodies, calls, start, &order, &order[1..])?))
+}

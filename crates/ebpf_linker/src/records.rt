@@ -1,0 +1,126 @@
+//! The records of a linked program.
+
+ghost use Rattle.std.specs.Prelude.{◌≡◌, ℕ, ◌+◌, ◌<◌, ◌≤◌, ◌^◌, ◌++◌, List, [], length, map, false, IfOk, OnOk, All};
+ghost use Rattle.ebpf_linker.specs.Faults.{first_line, has_stray, is_stray};
+ghost use Rattle.ebpf_linker.specs.Image.{Fit, body_at};
+ghost use Rattle.ebpf_linker.specs.Numbered.{functions};
+ghost use Rattle.ebpf_linker.specs.Records.{func_moved, line_moved, linked_func_info, linked_line_info, has_lines, count_if};
+
+use crate::body::Body;
+use ebpf_btf::{bpf_func_info, bpf_line_info};
+use std::alloc::{AllocError, Global};
+
+// A record on a line, moved from where its function's lines begin to a base.
+#[tactic(auto, using(crate::proofs::Moved::not_stray))]
+fn moved_line(line: bpf_line_info, first: u32, base: u32) -> bpf_line_info
+    requires { is_stray first base line ≡ false }
+    ensures { result ≡ line_moved first base line }
+{
+    bpf_line_info {
+        insn_off: (line.insn_off as u64 - first as u64 + base as u64) as u32,
+        ..line
+    }
+}
+
+// Appends the records on functions of a copy that begins at a base.
+fn append_func_info(
+    out: &mut Vec<bpf_func_info>,
+    records: &[bpf_func_info],
+    base: u32,
+) -> Result<(), AllocError>
+    ensures { OnOk result (out.new.items ≡ out.old.items ++ map (func_moved base) records.now) }
+{
+    for record in records {
+        out.push(bpf_func_info {
+            insn_off: base,
+            ..*record
+        })?;
+    }
+    Ok(())
+}
+
+// Appends the records on lines of a copy that begins at a base.
+fn append_line_info(
+    out: &mut Vec<bpf_line_info>,
+    lines: &[bpf_line_info],
+    base: u32,
+) -> Result<(), AllocError>
+    requires { has_stray base lines.now ≡ false }
+    ensures { OnOk result (out.new.items ≡ out.old.items ++ map (line_moved (first_line lines.now) base) lines.now) }
+{
+    let Some(line) = lines.first() else {
+        return Ok(());
+    };
+    let first = line.insn_off;
+    for line in lines {
+        out.push(moved_line(*line, first, base))?;
+    }
+    Ok(())
+}
+
+/// The records on functions of a linked program: its own, then those of each copy.
+pub fn func_records(
+    alloc: Global,
+    bodies: &[Body<'_>],
+    start: usize,
+    copies: &[usize],
+) -> Result<Vec<bpf_func_info>, AllocError>
+    requires start { start < length bodies.now }
+    requires copies { All (λ k. k < length bodies.now) copies.now }
+    requires fit { Fit bodies.now (length (body_at bodies.now start)) copies.now }
+    ensures { IfOk result (λ out. out.items ≡ linked_func_info (functions bodies.now []) start copies.now) }
+{
+    let mut out = Vec::new(alloc);
+    out.extend_from_slice(bodies[start].func_info)?;
+    let mut base = bodies[start].slots.len();
+    for copy in copies {
+        append_func_info(&mut out, bodies[*copy].func_info, base as u32)?;
+        base += bodies[*copy].slots.len();
+    }
+    Ok(out)
+}
+
+/// The records on lines of a linked program: its own, then those of each copy.
+pub fn line_records(
+    alloc: Global,
+    bodies: &[Body<'_>],
+    start: usize,
+    copies: &[usize],
+) -> Result<Vec<bpf_line_info>, AllocError>
+    requires start { start < length bodies.now }
+    requires copies { All (λ k. k < length bodies.now) copies.now }
+    requires fit { Fit bodies.now (length (body_at bodies.now start)) copies.now }
+    ensures { IfOk result (λ out. out.items ≡ linked_line_info (functions bodies.now []) start copies.now) }
+{
+    let mut out = Vec::new(alloc);
+    out.extend_from_slice(bodies[start].line_info)?;
+    let mut base = bodies[start].slots.len();
+    for copy in copies {
+        append_line_info(&mut out, bodies[*copy].line_info, base as u32)?;
+        base += bodies[*copy].slots.len();
+    }
+    Ok(out)
+}
+
+/// Whether one of these functions has records on lines.
+pub fn has_lines(bodies: &[Body<'_>], copies: &[usize]) -> bool
+    requires { All (λ k. k < length bodies.now) copies.now }
+    ensures { result ≡ has_lines (functions bodies.now []) copies.now }
+{
+    for copy in copies {
+        if !bodies[*copy].line_info.is_empty() {
+            return true;
+        }
+    }
+    false
+}
+
+/// How many records there are, the low 32 bits, where the count changes.
+pub fn count_if<T>(changed: bool, records: &[T]) -> Option<u32>
+    ensures { result ≡ count_if changed records.now }
+{
+    if !changed {
+        return None;
+    }
+    Some((records.len() % 0x1_0000_0000) as u32)
+}

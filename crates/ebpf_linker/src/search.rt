@@ -1,0 +1,184 @@
+//! The order in which functions are copied, or why they can't be.
+
+ghost use Rattle.std.specs.Prelude.{◌≡◌, ℕ, ◌+◌, ◌<◌, ◌≤◌, length, [], IfOk, Some};
+ghost use Rattle.ebpf_linker.specs.Answer.{Finds};
+ghost use Rattle.ebpf_linker.specs.Faults.{content_fault, has_stray, is_stray, linking, append_fault};
+ghost use Rattle.ebpf_linker.specs.Numbered.{Sound, IsIn, content_of, content_in, functions};
+ghost use Rattle.ebpf_linker.specs.Steps.{Advanced, Entered, search_at, seen, target_seen};
+ghost use Rattle.ebpf_linker.specs.declared.reference.Fault.TheVariants.{ProgramTooLong, InvalidLineInfo};
+
+use crate::body::Body;
+use crate::reference::{Call, Fault, Target};
+use ebpf_btf::bpf_line_info;
+use std::alloc::{AllocError, Global};
+
+/// A function whose references are being followed: its place in the order, its number, and the next reference.
+#[derive(Clone, Copy, Debug, PartialEq, Eq)]
+pub struct Open {
+    pub copy: usize,
+    pub function: usize,
+    pub next: usize,
+}
+
+// The most slots that a linked program has.
+const LIMIT: usize = 0x7fff_ffff;
+
+// Whether a line record stands before the first one, or past 32 bits once the function begins at a base.
+fn is_stray(first: u32, base: usize, line: &bpf_line_info) -> bool
+    requires { base ≤ 2147483647 }
+    ensures { result ≡ is_stray first base line.now }
+{
+    line.insn_off < first || (line.insn_off - first) as u64 + base as u64 > 0xffff_ffff
+}
+
+// Whether a function that begins at a base has such a record.
+fn has_stray(lines: &[bpf_line_info], base: usize) -> bool
+    requires { base ≤ 2147483647 }
+    ensures { result ≡ has_stray base lines.now }
+{
+    let Some(line) = lines.first() else {
+        return false;
+    };
+    let first = line.insn_off;
+    lines.iter().any(|line| is_stray(first, base, line))
+}
+
+// Why a function can't have a copy at a base.
+fn append_fault(body: &Body<'_>, base: usize, callee: usize) -> Option<Fault>
+    ensures { result ≡ content_fault (content_of body.now) base (ProgramTooLong callee) (InvalidLineInfo callee) }
+{
+    if base > LIMIT || body.slots.len() > LIMIT - base {
+        return Some(Fault::ProgramTooLong { callee });
+    }
+    if has_stray(body.line_info, base) {
+        return Some(Fault::InvalidLineInfo { callee });
+    }
+    None
+}
+
+// Where a reference leads, where the program `start` is linked: nowhere where one of both has records on functions
+// and the other none.
+fn target_seen(bodies: &[Body<'_>], start: usize, target: Target) -> Target
+    requires start { start < length bodies.now }
+    requires within { IsIn (length bodies.now) target }
+    ensures { result ≡ target_seen bodies.now start target }
+{
+    match target {
+        Target::Nowhere(fault) => Target::Nowhere(fault),
+        Target::Function(callee) => {
+            if bodies[callee].func_info.is_empty() == bodies[start].func_info.is_empty() {
+                Target::Function(callee)
+            } else {
+                Target::Nowhere(Fault::FunctionInfoMismatch { callee })
+            }
+        }
+    }
+}
+
+// Opens a function that was not found before, where it can have a copy. `top` holds the reference to it.
+fn enter(
+    bodies: &[Body<'_>],
+    top: Open,
+    callee: usize,
+    order: &mut Vec<usize>,
+    found: &mut Vec<bool>,
+    pending: &mut Vec<Open>,
+    used: &mut usize,
+) -> Result<Option<Fault>, AllocError>
+    requires callee { callee < length bodies.now }
+    requires flags { length found.old.items ≡ length bodies.now }
+    ensures { IfOk result (λ fault. Entered (functions bodies.now []) top (search_at order.old.items found.old.items pending.old.items used.old) (search_at order.new.items found.new.items pending.new.items used.new) fault callee) }
+{
+    let body = &bodies[callee];
+    if let Some(fault) = append_fault(body, *used, callee) {
+        return Ok(Some(fault));
+    }
+    *used += body.slots.len();
+    let copy = order.len();
+    found[callee] = true;
+    order.push(callee)?;
+    pending.push(top)?;
+    pending.push(Open {
+        copy,
+        function: callee,
+        next: 0,
+    })?;
+    Ok(None)
+}
+
+// Follows the next reference of the function on top, which was taken off.
+fn advance(
+    bodies: &[Body<'_>],
+    calls: &[Vec<Call>],
+    start: usize,
+    top: Open,
+    order: &mut Vec<usize>,
+    found: &mut Vec<bool>,
+    pending: &mut Vec<Open>,
+    used: &mut usize,
+) -> Result<Option<Fault>, AllocError>
+    requires start { start < length bodies.now }
+    requires calls { length calls.now ≡ length bodies.now }
+    requires sound { Sound (length bodies.now) calls.now }
+    requires function { top.function < length bodies.now }
+    requires flags { length found.old.items ≡ length bodies.now }
+    ensures { IfOk result (λ fault. Advanced (functions bodies.now calls.now) (seen bodies.now calls.now start) top (search_at order.old.items found.old.items pending.old.items used.old) (search_at order.new.items found.new.items pending.new.items used.new) fault) }
+{
+    let list = &calls[top.function];
+    let Some(call) = list.get(top.next) else {
+        return Ok(None);
+    };
+    match target_seen(bodies, start, call.target) {
+        Target::Nowhere(fault) => Ok(Some(fault)),
+        Target::Function(callee) => {
+            if found[callee] {
+                pending.push(Open {
+                    next: top.next + 1,
+                    ..top
+                })?;
+                return Ok(None);
+            }
+            enter(bodies, top, callee, order, found, pending, used)
+        }
+    }
+}
+
+/// The program and the functions that it reaches, in the order in which they are copied.
+pub fn search(
+    alloc: Global,
+    bodies: &[Body<'_>],
+    calls: &[Vec<Call>],
+    start: usize,
+) -> Result<Result<Vec<usize>, Fault>, AllocError>
+    requires start { start < length bodies.now }
+    requires calls { length calls.now ≡ length bodies.now }
+    requires sound { Sound (length bodies.now) calls.now }
+    ensures { IfOk result (λ answer. Finds (functions bodies.now calls.now) (linking (functions bodies.now calls.now) start) start answer) }
+{
+    let mut order = Vec::new(alloc);
+    order.push(start)?;
+    let mut found = vec![in alloc; false; bodies.len()]?;
+    let mut pending = Vec::new(alloc);
+    pending.push(Open {
+        copy: 0,
+        function: start,
+        next: 0,
+    })?;
+    let mut used = bodies[start].slots.len();
+    while let Some(top) = pending.pop() {
+        let step = advance(
+            bodies,
+            calls,
+            start,
+            top,
+            &mut order,
+            &mut found,
+            &mut pending,
+            &mut used,
+        )?;
+        if let Some(fault) = step {
+            return Ok(Err(fault));
+        }
+    }
+    Ok(Ok(order))
+}

@@ -1,0 +1,115 @@
+-- The programs that are linked so far.
+use Rattle.std.proofs.Common.{◌≡◌, ◌<◌, ◌≤◌, ◌+◌, ℕ, Bool, true, false, cond, List, [], ◌∷◌, length, drop, Option, Some, None, refl, sym, ap, subst, ◌∙◌, ⊎_elim, arith}
+use Rattle.std.specs.Prelude.{slice_get, slice_index_or, is_some, ◌||◌, MatchBool, ⊤}
+use Rattle.std.specs.FinMap.{FinMap, get, contains_key, insert, empty, get-insert, get-empty}
+use Rattle.std.specs.List.{list_any}
+use Rattle.std.specs.Ordering.{eq_by_cmp, is_eq}
+use Rattle.std.proofs.lemmas.Bool.{cases_lt}
+use Rattle.std.proofs.lemmas.Option.{slice_get-get_or, get_or_from_slice_get}
+use Rattle.ebpf_base.proofs.Maps.{key_exact}
+use Rattle.ebpf_base.specs.Keys.{key_cmp, key_total}
+use Rattle.ebpf_parts.proofs.Walks.{rest_more, rest_none}
+use Rattle.ebpf_reloc.proofs.Keys.{is_equal}
+use Rattle.ebpf_reloc.specs.declared.error.EbpfRelocationError.{EbpfRelocationError}
+use Rattle.ebpf_reloc.specs.declared.function.Function.{Function}
+use Rattle.ebpf_reloc.specs.Linking.{ProgramValue, key_of, IsLinked, IsRefused, AreLinked, IsFirstFault}
+use Rattle.ebpf_reloc.specs.Memory.{is_memory_at}
+use Rattle.ebpf_reloc.specs.Places.{LinkableValue}
+use Rattle.ebpf_reloc.specs.References.{Key}
+
+abbrev has_key : Key → ProgramValue → Bool
+has_key key program = eq_by_cmp key_cmp key (key_of program)
+
+-- the first programs are linked, and their keys are those with a function
+pub record SoFar (parts : LinkableValue) (programs : List ProgramValue) (i : ℕ) (linked : FinMap key_cmp Function) : Type 0 where
+  pub keys : (key : Key) → (contains_key linked key || list_any (λ p. eq_by_cmp key_cmp key (key_of p)) (drop i programs)) ≡ list_any (λ p. eq_by_cmp key_cmp key (key_of p)) programs
+  pub each : (key : Key) (g : Function) → get linked key ≡ Some g → IsLinked parts key g
+  pub before : (k : ℕ) (earlier : ProgramValue) → k < i → slice_get programs k ≡ Some earlier → (g : Function) × IsLinked parts (key_of earlier) g
+
+or_false : (b : Bool) → (b || false) ≡ b
+or_false true = refl
+or_false false = refl
+
+module _ (parts : LinkableValue) (programs : List ProgramValue) where
+  pub none_yet : SoFar parts programs 0 empty
+  none_yet = record {
+    keys = λ key. ap (λ (o : Option Function). is_some o || list_any (has_key key) programs) (get-empty key_cmp key);
+    each = λ key g at. absurd_none (sym (get-empty key_cmp key) ∙ at);
+    before = λ k earlier lt at. absurd (omega (arith, lt));
+  }
+    where
+      absurd_none : {P : Type 0} {g : Function} → None ≡ Some g → P
+      absurd_none e = cc
+
+  module _ (i : ℕ) (linked : FinMap key_cmp Function) (so_far : SoFar parts programs i linked) where
+    pub all_linked : length programs ≤ i → AreLinked parts programs linked
+    all_linked past = record {
+      keys = λ key. sym (or_false (contains_key linked key)) ∙ ap (λ rest. contains_key linked key || list_any (has_key key) rest) (sym (rest_none programs i past)) ∙ so_far.keys key;
+      each = so_far.each;
+    }
+
+    module _ (program : ProgramValue) (below : i < length programs) (at_here : slice_get programs i ≡ Some program) where
+      here : program ≡ slice_index_or programs i program
+      here = sym (get_or_from_slice_get programs i program program at_here)
+
+      pub first_fault : (e : EbpfRelocationError) → IsRefused parts program e → IsFirstFault parts programs e
+      first_fault e refused = record { place = i; program = program; at = at_here; refused = refused; before = so_far.before }
+
+      module _ (g : Function) (is : IsLinked parts (key_of program) g) where
+        keys_more : (a b c d : Bool) (h : (a || (b || c)) ≡ d) → (is_some (cond b (Some g) (cond a (Some g) None)) || c) ≡ d
+        keys_more true true c d h = h
+        keys_more true false c d h = h
+        keys_more false true c d h = h
+        keys_more false false c d h = h
+
+        same_some : (o : Option Function) (b : Bool) → is_some (cond b (Some g) o) ≡ is_some (cond b (Some g) (cond (is_some o) (Some g) None))
+        same_some None true = refl
+        same_some None false = refl
+        same_some (Some x) true = refl
+        same_some (Some x) false = refl
+
+        each_more : (key : Key) (h : Function) (b : Bool) → eq_by_cmp key_cmp key (key_of program) ≡ b → cond b (Some g) (get linked key) ≡ Some h → IsLinked parts key h
+        each_more key h true at e =
+            let same : key ≡ key_of program = key_exact key (key_of program) (is_equal _ at) in
+            let value : g ≡ h = cc in
+            subst (λ (k : Key). IsLinked parts k h) (sym same) (subst (λ (x : Function). IsLinked parts (key_of program) x) value is)
+        each_more key h false at e = so_far.each key h e
+
+        one_more : SoFar parts programs (i + 1) (insert linked (key_of program) g)
+        one_more = record {
+          keys = λ key.
+              let rest : list_any (has_key key) (drop i programs) ≡ (has_key key program || list_any (has_key key) (drop (i + 1) programs)) = ap (list_any (has_key key)) (rest_more programs i program below here) in
+              ap (λ (o : Option Function). is_some o || list_any (has_key key) (drop (i + 1) programs)) (get-insert key_total linked (key_of program) g key)
+              ∙ ap (λ (b : Bool). b || list_any (has_key key) (drop (i + 1) programs)) (same_some (get linked key) (has_key key program))
+              ∙ keys_more (contains_key linked key) (has_key key program) (list_any (has_key key) (drop (i + 1) programs)) (list_any (has_key key) programs)
+              (ap (λ (b : Bool). contains_key linked key || b) (sym rest) ∙ so_far.keys key);
+          each = λ key h at. each_more key h (has_key key program) refl (sym (get-insert key_total linked (key_of program) g key) ∙ at);
+          before = λ k earlier lt at. ⊎_elim
+              (λ (low : k < i). so_far.before k earlier low at)
+              (λ (high : i ≤ k).
+              let place : k ≡ i = omega arith in
+              let same : Some earlier ≡ Some program = sym at ∙ ap (slice_get programs) place ∙ at_here in
+              let equal : earlier ≡ program = cc in
+              subst (λ (p : ProgramValue). (x : Function) × IsLinked parts (key_of p) x) (sym equal) (g, is))
+              (cases_lt k i);
+        }
+
+        -- one more program
+        pub linked_more : (after : FinMap key_cmp Function) → after ≡ insert linked (key_of program) g → SoFar parts programs (i + 1) after
+        linked_more after e = subst (λ (m : FinMap key_cmp Function). SoFar parts programs (i + 1) m) (sym e) one_more
+
+module _ (parts : LinkableValue) (programs : List ProgramValue) (i : ℕ) (linked : FinMap key_cmp Function) (so_far : SoFar parts programs i linked) (program : ProgramValue) (below : i < length programs) (item : program ≡ slice_index_or programs i program) (other : LinkableValue) (same : other ≡ parts) where
+  stands : slice_get programs i ≡ Some program
+  stands = slice_get-get_or programs i program below ∙ ap Some (sym item)
+
+  -- the program at a place is linked
+  pub step_more : (g : Function) → IsLinked other (key_of program) g → (after : FinMap key_cmp Function) → after ≡ insert linked (key_of program) g → SoFar parts programs (i + 1) after
+  step_more g is after e = linked_more parts programs i linked so_far program below stands g (subst (λ (p : LinkableValue). IsLinked p (key_of program) g) same is) after e
+
+  -- the program at a place can't be linked
+  pub refused_here : (e : EbpfRelocationError) → MatchBool (is_memory_at e) ⊤ (IsRefused other program e) → MatchBool (is_memory_at e) ⊤ (IsFirstFault parts programs e)
+  refused_here e h = step (is_memory_at e) h
+    where
+      step : (b : Bool) → MatchBool b ⊤ (IsRefused other program e) → MatchBool b ⊤ (IsFirstFault parts programs e)
+      step true g = tt
+      step false g = first_fault parts programs i linked so_far program below stands e (subst (λ (p : LinkableValue). IsRefused p program e) same g)

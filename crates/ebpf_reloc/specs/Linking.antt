@@ -1,0 +1,67 @@
+-- What linking the programs of an object gives.
+use Rattle.std.specs.Prelude.{◌≡◌, ◌<◌, ℕ, List, ◌∷◌, Option, Some, None, slice_get, unwrap_or, MatchOption}
+use Rattle.std.specs.FinMap.{FinMap, get, contains_key}
+use Rattle.std.specs.List.{list_any}
+use Rattle.std.specs.Ordering.{eq_by_cmp}
+use Rattle.ebpf_base.specs.Keys.{key_cmp}
+use Rattle.ebpf_linker.specs.declared.body.LinkedProgram.{LinkedProgram}
+use Rattle.ebpf_linker.specs.Faults.{LeastFault, linking}
+use Rattle.ebpf_linker.specs.Machine.{SameVisits, OnCallsOrLoads}
+use Rattle.ebpf_linker.specs.Result.{IsProgram}
+use Rattle.ebpf_reloc.specs.declared.error.EbpfRelocationError.{EbpfRelocationError}
+use Rattle.ebpf_reloc.specs.declared.error.RelocationError.{RelocationError}
+use Rattle.ebpf_reloc.specs.declared.error.RelocationError.TheVariants.{UnknownProgram}
+use Rattle.ebpf_reloc.specs.declared.function.Function.{Function}
+use Rattle.ebpf_reloc.specs.Places.{LinkableValue}
+use Rattle.ebpf_reloc.specs.References.{Key, functions_of}
+
+-- a program: its name, and the section and the address of its function
+pub record ProgramValue : Type 0 where
+  pub name : List ℕ
+  pub section_index : ℕ
+  pub address : ℕ
+
+-- the key of a program's function
+abbrev pub key_of : ProgramValue → Key
+key_of program = (program.section_index, program.address)
+
+-- a function with the slots and the records of a linked program; a count that linking does not change stays
+abbrev pub with_linked : Function → LinkedProgram → Function
+with_linked f l = record f {
+  instructions = l.slots;
+  func_info = record f.func_info { num_info = unwrap_or l.func_count f.func_info.num_info; func_info = l.func_info };
+  line_info = record f.line_info { num_info = unwrap_or l.line_count f.line_info.num_info; line_info = l.line_info };
+}
+
+-- The function at a key has become a linked program: it has the slots and the records of the function and of each
+-- function that it reaches, in the order of their key paths, and visits what the separate functions visit.
+pub record IsLinked (parts : LinkableValue) (key : Key) (linked : Function) : Type 0 where
+  pub function : Function
+  pub stands : get parts.functions key ≡ Some function
+  pub made : LinkedProgram
+  pub is : linked ≡ with_linked function made
+  pub order : List Key
+  pub program : IsProgram (functions_of parts) key order made
+  pub visits : OnCallsOrLoads (functions_of parts) (key ∷ order) → SameVisits (functions_of parts) key order made.slots
+
+-- why the program at a key can't be linked: no function stands there, or the least fault of its references
+abbrev pub IsFault : LinkableValue → Key → RelocationError → Type 0
+IsFault parts key e =
+    MatchOption (get parts.functions key) (e ≡ UnknownProgram key.0 key.1) (λ _. LeastFault (functions_of parts) (linking (functions_of parts) key) key e)
+
+-- the refusal of a program: its name, and its fault
+abbrev pub IsRefused : LinkableValue → ProgramValue → EbpfRelocationError → Type 0
+IsRefused parts program e = (e.function ≡ program.name) × IsFault parts (key_of program) e.error
+
+-- the programs are linked, each from the functions as they stood
+pub record AreLinked (parts : LinkableValue) (programs : List ProgramValue) (linked : FinMap key_cmp Function) : Type 0 where
+  pub keys : (key : Key) → contains_key linked key ≡ list_any (λ p. eq_by_cmp key_cmp key (key_of p)) programs
+  pub each : (key : Key) (g : Function) → get linked key ≡ Some g → IsLinked parts key g
+
+-- the refusal of the first program that can't be linked
+pub record IsFirstFault (parts : LinkableValue) (programs : List ProgramValue) (e : EbpfRelocationError) : Type 0 where
+  pub place : ℕ
+  pub program : ProgramValue
+  pub at : slice_get programs place ≡ Some program
+  pub refused : IsRefused parts program e
+  pub before : (k : ℕ) (earlier : ProgramValue) → k < place → slice_get programs k ≡ Some earlier → (linked : Function) × IsLinked parts (key_of earlier) linked

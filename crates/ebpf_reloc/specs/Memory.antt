@@ -1,0 +1,13 @@
+-- The one answer of relocation that no definition states: want of memory.
+use Rattle.std.specs.Prelude.{Bool, true, false}
+use Rattle.ebpf_reloc.specs.declared.error.EbpfRelocationError.{EbpfRelocationError}
+use Rattle.ebpf_reloc.specs.declared.error.RelocationError.{RelocationError}
+use Rattle.ebpf_reloc.specs.declared.error.RelocationError.TheVariants.{OutOfMemory}
+
+abbrev pub is_memory : RelocationError → Bool
+is_memory OutOfMemory = true
+is_memory _ = false
+
+-- the same of an error that names a function
+abbrev pub is_memory_at : EbpfRelocationError → Bool
+is_memory_at e = is_memory e.error

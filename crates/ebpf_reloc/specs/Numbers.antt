@@ -1,0 +1,79 @@
+-- The functions numbered in the order of their keys, and their references by numbers.
+use Rattle.std.specs.Prelude.{ℕ, ◌+◌, List, [], ◌∷◌, map, Option, Some, None, slice_get, slice_index_or}
+use Rattle.std.specs.FinMap.{FinMap, entries}
+use Rattle.std.specs.List.{position_from}
+use Rattle.std.specs.Map.{keys_of}
+use Rattle.std.specs.Ordering.{eq_by_cmp}
+use Rattle.ebpf_base.specs.Keys.{key_cmp}
+use Rattle.ebpf_linker.specs.declared.reference.Call.{Call}
+use Rattle.ebpf_linker.specs.declared.reference.Fault.{Fault}
+use Rattle.ebpf_linker.specs.declared.reference.Fault.TheVariants.{UnsupportedTextSymbol, UnknownFunction, FunctionInfoMismatch, ProgramTooLong, InvalidLineInfo}
+use Rattle.ebpf_linker.specs.declared.reference.Target.{Target}
+use Rattle.ebpf_linker.specs.declared.reference.Target.TheVariants.{Function as ToFunction, Nowhere}
+use Rattle.ebpf_parts.specs.declared.insn.bpf_insn.{bpf_insn}
+use Rattle.ebpf_reloc.specs.declared.error.RelocationError.{RelocationError}
+use Rattle.ebpf_reloc.specs.declared.error.RelocationError.TheVariants.{UnsupportedTextSymbol as NoTextSymbol, UnknownFunction as NoFunction, FunctionInfoMismatch as Mismatch, ProgramTooLong as TooLong, InvalidLineInfo as StrayLine}
+use Rattle.ebpf_reloc.specs.declared.function.Function.{Function}
+use Rattle.ebpf_reloc.specs.declared.place.Place.{Place}
+use Rattle.ebpf_reloc.specs.declared.place.Place.TheVariants.{Absent, Unsupported, At}
+use Rattle.ebpf_reloc.specs.Places.{LinkableValue, place_of}
+use Rattle.ebpf_reloc.specs.References.{name_of}
+
+-- the keys of the functions in their order: the number of a function is the place of its key
+abbrev pub function_keys : FinMap key_cmp Function → List (ℕ × ℕ)
+function_keys functions = keys_of (entries functions)
+
+-- the functions in that order
+abbrev pub function_list : FinMap key_cmp Function → List Function
+function_list functions = map (λ e. e.1) (entries functions)
+
+-- the number of a key
+abbrev pub number_in : List (ℕ × ℕ) → ℕ × ℕ → Option ℕ
+number_in keys key = position_from (λ k. eq_by_cmp key_cmp key k) 0 keys
+
+abbrev pub target_by : Option ℕ → ℕ → ℕ → Target
+target_by None caller address = Nowhere (UnknownFunction address caller)
+target_by (Some number) caller address = ToFunction number
+
+-- where a slot of the function with this number leads, by where it points
+abbrev pub target_of : List (ℕ × ℕ) → ℕ → Place → Option Target
+target_of keys caller Absent = None
+target_of keys caller (Unsupported index) = Some (Nowhere (UnsupportedTextSymbol index))
+target_of keys caller (At section address) = Some (target_by (number_in keys (section, address)) caller address)
+
+abbrev pub target_at : LinkableValue → List (ℕ × ℕ) → ℕ → Function → ℕ → bpf_insn → Option Target
+target_at parts keys caller f i slot = target_of keys caller (place_of parts f i slot)
+
+abbrev pub with_call : ℕ → Option Target → List Call → List Call
+with_call i None calls = calls
+with_call i (Some target) calls = record { slot = i; target = target } ∷ calls
+
+-- the calls of slots that are numbered from i on, by where each leads
+abbrev pub calls_by : (ℕ → bpf_insn → Option Target) → ℕ → List bpf_insn → List Call
+calls_by leads i [] = []
+calls_by leads i (slot ∷ slots) = with_call i (leads i slot) (calls_by leads (i + 1) slots)
+
+-- the calls of the function with this number
+abbrev pub calls_of : LinkableValue → List (ℕ × ℕ) → ℕ → Function → List Call
+calls_of parts keys caller f = calls_by (target_at parts keys caller f) 0 f.instructions
+
+-- the calls of functions that are numbered from n on
+abbrev pub calls_from : LinkableValue → List (ℕ × ℕ) → ℕ → List Function → List (List Call)
+calls_from parts keys n [] = []
+calls_from parts keys n (f ∷ fs) = calls_of parts keys n f ∷ calls_from parts keys (n + 1) fs
+
+-- the key of a number
+abbrev pub key_in : List (ℕ × ℕ) → ℕ → ℕ × ℕ
+key_in keys number = slice_index_or keys number (0, 0)
+
+-- the name of the function with a number
+abbrev pub name_in : List Function → ℕ → List ℕ
+name_in functions number = name_of (slice_get functions number)
+
+-- a fault, with the names of functions for their numbers
+abbrev pub told : List Function → Fault → RelocationError
+told functions (UnsupportedTextSymbol index) = NoTextSymbol index
+told functions (UnknownFunction address caller) = NoFunction address (name_in functions caller)
+told functions (FunctionInfoMismatch callee) = Mismatch (name_in functions callee)
+told functions (ProgramTooLong callee) = TooLong (name_in functions callee)
+told functions (InvalidLineInfo callee) = StrayLine (name_in functions callee)

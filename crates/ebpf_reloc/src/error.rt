@@ -1,0 +1,119 @@
+//! Why an object's slots could not be relocated.
+
+ghost use Rattle.std.specs.Prelude.{◌≡◌, []};
+ghost use Rattle.ebpf_reloc.specs.declared.error.RelocationError.TheVariants.{OutOfMemory};
+
+use ebpf_base::Text;
+use std::alloc::{AllocError, AllocFailed, Global};
+use thiserror::Error;
+
+/// Why a function or a program could not be relocated, and which.
+#[derive(Debug, Drop, Error)]
+#[error("`{function}`: {error}")]
+pub struct EbpfRelocationError {
+    /// The name of the function or the program; empty where memory was refused.
+    pub function: Text,
+    /// Why.
+    pub error: RelocationError,
+}
+
+/// Why slots could not be relocated.
+#[derive(Debug, Drop, Error)]
+pub enum RelocationError {
+    /// A relocation names a symbol that is not there.
+    #[error("no symbol {index}")]
+    UnknownSymbol {
+        index: usize,
+    },
+    /// A relocation's symbol is in a section without a map.
+    #[error("no map for symbol {symbol_index} in section {section_index}")]
+    SectionNotFound {
+        section_index: usize,
+        symbol_index: usize,
+        symbol_name: Option<Text>,
+    },
+    /// A function refers to an address where no function stands.
+    #[error("`{caller_name}` refers to address {address}, where no function stands")]
+    UnknownFunction {
+        address: u64,
+        caller_name: Text,
+    },
+    /// Of a function and the program that it is linked into only one has records on functions.
+    #[error("only one of `{name}` and its program has records on functions")]
+    FunctionInfoMismatch {
+        name: Text,
+    },
+    /// No function stands where a program says that its own does.
+    #[error("no function in section {section_index} at address {address}")]
+    UnknownProgram {
+        section_index: usize,
+        address: u64,
+    },
+    /// A relocation stands where it can't be applied.
+    #[error("relocation {relocation_number} at offset {offset} can't be applied there")]
+    InvalidRelocationOffset {
+        offset: u64,
+        relocation_number: usize,
+    },
+    /// An extern symbol that is none of the object's externs.
+    #[error("no extern `{name}`")]
+    ExternNotFound {
+        name: Text,
+    },
+    /// An extern that has neither a type of the kernel nor an address, and needs one.
+    #[error("the extern `{name}` is not resolved")]
+    UnresolvableSymbol {
+        name: Text,
+    },
+    /// A symbol of a text section that names no function.
+    #[error("symbol {index} names no function")]
+    UnsupportedTextSymbol {
+        index: usize,
+    },
+    /// The line records of a function can't be moved to its place in the program.
+    #[error("the records on lines of `{name}` can't be moved")]
+    InvalidLineInfo {
+        name: Text,
+    },
+    /// With this function the program has more slots than a call can reach over.
+    #[error("the program is too long with `{name}`")]
+    ProgramTooLong {
+        name: Text,
+    },
+    /// A place in a map's data that a slot can't hold.
+    #[error("the place in a map at offset {offset} is too far")]
+    MapAddressOverflow {
+        offset: u64,
+    },
+    /// No memory was found.
+    #[error("out of memory")]
+    OutOfMemory,
+}
+
+impl EbpfRelocationError {
+    /// Want of memory, with the empty text for the name.
+    pub fn memory(alloc: Global) -> EbpfRelocationError
+        ensures { result ≡ record { function = []; error = OutOfMemory } }
+    {
+        EbpfRelocationError {
+            function: Text::empty(alloc),
+            error: RelocationError::OutOfMemory,
+        }
+    }
+}
+
+impl From<AllocError> for RelocationError {
+    ghost from_gives = { λ _ e. e ≡ OutOfMemory };
+
+    fn from(_error: AllocError) -> RelocationError {
+        RelocationError::OutOfMemory
+    }
+}
+
+impl<T: Drop> From<AllocFailed<T>> for RelocationError {
+    ghost from_gives = { λ _ e. e ≡ OutOfMemory };
+
+    fn from(_error: AllocFailed<T>) -> RelocationError {
+        RelocationError::OutOfMemory
+    }
+}

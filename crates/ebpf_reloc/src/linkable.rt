@@ -1,0 +1,20 @@
+//! What linking reads of an object.
+
+use crate::function::Function;
+use crate::symbol::Symbol;
+use ebpf_base::{ByIndex, ByKey, ByOffset, BySection};
+use ebpf_parts::Relocation;
+use std::collections::HashSet;
+
+/// What linking reads of an object.
+#[derive(Clone, Copy)]
+pub struct Linkable<'a> {
+    /// The functions by section number and address.
+    pub functions: &'a ByKey<Function>,
+    /// The symbols by their number.
+    pub symbols: &'a ByIndex<Symbol>,
+    /// The relocations by section number and offset in the section, in bytes.
+    pub relocations: &'a BySection<ByOffset<Relocation>>,
+    /// The numbers of the sections that hold functions.
+    pub text_sections: &'a HashSet<usize>,
+}

@@ -1,0 +1,214 @@
+//! The programs of an object, each with every function that it reaches.
+
+ghost use Rattle.std.specs.Prelude.{◌≡◌, ◌<◌, length, true, IfOk, OnOk, IfErr, Some, ⊤, MatchBool, slice_get};
+ghost use Rattle.std.specs.FinMap as map;
+ghost use Rattle.ebpf_linker.specs.Renaming.{answer_named};
+ghost use Rattle.ebpf_linker.specs.Result.{IsLinking};
+ghost use Rattle.ebpf_reloc.specs.Linking.{ProgramValue, key_of, with_linked, IsLinked, IsFault, IsRefused, AreLinked, IsFirstFault};
+ghost use Rattle.ebpf_reloc.specs.Memory.{is_memory, is_memory_at};
+ghost use Rattle.ebpf_reloc.specs.Numbers.{function_keys, function_list, key_in, told};
+ghost use Rattle.ebpf_reloc.specs.Places.{read};
+ghost use Rattle.ebpf_reloc.specs.References.{functions_of};
+
+use crate::error::{EbpfRelocationError, RelocationError};
+use crate::function::Function;
+use crate::linkable::Linkable;
+use crate::numbered::{NumberedFunctions, told};
+use crate::numbers::number_in;
+use ebpf_base::{ByKey, Text};
+use ebpf_btf::{FuncSecInfo, LineSecInfo};
+use ebpf_linker::{Fault, LinkedProgram};
+use std::alloc::{AllocError, Global};
+use std::marker::Model;
+
+/// A program's name, and the key of its function.
+#[derive(Debug, Drop)]
+pub struct ProgramKey<'a> {
+    /// The name of the program.
+    pub name: &'a str,
+    /// The number of the section of its function.
+    pub section_index: usize,
+    /// The address of its function.
+    pub address: u64,
+}
+
+impl<'a> Model for ProgramKey<'a> {
+    ghost Value = { ProgramValue };
+
+    ghost view = { λ p. record { name = p.name.now; section_index = p.section_index; address = p.address } };
+}
+
+impl ProgramKey<'_> {
+    /// The key of its function: the number of its section, and its address.
+    fn key(&self) -> (usize, u64)
+        ensures { result ≡ key_of self.now }
+    {
+        (self.section_index, self.address)
+    }
+}
+
+/// A function with the slots and the records of a linked program.
+fn with_linked(function: &Function, linked: LinkedProgram) -> Result<Function, AllocError>
+    ensures { IfOk result (λ f. f ≡ with_linked function.now linked) }
+{
+    let func_info = &function.func_info;
+    let line_info = &function.line_info;
+    Ok(Function {
+        address: function.address,
+        name: function.name.clone()?,
+        section_index: function.section_index,
+        section_offset: function.section_offset,
+        instructions: linked.slots,
+        func_info: FuncSecInfo {
+            sec_name_offset: func_info.sec_name_offset,
+            num_info: linked.func_count.unwrap_or(func_info.num_info),
+            func_info: linked.func_info,
+        },
+        line_info: LineSecInfo {
+            sec_name_offset: line_info.sec_name_offset,
+            num_info: linked.line_count.unwrap_or(line_info.num_info),
+            line_info: linked.line_info,
+        },
+        func_info_rec_size: function.func_info_rec_size,
+        line_info_rec_size: function.line_info_rec_size,
+    })
+}
+
+impl<'a> NumberedFunctions<'a> {
+    /// The function with a number.
+    fn function(&self, number: usize) -> &'a Function
+        requires { number < length (function_keys (read self.now.parts).functions) }
+        ensures { slice_get (function_list (read self.now.parts).functions) number ≡ Some result.now }
+    {
+        self.functions.as_slice()[number]
+    }
+
+    /// The function with a number, by what linking it gave.
+    fn finished(
+        &self,
+        alloc: Global,
+        number: usize,
+        answer: Result<LinkedProgram, Fault>,
+    ) -> Result<Function, RelocationError>
+        requires number { number < length (function_keys (read self.now.parts).functions) }
+        requires answer { IsLinking (functions_of (read self.now.parts)) (key_in (function_keys (read self.now.parts).functions) number) (answer_named (told (function_list (read self.now.parts).functions)) answer) }
+        ensures linked { IfOk result (λ f. IsLinked (read self.now.parts) (key_in (function_keys (read self.now.parts).functions) number) f) }
+        ensures fault { IfErr result (λ e. MatchBool (is_memory e) ⊤ (IsFault (read self.now.parts) (key_in (function_keys (read self.now.parts).functions) number) e)) }
+    {
+        match answer {
+            Ok(linked) => Ok(with_linked(self.function(number), linked)?),
+            Err(fault) => Err(told(alloc, self.functions.as_slice(), fault)?),
+        }
+    }
+
+    /// The function at a key, linked.
+    fn linked_at(
+        &self,
+        alloc: Global,
+        section: usize,
+        address: u64,
+    ) -> Result<Function, RelocationError>
+        ensures linked { IfOk result (λ f. IsLinked (read self.now.parts) (section, address) f) }
+        ensures fault { IfErr result (λ e. MatchBool (is_memory e) ⊤ (IsFault (read self.now.parts) (section, address) e)) }
+    {
+        match number_in(self.keys.as_slice(), section, address) {
+            Some(number) => {
+                let answer = self.link(alloc, number)?;
+                self.finished(alloc, number, answer)
+            }
+            None => Err(RelocationError::UnknownProgram {
+                section_index: section,
+                address,
+            }),
+        }
+    }
+}
+
+/// A refusal, with the name of the program.
+fn refused(alloc: Global, name: &str, error: RelocationError) -> EbpfRelocationError
+    ensures { MatchBool (is_memory_at result) ⊤ (result ≡ record { function = name.now; error = error }) }
+{
+    match Text::from_str(alloc, name) {
+        Ok(function) => EbpfRelocationError { function, error },
+        Err(_) => EbpfRelocationError::memory(alloc),
+    }
+}
+
+impl NumberedFunctions<'_> {
+    /// A program's function, linked.
+    #[tactic(auto, using(crate::proofs::Finished::with_name))]
+    fn linked_program(
+        &self,
+        alloc: Global,
+        program: &ProgramKey<'_>,
+    ) -> Result<Function, EbpfRelocationError>
+        ensures linked { IfOk result (λ f. IsLinked (read self.now.parts) (key_of program.now) f) }
+        ensures fault { IfErr result (λ e. MatchBool (is_memory_at e) ⊤ (IsRefused (read self.now.parts) program.now e)) }
+    {
+        match self.linked_at(alloc, program.section_index, program.address) {
+            Ok(function) => Ok(function),
+            Err(error) => Err(refused(alloc, program.name, error)),
+        }
+    }
+}
+
+/// The functions by numbers, with their calls.
+fn numbered<'a>(
+    alloc: Global,
+    parts: &Linkable<'a>,
+) -> Result<NumberedFunctions<'a>, EbpfRelocationError>
+    ensures parts { IfOk result (λ n. read n.parts ≡ read parts.now) }
+    ensures memory { IfErr result (λ e. is_memory_at e ≡ true) }
+{
+    match NumberedFunctions::new(alloc, parts) {
+        Ok(functions) => Ok(functions),
+        Err(_) => Err(EbpfRelocationError::memory(alloc)),
+    }
+}
+
+/// Puts a function at a key.
+fn put(
+    alloc: Global,
+    functions: &mut ByKey<Function>,
+    key: (usize, u64),
+    function: Function,
+) -> Result<(), EbpfRelocationError>
+    ensures ok { OnOk result (functions.new ≡ map.insert functions.old key function) }
+    ensures memory { IfErr result (λ e. is_memory_at e ≡ true) }
+{
+    match functions.insert(key, function) {
+        Ok(_) => Ok(()),
+        Err(_) => Err(EbpfRelocationError::memory(alloc)),
+    }
+}
+
+/// The functions of programs, each followed by every function that it reaches, by the keys of the programs.
+/// Each is linked from the functions as they are.
+///
+/// # Errors
+///
+/// The least fault of the first program that has one, with that program's name. `UnknownProgram` where no
+/// function stands at its key; else, at the first slot in the order of the copies: `UnsupportedTextSymbol`
+/// where the slot's symbol names no function, `UnknownFunction` where none stands at the address,
+/// `FunctionInfoMismatch` where only one of it and the program has records on functions, `ProgramTooLong`
+/// where with it there are more than 2,147,483,647 slots, `InvalidLineInfo` where its records on lines can't
+/// be moved. `OutOfMemory` only where memory was refused.
+pub fn relocate_calls(
+    alloc: Global,
+    programs: &[ProgramKey<'_>],
+    parts: &Linkable<'_>,
+) -> Result<ByKey<Function>, EbpfRelocationError>
+    ensures linked { IfOk result (λ linked. AreLinked (read parts.now) programs.now linked) }
+    ensures fault { IfErr result (λ e. MatchBool (is_memory_at e) ⊤ (IsFirstFault (read parts.now) programs.now e)) }
+{
+    let functions = numbered(alloc, parts)?;
+    let mut linked = ByKey::new(alloc);
+    for program in programs {
+        let function = match functions.linked_program(alloc, program) {
+            Ok(function) => function,
+            Err(error) => return Err(error),
+        };
+        put(alloc, &mut linked, program.key(), function)?;
+    }
+    Ok(linked)
+}

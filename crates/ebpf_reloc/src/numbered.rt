@@ -1,0 +1,129 @@
+//! The functions of an object as linking needs them: numbered, with their calls.
+
+ghost use Rattle.std.specs.Prelude.{◌≡◌, ◌<◌, length, map, IfOk};
+ghost use Rattle.ebpf_linker.specs.Numbered.{content_of as body_content};
+ghost use Rattle.ebpf_linker.specs.Renaming.{answer_named};
+ghost use Rattle.ebpf_linker.specs.Result.{IsLinking};
+ghost use Rattle.ebpf_reloc.specs.Numbers.{function_keys, function_list, calls_from, key_in, name_in, told};
+ghost use Rattle.ebpf_reloc.specs.Places.{read};
+ghost use Rattle.ebpf_reloc.specs.References.{content_of, functions_of};
+
+use crate::calls::all_calls;
+use crate::error::RelocationError;
+use crate::function::Function;
+use crate::linkable::Linkable;
+use crate::numbers::{function_keys, function_list};
+use ebpf_base::Text;
+use ebpf_linker::{Body, Call, Fault, LinkedProgram, link};
+use std::alloc::{AllocError, Global};
+
+/// The functions of an object, numbered in the order of their keys.
+#[derive(Drop)]
+pub struct NumberedFunctions<'a> {
+    /// What they are read from.
+    pub parts: Linkable<'a>,
+    /// Their keys.
+    pub keys: Vec<(usize, u64)>,
+    /// The functions.
+    pub functions: Vec<&'a Function>,
+    /// What is linked of them.
+    pub bodies: Vec<Body<'a>>,
+    /// Their calls.
+    pub calls: Vec<Vec<Call>>,
+    ghost are_keys: { keys.items ≡ function_keys (read parts).functions },
+    ghost are_functions: { map (λ f. f.now) functions.items ≡ function_list (read parts).functions },
+    ghost are_bodies: { map body_content bodies.items ≡ map content_of (function_list (read parts).functions) },
+    ghost are_calls: { map (λ v. v.items) calls.items ≡ calls_from (read parts) (function_keys (read parts).functions) 0 (function_list (read parts).functions) },
+}
+
+/// What is linked of a function.
+fn body_of<'a>(function: &'a Function) -> Body<'a>
+    ensures { body_content result ≡ content_of function.now }
+{
+    Body {
+        slots: function.instructions.as_slice(),
+        func_info: function.func_info.func_info.as_slice(),
+        line_info: function.line_info.line_info.as_slice(),
+    }
+}
+
+/// What is linked of each function.
+#[tactic(auto, using(crate::proofs::CallSteps::body_here, crate::proofs::CallSteps::bodies_end))]
+fn bodies_of<'a>(alloc: Global, functions: &[&'a Function]) -> Result<Vec<Body<'a>>, AllocError>
+    ensures { IfOk result (λ bodies. map body_content bodies.items ≡ map content_of (map (λ f. f.now) functions.now)) }
+{
+    let mut bodies = Vec::with_capacity(alloc, functions.len())?;
+    for number in 0..functions.len() {
+        bodies.push(body_of(functions[number]))?;
+    }
+    Ok(bodies)
+}
+
+impl<'a> NumberedFunctions<'a> {
+    /// The functions with their calls, each of which is found once.
+    pub fn new(alloc: Global, parts: &Linkable<'a>) -> Result<NumberedFunctions<'a>, AllocError>
+        ensures { IfOk result (λ n. read n.parts ≡ read parts.now) }
+    {
+        let keys = function_keys(alloc, parts.functions)?;
+        let functions = function_list(alloc, parts.functions)?;
+        let bodies = bodies_of(alloc, functions.as_slice())?;
+        let calls = all_calls(alloc, parts, keys.as_slice(), functions.as_slice())?;
+        Ok(NumberedFunctions {
+            parts: *parts,
+            keys,
+            functions,
+            bodies,
+            calls,
+        })
+    }
+
+    /// The program with a number, followed by each function that it reaches.
+    pub fn link(
+        &self,
+        alloc: Global,
+        number: usize,
+    ) -> Result<Result<LinkedProgram, Fault>, AllocError>
+        requires { number < length (function_keys (read self.now.parts).functions) }
+        ensures { IfOk result (λ answer. IsLinking (functions_of (read self.now.parts)) (key_in (function_keys (read self.now.parts).functions) number) (answer_named (told (function_list (read self.now.parts).functions)) answer)) }
+    {
+        link(alloc, self.bodies.as_slice(), self.calls.as_slice(), number)
+    }
+}
+
+/// The name of the function with a number.
+fn name_in(alloc: Global, functions: &[&Function], number: usize) -> Result<Text, AllocError>
+    ensures { IfOk result (λ name. name ≡ name_in (map (λ f. f.now) functions.now) number) }
+{
+    match functions.get(number) {
+        Some(function) => function.name.clone(),
+        None => Ok(Text::empty(alloc)),
+    }
+}
+
+/// A fault, with the names of functions for their numbers.
+pub fn told(
+    alloc: Global,
+    functions: &[&Function],
+    fault: Fault,
+) -> Result<RelocationError, AllocError>
+    ensures { IfOk result (λ error. error ≡ told (map (λ f. f.now) functions.now) fault) }
+{
+    match fault {
+        Fault::UnsupportedTextSymbol { index } => {
+            Ok(RelocationError::UnsupportedTextSymbol { index })
+        }
+        Fault::UnknownFunction { address, caller } => Ok(RelocationError::UnknownFunction {
+            address,
+            caller_name: name_in(alloc, functions, caller)?,
+        }),
+        Fault::FunctionInfoMismatch { callee } => Ok(RelocationError::FunctionInfoMismatch {
+            name: name_in(alloc, functions, callee)?,
+        }),
+        Fault::ProgramTooLong { callee } => Ok(RelocationError::ProgramTooLong {
+            name: name_in(alloc, functions, callee)?,
+        }),
+        Fault::InvalidLineInfo { callee } => Ok(RelocationError::InvalidLineInfo {
+            name: name_in(alloc, functions, callee)?,
+        }),
+    }
+}
