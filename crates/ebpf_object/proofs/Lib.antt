@@ -1,3 +1,17 @@
 pub mod AddedLemmas
+pub mod AnyEntry
+pub mod ExternErrors
 pub mod FromFile
+pub mod GivenValues
 pub mod Grouped
+pub mod Offsets
+pub mod Patching
+pub mod ProgramNames
+pub mod Replaced
+pub mod SanitizedTwice
+pub mod Sanitizing
+pub mod TextLemmas
+pub mod Places
+pub mod Tiles
+pub mod TypeErrors
+pub mod Words

@@ -1,8 +1,10 @@
 -- The programs of a Program section, and their functions.
-use Rattle.std.specs.Prelude.{ℕ, ◌+◌, Bool, not, ◌&&◌, ◌||◌, List, [], ◌∷◌, length, map, filter, Option, Some, None, ◌==◌, nat_lt, slice_range}
+use Rattle.std.specs.Prelude.{ℕ, ◌+◌, ◌-◌, Bool, not, ◌&&◌, ◌||◌, List, [], ◌∷◌, length, map, filter, Option, Some, None, ◌==◌, nat_lt, slice_range}
 use Rattle.ebpf_base.specs.Faults.{first_in, first_some}
+use Rattle.ebpf_object.specs.Records.{Said, slot_of, funcs_at, lines_in}
 use Rattle.ebpf_object.specs.Symbols.{SymbolValue, is_text}
 use Rattle.ebpf_object.specs.declared.program.Program.{Program}
+use Rattle.ebpf_object.specs.declared.terms.Terms.{Terms}
 use Rattle.ebpf_parts.specs.declared.error.ParseError.{ParseError}
 use Rattle.ebpf_parts.specs.declared.error.ParseError.TheVariants.{InvalidSymbol}
 use Rattle.ebpf_parts.specs.declared.program_section.ProgramSection.{ProgramSection}
@@ -18,13 +20,22 @@ is_program_symbol y = is_text y.kind && not (length y.name == 0)
 abbrev pub program_bytes : SectionValue → SymbolValue → List ℕ
 program_bytes s y = slice_range s.bytes y.address (y.address + y.size)
 
-unfoldable pub program_function : SectionValue → SymbolValue → Function
-program_function s y = record {
+-- where it begins in the section, in bytes
+abbrev pub program_offset : SectionValue → SymbolValue → ℕ
+program_offset s y = y.address - s.address
+
+-- the function; its records count slots from its first one
+unfoldable pub program_function : Said → SectionValue → SymbolValue → Function
+program_function said s y = record {
   address = y.address;
   name = y.name;
   section_index = s.index;
   section_offset = y.address;
   instructions = slots_of (program_bytes s y);
+  func_info = funcs_at said.funcs (slot_of (program_offset s y)) (slot_of (program_offset s y));
+  line_info = lines_in said.lines (slot_of (program_offset s y)) (slot_of y.size) (slot_of (program_offset s y));
+  func_info_rec_size = said.func_size;
+  line_info_rec_size = said.line_size;
 }
 
 -- why a symbol's program can't be read
@@ -35,8 +46,8 @@ program_stop s y = first_in (
     ∷ [])
 
 -- the functions of a section's programs, by symbol, and the first fault among them
-abbrev pub program_functions : SectionValue → List SymbolValue → List Function
-program_functions s symbols = map (program_function s) (filter is_program_symbol symbols)
+abbrev pub program_functions : Said → SectionValue → List SymbolValue → List Function
+program_functions said s symbols = map (program_function said s) (filter is_program_symbol symbols)
 
 abbrev pub program_fault : SectionValue → List SymbolValue → Option ParseError
 program_fault s symbols = first_some (program_stop s) (filter is_program_symbol symbols)
@@ -45,16 +56,11 @@ program_fault s symbols = first_some (program_stop s) (filter is_program_symbol 
 abbrev pub placed : Function → (ℕ × ℕ) × Function
 placed f = ((f.section_index.0, f.address), f)
 
--- what each program carries of its object
-pub record TermsValue : Type 0 where
-  pub license : List ℕ
-  pub kernel_version : Option ℕ
-
 -- a program, by name
-abbrev pub program_of : TermsValue → SectionValue → ProgramSection → SymbolValue → List ℕ × Program
+abbrev pub program_of : Terms → SectionValue → ProgramSection → SymbolValue → List ℕ × Program
 program_of terms s kind y = (y.name, record { license = terms.license; kernel_version = terms.kernel_version; section = kind; section_index = s.index.0; address = y.address })
 
 -- the programs of a section whose name says a kind
-abbrev pub programs_of : TermsValue → SectionValue → List SymbolValue → Option ProgramSection → List (List ℕ × Program)
+abbrev pub programs_of : Terms → SectionValue → List SymbolValue → Option ProgramSection → List (List ℕ × Program)
 programs_of terms s symbols None = []
 programs_of terms s symbols (Some kind) = map (program_of terms s kind) (filter is_program_symbol symbols)

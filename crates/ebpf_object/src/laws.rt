@@ -5,7 +5,10 @@ ghost use Rattle.ebpf_base.specs.Keyed.{LaterStands};
 ghost use Rattle.ebpf_base.specs.Keys.{text_cmp, key_cmp};
 ghost use Rattle.ebpf_elf.specs.declared.entries.ElfRelocation.{ElfRelocation};
 ghost use Rattle.ebpf_elf.specs.declared.entries.SectionIndex.{SectionIndex};
+ghost use Rattle.ebpf_object.specs.Tiling.{FunctionsTile};
 ghost use Rattle.ebpf_object.specs.declared.program.Program.{Program};
+ghost use Rattle.ebpf_parts.specs.declared.maps.either.Map.{Map};
+ghost use Rattle.ebpf_reloc.specs.declared.extern_desc.ExternDesc.{ExternDesc};
 ghost use Rattle.ebpf_reloc.specs.declared.function.Function.{Function};
 ghost use Rattle.ebpf_reloc.specs.declared.symbol.Symbol.{Symbol};
 
@@ -13,7 +16,14 @@ ghost use Rattle.ebpf_reloc.specs.declared.symbol.Symbol.{Symbol};
 pub fn later_entries_stand()
     ensures programs { LaterStands text_cmp Program }
     ensures functions { LaterStands key_cmp Function }
+    ensures maps { LaterStands text_cmp Map }
+    ensures externs { LaterStands text_cmp ExternDesc }
     ensures symbols { LaterStands nat_cmp Symbol }
     ensures relocations { LaterStands nat_cmp ElfRelocation }
     ensures section_infos { LaterStands text_cmp SectionIndex }
+{}
+
+/// The functions of a Text section in order of their offset, joined, are the slots of the section's data.
+pub fn functions_tile()
+    ensures { FunctionsTile }
 {}

@@ -1,21 +1,28 @@
 //! An object.
 
-ghost use Rattle.std.specs.Prelude.{◌≡◌, IfOk, None};
+ghost use Rattle.std.specs.Prelude.{◌≡◌, IfOk};
 ghost use Rattle.ebpf_base.specs.Faults.{Refuses};
 ghost use Rattle.ebpf_elf.specs.File.{order_of};
 ghost use Rattle.ebpf_object.specs.FileSymbols.{file_symbols, symbol_table};
-ghost use Rattle.ebpf_object.specs.Objects.{programs, functions, kept, section_infos, parse_fault, license_of};
+ghost use Rattle.ebpf_object.specs.FileExterns.{types_of, externs_of, externs_fault_of};
+ghost use Rattle.ebpf_object.specs.FileTypes.{ext_of, has_relocations};
+ghost use Rattle.ebpf_object.specs.Objects.{maps, programs, functions, kept, section_infos, parse_fault};
+ghost use Rattle.ebpf_object.specs.Terms.{license_of, kernel_version_of};
 ghost use Rattle.ebpf_parts.specs.Memory.{is_memory};
 
+use crate::externs::FileExterns;
+use crate::file_types::FileTypes;
 use crate::parts::read_sections;
 use crate::program::Program;
-use crate::program_functions::Terms;
+use crate::shared::Shared;
 use crate::symbols::read_symbols;
+use crate::terms::Terms;
 use ebpf_base::{ByIndex, ByKey, ByName, ByOffset, BySection, Items};
-use ebpf_btf::Endianness;
+use ebpf_btf::{Btf, BtfExt, Endianness};
 use ebpf_elf::{ElfFile, SectionIndex};
+use ebpf_parts::maps::Map;
 use ebpf_parts::{ParseError, Relocation};
-use ebpf_reloc::{Function, Symbol};
+use ebpf_reloc::{ExternDesc, Function, Symbol};
 use std::alloc::Global;
 
 /// What an ELF file with eBPF programs holds.
@@ -27,6 +34,14 @@ pub struct Object {
     pub license: Items<u8>,
     /// The kernel version that the programs are for, where the file states one.
     pub kernel_version: Option<u32>,
+    /// The type information, where the file has some.
+    pub btf: Option<Btf>,
+    /// What is said of instructions, where the file has type information and this.
+    pub btf_ext: Option<BtfExt>,
+    /// The externs by name.
+    pub externs: ByName<ExternDesc>,
+    /// The maps by name.
+    pub maps: ByName<Map>,
     /// The programs by name.
     pub programs: ByName<Program>,
     /// The functions by section number and address.
@@ -44,15 +59,32 @@ impl Object {
     ///
     /// # Errors
     ///
-    /// In this order: `ElfError` where the bytes are no file; `BtfError(InvalidSymbolName)` at the first
-    /// symbol whose name can't be read; then the first fault of the sections by number, each of which has
-    /// those of `Section::from_elf`, and a Program section `InvalidProgramSection`, `NoSymbolsForSection`
-    /// and for each program by symbol `InvalidSymbol` and `InvalidProgramCode`. `OutOfMemory` only where
-    /// memory was refused.
+    /// In this order: `ElfError` where the bytes are no file; of the first section `license` those of
+    /// `Section::from_elf`, `InvalidLicense` where it has fewer than two bytes, `MissingLicenseNullTerminator`
+    /// where none of them is zero, and `InvalidLicense` where another than the last is; of the first section
+    /// `version` those of `Section::from_elf`, and `InvalidKernelVersion` where it has not four bytes;
+    /// `BtfError(InvalidSymbolName)` at the first symbol whose name can't be read; of the first section `.BTF`
+    /// those of `Section::from_elf`, and `BtfError` with that of `Btf::parse`; where there is one, of the first
+    /// section `.BTF.ext` the same with that of `BtfExt::parse`, and `BtfError` with that of the externs; then the
+    /// first fault of the other sections by number, each of which has those of `Section::from_elf`. Of a Text section these are
+    /// `SymbolTableConflict` where two defined Text symbols have one address, and then at the functions from
+    /// offset 0 on `UnknownSymbol` where no such symbol has the address, `InvalidSymbol` where its size is 0 or
+    /// passes the data, and `InvalidProgramCode` where it is no whole slots; of a Program section
+    /// `InvalidProgramSection`, `NoSymbolsForSection` and for each program by symbol `InvalidSymbol` and
+    /// `InvalidProgramCode`; of a data section `InvalidMapDefinition` where its size passes 32 bits; of a section
+    /// `maps` `NoSymbolsForSection` and for each symbol `InvalidSymbol` where its range passes the data, and
+    /// `InvalidMapDefinition` where it has fewer than 20 bytes or another pinning than 0 and 1; of a section as
+    /// `.maps` `NoBTF`, `NoSymbolsForSection`, and the first fault of its maps. `OutOfMemory` only where memory was
+    /// refused.
+    #[tactic(auto, unfolding(crate::specs::FileExterns::types_of, crate::specs::FileExterns::externs_of, crate::specs::FileExterns::externs_fault_of))]
     pub fn parse(alloc: Global, bytes: &[u8]) -> Result<Object, ParseError>
         ensures endianness { IfOk result (λ o. o.endianness ≡ order_of bytes.now) }
         ensures license { IfOk result (λ o. o.license ≡ license_of bytes.now) }
-        ensures kernel_version { IfOk result (λ o. o.kernel_version ≡ None) }
+        ensures kernel_version { IfOk result (λ o. o.kernel_version ≡ kernel_version_of bytes.now) }
+        ensures btf { IfOk result (λ o. o.btf ≡ types_of bytes.now) }
+        ensures btf_ext { IfOk result (λ o. o.btf_ext ≡ ext_of bytes.now) }
+        ensures externs { IfOk result (λ o. o.externs ≡ externs_of bytes.now) }
+        ensures maps { IfOk result (λ o. o.maps ≡ maps bytes.now) }
         ensures programs { IfOk result (λ o. o.programs ≡ programs bytes.now) }
         ensures functions { IfOk result (λ o. o.functions ≡ functions bytes.now) }
         ensures symbol_table { IfOk result (λ o. o.symbol_table ≡ symbol_table (file_symbols bytes.now)) }
@@ -64,22 +96,39 @@ impl Object {
             Ok(file) => file,
             Err(error) => return Err(ParseError::ElfError(error)),
         };
-        let license = Items::from_vec(Vec::from_slice(alloc, b"GPL")?);
+        let terms = Terms::read(alloc, &file)?;
         let symbols = read_symbols(alloc, &file)?;
-        let terms = Terms {
-            license: license.as_slice(),
-            kernel_version: None,
+        let types = FileTypes::read(alloc, &file)?;
+        let declared = FileExterns::read(alloc, &file, types.btf)?;
+        let shared = Shared {
+            terms,
+            btf: declared.btf,
+            btf_ext: types.btf_ext,
         };
-        let parts = read_sections(alloc, &terms, &file, &symbols.groups)?;
+        let parts = read_sections(alloc, &shared, types.section_infos, &file, &symbols.groups)?;
         Ok(Object {
             endianness: file.endianness(),
-            license,
-            kernel_version: None,
+            license: shared.terms.license,
+            kernel_version: shared.terms.kernel_version,
+            btf: shared.btf,
+            btf_ext: shared.btf_ext,
+            externs: declared.externs,
+            maps: parts.maps,
             programs: parts.programs,
             functions: parts.functions,
             symbol_table: symbols.table,
             relocations: parts.relocations,
             section_infos: parts.section_infos,
         })
+    }
+
+    /// Whether `.BTF.ext` has CO-RE relocations, of any section.
+    pub fn has_btf_relocations(&self) -> bool
+        ensures { result ≡ has_relocations self.now.btf_ext }
+    {
+        match &self.btf_ext {
+            Some(ext) => !ext.relocations().is_empty(),
+            None => false,
+        }
     }
 }

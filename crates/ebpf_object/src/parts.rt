@@ -5,22 +5,34 @@ ghost use Rattle.std.specs.FinMap as finite;
 ghost use Rattle.ebpf_base.specs.Faults.{Refuses, or_else};
 ghost use Rattle.ebpf_base.specs.Keyed.{put_all};
 ghost use Rattle.ebpf_elf.specs.Relocations.{relocation_sections, target_of, relocations, entries_of};
+ghost use Rattle.ebpf_object.specs.DataMaps.{data_maps, data_map_fault};
 ghost use Rattle.ebpf_object.specs.FileSymbols.{file_symbols};
 ghost use Rattle.ebpf_object.specs.Groups.{group_at};
-ghost use Rattle.ebpf_object.specs.Parts.{is_type_information, added, added_at, parts_of, no_parts, fault_in, fault_at, sections_fault, program_section_fault};
-ghost use Rattle.ebpf_object.specs.Programs.{TermsValue, programs_of, placed, program_functions};
+ghost use Rattle.ebpf_object.specs.LegacyMaps.{legacy_maps, legacy_maps_fault};
+ghost use Rattle.ebpf_object.specs.Parts.{is_type_information, added, added_at, parts_of, parts_from, fault_in, fault_at, sections_fault, program_section_fault};
+ghost use Rattle.ebpf_object.specs.Programs.{programs_of, placed, program_functions};
+ghost use Rattle.ebpf_object.specs.Records.{said_of};
 ghost use Rattle.ebpf_object.specs.Relocations.{kept_at};
 ghost use Rattle.ebpf_object.specs.Symbols.{symbols_of};
+ghost use Rattle.ebpf_object.specs.Texts.{text_functions, text_fault};
 ghost use Rattle.ebpf_parts.specs.Memory.{is_memory};
 ghost use Rattle.ebpf_parts.specs.ProgramSections.{program_section};
 
+use crate::data_maps::put_data_map;
+use crate::declared_maps::put_declared_maps;
+use crate::file_types::remember;
 use crate::groups::Groups;
+use crate::legacy_maps::put_legacy_maps;
 use crate::program::Program;
-use crate::program_functions::{Terms, put_functions, put_programs};
+use crate::program_functions::{put_functions, put_programs};
+use crate::records::SectionRecords;
 use crate::relocations::{by_offset, read_relocation_sections};
+use crate::shared::Shared;
 use crate::symbols::NamedSymbol;
+use crate::text::{put_texts, text_functions};
 use ebpf_base::{ByKey, ByName, ByOffset, BySection, Text};
 use ebpf_elf::{ElfFile, ElfRelocationSection, ElfSection, SectionIndex};
+use ebpf_parts::maps::Map;
 use ebpf_parts::{EbpfSectionKind, ParseError, ProgramSection, Relocation, Section};
 use ebpf_reloc::Function;
 use std::alloc::Global;
@@ -28,6 +40,7 @@ use std::alloc::Global;
 /// What the sections of a file give to an object.
 #[derive(Drop)]
 pub struct Parts {
+    pub maps: ByName<Map>,
     pub programs: ByName<Program>,
     pub functions: ByKey<Function>,
     pub relocations: BySection<ByOffset<Relocation>>,
@@ -61,14 +74,16 @@ fn put_relocations(
 }
 
 impl Parts {
-    fn new(alloc: Global) -> Parts
-        ensures { result ≡ no_parts }
+    /// None but the names that were met before.
+    fn new(alloc: Global, section_infos: ByName<SectionIndex>) -> Parts
+        ensures { result ≡ parts_from section_infos }
     {
         Parts {
+            maps: ByName::new(alloc),
             programs: ByName::new(alloc),
             functions: ByKey::new(alloc),
             relocations: BySection::new(alloc),
-            section_infos: ByName::new(alloc),
+            section_infos,
         }
     }
 
@@ -77,11 +92,11 @@ impl Parts {
     fn add_programs(
         &mut self,
         alloc: Global,
-        terms: &Terms<'_>,
+        shared: &Shared,
         section: &Section<'_>,
         symbols: &[NamedSymbol<'_>],
     ) -> Result<(), ParseError>
-        ensures put { OnOk result (self.new ≡ record self.old { programs = put_all self.old.programs (programs_of terms.now section.now symbols.now (program_section section.now.name)); functions = put_all self.old.functions (map placed (program_functions section.now symbols.now)); relocations = put_all self.old.relocations (kept_at section.now.index.0 section.now.relocations) }) }
+        ensures put { OnOk result (self.new ≡ record self.old { programs = put_all self.old.programs (programs_of shared.now.terms section.now symbols.now (program_section section.now.name)); functions = put_all self.old.functions (map placed (program_functions (said_of shared.now.btf_ext section.now.name) section.now symbols.now)); relocations = put_all self.old.relocations (kept_at section.now.index.0 section.now.relocations) }) }
         ensures fault { Refuses is_memory result (program_section_fault section.now symbols.now) }
     {
         let kind = ProgramSection::from_str(alloc, section.name)?;
@@ -90,25 +105,58 @@ impl Parts {
                 section_name: Text::from_str(alloc, section.name)?,
             });
         }
-        put_functions(alloc, &mut self.functions, section, symbols)?;
-        put_programs(alloc, &mut self.programs, terms, kind, section, symbols)?;
+        let records = SectionRecords::named(alloc, &shared.btf_ext, section.name)?;
+        put_functions(alloc, &mut self.functions, &records, section, symbols)?;
+        put_programs(
+            alloc,
+            &mut self.programs,
+            &shared.terms,
+            kind,
+            section,
+            symbols,
+        )?;
+        put_relocations(alloc, &mut self.relocations, section)
+    }
+
+    /// Adds the functions of a Text section.
+    fn add_texts(
+        &mut self,
+        alloc: Global,
+        shared: &Shared,
+        section: &Section<'_>,
+        symbols: &[NamedSymbol<'_>],
+    ) -> Result<(), ParseError>
+        ensures put { OnOk result (self.new ≡ record self.old { functions = put_all self.old.functions (map placed (text_functions (said_of shared.now.btf_ext section.now.name) section.now symbols.now)); relocations = put_all self.old.relocations (kept_at section.now.index.0 section.now.relocations) }) }
+        ensures fault { Refuses is_memory result (text_fault section.now symbols.now) }
+    {
+        let records = SectionRecords::named(alloc, &shared.btf_ext, section.name)?;
+        let functions = text_functions(alloc, &records, section, symbols)?;
+        put_texts(&mut self.functions, functions)?;
         put_relocations(alloc, &mut self.relocations, section)
     }
 
     /// Adds a section by its kind.
-    #[tactic(auto, unfolding(crate::specs::Parts::added, crate::specs::Parts::fault_in, crate::specs::Parts::programs_in, crate::specs::Parts::functions_in, crate::specs::Parts::relocations_in))]
+    #[tactic(auto, unfolding(crate::specs::Parts::added, crate::specs::Parts::fault_in, crate::specs::Parts::maps_in, crate::specs::Parts::programs_in, crate::specs::Parts::functions_in, crate::specs::Parts::relocations_in))]
     fn add_kind(
         &mut self,
         alloc: Global,
-        terms: &Terms<'_>,
+        shared: &Shared,
         section: &Section<'_>,
         symbols: &[NamedSymbol<'_>],
     ) -> Result<(), ParseError>
-        ensures put { OnOk result (record self.new { section_infos = put_all self.new.section_infos ((section.now.name, section.now.index) ∷ []) } ≡ added terms.now self.old section.now symbols.now) }
-        ensures fault { Refuses is_memory result (fault_in section.now symbols.now) }
+        ensures put { OnOk result (record self.new { section_infos = put_all self.new.section_infos ((section.now.name, section.now.index) ∷ []) } ≡ added shared.now self.old section.now symbols.now) }
+        ensures fault { Refuses is_memory result (fault_in shared.now section.now symbols.now) }
     {
         match section.kind {
-            EbpfSectionKind::Program => self.add_programs(alloc, terms, section, symbols),
+            EbpfSectionKind::Program => self.add_programs(alloc, shared, section, symbols),
+            EbpfSectionKind::Data | EbpfSectionKind::Rodata | EbpfSectionKind::Bss => {
+                put_data_map(alloc, &mut self.maps, section)
+            }
+            EbpfSectionKind::Maps => put_legacy_maps(alloc, &mut self.maps, section, symbols),
+            EbpfSectionKind::BtfMaps => {
+                put_declared_maps(alloc, &mut self.maps, &shared.btf, section, symbols)
+            }
+            EbpfSectionKind::Text => self.add_texts(alloc, shared, section, symbols),
             _ => Ok(()),
         }
     }
@@ -117,23 +165,21 @@ impl Parts {
     fn add_section(
         &mut self,
         alloc: Global,
-        terms: &Terms<'_>,
+        shared: &Shared,
         section: &ElfSection<'_>,
         tables: &[ElfRelocationSection<'_>],
         symbols: &[NamedSymbol<'_>],
     ) -> Result<(), ParseError>
         requires { tables.now ≡ filter (λ r. target_of r == section.now.index) (relocation_sections section.now.file) }
-        ensures put { OnOk result (self.new ≡ added_at terms.now self.old section.now symbols.now) }
-        ensures fault { Refuses is_memory result (fault_at symbols.now section.now) }
+        ensures put { OnOk result (self.new ≡ added_at shared.now self.old section.now symbols.now) }
+        ensures fault { Refuses is_memory result (fault_at shared.now symbols.now section.now) }
     {
         if is_type_information(section) {
             return Ok(());
         }
         let section = Section::with_relocations(alloc, section, tables)?;
-        self.add_kind(alloc, terms, &section, symbols)?;
-        self.section_infos
-            .insert(String::from_str(alloc, section.name)?, section.index)?;
-        Ok(())
+        self.add_kind(alloc, shared, &section, symbols)?;
+        remember(alloc, &mut self.section_infos, &section)
     }
 }
 
@@ -141,19 +187,20 @@ impl Parts {
 #[tactic(auto, using(crate::proofs::AddedLemmas::one_more))]
 pub fn read_sections(
     alloc: Global,
-    terms: &Terms<'_>,
+    shared: &Shared,
+    section_infos: ByName<SectionIndex>,
     file: &ElfFile<'_>,
     symbols: &Groups<NamedSymbol<'_>>,
 ) -> Result<Parts, ParseError>
     requires grouped { (q : ℕ) → group_at symbols.now.groups q ≡ symbols_of (file_symbols file.now) q }
-    ensures parts { IfOk result (λ p. p ≡ parts_of terms.now file.now) }
-    ensures fault { Refuses is_memory result (sections_fault file.now) }
+    ensures parts { IfOk result (λ p. p ≡ parts_of shared.now section_infos file.now) }
+    ensures fault { Refuses is_memory result (sections_fault shared.now file.now) }
 {
     let tables = read_relocation_sections(alloc, file)?;
-    let mut parts = Parts::new(alloc);
+    let mut parts = Parts::new(alloc, section_infos);
     for section in file.sections() {
         let index = section.index().0;
-        parts.add_section(alloc, terms, &section, tables.of(index), symbols.of(index))?;
+        parts.add_section(alloc, shared, &section, tables.of(index), symbols.of(index))?;
     }
     Ok(parts)
 }

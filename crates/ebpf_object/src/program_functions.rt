@@ -3,31 +3,19 @@
 ghost use Rattle.std.specs.Prelude.{◌≡◌, ◌∷◌, ◌++◌, [], IfOk, OnOk, IfErr, true, Some, map};
 ghost use Rattle.ebpf_base.specs.Faults.{Refuses};
 ghost use Rattle.ebpf_base.specs.Keyed.{put_all};
-ghost use Rattle.ebpf_object.specs.Programs.{is_program_symbol, program_function, program_stop, program_functions, program_fault, programs_of, placed, TermsValue};
+ghost use Rattle.ebpf_object.specs.Programs.{is_program_symbol, program_function, program_stop, program_functions, program_fault, programs_of, placed};
 ghost use Rattle.ebpf_parts.specs.Memory.{is_memory};
 
 use crate::program::Program;
+use crate::records::{SLOT, SectionRecords};
 use crate::symbols::NamedSymbol;
+use crate::terms::Terms;
 use ebpf_base::{ByKey, ByName, Items, Text};
 use ebpf_elf::SymbolKind;
 use ebpf_parts::insn::copy_instructions;
 use ebpf_parts::{ParseError, ProgramSection, Section};
 use ebpf_reloc::Function;
 use std::alloc::Global;
-use std::marker::Model;
-
-/// What each program carries of its object.
-#[derive(Debug, Drop)]
-pub struct Terms<'a> {
-    pub license: &'a [u8],
-    pub kernel_version: Option<u32>,
-}
-
-impl<'a> Model for Terms<'a> {
-    ghost Value = { TermsValue };
-
-    ghost view = { λ t. record { license = t.license.now; kernel_version = t.kernel_version } };
-}
 
 impl NamedSymbol<'_> {
     /// Whether it names a program of its section: a Text symbol with a name.
@@ -42,10 +30,11 @@ impl NamedSymbol<'_> {
 #[tactic(auto, unfolding(crate::specs::Programs::program_function, crate::specs::Programs::program_stop))]
 fn function_of(
     alloc: Global,
+    records: &SectionRecords<'_>,
     section: &Section<'_>,
     symbol: &NamedSymbol<'_>,
 ) -> Result<Function, ParseError>
-    ensures function { IfOk result (λ f. f ≡ program_function section.now symbol.now) }
+    ensures function { IfOk result (λ f. f ≡ program_function records.now section.now symbol.now) }
     ensures fault { Refuses is_memory result (program_stop section.now symbol.now) }
 {
     let len = section.bytes.len() as u64;
@@ -55,6 +44,7 @@ fn function_of(
             name: Some(Text::from_str(alloc, symbol.name)?),
         });
     }
+    let first = (symbol.address - section.address) as usize / SLOT;
     let start = symbol.address as usize;
     let end = start + symbol.size as usize;
     let instructions = copy_instructions(alloc, &section.bytes[start..end])?;
@@ -64,6 +54,12 @@ fn function_of(
         section_index: section.index,
         section_offset: start,
         instructions: Items::from_vec(instructions),
+        func_info: records.funcs.at(alloc, first, first)?,
+        line_info: records
+            .lines
+            .within(alloc, first, symbol.size as usize / SLOT, first)?,
+        func_info_rec_size: records.func_size,
+        line_info_rec_size: records.line_size,
     })
 }
 
@@ -72,17 +68,18 @@ fn function_of(
 pub fn put_functions(
     alloc: Global,
     functions: &mut ByKey<Function>,
+    records: &SectionRecords<'_>,
     section: &Section<'_>,
     symbols: &[NamedSymbol<'_>],
 ) -> Result<(), ParseError>
-    ensures put { OnOk result (functions.new ≡ put_all functions.old (map placed (program_functions section.now symbols.now))) }
+    ensures put { OnOk result (functions.new ≡ put_all functions.old (map placed (program_functions records.now section.now symbols.now))) }
     ensures fault { Refuses is_memory result (program_fault section.now symbols.now) }
 {
     for symbol in symbols {
         if !symbol.is_program() {
             continue;
         }
-        let function = function_of(alloc, section, symbol)?;
+        let function = function_of(alloc, records, section, symbol)?;
         functions.insert((function.section_index.0, function.address), function)?;
     }
     Ok(())
@@ -93,7 +90,7 @@ pub fn put_functions(
 pub fn put_programs(
     alloc: Global,
     programs: &mut ByName<Program>,
-    terms: &Terms<'_>,
+    terms: &Terms,
     kind: ProgramSection,
     section: &Section<'_>,
     symbols: &[NamedSymbol<'_>],
@@ -107,7 +104,7 @@ pub fn put_programs(
         }
         let name = String::from_str(alloc, symbol.name)?;
         let program = Program {
-            license: Items::from_vec(Vec::from_slice(alloc, terms.license)?),
+            license: Items::from_vec(Vec::from_slice(alloc, terms.license.as_slice())?),
             kernel_version: terms.kernel_version,
             section: kind,
             section_index: section.index.0,

@@ -51,7 +51,7 @@ fn name_of<'a>(symbol: &ElfSymbol<'a>) -> Result<&'a str, ParseError>
 impl<'a> NamedSymbol<'a> {
     /// A symbol of a file, with its name.
     #[tactic(auto, unfolding(crate::specs::FileSymbols::symbol_of))]
-    fn from_elf(symbol: &ElfSymbol<'a>) -> Result<NamedSymbol<'a>, ParseError>
+    pub fn from_elf(symbol: &ElfSymbol<'a>) -> Result<NamedSymbol<'a>, ParseError>
         ensures symbol { IfOk result (λ y. y ≡ symbol_of symbol.now) }
         ensures fault { fault_of result ≡ symbol_fault symbol.now }
     {

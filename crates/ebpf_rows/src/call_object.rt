@@ -35,7 +35,7 @@ fn has_its_tables(rt: HostRuntime) -> Result<(), Fail> {
     let text = whole_outcome(rt.alloc(), file.as_slice())?;
     assert_eq!(rt;
         text.as_str(),
-        "program p KProbe at 1 0\nfunction p at 1 0 offset 0 slots 2\nsymbol 1 Text in Some(1) size 16 defined true\nsymbol 2 Text in Some(2) size 8 defined true\nrelocation at 1 0 size 32 symbol 2\nsection 5 .relkprobe/p\nsection 4 .strtab\nsection 3 .symtab\nsection 2 .text\nsection 1 kprobe/p\n"
+        "program p KProbe at 1 0\nfunction p at 1 0 offset 0 slots 2\nfunction f at 2 0 offset 0 slots 1\nsymbol 1 Text in Some(1) size 16 defined true\nsymbol 2 Text in Some(2) size 8 defined true\nrelocation at 1 0 size 32 symbol 2\nsection 5 .relkprobe/p\nsection 4 .strtab\nsection 3 .symtab\nsection 2 .text\nsection 1 kprobe/p\n"
     );
     Ok(())
 }
@@ -116,7 +116,7 @@ fn takes_an_empty_program(rt: HostRuntime) -> Result<(), Fail> {
     let text = changed_outcome(rt.alloc(), SIZE, &[0])?;
     assert_eq!(rt;
         text.as_str(),
-        "program p KProbe at 1 0\nfunction p at 1 0 offset 0 slots 0\n"
+        "program p KProbe at 1 0\nfunction p at 1 0 offset 0 slots 0\nfunction f at 2 0 offset 0 slots 1\n"
     );
     Ok(())
 }
@@ -126,7 +126,7 @@ fn takes_a_program_behind_the_first_slot(rt: HostRuntime) -> Result<(), Fail> {
     let text = changed_outcome(rt.alloc(), ADDRESS, &[8, 0, 0, 0, 0, 0, 0, 0, 8])?;
     assert_eq!(rt;
         text.as_str(),
-        "program p KProbe at 1 8\nfunction p at 1 8 offset 8 slots 1\n"
+        "program p KProbe at 1 8\nfunction p at 1 8 offset 8 slots 1\nfunction f at 2 0 offset 0 slots 1\n"
     );
     Ok(())
 }

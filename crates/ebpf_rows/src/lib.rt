@@ -4,6 +4,32 @@
 #[cfg(test)]
 mod call_object;
 #[cfg(test)]
+mod compiled;
+#[cfg(test)]
+mod counter_object;
+#[cfg(test)]
+mod declared;
+#[cfg(test)]
+mod declared_maps;
+#[cfg(test)]
+mod externs;
+#[cfg(test)]
+mod maps;
+#[cfg(test)]
+mod order;
+#[cfg(test)]
 mod outcome;
 #[cfg(test)]
+mod parts;
+#[cfg(test)]
 mod programs;
+#[cfg(test)]
+mod records;
+#[cfg(test)]
+mod sanitize;
+#[cfg(test)]
+mod terms;
+#[cfg(test)]
+mod texts;
+#[cfg(test)]
+mod type_faults;

@@ -72,6 +72,48 @@ fn put_names(alloc: Global, text: &mut String, object: &Object) -> Result<(), Al
     Ok(())
 }
 
+/// A line for each map, in byte order of their names.
+fn put_maps(alloc: Global, text: &mut String, object: &Object) -> Result<(), AllocError> {
+    for name in object.maps.names(alloc)? {
+        if let Some(map) = object.maps.get(name) {
+            let kind = map.map_type();
+            let (key, value) = (map.key_size(), map.value_size());
+            let (entries, flags) = (map.max_entries(), map.map_flags());
+            let symbol = map.symbol_index();
+            let pinning = map.pinning();
+            let data = map.data();
+            writeln!(
+                text,
+                "map {name} type {kind} key {key} value {value} entries {entries} flags {flags} {pinning:?} symbol {symbol:?} data {data:?}"
+            )?;
+        }
+    }
+    Ok(())
+}
+
+/// A line for the records of each function, by its key.
+fn put_records(text: &mut String, object: &Object) -> Result<(), AllocError> {
+    for (_, function) in object.functions.iter() {
+        let name = function.name.as_str();
+        let funcs = &function.func_info;
+        let lines = &function.line_info;
+        let (func_count, line_count) = (funcs.num_info, lines.num_info);
+        let (func_size, line_size) = (function.func_info_rec_size, function.line_info_rec_size);
+        write!(text, "records {name} of {func_size} and {line_size} bytes:")?;
+        for row in funcs.func_info.as_slice() {
+            let slot = row.insn_off;
+            write!(text, " {slot}")?;
+        }
+        write!(text, " of {func_count},")?;
+        for row in lines.line_info.as_slice() {
+            let (slot, line) = (row.insn_off, row.line_col);
+            write!(text, " {slot}/{line}")?;
+        }
+        writeln!(text, " of {line_count}")?;
+    }
+    Ok(())
+}
+
 /// The tables of an object.
 fn described(alloc: Global, object: &Object) -> Result<String, AllocError> {
     let mut text = String::new(alloc);
@@ -109,5 +151,42 @@ pub fn license_of(alloc: Global, bytes: &[u8]) -> Result<Vec<u8>, AllocError> {
     match Object::parse(alloc, bytes) {
         Ok(object) => object.license.as_slice().to_vec(alloc),
         Err(_) => Ok(Vec::new(alloc)),
+    }
+}
+
+/// The license and the kernel version of the object that the bytes are, or the error.
+pub fn terms_outcome(alloc: Global, bytes: &[u8]) -> Result<String, AllocError> {
+    match Object::parse(alloc, bytes) {
+        Ok(object) => {
+            let license = object.license.as_slice();
+            let version = object.kernel_version;
+            format!(in alloc; "{license:?} {version:?}")
+        }
+        Err(error) => format!(in alloc; "{error:?}"),
+    }
+}
+
+/// The maps of the object that the bytes are, or the error.
+pub fn maps_outcome(alloc: Global, bytes: &[u8]) -> Result<String, AllocError> {
+    match Object::parse(alloc, bytes) {
+        Ok(object) => {
+            let mut text = String::new(alloc);
+            put_maps(alloc, &mut text, &object)?;
+            Ok(text)
+        }
+        Err(error) => format!(in alloc; "{error:?}"),
+    }
+}
+
+/// The records of the functions of the object that the bytes are, or the error.
+pub fn records_outcome(alloc: Global, bytes: &[u8]) -> Result<String, AllocError> {
+    match Object::parse(alloc, bytes) {
+        Ok(object) => {
+            let mut text = String::new(alloc);
+            put_records(&mut text, &object)?;
+            put_names(alloc, &mut text, &object)?;
+            Ok(text)
+        }
+        Err(error) => format!(in alloc; "{error:?}"),
     }
 }

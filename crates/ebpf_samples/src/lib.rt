@@ -2,5 +2,7 @@
 #![tactic(auto)]
 
 mod sample;
+mod types;
 
-pub use sample::{SampleFile, SampleSection, call_object};
+pub use sample::{SampleFile, SampleSection, call_object, put_words};
+pub use types::{SampleType, type_section};

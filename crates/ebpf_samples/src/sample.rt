@@ -116,6 +116,18 @@ impl SampleFile {
         size: u64,
     ) -> Result<(), AllocError> {
         let name = self.name(name)?;
+        self.symbol_named_at(name, info, section, value, size)
+    }
+
+    /// Adds a symbol whose name is at an offset of the string table.
+    pub fn symbol_named_at(
+        &mut self,
+        name: u32,
+        info: u8,
+        section: u16,
+        value: u64,
+        size: u64,
+    ) -> Result<(), AllocError> {
         self.symbols.extend_from_slice(&name.to_le_bytes())?;
         self.symbols.extend_from_slice(&[info, 0])?;
         self.symbols.extend_from_slice(&section.to_le_bytes())?;
@@ -189,6 +201,14 @@ impl SampleFile {
         }
         Ok(out)
     }
+}
+
+/// Adds numbers of four bytes.
+pub fn put_words(out: &mut Vec<u8>, words: &[u32]) -> Result<(), AllocError> {
+    for word in words {
+        out.extend_from_slice(&word.to_le_bytes())?;
+    }
+    Ok(())
 }
 
 fn put_symbol(out: &mut Vec<u8>, name: u32, section: u16, size: u64) -> Result<(), AllocError> {

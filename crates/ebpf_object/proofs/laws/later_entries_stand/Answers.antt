@@ -15,3 +15,9 @@ returns-clause-relocations c = later_number_stands
 
 pub returns-clause-section_infos : goal.returns-clause-section_infos
 returns-clause-section_infos c = later_text_stands
+
+pub returns-clause-maps : goal.returns-clause-maps
+returns-clause-maps c = later_text_stands
+
+pub returns-clause-externs : goal.returns-clause-externs
+returns-clause-externs c = later_text_stands

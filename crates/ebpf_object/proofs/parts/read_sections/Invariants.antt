@@ -11,6 +11,6 @@ use Rattle.ebpf_object.proofs.parts.read_sections.Given as goal
 abbrev pub invariant-loop-section : goal.invariant-loop-section
 invariant-loop-section l = record {
   from : AllFrom l.file l.section-iterator;
-  parts : all_added l.terms l.parts (file_symbols l.file) (flat_map read_of l.section-iterator) ≡ parts_of l.terms l.file;
-  fault : first_some (λ s. fault_at (symbols_of (file_symbols l.file) s.index) s) l.section-iterator ≡ sections_fault l.file;
+  parts : all_added l.shared l.parts (file_symbols l.file) (flat_map read_of l.section-iterator) ≡ parts_of l.shared l.fn.section_infos l.file;
+  fault : first_some (λ s. fault_at l.shared (symbols_of (file_symbols l.file) s.index) s) l.section-iterator ≡ sections_fault l.shared l.file;
 }

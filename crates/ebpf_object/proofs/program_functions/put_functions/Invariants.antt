@@ -6,6 +6,6 @@ use Rattle.ebpf_object.proofs.program_functions.put_functions.Given as goal
 -- what is left to do from here is what was to do from the start
 abbrev pub invariant-loop-symbol : goal.invariant-loop-symbol
 invariant-loop-symbol l = record {
-  put : put_all l.functions (map placed (program_functions l.section (drop l.symbol-index l.symbols))) ≡ put_all l.fn.functions (map placed (program_functions l.section l.symbols));
+  put : put_all l.functions (map placed (program_functions l.records l.section (drop l.symbol-index l.symbols))) ≡ put_all l.fn.functions (map placed (program_functions l.records l.section l.symbols));
   fault : program_fault l.section (drop l.symbol-index l.symbols) ≡ program_fault l.section l.symbols;
 }

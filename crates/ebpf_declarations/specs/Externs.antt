@@ -1,0 +1,109 @@
+-- Externs: the kernel's functions and variables that an object names in its DATASEC `.ksyms`.
+use Rattle.std.specs.Prelude.{ℕ, Bool, true, false, ◌||◌, not, List, [], Option, Some, None, Result, Ok, Err, ◌==◌, codes, if◌then◌else◌}
+use Rattle.std.specs.FinMap.{FinMap, empty}
+use Rattle.std.specs.List.{flat_map}
+use Rattle.ebpf_base.specs.Faults.{first_some, or_else, fault_of}
+use Rattle.ebpf_base.specs.Keyed.{put_all}
+use Rattle.ebpf_base.specs.Keys.{text_cmp}
+use Rattle.ebpf_btf.specs.Next.{if_some, if_ok}
+use Rattle.ebpf_btf.specs.Steps.{type_at, resolved}
+use Rattle.ebpf_btf.specs.Strings.{type_name}
+use Rattle.ebpf_btf.specs.TypeInfo.{TypeInfo}
+use Rattle.ebpf_btf.specs.declared.error.BtfError.{BtfError}
+use Rattle.ebpf_btf.specs.declared.error.BtfError.TheVariants.{InvalidDatasec, InvalidSymbolName}
+use Rattle.ebpf_btf.specs.declared.members.DataSecEntry.{DataSecEntry}
+use Rattle.ebpf_btf.specs.declared.types.BtfType.{BtfType}
+use Rattle.ebpf_btf.specs.declared.types.BtfType.TheVariants.{Func, Var}
+use Rattle.ebpf_declarations.specs.Attempts.{given, fault_in}
+use Rattle.ebpf_declarations.specs.DataSections.{section_entries}
+use Rattle.ebpf_declarations.specs.Placeholders.{with_placeholder, placeholder_fault}
+use Rattle.ebpf_reloc.specs.declared.extern_desc.ExternDesc.{ExternDesc}
+
+-- ---- one extern
+
+unfoldable pub is_function : BtfType → Bool
+is_function (Func _ _) = true
+is_function _ = false
+
+-- the id of the type that a FUNC or VAR holds
+unfoldable pub held : BtfType → Option ℕ
+held (Func _ id) = Some id
+held (Var _ id _) = Some id
+held _ = None
+
+-- a variable of type void has no type, all else has one
+abbrev pub new_extern : ℕ → BtfType → Bool → ℕ → ExternDesc
+new_extern id t weak held_id = record {
+  btf_id = id;
+  is_typed = is_function t || not (held_id == 0);
+  is_weak = weak;
+  kernel_btf_id = None;
+  ksym_addr = None;
+  is_resolved = false;
+}
+
+-- What an entry declares, with its name: a FUNC or VAR, for whose name there is a symbol that is weak or not, and
+-- whose type can be resolved.
+unfoldable pub extern_of : TypeInfo → (List ℕ → Option Bool) → DataSecEntry → Result (List ℕ × ExternDesc) BtfError
+extern_of info weak entry =
+    if_ok (type_at info.types entry.btf_type) (λ t.
+    if_some (held t)
+    (λ id.
+    if_ok (type_name info t) (λ name.
+    if_some (weak name)
+    (λ is_weak. if_ok (resolved info.types id) (λ r. Ok (name, new_extern entry.btf_type t is_weak r)))
+    (Err InvalidSymbolName)))
+    (Err InvalidDatasec))
+
+-- ---- all of them
+
+-- the entries of the first DATASEC `.ksyms`; a name of a DATASEC before it that can't be read is a fault
+abbrev pub found_entries : TypeInfo → Option (Result (List DataSecEntry) BtfError)
+found_entries info = first_some (section_entries info (codes ".ksyms")) info.types
+
+abbrev pub entries_in : Option (Result (List DataSecEntry) BtfError) → List DataSecEntry
+entries_in (Some (Ok entries)) = entries
+entries_in _ = []
+
+-- whether an entry is a function, as far as its type can be read
+abbrev pub function_by : Result BtfType BtfError → Option (Result (Unit {0}) BtfError)
+function_by (Ok t) = if is_function t then Some (Ok tt) else None
+function_by (Err e) = Some (Err e)
+
+unfoldable pub function_at : TypeInfo → DataSecEntry → Option (Result (Unit {0}) BtfError)
+function_at info entry = function_by (type_at info.types entry.btf_type)
+
+-- the first function among entries, or an entry before it whose type can't be read
+abbrev pub first_function : TypeInfo → List DataSecEntry → Option (Result (Unit {0}) BtfError)
+first_function info entries = first_some (function_at info) entries
+
+-- with a function among the externs there is a placeholder
+unfoldable pub types_with : TypeInfo → Option (Result (Unit {0}) BtfError) → TypeInfo
+types_with info (Some (Ok u)) = with_placeholder info
+types_with info _ = info
+
+unfoldable pub types_fault : TypeInfo → Option (Result (Unit {0}) BtfError) → Option BtfError
+types_fault info None = None
+types_fault info (Some (Err e)) = Some e
+types_fault info (Some (Ok u)) = placeholder_fault info
+
+-- the externs that entries declare, by name; of equal names the later stands
+abbrev pub externs_of : TypeInfo → (List ℕ → Option Bool) → List DataSecEntry → FinMap text_cmp ExternDesc
+externs_of info weak entries = put_all empty (flat_map (λ entry. given (extern_of info weak entry)) entries)
+
+abbrev pub entries_fault : TypeInfo → (List ℕ → Option Bool) → List DataSecEntry → Option BtfError
+entries_fault info weak entries = first_some (λ entry. fault_of (extern_of info weak entry)) entries
+
+-- the types with what externs add
+abbrev pub extern_types : TypeInfo → TypeInfo
+extern_types info = types_with info (first_function info (entries_in (found_entries info)))
+
+-- the externs of an object with these types, and what symbols say of names
+abbrev pub externs : TypeInfo → (List ℕ → Option Bool) → FinMap text_cmp ExternDesc
+externs info weak = externs_of (extern_types info) weak (entries_in (found_entries info))
+
+abbrev pub externs_fault : TypeInfo → (List ℕ → Option Bool) → Option BtfError
+externs_fault info weak =
+    or_else (fault_in (found_entries info))
+    (or_else (types_fault info (first_function info (entries_in (found_entries info))))
+    (entries_fault (extern_types info) weak (entries_in (found_entries info))))

@@ -1,0 +1,149 @@
+//! The externs of an object.
+
+ghost use Rattle.std.specs.Prelude.{◌≡◌, IfOk, OnOk};
+ghost use Rattle.std.specs.FinMap as map;
+ghost use Rattle.ebpf_base.specs.Faults.{Gives, Refuses};
+ghost use Rattle.ebpf_btf.specs.Memory.{is_memory};
+ghost use Rattle.ebpf_declarations.specs.Externs.{is_function, held, new_extern, extern_of, function_at, first_function, types_with, types_fault, externs_of, entries_fault, extern_types, externs, externs_fault};
+
+use crate::data_sections::first_entries;
+use crate::placeholders::add_placeholder;
+use ebpf_base::{ByName, Text};
+use ebpf_btf::{Btf, BtfError, BtfType, DataSecEntry};
+use ebpf_reloc::ExternDesc;
+use std::alloc::Global;
+
+/// The DATASEC of externs.
+const EXTERNS: &str = ".ksyms";
+
+#[tactic(auto, unfolding(crate::specs::Externs::is_function))]
+fn is_function(ty: &BtfType) -> bool
+    ensures { result ≡ is_function ty.now }
+{
+    matches!(ty, BtfType::Func { .. })
+}
+
+/// The id of the type that a FUNC or VAR holds.
+#[tactic(auto, unfolding(crate::specs::Externs::held))]
+fn held(ty: &BtfType) -> Option<u32>
+    ensures { result ≡ held ty.now }
+{
+    match ty {
+        BtfType::Func { btf_type, .. } | BtfType::Var { btf_type, .. } => Some(*btf_type),
+        _ => None,
+    }
+}
+
+/// Whether an entry is a function, as far as its type can be read.
+#[tactic(auto, unfolding(crate::specs::Externs::function_at))]
+fn function_at(btf: &Btf, entry: &DataSecEntry) -> Option<Result<(), BtfError>>
+    ensures { result ≡ function_at btf.now entry.now }
+{
+    match btf.type_by_id(entry.btf_type) {
+        Ok(ty) if is_function(ty) => Some(Ok(())),
+        Ok(_) => None,
+        Err(error) => Some(Err(error)),
+    }
+}
+
+/// The first function among entries, or an entry before it whose type can't be read.
+#[tactic(auto, using(ebpf_parts::proofs::Walks::rest_more, ebpf_parts::proofs::Walks::rest_none))]
+fn first_function(btf: &Btf, entries: &[DataSecEntry]) -> Option<Result<(), BtfError>>
+    ensures { result ≡ first_function btf.now entries.now }
+{
+    for entry in entries {
+        if let Some(found) = function_at(btf, entry) {
+            return Some(found);
+        }
+    }
+    None
+}
+
+/// Adds a placeholder where there is a function among entries.
+#[tactic(auto, unfolding(crate::specs::Externs::types_with, crate::specs::Externs::types_fault))]
+fn prepare_types(btf: &mut Btf, entries: &[DataSecEntry]) -> Result<(), BtfError>
+    ensures types { OnOk result (btf.new ≡ types_with btf.old (first_function btf.old entries.now)) }
+    ensures fault { Refuses is_memory result (types_fault btf.old (first_function btf.old entries.now)) }
+{
+    match first_function(btf, entries) {
+        None => Ok(()),
+        Some(Ok(())) => add_placeholder(btf),
+        Some(Err(error)) => Err(error),
+    }
+}
+
+/// What an entry declares, with its name.
+#[tactic(auto, unfolding(crate::specs::Externs::extern_of))]
+fn extern_of(
+    alloc: Global,
+    btf: &Btf,
+    weak: &ByName<bool>,
+    entry: &DataSecEntry,
+) -> Result<(Text, ExternDesc), BtfError>
+    ensures { Gives is_memory result (extern_of btf.now (map.get weak.now) entry.now) }
+{
+    let ty = btf.type_by_id(entry.btf_type)?;
+    let Some(held) = held(ty) else {
+        return Err(BtfError::InvalidDatasec);
+    };
+    let name = Text::from_str(alloc, btf.type_name(ty)?.as_str())?;
+    let Some(is_weak) = weak.get(name.as_str()) else {
+        return Err(BtfError::InvalidSymbolName);
+    };
+    let resolved = btf.resolve_type(held)?;
+    let declared = ExternDesc {
+        btf_id: entry.btf_type,
+        is_typed: is_function(ty) || resolved != 0,
+        is_weak: *is_weak,
+        kernel_btf_id: None,
+        ksym_addr: None,
+        is_resolved: false,
+    };
+    Ok((name, declared))
+}
+
+/// The externs that entries declare, by name.
+#[tactic(auto, using(crate::proofs::Put::entries_more, ebpf_parts::proofs::Walks::rest_more, ebpf_parts::proofs::Walks::rest_none))]
+fn externs_of(
+    alloc: Global,
+    btf: &Btf,
+    weak: &ByName<bool>,
+    entries: &[DataSecEntry],
+) -> Result<ByName<ExternDesc>, BtfError>
+    ensures externs { IfOk result (λ found. found ≡ externs_of btf.now (map.get weak.now) entries.now) }
+    ensures fault { Refuses is_memory result (entries_fault btf.now (map.get weak.now) entries.now) }
+{
+    let mut externs = ByName::new(alloc);
+    for entry in entries {
+        let (name, declared) = extern_of(alloc, btf, weak, entry)?;
+        externs.insert(name.into_string(), declared)?;
+    }
+    Ok(externs)
+}
+
+/// The externs of an object, by name: the entries of the first DATASEC `.ksyms`. `weak` says of each name that a
+/// symbol has whether the first such symbol is weak. Where an entry is a FUNC, a variable is added to the types
+/// that stands in for functions, and first an INT of 4 bytes where there is none.
+///
+/// Faults in this order: `InvalidStringOffset` of a DATASEC's name up to `.ksyms`; `UnknownBtfType` of an entry up
+/// to the first FUNC; `TooLarge` where the types or strings have no room for the variable; then for each entry
+/// `UnknownBtfType`, `InvalidDatasec` where it is neither FUNC nor VAR, `InvalidStringOffset` of its name,
+/// `InvalidSymbolName` where no symbol has its name, and those of resolving its type. `OutOfMemory` only where
+/// memory was refused.
+#[tactic(auto, unfolding(crate::specs::Externs::types_with, crate::specs::Externs::types_fault))]
+pub fn collect_externs(
+    alloc: Global,
+    btf: &mut Btf,
+    weak: &ByName<bool>,
+) -> Result<ByName<ExternDesc>, BtfError>
+    ensures types { OnOk result (btf.new ≡ extern_types btf.old) }
+    ensures externs { IfOk result (λ found. found ≡ externs btf.old (map.get weak.now)) }
+    ensures fault { Refuses is_memory result (externs_fault btf.old (map.get weak.now)) }
+{
+    let entries = match first_entries(btf, EXTERNS)? {
+        Some(entries) => Vec::from_slice(alloc, entries)?,
+        None => return Ok(ByName::new(alloc)),
+    };
+    prepare_types(btf, &entries)?;
+    externs_of(alloc, btf, weak, &entries)
+}

@@ -1,0 +1,90 @@
+//! The types that the members of a map's struct lead to.
+
+ghost use Rattle.std.specs.Prelude.{◌≡◌, Some};
+ghost use Rattle.std.specs.Option.{option_copied};
+ghost use Rattle.ebpf_base.specs.Faults.{Gives};
+ghost use Rattle.ebpf_btf.specs.Memory.{is_memory};
+ghost use Rattle.ebpf_declarations.specs.MapMembers.{unexpected, pointed, array_length, array_element, struct_members, number, sized_type};
+
+use ebpf_btf::{Btf, BtfError, BtfMember, BtfType};
+
+/// The error of a type that is of another kind than the wanted one.
+pub fn unexpected(ty: &BtfType) -> BtfError
+    ensures { result ≡ unexpected ty.now }
+{
+    BtfError::UnexpectedBtfType {
+        type_id: ty.btf_type().unwrap_or(0),
+    }
+}
+
+/// What a PTR points to.
+#[tactic(auto, unfolding(crate::specs::MapMembers::pointed))]
+pub fn pointed(ty: &BtfType) -> Option<u32>
+    ensures { result ≡ pointed ty.now }
+{
+    match ty {
+        BtfType::Ptr { btf_type, .. } => Some(*btf_type),
+        _ => None,
+    }
+}
+
+/// The number of elements of an ARRAY.
+#[tactic(auto, unfolding(crate::specs::MapMembers::array_length))]
+pub fn array_length(ty: &BtfType) -> Option<u32>
+    ensures { result ≡ array_length ty.now }
+{
+    match ty {
+        BtfType::Array { len, .. } => Some(*len),
+        _ => None,
+    }
+}
+
+/// The type of an ARRAY's elements, 0 of others.
+#[tactic(auto, unfolding(crate::specs::MapMembers::array_element))]
+pub fn array_element(ty: &BtfType) -> u32
+    ensures { result ≡ array_element ty.now }
+{
+    match ty {
+        BtfType::Array { element_type, .. } => *element_type,
+        _ => 0,
+    }
+}
+
+/// The members of a STRUCT.
+#[tactic(auto, unfolding(crate::specs::MapMembers::struct_members))]
+pub fn struct_members(ty: &BtfType) -> Option<&[BtfMember]>
+    ensures { option_copied result ≡ struct_members ty.now }
+{
+    match ty {
+        BtfType::Struct { members, .. } => Some(members.as_slice()),
+        _ => None,
+    }
+}
+
+/// The number that a member spells: the length of the array that it points to.
+#[tactic(auto, unfolding(crate::specs::MapMembers::number))]
+pub fn number(btf: &Btf, type_id: u32) -> Result<u32, BtfError>
+    ensures { result ≡ number btf.now.types type_id }
+{
+    let pointer = btf.type_by_id(type_id)?;
+    let Some(array) = pointed(pointer) else {
+        return Err(unexpected(pointer));
+    };
+    let array = btf.type_by_id(array)?;
+    match array_length(array) {
+        Some(len) => Ok(len),
+        None => Err(unexpected(array)),
+    }
+}
+
+/// The type that a member spells, and its size in bytes.
+#[tactic(auto, unfolding(crate::specs::MapMembers::sized_type))]
+pub fn sized_type(btf: &Btf, type_id: u32) -> Result<(u32, u32), BtfError>
+    ensures { result ≡ sized_type btf.now.types type_id }
+{
+    let Some(spelled) = pointed(btf.type_by_id(type_id)?) else {
+        return Err(BtfError::UnexpectedBtfType { type_id });
+    };
+    let size = btf.type_size(spelled)?;
+    Ok((spelled, size))
+}

@@ -1,0 +1,142 @@
+//! The maps of a section that types declare.
+
+ghost use Rattle.std.specs.Prelude.{◌≡◌, ◌∷◌, [], OnOk, IfOk, Some};
+ghost use Rattle.std.specs.FinMap as map;
+ghost use Rattle.ebpf_base.specs.Faults.{Gives, Refuses, fault_of};
+ghost use Rattle.ebpf_base.specs.Keyed.{put_all};
+ghost use Rattle.ebpf_btf.specs.Memory.{is_memory as is_btf_memory};
+ghost use Rattle.ebpf_declarations.specs.Maps.{variable, declared, map_of, entries_maps, entries_fault, type_maps, type_fault, btf_maps, btf_maps_fault};
+ghost use Rattle.ebpf_parts.specs.Memory.{is_memory};
+
+use crate::data_sections::section_entries;
+use crate::definitions::{MapDefinitions, definitions};
+use crate::error::parse_error;
+use crate::map_structs::resolved_struct;
+use crate::map_types::unexpected;
+use ebpf_base::{ByName, Items, Text};
+use ebpf_btf::{Btf, BtfError, BtfType, DataSecEntry};
+use ebpf_parts::maps::{BtfMap, Map};
+use ebpf_parts::{ParseError, Section};
+use std::alloc::Global;
+
+/// The id of the type that a VAR holds.
+#[tactic(auto, unfolding(crate::specs::Maps::variable))]
+fn variable(ty: &BtfType) -> Option<u32>
+    ensures { result ≡ variable ty.now }
+{
+    match ty {
+        BtfType::Var { btf_type, .. } => Some(*btf_type),
+        _ => None,
+    }
+}
+
+/// What an entry declares, with its name.
+#[tactic(auto, unfolding(crate::specs::Maps::declared))]
+fn declared(
+    alloc: Global,
+    btf: &Btf,
+    entry: &DataSecEntry,
+) -> Result<(Text, MapDefinitions), BtfError>
+    ensures { Gives is_btf_memory result (declared btf.now entry.now) }
+{
+    let ty = btf.type_by_id(entry.btf_type)?;
+    let Some(held) = variable(ty) else {
+        return Err(unexpected(ty));
+    };
+    let name = Text::from_str(alloc, btf.type_name(ty)?.as_str())?;
+    let members = resolved_struct(btf, held)?;
+    let definitions = definitions(alloc, btf, name.as_str(), members)?;
+    Ok((name, definitions))
+}
+
+/// The map of an entry, with its name.
+#[tactic(auto, unfolding(crate::specs::Maps::map_of))]
+fn map_of(
+    alloc: Global,
+    btf: &Btf,
+    section: &Section<'_>,
+    symbols: &ByName<usize>,
+    entry: &DataSecEntry,
+) -> Result<(Text, Map), ParseError>
+    ensures { Gives is_memory result (map_of btf.now (map.get symbols.now) section.now.index.0 entry.now) }
+{
+    let (name, definitions) = match declared(alloc, btf, entry) {
+        Ok(declared) => declared,
+        Err(error) => return Err(parse_error(error)),
+    };
+    let Some(symbol_index) = symbols.get(name.as_str()) else {
+        return Err(ParseError::SymbolNotFound { name });
+    };
+    let map = Map::Btf(BtfMap {
+        def: definitions.def,
+        inner_def: definitions.inner_def,
+        section_index: section.index.0,
+        symbol_index: *symbol_index,
+        bytes: Items::new(alloc),
+    });
+    Ok((name, map))
+}
+
+/// Puts the maps of entries by name.
+#[tactic(auto, using(crate::proofs::Put::entries_more, ebpf_parts::proofs::Walks::rest_more, ebpf_parts::proofs::Walks::rest_none))]
+fn put_entries(
+    alloc: Global,
+    maps: &mut ByName<Map>,
+    btf: &Btf,
+    section: &Section<'_>,
+    symbols: &ByName<usize>,
+    entries: &[DataSecEntry],
+) -> Result<(), ParseError>
+    ensures put { OnOk result (maps.new ≡ put_all maps.old (entries_maps btf.now (map.get symbols.now) section.now.index.0 entries.now)) }
+    ensures fault { Refuses is_memory result (entries_fault btf.now (map.get symbols.now) section.now.index.0 entries.now) }
+{
+    for entry in entries {
+        let (name, map) = map_of(alloc, btf, section, symbols, entry)?;
+        maps.insert(name.into_string(), map)?;
+    }
+    Ok(())
+}
+
+/// Puts the maps of a type, where it is a DATASEC of the section's name.
+#[tactic(auto, unfolding(crate::specs::Maps::type_maps, crate::specs::Maps::type_fault))]
+fn put_type(
+    alloc: Global,
+    maps: &mut ByName<Map>,
+    btf: &Btf,
+    section: &Section<'_>,
+    symbols: &ByName<usize>,
+    ty: &BtfType,
+) -> Result<(), ParseError>
+    ensures put { OnOk result (maps.new ≡ put_all maps.old (type_maps btf.now (map.get symbols.now) section.now.index.0 section.now.name ty.now)) }
+    ensures fault { Refuses is_memory result (type_fault btf.now (map.get symbols.now) section.now.index.0 section.now.name ty.now) }
+{
+    match section_entries(btf, section.name, ty) {
+        Ok(Some(entries)) => put_entries(alloc, maps, btf, section, symbols, entries),
+        Ok(None) => Ok(()),
+        Err(error) => Err(parse_error(error)),
+    }
+}
+
+/// Puts the maps that types declare in a section, by name: DATASEC by DATASEC of the section's name, and of each
+/// its entries in order; the later of equal names stands. `symbols` has the numbers of the section's symbols by
+/// name, of equal names the greatest.
+///
+/// Faults in that order: `BtfError` of a DATASEC's name; of each entry `BtfError` where its type is no VAR, where
+/// its name can't be read, where its type stands for no STRUCT, and of each member; `SymbolNotFound` where the
+/// section has no symbol of the map's name. `OutOfMemory` only where memory was refused.
+#[tactic(auto, using(crate::proofs::Put::entries_more, ebpf_parts::proofs::Walks::rest_more, ebpf_parts::proofs::Walks::rest_none))]
+pub fn put_btf_maps(
+    alloc: Global,
+    maps: &mut ByName<Map>,
+    btf: &Btf,
+    section: &Section<'_>,
+    symbols: &ByName<usize>,
+) -> Result<(), ParseError>
+    ensures put { OnOk result (maps.new ≡ put_all maps.old (btf_maps btf.now (map.get symbols.now) section.now.index.0 section.now.name)) }
+    ensures fault { Refuses is_memory result (btf_maps_fault btf.now (map.get symbols.now) section.now.index.0 section.now.name) }
+{
+    for ty in btf.types() {
+        put_type(alloc, maps, btf, section, symbols, ty)?;
+    }
+    Ok(())
+}

@@ -1,0 +1,68 @@
+//! What stands in the types for functions of the kernel.
+
+ghost use Rattle.std.specs.Prelude.{◌≡◌, ◌<◌, ◌^◌, length, IfOk, OnOk, Some};
+ghost use Rattle.std.specs.List.{position};
+ghost use Rattle.ebpf_base.specs.Faults.{Refuses};
+ghost use Rattle.ebpf_btf.specs.Memory.{is_memory};
+ghost use Rattle.ebpf_declarations.specs.Placeholders.{is_word, word_id, with_word, word_fault, the_word, with_placeholder, placeholder_fault};
+
+use ebpf_btf::{Btf, BtfError, BtfType};
+
+/// The size of a word in bytes.
+const WORD: u32 = 4;
+
+/// What an INT says of itself: signed, from bit 0 on, of 32 bits.
+const SIGNED_WORD: u32 = 0x0100_0020;
+
+/// The linkage of a global variable.
+const GLOBAL: u32 = 1;
+
+#[tactic(auto, unfolding(crate::specs::Placeholders::is_word))]
+fn is_word(ty: &BtfType) -> bool
+    ensures { result ≡ is_word ty.now }
+{
+    match ty {
+        BtfType::Int { size, .. } => *size == WORD,
+        _ => false,
+    }
+}
+
+/// The number of the first INT of 4 bytes.
+fn word_id(types: &[BtfType]) -> Option<usize>
+    ensures { result ≡ position is_word types.now }
+{
+    types.iter().position(|ty| is_word(ty))
+}
+
+/// The id of the first INT of 4 bytes; where there is none, `int` is added.
+#[tactic(auto, unfolding(crate::specs::Placeholders::with_word, crate::specs::Placeholders::word_fault, crate::specs::Placeholders::the_word))]
+fn add_word(btf: &mut Btf) -> Result<u32, BtfError>
+    ensures types { OnOk result (btf.new ≡ with_word btf.old) }
+    ensures id { IfOk result (λ id. id ≡ the_word btf.old) }
+    ensures fault { Refuses is_memory result (word_fault btf.old) }
+{
+    if let Some(id) = word_id(btf.types()) {
+        return Ok(id as u32);
+    }
+    let name_offset = btf.add_string("int")?;
+    btf.add_type(BtfType::Int {
+        name_offset,
+        size: WORD,
+        int_data: SIGNED_WORD,
+    })
+}
+
+/// Adds the variable `ksym_func_placeholder`, of an INT of 4 bytes.
+pub fn add_placeholder(btf: &mut Btf) -> Result<(), BtfError>
+    ensures types { OnOk result (btf.new ≡ with_placeholder btf.old) }
+    ensures fault { Refuses is_memory result (placeholder_fault btf.old) }
+{
+    let word = add_word(btf)?;
+    let name_offset = btf.add_string("ksym_func_placeholder")?;
+    btf.add_type(BtfType::Var {
+        name_offset,
+        btf_type: word,
+        linkage: GLOBAL,
+    })?;
+    Ok(())
+}

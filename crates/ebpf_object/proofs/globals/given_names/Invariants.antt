@@ -1,0 +1,7 @@
+use Rattle.std.proofs.Common.{◌≡◌, ◌++◌}
+use Rattle.std.specs.Map.{keys_of}
+use Rattle.ebpf_base.specs.Keys.{lent_bytes}
+use Rattle.ebpf_object.proofs.globals.given_names.Given as goal
+
+abbrev pub invariant-loop-name : goal.invariant-loop-name
+invariant-loop-name l = lent_bytes l.names.items ++ lent_bytes l.name-iterator ≡ lent_bytes (keys_of l.globals.entries)

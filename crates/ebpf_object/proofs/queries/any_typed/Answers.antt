@@ -1,0 +1,13 @@
+use Rattle.std.proofs.Common.{◌≡◌, not, ◌&&◌, sym, ap, ◌∙◌}
+use Rattle.std.specs.FinMap.{entries}
+use Rattle.std.specs.List.{list_any}
+use Rattle.ebpf_reloc.specs.declared.extern_desc.ExternDesc.{ExternDesc}
+use Rattle.ebpf_object.specs.TypedExterns.{has_extern}
+use Rattle.ebpf_object.proofs.AnyEntry.{any_text}
+use Rattle.ebpf_object.proofs.queries.any_typed.Goals as goal
+
+pub returns : goal.returns
+returns c =
+    c.typed_among.ensures.found
+    ∙ sym (any_text (λ (x : ExternDesc). x.is_typed) c.as_map.result.now.entries c.typed_among.ensures.distinct)
+    ∙ ap (has_extern (λ (x : ExternDesc). x.is_typed)) c.as_map.ensures

@@ -1,0 +1,53 @@
+-- Calls of helper functions that older kernels lack, and of the older functions in their place
+-- (helper functions by their numbers in the kernel's `bpf_func_id`).
+use Rattle.std.specs.Prelude.{◌≡◌, ℕ, ℤ, pos, Bool, true, false, ◌==◌, ◌&&◌, ◌||◌, map, MatchBool, option_map, if◌then◌else◌}
+use Rattle.std.specs.FinMap.{FinMap, get, entries}
+use Rattle.std.specs.List.{list_any}
+use Rattle.std.specs.Ordering.{int_eq}
+use Rattle.ebpf_base.specs.Keys.{key_cmp}
+use Rattle.ebpf_parts.specs.declared.insn.bpf_insn.{bpf_insn}
+use Rattle.ebpf_reloc.specs.declared.function.Function.{Function}
+
+-- probe_read_user, probe_read_kernel
+abbrev pub reads_bytes : ℤ → Bool
+reads_bytes helper = int_eq helper (pos 112) || int_eq helper (pos 113)
+
+-- probe_read_user_str, probe_read_kernel_str
+abbrev pub reads_text : ℤ → Bool
+reads_text helper = int_eq helper (pos 114) || int_eq helper (pos 115)
+
+-- probe_read and probe_read_str, which every kernel has
+abbrev pub older_helper : ℤ → ℤ
+older_helper helper = if reads_bytes helper then pos 4 else (if reads_text helper then pos 45 else helper)
+
+-- the code of a call, with no registers (RFC 9669, section 4.3.1: a helper function by its number)
+abbrev pub is_helper_call : bpf_insn → Bool
+is_helper_call slot = slot.code == 133 && slot.regs == 0
+
+abbrev pub calls_newer : bpf_insn → Bool
+calls_newer slot = is_helper_call slot && (reads_bytes slot.imm || reads_text slot.imm)
+
+-- the slot with an older helper function
+abbrev pub older : bpf_insn → bpf_insn
+older slot = if calls_newer slot then record slot { imm = older_helper slot.imm } else slot
+
+-- the function for a kernel that has the newer helper functions, or has them not
+abbrev pub sanitized : Bool → Function → Function
+sanitized true f = f
+sanitized false f = record f { instructions = map older f.instructions }
+
+-- whether some function calls a newer helper function
+abbrev pub have_newer : FinMap key_cmp Function → Bool
+have_newer functions = list_any (λ e. list_any calls_newer e.1.instructions) (entries functions)
+
+-- where a newer helper function is called, one answer for all functions; else none is asked for, and they stay
+abbrev pub AreSanitized : (Bool → Type 0) → FinMap key_cmp Function → FinMap key_cmp Function → Type 0
+AreSanitized IsAnswer before after =
+    MatchBool (have_newer before)
+    ((answer : Bool) × IsAnswer answer × ((key : ℕ × ℕ) → get after key ≡ option_map (sanitized answer) (get before key)))
+    (after ≡ before)
+
+-- twice is once, where the answers are alike
+abbrev pub TwiceIsOnce : Type 0
+TwiceIsOnce = (answer : Bool) (before after again : FinMap key_cmp Function)
+    → AreSanitized (λ a. a ≡ answer) before after → AreSanitized (λ a. a ≡ answer) after again → again ≡ after

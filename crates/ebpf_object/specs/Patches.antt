@@ -1,0 +1,116 @@
+-- Values of global variables, written into the data of the maps that hold them.
+use Rattle.std.specs.Prelude.{ℕ, ◌+◌, ◌==◌, nat_le, Bool, List, [], ◌∷◌, ◌++◌, length, take, drop, fold, Option, Some, None, unwrap_or, Result, Ok, Err, if◌then◌else◌}
+use Rattle.std.specs.FinMap.{FinMap, get, insert, entries, empty, contains_key}
+use Rattle.std.specs.List.{flat_map}
+use Rattle.std.specs.Map.{keys_of}
+use Rattle.std.specs.Option.{option_and_then}
+use Rattle.std.specs.Ordering.{nat_cmp}
+use Rattle.ebpf_base.specs.Faults.{first_some, fault_of}
+use Rattle.ebpf_base.specs.Keyed.{put_all}
+use Rattle.ebpf_base.specs.Keys.{text_cmp}
+use Rattle.ebpf_parts.specs.Maps.{bytes_of, with_bytes, section_index_of}
+use Rattle.ebpf_parts.specs.declared.error.ParseError.{ParseError}
+use Rattle.ebpf_parts.specs.declared.error.ParseError.TheVariants.{SymbolNotFound, InvalidGlobalData, MapNotFound}
+use Rattle.ebpf_parts.specs.declared.maps.either.Map.{Map}
+use Rattle.ebpf_reloc.specs.declared.symbol.Symbol.{Symbol}
+
+-- bytes for the data of a map from a place on
+pub record PatchValue : Type 0 where
+  pub map_name : List ℕ
+  pub place : ℕ
+  pub bytes : List ℕ
+
+-- the data with other bytes from a place on; it stays where they pass its end
+abbrev pub overwritten : List ℕ → ℕ → List ℕ → List ℕ
+overwritten old place bytes =
+    if nat_le (place + length bytes) (length old)
+    then take place old ++ (bytes ++ drop (place + length bytes) old)
+    else old
+
+abbrev pub patched_at : FinMap text_cmp Map → PatchValue → Option Map → FinMap text_cmp Map
+patched_at maps p None = maps
+patched_at maps p (Some m) = insert maps p.map_name (with_bytes m (overwritten (bytes_of m) p.place p.bytes))
+
+-- the maps with one patch written
+abbrev pub patched : FinMap text_cmp Map → PatchValue → FinMap text_cmp Map
+patched maps p = patched_at maps p (get maps p.map_name)
+
+-- the maps with patches written, later ones over earlier ones
+abbrev pub all_patched : FinMap text_cmp Map → List PatchValue → FinMap text_cmp Map
+all_patched maps patches = fold patched maps patches
+
+abbrev pub named_by : ℕ → Option (List ℕ) → List (List ℕ × ℕ)
+named_by number None = []
+named_by number (Some name) = (name, number) ∷ []
+
+abbrev pub named_at : ℕ → Option Symbol → List (List ℕ × ℕ)
+named_at number None = []
+named_at number (Some s) = named_by number s.name
+
+-- the numbers of the symbols by their names: of equal names the greatest
+abbrev pub symbol_numbers : FinMap nat_cmp Symbol → FinMap text_cmp ℕ
+symbol_numbers symbols = put_all empty (flat_map (λ number. named_at number (get symbols number)) (keys_of (entries symbols)))
+
+abbrev pub symbol_named : FinMap nat_cmp Symbol → List ℕ → Option Symbol
+symbol_named symbols name = option_and_then (get symbols) (get (symbol_numbers symbols) name)
+
+abbrev pub with_map : FinMap nat_cmp (List ℕ) → List ℕ → Option Map → FinMap nat_cmp (List ℕ)
+with_map found name None = found
+with_map found name (Some m) = if contains_key found (section_index_of m) then found else insert found (section_index_of m) name
+
+-- the name of the first map by name that each section has
+abbrev pub map_names : FinMap text_cmp Map → FinMap nat_cmp (List ℕ)
+map_names maps = fold (λ found name. with_map found name (get maps name)) empty (keys_of (entries maps))
+
+abbrev pub map_in : FinMap text_cmp Map → Option ℕ → Option (List ℕ)
+map_in maps None = None
+map_in maps (Some section) = get (map_names maps) section
+
+-- a variable's value, and whether the object has to have it
+abbrev pub Global : Type 0
+Global = List ℕ × Bool
+
+abbrev pub data_of : Option Map → List ℕ
+data_of None = []
+data_of (Some m) = bytes_of m
+
+abbrev pub in_map : FinMap text_cmp Map → List ℕ → List ℕ → Symbol → Option (List ℕ) → Result (List PatchValue) ParseError
+in_map maps name bytes s None = Err (MapNotFound (unwrap_or s.section_index 0))
+in_map maps name bytes s (Some map_name) =
+    if nat_le (s.address + length bytes) (length (data_of (get maps map_name)))
+    then Ok (record { map_name = map_name; place = s.address; bytes = bytes } ∷ [])
+    else Err (InvalidGlobalData name s.size (length bytes))
+
+abbrev pub of_symbol : FinMap text_cmp Map → List ℕ → List ℕ → Symbol → Result (List PatchValue) ParseError
+of_symbol maps name bytes s =
+    if length bytes == s.size
+    then in_map maps name bytes s (map_in maps s.section_index)
+    else Err (InvalidGlobalData name s.size (length bytes))
+
+abbrev pub by_symbol : FinMap text_cmp Map → List ℕ → Global → Option Symbol → Result (List PatchValue) ParseError
+by_symbol maps name g None = if g.1 then Err (SymbolNotFound name) else Ok []
+by_symbol maps name g (Some s) = of_symbol maps name g.0 s
+
+-- what writing a variable's value asks for, or its fault
+unfoldable pub patch_of : FinMap nat_cmp Symbol → FinMap text_cmp Map → List ℕ → Global → Result (List PatchValue) ParseError
+patch_of symbols maps name g = by_symbol maps name g (symbol_named symbols name)
+
+abbrev pub patches_in : Result (List PatchValue) ParseError → List PatchValue
+patches_in (Ok patches) = patches
+patches_in (Err e) = []
+
+abbrev pub patches_at : FinMap nat_cmp Symbol → FinMap text_cmp Map → List ℕ → Option Global → List PatchValue
+patches_at symbols maps name None = []
+patches_at symbols maps name (Some g) = patches_in (patch_of symbols maps name g)
+
+abbrev pub fault_at : FinMap nat_cmp Symbol → FinMap text_cmp Map → List ℕ → Option Global → Option ParseError
+fault_at symbols maps name None = None
+fault_at symbols maps name (Some g) = fault_of (patch_of symbols maps name g)
+
+-- what is to be written, in byte order of the variables' names
+abbrev pub patches_of : FinMap nat_cmp Symbol → FinMap text_cmp Map → FinMap text_cmp Global → List PatchValue
+patches_of symbols maps globals = flat_map (λ name. patches_at symbols maps name (get globals name)) (keys_of (entries globals))
+
+-- the first fault, in byte order of the variables' names
+abbrev pub patches_fault : FinMap nat_cmp Symbol → FinMap text_cmp Map → FinMap text_cmp Global → Option ParseError
+patches_fault symbols maps globals = first_some (λ name. fault_at symbols maps name (get globals name)) (keys_of (entries globals))

@@ -1,0 +1,63 @@
+-- What `.BTF.ext` says of a function: the records of its section that stand at its slots.
+use Rattle.std.specs.Prelude.{ℕ, ◌+◌, ◌-◌, ◌/◌, ◌&&◌, Bool, List, [], ◌∷◌, map, filter, Option, Some, None, ◌==◌, nat_le, nat_lt, slice_index_or}
+use Rattle.ebpf_btf.specs.ExtInfos.{func_info_at, line_info_at}
+use Rattle.ebpf_btf.specs.ExtReading.{ExtInfo}
+use Rattle.ebpf_btf.specs.ExtInfos.{no_func_info, no_line_info}
+use Rattle.ebpf_btf.specs.declared.ext_infos.bpf_func_info.{bpf_func_info}
+use Rattle.ebpf_btf.specs.declared.ext_infos.bpf_line_info.{bpf_line_info}
+use Rattle.ebpf_btf.specs.declared.ext_infos.FuncSecInfo.{FuncSecInfo}
+use Rattle.ebpf_btf.specs.declared.ext_infos.LineSecInfo.{LineSecInfo}
+
+-- what is said of a section, and the sizes of the records in the file
+pub record Said : Type 0 where
+  pub funcs : FuncSecInfo
+  pub lines : LineSecInfo
+  pub func_size : ℕ
+  pub line_size : ℕ
+
+-- a file without `.BTF.ext` says nothing
+abbrev pub nothing_said : Said
+nothing_said = record { funcs = no_func_info; lines = no_line_info; func_size = 0; line_size = 0 }
+
+abbrev pub said_of : Option ExtInfo → List ℕ → Said
+said_of None name = nothing_said
+said_of (Some x) name = record {
+  funcs = func_info_at x.func_info name;
+  lines = line_info_at x.line_info name;
+  func_size = x.func_record_size;
+  line_size = x.line_record_size;
+}
+
+-- the number of the slot that a place in the section falls into; a slot has 8 bytes
+abbrev pub slot_of : ℕ → ℕ
+slot_of place = place / 8
+
+-- ---- the records on the function that begins at a slot; the counts stay the section's
+
+abbrev pub is_func_at : ℕ → bpf_func_info → Bool
+is_func_at first r = r.insn_off == first
+
+-- a record, its slot counted from another one
+abbrev pub func_from : ℕ → bpf_func_info → bpf_func_info
+func_from base r = record r { insn_off = r.insn_off - base }
+
+unfoldable pub funcs_at : FuncSecInfo → ℕ → ℕ → FuncSecInfo
+funcs_at said first base = record said { func_info = map (func_from base) (filter (is_func_at first) said.func_info) }
+
+-- ---- the records on the lines of so many slots from a slot on
+
+abbrev pub is_line_in : ℕ → ℕ → bpf_line_info → Bool
+is_line_in first count r = nat_le first r.insn_off && nat_lt r.insn_off (first + count)
+
+-- a record of a list, by its place, and the slot that it names
+abbrev pub line_at : List bpf_line_info → ℕ → bpf_line_info
+line_at rows i = slice_index_or rows i (record { insn_off = 0; file_name_off = 0; line_off = 0; line_col = 0 })
+
+abbrev pub line_slot : List bpf_line_info → ℕ → ℕ
+line_slot rows i = (line_at rows i).insn_off
+
+abbrev pub line_from : ℕ → bpf_line_info → bpf_line_info
+line_from base r = record r { insn_off = r.insn_off - base }
+
+unfoldable pub lines_in : LineSecInfo → ℕ → ℕ → ℕ → LineSecInfo
+lines_in said first count base = record said { line_info = map (line_from base) (filter (is_line_in first count) said.line_info) }

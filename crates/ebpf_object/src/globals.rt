@@ -1,0 +1,54 @@
+//! Variables that are handed over by name.
+
+ghost use denote.Ref.{Bor};
+ghost use Rattle.std.specs.Prelude.{◌≡◌, ℕ, List, IfOk, option_map};
+ghost use Rattle.std.specs.FinMap as finite;
+ghost use Rattle.std.specs.List.{IsDistinct};
+ghost use Rattle.std.specs.Map.{keys_of};
+ghost use Rattle.std.specs.Str.{bytes_eq};
+ghost use Rattle.ebpf_base.specs.Keys.{lent_bytes};
+ghost use Rattle.ebpf_object.specs.PatchValues.{global_of, globals_of};
+
+use std::alloc::{AllocError, Global};
+use std::collections::HashMap;
+
+/// The value of a variable, and whether the object has to have it.
+#[tactic(auto, using(crate::proofs::GivenValues::get_given))]
+pub fn value_at<'a>(
+    globals: &HashMap<&str, (&'a [u8], bool)>,
+    name: &str,
+) -> Option<(&'a [u8], bool)>
+    ensures { option_map global_of result ≡ finite.get (globals_of globals.now.entries) name.now }
+{
+    match globals.get(name) {
+        Some((bytes, must_exist)) => Some((*bytes, *must_exist)),
+        None => None,
+    }
+}
+
+// The names as the map has them.
+fn given_names<'a>(
+    alloc: Global,
+    globals: &HashMap<&'a str, (&[u8], bool)>,
+) -> Result<Vec<&'a str>, AllocError>
+    ensures names { IfOk result (λ names. lent_bytes names.items ≡ lent_bytes (keys_of globals.now.entries)) }
+    ensures distinct { IsDistinct (λ (a b : Bor (List ℕ)). bytes_eq a.now b.now) (keys_of globals.now.entries) }
+{
+    let mut names = Vec::with_capacity(alloc, globals.len())?;
+    for name in globals.keys() {
+        names.push(*name)?;
+    }
+    Ok(names)
+}
+
+/// The names in the order of their bytes.
+pub fn names_of<'a>(
+    alloc: Global,
+    globals: &HashMap<&'a str, (&[u8], bool)>,
+) -> Result<Vec<&'a str>, AllocError>
+    ensures { IfOk result (λ names. lent_bytes names.items ≡ keys_of (finite.entries (globals_of globals.now.entries))) }
+{
+    let mut names = given_names(alloc, globals)?;
+    names.sort_unstable();
+    Ok(names)
+}

@@ -1,0 +1,122 @@
+//! The values of global variables.
+
+ghost use Rattle.std.specs.Prelude.{◌≡◌, ◌++◌, map, IfOk, OnOk, OnErr};
+ghost use Rattle.std.specs.FinMap as finite;
+ghost use Rattle.std.specs.List.{flat_map};
+ghost use Rattle.ebpf_base.specs.Faults.{Refuses, first_some};
+ghost use Rattle.ebpf_base.specs.Keys.{lent_bytes};
+ghost use Rattle.ebpf_object.specs.Patches.{patches_at, fault_at, patches_of, patches_fault, all_patched};
+ghost use Rattle.ebpf_object.specs.PatchValues.{value_of, globals_of};
+ghost use Rattle.ebpf_parts.specs.Memory.{is_memory};
+
+use crate::globals::{names_of, value_at};
+use crate::object::Object;
+use crate::patch::{Patch, map_names, symbol_numbers, write_patches};
+use crate::patch_plan::{Places, patch_of};
+use ebpf_parts::ParseError;
+use std::alloc::Global;
+use std::collections::HashMap;
+
+/// Adds what the value of one variable asks for.
+#[tactic(auto, unfolding(crate::specs::Patches::patch_of))]
+fn add<'a>(
+    alloc: Global,
+    places: &Places<'_>,
+    globals: &HashMap<&str, (&'a [u8], bool)>,
+    name: &str,
+    patches: Vec<Patch<'a>>,
+) -> Result<Vec<Patch<'a>>, ParseError>
+    ensures patches { IfOk result (λ all. map value_of all.items ≡ map value_of patches.entry.items ++ patches_at places.now.symbols.now places.now.maps.now name.now (finite.get (globals_of globals.now.entries) name.now)) }
+    ensures fault { Refuses is_memory result (fault_at places.now.symbols.now places.now.maps.now name.now (finite.get (globals_of globals.now.entries) name.now)) }
+{
+    let mut patches = patches;
+    let Some((bytes, must_exist)) = value_at(globals, name) else {
+        return Ok(patches);
+    };
+    match patch_of(alloc, places, name, bytes, must_exist) {
+        Ok(Some(patch)) => match patches.push(patch) {
+            Ok(_) => Ok(patches),
+            Err(error) => Err(error.into()),
+        },
+        Ok(None) => Ok(patches),
+        Err(error) => Err(error),
+    }
+}
+
+/// What the values of variables ask for, in the order of the names.
+fn add_all<'a>(
+    alloc: Global,
+    places: &Places<'_>,
+    globals: &HashMap<&str, (&'a [u8], bool)>,
+    names: &[&str],
+) -> Result<Vec<Patch<'a>>, ParseError>
+    ensures patches { IfOk result (λ all. map value_of all.items ≡ flat_map (λ name. patches_at places.now.symbols.now places.now.maps.now name (finite.get (globals_of globals.now.entries) name)) (lent_bytes names.now)) }
+    ensures fault { Refuses is_memory result (first_some (λ name. fault_at places.now.symbols.now places.now.maps.now name (finite.get (globals_of globals.now.entries) name)) (lent_bytes names.now)) }
+{
+    let mut patches = Vec::new(alloc);
+    for name in names {
+        match add(alloc, places, globals, *name, patches) {
+            Ok(all) => patches = all,
+            Err(error) => return Err(error),
+        }
+    }
+    Ok(patches)
+}
+
+impl Object {
+    /// What the values of variables ask for.
+    fn patches<'a>(
+        &self,
+        globals: &HashMap<&str, (&'a [u8], bool)>,
+    ) -> Result<Vec<Patch<'a>>, ParseError>
+        ensures patches { IfOk result (λ all. map value_of all.items ≡ patches_of self.now.symbol_table self.now.maps (globals_of globals.now.entries)) }
+        ensures fault { Refuses is_memory result (patches_fault self.now.symbol_table self.now.maps (globals_of globals.now.entries)) }
+    {
+        let alloc = *self.license.as_vec().allocator();
+        let Ok(names) = names_of(alloc, globals) else {
+            return Err(ParseError::OutOfMemory);
+        };
+        let Ok(numbers) = symbol_numbers(alloc, &self.symbol_table) else {
+            return Err(ParseError::OutOfMemory);
+        };
+        let Ok(map_names) = map_names(alloc, &self.maps) else {
+            return Err(ParseError::OutOfMemory);
+        };
+        let places = Places {
+            symbols: &self.symbol_table,
+            maps: &self.maps,
+            numbers: &numbers,
+            names: &map_names,
+        };
+        add_all(alloc, &places, globals, names.as_slice())
+    }
+
+    /// Writes the values of global variables into the data of the maps that hold them, in the byte order of the
+    /// variables' names, later ones over earlier ones. A value comes with whether the object has to have the
+    /// variable; where it has no symbol of the name and need not, it is passed over. Of equal symbol names the
+    /// greatest index counts. The map is the first by name that the symbol's section has.
+    ///
+    /// # Errors
+    ///
+    /// The first fault in the order of names: `SymbolNotFound` where there is no symbol and has to be one;
+    /// `InvalidGlobalData` where the value has not the symbol's size; `MapNotFound` with the symbol's section (0
+    /// without one) where that has no map; `InvalidGlobalData` where the symbol's range passes the map's data.
+    /// `OutOfMemory` only where memory was refused. After a refusal the object is as it was.
+    pub fn patch_map_data(
+        &mut self,
+        globals: HashMap<&str, (&[u8], bool)>,
+    ) -> Result<(), ParseError>
+        ensures maps { OnOk result (self.new.maps ≡ all_patched self.old.maps (patches_of self.old.symbol_table self.old.maps (globals_of globals.entry.entries))) }
+        ensures fault { Refuses is_memory result (patches_fault self.old.symbol_table self.old.maps (globals_of globals.entry.entries)) }
+        ensures others_stay { self.new ≡ record self.old { maps = self.new.maps } }
+        ensures unchanged { OnErr result (self.new ≡ self.old) }
+    {
+        match self.patches(&globals) {
+            Ok(patches) => {
+                write_patches(&mut self.maps, patches.as_slice());
+                Ok(())
+            }
+            Err(error) => Err(error),
+        }
+    }
+}

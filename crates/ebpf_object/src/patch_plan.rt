@@ -1,0 +1,155 @@
+//! Where the value of a global variable goes.
+
+ghost use Rattle.std.specs.Prelude.{◌≡◌, ◌+◌, ◌∷◌, [], nat_le, length, IfOk, IfErr, MatchBool, ⊤, Ok, Err, Some};
+ghost use Rattle.std.specs.Option.{option_copied};
+ghost use Rattle.ebpf_object.specs.Patches.{symbol_numbers, symbol_named, map_names, map_in, in_map, of_symbol, patch_of};
+ghost use Rattle.ebpf_object.specs.PatchValues.{value_of, values_of};
+ghost use Rattle.ebpf_parts.specs.Memory.{is_memory};
+ghost use Rattle.ebpf_parts.specs.declared.error.ParseError.TheVariants.{InvalidGlobalData, SymbolNotFound, MapNotFound};
+
+use crate::patch::Patch;
+use ebpf_base::{ByIndex, ByName, Text};
+use ebpf_parts::ParseError;
+use ebpf_parts::maps::Map;
+use ebpf_reloc::Symbol;
+use std::alloc::Global;
+
+/// What the variables' places are found by.
+#[derive(Drop)]
+pub struct Places<'a> {
+    pub symbols: &'a ByIndex<Symbol>,
+    pub maps: &'a ByName<Map>,
+    pub numbers: &'a ByName<usize>,
+    pub names: &'a ByIndex<Text>,
+    ghost numbers_are: { numbers.now ≡ symbol_numbers symbols.now },
+    ghost names_are: { names.now ≡ map_names maps.now },
+}
+
+/// Whether a range lies inside.
+fn fits(address: u64, length: usize, size: usize) -> bool
+    ensures { result ≡ nat_le (address + length) size }
+{
+    match address.checked_add(length as u64) {
+        Some(end) => end <= size as u64,
+        None => false,
+    }
+}
+
+fn invalid_data(alloc: Global, name: &str, sym_size: u64, data_size: usize) -> ParseError
+    ensures { MatchBool (is_memory result) ⊤ (result ≡ InvalidGlobalData name.now sym_size data_size) }
+{
+    match Text::from_str(alloc, name) {
+        Ok(name) => ParseError::InvalidGlobalData {
+            name,
+            sym_size,
+            data_size,
+        },
+        Err(error) => error.into(),
+    }
+}
+
+fn no_symbol(alloc: Global, name: &str) -> ParseError
+    ensures { MatchBool (is_memory result) ⊤ (result ≡ SymbolNotFound name.now) }
+{
+    match Text::from_str(alloc, name) {
+        Ok(name) => ParseError::SymbolNotFound { name },
+        Err(error) => error.into(),
+    }
+}
+
+/// Where a value goes in the data of its map.
+fn patch_in_map<'a>(
+    alloc: Global,
+    maps: &ByName<Map>,
+    name: &str,
+    bytes: &'a [u8],
+    symbol: &Symbol,
+    map_name: &Text,
+) -> Result<Patch<'a>, ParseError>
+    ensures patch { IfOk result (λ p. in_map maps.now name.now bytes.now symbol.now (Some map_name.now) ≡ Ok (value_of p ∷ [])) }
+    ensures fault { IfErr result (λ e. MatchBool (is_memory e) ⊤ (in_map maps.now name.now bytes.now symbol.now (Some map_name.now) ≡ Err e)) }
+{
+    let size = match maps.get(map_name.as_str()) {
+        Some(map) => map.data().len(),
+        None => 0,
+    };
+    if !fits(symbol.address, bytes.len(), size) {
+        return Err(invalid_data(alloc, name, symbol.size, bytes.len()));
+    }
+    match map_name.clone() {
+        Ok(map_name) => Ok(Patch {
+            map_name,
+            place: symbol.address as usize,
+            bytes,
+        }),
+        Err(error) => Err(error.into()),
+    }
+}
+
+/// The name of the map that holds a symbol.
+fn map_of<'a>(places: &Places<'a>, symbol: &Symbol) -> Option<&'a Text>
+    ensures { option_copied result ≡ map_in places.now.maps.now symbol.now.section_index }
+{
+    match symbol.section_index {
+        Some(section) => places.names.get(section),
+        None => None,
+    }
+}
+
+/// The symbol with a name.
+fn symbol_of<'a>(places: &Places<'a>, name: &str) -> Option<&'a Symbol>
+    ensures { option_copied result ≡ symbol_named places.now.symbols.now name.now }
+{
+    match places.numbers.get(name) {
+        Some(number) => places.symbols.get(*number),
+        None => None,
+    }
+}
+
+/// Where the value of a variable with a symbol goes.
+fn patch_by_symbol<'a>(
+    alloc: Global,
+    places: &Places<'_>,
+    name: &str,
+    bytes: &'a [u8],
+    symbol: &Symbol,
+) -> Result<Patch<'a>, ParseError>
+    ensures patch { IfOk result (λ p. of_symbol places.now.maps.now name.now bytes.now symbol.now ≡ Ok (value_of p ∷ [])) }
+    ensures fault { IfErr result (λ e. MatchBool (is_memory e) ⊤ (of_symbol places.now.maps.now name.now bytes.now symbol.now ≡ Err e)) }
+{
+    if bytes.len() as u64 != symbol.size {
+        return Err(invalid_data(alloc, name, symbol.size, bytes.len()));
+    }
+    match map_of(places, symbol) {
+        Some(map_name) => patch_in_map(alloc, places.maps, name, bytes, symbol, map_name),
+        None => Err(ParseError::MapNotFound {
+            index: symbol.section_index.unwrap_or(0),
+        }),
+    }
+}
+
+/// Where the value of a variable goes, where it has a symbol.
+#[tactic(auto, unfolding(crate::specs::Patches::patch_of))]
+pub fn patch_of<'a>(
+    alloc: Global,
+    places: &Places<'_>,
+    name: &str,
+    bytes: &'a [u8],
+    must_exist: bool,
+) -> Result<Option<Patch<'a>>, ParseError>
+    ensures patch { IfOk result (λ p. patch_of places.now.symbols.now places.now.maps.now name.now (bytes.now, must_exist) ≡ Ok (values_of p)) }
+    ensures fault { IfErr result (λ e. MatchBool (is_memory e) ⊤ (patch_of places.now.symbols.now places.now.maps.now name.now (bytes.now, must_exist) ≡ Err e)) }
+{
+    match symbol_of(places, name) {
+        Some(symbol) => match patch_by_symbol(alloc, places, name, bytes, symbol) {
+            Ok(patch) => Ok(Some(patch)),
+            Err(error) => Err(error),
+        },
+        None => {
+            if must_exist {
+                return Err(no_symbol(alloc, name));
+            }
+            Ok(None)
+        }
+    }
+}

@@ -1,0 +1,129 @@
+//! Helper functions that older kernels lack.
+
+ghost use Rattle.std.specs.Prelude.{◌≡◌, ℕ, map, option_map, false};
+ghost use Rattle.std.specs.FinMap as finite;
+ghost use Rattle.std.specs.List.{list_any};
+ghost use Rattle.ebpf_object.specs.OlderHelpers.{older_helper, calls_newer, older, sanitized, have_newer, AreSanitized, TwiceIsOnce};
+
+use crate::object::Object;
+use ebpf_base::ByKey;
+use ebpf_parts::insn::bpf_insn;
+use ebpf_reloc::Function;
+use std::collections::BTreeMap;
+use std::mem;
+
+/// The helper function that every kernel has, in the place of one by its number.
+fn older_helper(helper: i32) -> i32
+    ensures { result ≡ older_helper helper }
+{
+    match helper {
+        112 | 113 => 4,
+        114 | 115 => 45,
+        _ => helper,
+    }
+}
+
+/// Whether the slot calls a helper function that older kernels lack.
+fn calls_newer(slot: &bpf_insn) -> bool
+    ensures { result ≡ calls_newer slot.now }
+{
+    slot.code == 0x85
+        && slot.regs == 0
+        && (slot.imm == 112 || slot.imm == 113 || slot.imm == 114 || slot.imm == 115)
+}
+
+/// The slot with a helper function that every kernel has.
+fn older(slot: bpf_insn) -> bpf_insn
+    ensures { result ≡ older slot }
+{
+    if !calls_newer(&slot) {
+        return slot;
+    }
+    bpf_insn {
+        imm: older_helper(slot.imm),
+        ..slot
+    }
+}
+
+/// Writes the helper functions that every kernel has.
+fn write_older(slots: &mut [bpf_insn])
+    ensures { slots.new ≡ map older slots.old }
+{
+    for slot in slots.iter_mut() {
+        *slot = older(*slot);
+    }
+}
+
+/// The same in a function.
+fn write_function(function: &mut Function)
+    ensures { function.new ≡ sanitized false function.old }
+{
+    write_older(function.instructions.as_vec_mut().as_mut_slice());
+}
+
+/// The same in each function, without memory.
+fn write_each(functions: &mut BTreeMap<(usize, u64), Function>)
+    ensures { functions.new.entries ≡ map (λ e. (e.0, sanitized false e.1)) functions.old.entries }
+{
+    functions.retain(|_, function| {
+        write_function(function);
+        true
+    });
+}
+
+/// The functions with the helper functions that every kernel has.
+fn written(functions: ByKey<Function>) -> ByKey<Function>
+    ensures { (key : ℕ × ℕ) → finite.get result key ≡ option_map (sanitized false) (finite.get functions key) }
+{
+    let mut functions = functions.into_map();
+    write_each(&mut functions);
+    ByKey::from_map(functions)
+}
+
+/// Whether the function calls a helper function that older kernels lack.
+fn has_newer_calls(function: &Function) -> bool
+    ensures { result ≡ list_any calls_newer function.now.instructions }
+{
+    function.instructions.iter().any(calls_newer)
+}
+
+/// Whether some function calls a helper function that older kernels lack.
+fn have_newer(functions: &ByKey<Function>) -> bool
+    ensures { result ≡ have_newer functions.now }
+{
+    for (_, function) in functions.iter() {
+        if has_newer_calls(function) {
+            return true;
+        }
+    }
+    false
+}
+
+impl Object {
+    /// Makes the functions fit for the kernel. Where one of them calls one of the helper functions 112 to 115
+    /// (`probe_read_user`, `probe_read_kernel` and the same for texts), the closure is asked once whether the
+    /// kernel has these. Where it has not, 4 (`probe_read`) takes the place of 112 and 113, and 45
+    /// (`probe_read_str`) that of 114 and 115, in all functions. Without such a call the closure isn't asked. No
+    /// memory is taken.
+    #[tactic(auto, using(crate::proofs::Sanitizing::stay))]
+    pub fn sanitize_functions<F: FnOnce() -> bool + Drop>(&mut self, has_newer: F)
+        requires { F.pre has_newer }
+        ensures functions { AreSanitized (F.post has_newer) self.old.functions self.new.functions }
+        ensures others_stay { self.new ≡ record self.old { functions = self.new.functions } }
+    {
+        if !have_newer(&self.functions) {
+            return;
+        }
+        if has_newer() {
+            return;
+        }
+        let alloc = *self.license.as_vec().allocator();
+        let functions = mem::replace(&mut self.functions, ByKey::new(alloc));
+        self.functions = written(functions);
+    }
+}
+
+/// Making functions fit for a kernel twice is the same as once.
+pub fn sanitizing_twice_is_once()
+    ensures { TwiceIsOnce }
+{}

@@ -1,0 +1,102 @@
+//! What types declare of an object, as a text.
+
+use ebpf_object::Object;
+use ebpf_parts::maps::{BtfMapDef, Map};
+use std::alloc::{AllocError, Global};
+
+/// What is said of a map, as words: each size beside the id of its type.
+fn put_definition(text: &mut String, def: &BtfMapDef) -> Result<(), AllocError> {
+    let kind = def.map_type;
+    let (key, key_type) = (def.key_size, def.btf_key_type_id);
+    let (value, value_type) = (def.value_size, def.btf_value_type_id);
+    let (entries, flags, extra) = (def.max_entries, def.map_flags, def.map_extra);
+    let pinning = def.pinning;
+    write!(
+        text,
+        "type {kind} key {key}:{key_type} value {value}:{value_type} entries {entries} flags {flags} extra {extra} {pinning:?}"
+    )
+}
+
+/// A line for a map that types declare, and one for the maps that it holds.
+fn put_map(text: &mut String, name: &str, map: &Map) -> Result<(), AllocError> {
+    if let Map::Btf(map) = map {
+        let (section, symbol) = (map.section_index, map.symbol_index);
+        write!(text, "map {name} in {section} symbol {symbol} ")?;
+        put_definition(text, &map.def)?;
+        writeln!(text)?;
+    }
+    if let Some(Map::Btf(inner)) = map.inner()? {
+        let (section, symbol) = (inner.section_index, inner.symbol_index);
+        write!(text, "inner in {section} symbol {symbol} ")?;
+        put_definition(text, &inner.def)?;
+        writeln!(text)?;
+    }
+    Ok(())
+}
+
+/// A line for each map that types declare, in byte order of their names.
+fn put_maps(alloc: Global, text: &mut String, object: &Object) -> Result<(), AllocError> {
+    for name in object.maps.names(alloc)? {
+        if let Some(map) = object.maps.get(name) {
+            put_map(text, name, map)?;
+        }
+    }
+    Ok(())
+}
+
+/// A line for each extern, in byte order of their names.
+fn put_externs(alloc: Global, text: &mut String, object: &Object) -> Result<(), AllocError> {
+    for name in object.externs.names(alloc)? {
+        if let Some(found) = object.externs.get(name) {
+            let id = found.btf_id;
+            let (typed, weak, resolved) = (found.is_typed, found.is_weak, found.is_resolved);
+            let (kernel, address) = (found.kernel_btf_id, found.ksym_addr);
+            writeln!(
+                text,
+                "extern {name} type {id} typed {typed} weak {weak} resolved {resolved} {kernel:?} {address:?}"
+            )?;
+        }
+    }
+    Ok(())
+}
+
+/// A line for each type from an id on.
+fn put_types(text: &mut String, object: &Object, from: usize) -> Result<(), AllocError> {
+    let Some(btf) = &object.btf else {
+        return Ok(());
+    };
+    let mut id = from;
+    for ty in btf.types().get(from..).unwrap_or(&[]) {
+        match btf.type_name(ty) {
+            Ok(name) => writeln!(text, "{id} {name}: {ty:?}")?,
+            Err(error) => writeln!(text, "{id} {error:?}: {ty:?}")?,
+        }
+        id = id.saturating_add(1);
+    }
+    Ok(())
+}
+
+/// The maps that types declare in the object that the bytes are, or the error.
+pub fn declared_maps_outcome(alloc: Global, bytes: &[u8]) -> Result<String, AllocError> {
+    match Object::parse(alloc, bytes) {
+        Ok(object) => {
+            let mut text = String::new(alloc);
+            put_maps(alloc, &mut text, &object)?;
+            Ok(text)
+        }
+        Err(error) => format!(in alloc; "{error:?}"),
+    }
+}
+
+/// The externs of the object that the bytes are, and its types from an id on, or the error.
+pub fn externs_outcome(alloc: Global, bytes: &[u8], from: usize) -> Result<String, AllocError> {
+    match Object::parse(alloc, bytes) {
+        Ok(object) => {
+            let mut text = String::new(alloc);
+            put_externs(alloc, &mut text, &object)?;
+            put_types(&mut text, &object, from)?;
+            Ok(text)
+        }
+        Err(error) => format!(in alloc; "{error:?}"),
+    }
+}
