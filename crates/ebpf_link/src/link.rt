@@ -8,7 +8,9 @@ use crate::arguments::Words;
 use crate::program_text::write_program;
 use ebpf_object::Object;
 use ebpf_parts::ParseError;
-use std::alloc::Global;
+use ebpf_reloc::RelocationError;
+use std::alloc::{AllocError, Global};
+use std::collections::HashSet;
 use std::fmt;
 use std::io::{BufRead, Write};
 
@@ -19,6 +21,8 @@ enum Failure<'a> {
     CannotRead(&'a str),
     /// The object can't be parsed, by the name of the error.
     Parse(&'static str),
+    /// The programs can't be joined with their functions, by the name of the error.
+    Calls(&'static str),
     /// No program has the name.
     NoProgram(&'a str),
     /// A writer failed.
@@ -32,6 +36,7 @@ impl fmt::Display for Failure<'_> {
         match self {
             Failure::CannotRead(path) => write!(f, "cannot read {path}"),
             Failure::Parse(variant) => write!(f, "parse: {variant}"),
+            Failure::Calls(variant) => write!(f, "calls: {variant}"),
             Failure::NoProgram(name) => write!(f, "no program {name}"),
             Failure::CannotWrite => write!(f, "cannot write"),
             Failure::Memory => write!(f, "memory"),
@@ -62,6 +67,47 @@ fn variant_of(error: &ParseError) -> &'static str {
         ParseError::NoSymbolsForSection { .. } => "NoSymbolsForSection",
         ParseError::NoBTF => "NoBTF",
         ParseError::OutOfMemory => "OutOfMemory",
+    }
+}
+
+/// The name of an error of relocation.
+fn variant_of_relocation(error: &RelocationError) -> &'static str {
+    match error {
+        RelocationError::UnknownSymbol { .. } => "UnknownSymbol",
+        RelocationError::SectionNotFound { .. } => "SectionNotFound",
+        RelocationError::UnknownFunction { .. } => "UnknownFunction",
+        RelocationError::FunctionInfoMismatch { .. } => "FunctionInfoMismatch",
+        RelocationError::UnknownProgram { .. } => "UnknownProgram",
+        RelocationError::InvalidRelocationOffset { .. } => "InvalidRelocationOffset",
+        RelocationError::ExternNotFound { .. } => "ExternNotFound",
+        RelocationError::UnresolvableSymbol { .. } => "UnresolvableSymbol",
+        RelocationError::UnsupportedTextSymbol { .. } => "UnsupportedTextSymbol",
+        RelocationError::InvalidLineInfo { .. } => "InvalidLineInfo",
+        RelocationError::ProgramTooLong { .. } => "ProgramTooLong",
+        RelocationError::MapAddressOverflow { .. } => "MapAddressOverflow",
+        RelocationError::OutOfMemory => "OutOfMemory",
+    }
+}
+
+/// The numbers of the sections that functions stand in.
+fn text_sections(alloc: Global, object: &Object) -> Result<HashSet<usize>, AllocError> {
+    let mut sections = HashSet::new(alloc);
+    for (key, _) in object.functions.iter() {
+        sections.insert(key.0)?;
+    }
+    Ok(sections)
+}
+
+/// Joins the programs of an object with the functions that they reach.
+fn join_calls(alloc: Global, object: &mut Object) -> Result<(), Failure<'static>>
+    ensures { OnOk result (object.new ≡ record object.old { functions = object.new.functions }) }
+{
+    let Ok(sections) = text_sections(alloc, object) else {
+        return Err(Failure::Memory);
+    };
+    match object.relocate_calls(&sections) {
+        Ok(()) => Ok(()),
+        Err(refusal) => Err(Failure::Calls(variant_of_relocation(&refusal.error))),
     }
 }
 
@@ -98,7 +144,7 @@ fn write_all<W: Write>(
     Ok(())
 }
 
-/// Parses the object and writes what the words ask for.
+/// Parses the object, joins its programs, and writes what the words ask for.
 fn link<'a, W: Write>(
     alloc: Global,
     words: &'a Words,
@@ -108,10 +154,11 @@ fn link<'a, W: Write>(
     ensures parsed { OnOk result (parse_fault file.now ≡ None) }
     ensures named { OnOk result (MatchOption words.now.program ⊤ (λ name. IsSome (map.get (programs file.now) name))) }
 {
-    let object = match Object::parse(alloc, file) {
+    let mut object = match Object::parse(alloc, file) {
         Ok(object) => object,
         Err(error) => return Err(Failure::Parse(variant_of(&error))),
     };
+    join_calls(alloc, &mut object)?;
     match &words.program {
         Some(name) => write_named(&object, name.as_str(), out)?,
         None => write_all(alloc, &object, out)?,
@@ -137,8 +184,8 @@ pub fn cannot_read<W: Write>(path: &str, err: &mut W) -> u8
     report(Failure::CannotRead(path), err)
 }
 
-/// Prints the programs of an object, all in byte order of their names or the one that `words` names,
-/// and gives the status: 0, or 1 with one line on `err`.
+/// Joins the programs of an object with the functions that they reach, and prints them, all in byte order of
+/// their names or the one that `words` names. It gives the status: 0, or 1 with one line on `err`.
 ///
 /// The kernel's types and symbols are not looked at yet.
 pub fn run_link<K: BufRead + Drop, O: Write, E: Write>(

@@ -57,7 +57,7 @@ fn prints_the_slots(rt: HostRuntime) -> Result<(), Fail> {
     assert_eq!(rt; run.status, 0);
     assert_eq!(rt;
         run.out.as_slice(),
-        b"program p slots 2\n85 10 00 00 ff ff ff ff\n95 00 00 00 00 00 00 00\n".as_slice()
+        b"program p slots 3\n85 10 00 00 01 00 00 00\n95 00 00 00 00 00 00 00\n95 00 00 00 00 00 00 00\n".as_slice()
     );
     assert_eq!(rt; run.err.len(), 0);
     Ok(())
