@@ -1,48 +1,78 @@
 -- What testing references shows of them.
-use Rattle.std.proofs.Common.{◌≡◌, ℕ, zero, suc, ◌+◌, ◌<◌, ◌≤◌, ◌⊎◌, Bool, true, false, List, [], ◌∷◌, length, drop, Option, Some, None, refl, sym, ap, ◌∙◌, subst, inl, inr, arith, get_or}
-use Rattle.std.specs.Prelude.{slice_get, All, Vec}
+use Rattle.std.proofs.Common.{◌≡◌, ℕ, zero, suc, ◌+◌, ◌<◌, ◌≤◌, Bool, true, false, ◌&&◌, List, [], ◌∷◌, Option, Some, None, refl, sym, ap, ◌∙◌, subst, arith, ◌↔◌}
+use Rattle.std.specs.Prelude.{All, Vec, IsTrue, nat_lt}
+use Rattle.std.specs.List.{list_all}
 use Rattle.std.specs.declared.alloc.Global.{Global}
-use Rattle.std.proofs.lemmas.Bool.{ltb-true, cases_lt, cases_eq}
-use Rattle.std.proofs.lemmas.List.Elements.{All-nil, All-cons}
-use Rattle.std.proofs.lemmas.Option.{slice_get_past, slice_get_read}
+use Rattle.std.proofs.lemmas.Bool.{ltb-true, lt-ltb, and_parts, and_from}
+use Rattle.std.proofs.lemmas.List.Elements.{All-nil, All-cons, All-head, All-tail}
 use Rattle.ebpf_linker.specs.declared.reference.Target.{Target}
 use Rattle.ebpf_linker.specs.declared.reference.Target.TheVariants.{Function, Nowhere}
 use Rattle.ebpf_linker.specs.declared.reference.Call.{Call}
-use Rattle.ebpf_linker.specs.Numbered.{IsIn, is_in, Rises, Sound, calls_at, items_of}
-use Rattle.ebpf_linker.proofs.Moved.{rest_at}
+use Rattle.ebpf_linker.specs.Numbered.{IsIn, is_in, is_above, is_list_sound, Rises, Sound, calls_at}
 
 in_of : (n : ℕ) (t : Target) → is_in n t ≡ true → IsIn n t
 in_of n (Function k) e = ltb-true k n e
 in_of n (Nowhere d) e = tt
 
--- the references from a place on are sound
-abbrev pub SoundFrom : ℕ → ℕ → List Call → Type 0
-SoundFrom n low cs = Rises low cs × All (λ c. IsIn n c.target) cs
+of_in : (n : ℕ) (t : Target) → IsIn n t → is_in n t ≡ true
+of_in n (Function k) h = lt-ltb k n h
+of_in n (Nowhere d) h = refl
 
-module _ (n : ℕ) (cs : List Call) (low i : ℕ) (d : Call) where
-  pub sound_more : i < length cs → low ≤ (get_or cs i d).slot → is_in n (get_or cs i d).target ≡ true → (SoundFrom n low (drop i cs) → SoundFrom n 0 cs) → SoundFrom n ((get_or cs i d).slot + 1) (drop (i + 1) cs) → SoundFrom n 0 cs
-  sound_more lt le is whole rest =
-      whole (subst (SoundFrom n low) (sym (rest_at cs i d lt)) ((le, rest.0), All-cons (λ (c : Call). IsIn n c.target) (get_or cs i d) (drop (i + 1) cs) (in_of n (get_or cs i d).target is) rest.1))
+-- the least slot after another
+abbrev next : Option ℕ → ℕ
+next None = 0
+next (Some before) = before + 1
 
--- the lists before a place are sound
-abbrev pub SoundBelow : ℕ → List (Vec Call Global) → ℕ → Type 0
-SoundBelow n C i = (k : ℕ) → k < i → SoundFrom n 0 (calls_at C k)
+above_of : (before : Option ℕ) (slot : ℕ) → is_above before slot ≡ true → next before ≤ slot
+above_of None slot e = omega arith
+above_of (Some before) slot e =
+    let lt : before < slot = ltb-true before slot e in
+    omega arith
 
-pub below_more : (n : ℕ) (C : List (Vec Call Global)) (i : ℕ) (x : Vec Call Global) → SoundBelow n C i → i < length C → x ≡ get_or C i x → SoundFrom n 0 x.items → SoundBelow n C (i + 1)
-below_more n C i x h lt e s k below =
-    elim (cases_eq k i) [
-      | inl same ↦
-          let is : calls_at C i ≡ x.items = ap items_of (slice_get_read C (length C) i x refl lt e) in
-          subst (λ (u : ℕ). SoundFrom n 0 (calls_at C u)) (sym same) (subst (SoundFrom n 0) (sym is) s)
-      | inr other ↦ h k (omega arith)
-    ]
+of_above : (before : Option ℕ) (slot : ℕ) → next before ≤ slot → is_above before slot ≡ true
+of_above None slot h = refl
+of_above (Some before) slot h = lt-ltb before slot (omega arith)
 
-past_all : (n : ℕ) (C : List (Vec Call Global)) (k : ℕ) → length C ≤ k → SoundFrom n 0 (calls_at C k)
-past_all n C k le =
-    let is : calls_at C k ≡ [] = ap items_of (slice_get_past C k le) in
-    subst (SoundFrom n 0) (sym is) (tt, All-nil (λ (c : Call). IsIn n c.target))
+module _ (n : ℕ) where
+  abbrev Within : List Call → Type 0
+  Within cs = All (λ (c : Call). IsIn n c.target) cs
 
-pub all_sound : (n : ℕ) (C : List (Vec Call Global)) (i : ℕ) → SoundBelow n C i → length C ≤ i → Sound n C
-all_sound n C i h le =
-    let at : (k : ℕ) → SoundFrom n 0 (calls_at C k) = λ k. elim (cases_lt k i) [ inl lt ↦ h k lt | inr ge ↦ past_all n C k (omega arith) ] in
-    record { rises = λ k. (at k).0; within = λ k. (at k).1 }
+  rises : (before : Option ℕ) (cs : List Call) → is_list_sound n before cs ≡ true → Rises (next before) cs
+  rises before [] e = tt
+  rises before (c ∷ cs) e =
+      let both = and_parts (is_above before c.slot && is_in n c.target) (is_list_sound n (Some c.slot) cs) e in
+      (above_of before c.slot (and_parts (is_above before c.slot) (is_in n c.target) both.0).0, rises (Some c.slot) cs both.1)
+
+  within : (before : Option ℕ) (cs : List Call) → is_list_sound n before cs ≡ true → Within cs
+  within before [] e = All-nil (λ (c : Call). IsIn n c.target)
+  within before (c ∷ cs) e =
+      let both = and_parts (is_above before c.slot && is_in n c.target) (is_list_sound n (Some c.slot) cs) e in
+      All-cons (λ (c : Call). IsIn n c.target) c cs (in_of n c.target (and_parts (is_above before c.slot) (is_in n c.target) both.0).1) (within (Some c.slot) cs both.1)
+
+  tested : (before : Option ℕ) (cs : List Call) → Rises (next before) cs → Within cs → is_list_sound n before cs ≡ true
+  tested before [] r w = refl
+  tested before (c ∷ cs) r w =
+      and_from (is_above before c.slot && is_in n c.target) (is_list_sound n (Some c.slot) cs)
+      (and_from (is_above before c.slot) (is_in n c.target) (of_above before c.slot r.0) (of_in n c.target (All-head (λ (c : Call). IsIn n c.target) c cs w)))
+      (tested (Some c.slot) cs r.1 (All-tail (λ (c : Call). IsIn n c.target) c cs w))
+
+  abbrev are_sound : List (Vec Call Global) → Bool
+  are_sound C = list_all (λ v. is_list_sound n None v.items) C
+
+  at_each : (C : List (Vec Call Global)) → are_sound C ≡ true → (k : ℕ) → is_list_sound n None (calls_at C k) ≡ true
+  at_each [] e k = refl
+  at_each (v ∷ C) e zero = (and_parts (is_list_sound n None v.items) (are_sound C) e).0
+  at_each (v ∷ C) e (suc k) = at_each C (and_parts (is_list_sound n None v.items) (are_sound C) e).1 k
+
+  from_each : (C : List (Vec Call Global)) → ((k : ℕ) → is_list_sound n None (calls_at C k) ≡ true) → are_sound C ≡ true
+  from_each [] h = refl
+  from_each (v ∷ C) h = and_from (is_list_sound n None v.items) (are_sound C) (h 0) (from_each C (λ k. h (suc k)))
+
+-- the tests hold exactly of sound references
+pub sound_tests : (n : ℕ) (C : List (Vec Call Global)) (b : Bool) → b ≡ list_all (λ v. is_list_sound n None v.items) C → IsTrue b ↔ Sound n C
+sound_tests n C b is = (
+  λ e.
+      let each = at_each n C (sym is ∙ e) in
+      record { rises = λ k. rises n None (calls_at C k) (each k); within = λ k. within n None (calls_at C k) (each k) },
+  λ s. is ∙ from_each n C (λ k. tested n None (calls_at C k) (s.rises k) (s.within k)),
+)

@@ -1,5 +1,5 @@
 -- Functions by their numbers.
-use Rattle.std.specs.Prelude.{ℕ, ◌+◌, ◌<◌, ◌≤◌, ◌==◌, if◌then◌else◌, Bool, true, nat_lt, List, [], ◌∷◌, Option, Some, None, slice_get, Vec, All}
+use Rattle.std.specs.Prelude.{ℕ, ◌+◌, ◌<◌, ◌≤◌, ◌==◌, ◌&&◌, if◌then◌else◌, Bool, true, nat_lt, List, [], ◌∷◌, Option, Some, None, slice_get, Vec, All}
 use Rattle.std.specs.declared.alloc.Global.{Global}
 use Rattle.ebpf_linker.specs.declared.body.Body.{Body}
 use Rattle.ebpf_linker.specs.declared.reference.Fault.{Fault}
@@ -60,6 +60,15 @@ IsIn n (Nowhere e) = Unit {0}
 abbrev pub is_in : ℕ → Target → Bool
 is_in n (Function k) = nat_lt k n
 is_in n (Nowhere e) = true
+
+abbrev pub is_above : Option ℕ → ℕ → Bool
+is_above None slot = true
+is_above (Some before) slot = nat_lt before slot
+
+-- whether the slots of references are above the one before, and each leads to one of n functions
+abbrev pub is_list_sound : ℕ → Option ℕ → List Call → Bool
+is_list_sound n before [] = true
+is_list_sound n before (c ∷ cs) = (is_above before c.slot && is_in n c.target) && is_list_sound n (Some c.slot) cs
 
 -- the references of each function rise, and lead to one of n functions
 pub record Sound (n : ℕ) (C : List (Vec Call Global)) : Type 0 where

@@ -3,6 +3,8 @@
 
 mod body;
 mod copies;
+#[cfg(test)]
+mod machines;
 mod places;
 mod program;
 mod records;
@@ -10,6 +12,8 @@ mod reference;
 mod search;
 pub mod slot;
 mod soundness;
+#[cfg(test)]
+mod test_functions;
 #[cfg(test)]
 mod tests;
 

@@ -75,70 +75,79 @@ fn target_seen(bodies: &[Body<'_>], start: usize, target: Target) -> Target
     }
 }
 
-// Opens a function that was not found before, where it can have a copy. `top` holds the reference to it.
-fn enter(
-    bodies: &[Body<'_>],
-    top: Open,
-    callee: usize,
-    order: &mut Vec<usize>,
-    found: &mut Vec<bool>,
-    pending: &mut Vec<Open>,
-    used: &mut usize,
-) -> Result<Option<Fault>, AllocError>
-    requires callee { callee < length bodies.now }
-    requires flags { length found.old.items ≡ length bodies.now }
-    ensures { IfOk result (λ fault. Entered (functions bodies.now []) top (search_at order.old.items found.old.items pending.old.items used.old) (search_at order.new.items found.new.items pending.new.items used.new) fault callee) }
-{
-    let body = &bodies[callee];
-    if let Some(fault) = append_fault(body, *used, callee) {
-        return Ok(Some(fault));
-    }
-    *used += body.slots.len();
-    let copy = order.len();
-    found[callee] = true;
-    order.push(callee)?;
-    pending.push(top)?;
-    pending.push(Open {
-        copy,
-        function: callee,
-        next: 0,
-    })?;
-    Ok(None)
+/// A search under way.
+#[derive(Drop)]
+struct Progress {
+    /// The functions that were found, in the order of their copies.
+    order: Vec<usize>,
+    /// Whether a function was found, by its number.
+    found: Vec<bool>,
+    /// The functions whose references are being followed.
+    pending: Vec<Open>,
+    /// The slots of the program and of the copies.
+    used: usize,
 }
 
-// Follows the next reference of the function on top, which was taken off.
-fn advance(
-    bodies: &[Body<'_>],
-    calls: &[Vec<Call>],
-    start: usize,
-    top: Open,
-    order: &mut Vec<usize>,
-    found: &mut Vec<bool>,
-    pending: &mut Vec<Open>,
-    used: &mut usize,
-) -> Result<Option<Fault>, AllocError>
-    requires start { start < length bodies.now }
-    requires calls { length calls.now ≡ length bodies.now }
-    requires sound { Sound (length bodies.now) calls.now }
-    requires function { top.function < length bodies.now }
-    requires flags { length found.old.items ≡ length bodies.now }
-    ensures { IfOk result (λ fault. Advanced (functions bodies.now calls.now) (seen bodies.now calls.now start) top (search_at order.old.items found.old.items pending.old.items used.old) (search_at order.new.items found.new.items pending.new.items used.new) fault) }
-{
-    let list = &calls[top.function];
-    let Some(call) = list.get(top.next) else {
-        return Ok(None);
-    };
-    match target_seen(bodies, start, call.target) {
-        Target::Nowhere(fault) => Ok(Some(fault)),
-        Target::Function(callee) => {
-            if found[callee] {
-                pending.push(Open {
-                    next: top.next + 1,
-                    ..top
-                })?;
-                return Ok(None);
+impl Progress {
+    // Opens a function that was not found before, where it can have a copy. `top` holds the reference to it.
+    fn enter(
+        &mut self,
+        bodies: &[Body<'_>],
+        top: Open,
+        callee: usize,
+    ) -> Result<Option<Fault>, AllocError>
+        requires callee { callee < length bodies.now }
+        requires flags { length self.old.found.items ≡ length bodies.now }
+        ensures { IfOk result (λ fault. Entered (functions bodies.now []) top (search_at self.old.order.items self.old.found.items self.old.pending.items self.old.used) (search_at self.new.order.items self.new.found.items self.new.pending.items self.new.used) fault callee) }
+    {
+        let body = &bodies[callee];
+        if let Some(fault) = append_fault(body, self.used, callee) {
+            return Ok(Some(fault));
+        }
+        self.used += body.slots.len();
+        let copy = self.order.len();
+        self.found[callee] = true;
+        self.order.push(callee)?;
+        self.pending.push(top)?;
+        self.pending.push(Open {
+            copy,
+            function: callee,
+            next: 0,
+        })?;
+        Ok(None)
+    }
+
+    // Follows the next reference of the function on top, which was taken off.
+    fn advance(
+        &mut self,
+        bodies: &[Body<'_>],
+        calls: &[Vec<Call>],
+        start: usize,
+        top: Open,
+    ) -> Result<Option<Fault>, AllocError>
+        requires start { start < length bodies.now }
+        requires calls { length calls.now ≡ length bodies.now }
+        requires sound { Sound (length bodies.now) calls.now }
+        requires function { top.function < length bodies.now }
+        requires flags { length self.old.found.items ≡ length bodies.now }
+        ensures { IfOk result (λ fault. Advanced (functions bodies.now calls.now) (seen bodies.now calls.now start) top (search_at self.old.order.items self.old.found.items self.old.pending.items self.old.used) (search_at self.new.order.items self.new.found.items self.new.pending.items self.new.used) fault) }
+    {
+        let list = &calls[top.function];
+        let Some(call) = list.get(top.next) else {
+            return Ok(None);
+        };
+        match target_seen(bodies, start, call.target) {
+            Target::Nowhere(fault) => Ok(Some(fault)),
+            Target::Function(callee) => {
+                if self.found[callee] {
+                    self.pending.push(Open {
+                        next: top.next + 1,
+                        ..top
+                    })?;
+                    return Ok(None);
+                }
+                self.enter(bodies, top, callee)
             }
-            enter(bodies, top, callee, order, found, pending, used)
         }
     }
 }
@@ -157,28 +166,25 @@ pub fn search(
 {
     let mut order = Vec::new(alloc);
     order.push(start)?;
-    let mut found = vec![in alloc; false; bodies.len()]?;
+    let found = vec![in alloc; false; bodies.len()]?;
     let mut pending = Vec::new(alloc);
     pending.push(Open {
         copy: 0,
         function: start,
         next: 0,
     })?;
-    let mut used = bodies[start].slots.len();
-    while let Some(top) = pending.pop() {
-        let step = advance(
-            bodies,
-            calls,
-            start,
-            top,
-            &mut order,
-            &mut found,
-            &mut pending,
-            &mut used,
-        )?;
+    let used = bodies[start].slots.len();
+    let mut progress = Progress {
+        order,
+        found,
+        pending,
+        used,
+    };
+    while let Some(top) = progress.pending.pop() {
+        let step = progress.advance(bodies, calls, start, top)?;
         if let Some(fault) = step {
             return Ok(Err(fault));
         }
     }
-    Ok(Ok(order))
+    Ok(Ok(progress.order))
 }

@@ -1,7 +1,8 @@
 //! Whether references may be linked.
 
-ghost use Rattle.std.specs.Prelude.{◌≡◌, ℕ, ◌<◌, ◌≤◌, true, IsTrue, All, length};
-ghost use Rattle.ebpf_linker.specs.Numbered.{IsIn, Rises, Sound, is_in};
+ghost use Rattle.std.specs.Prelude.{◌≡◌, ◌↔◌, IsTrue, None};
+ghost use Rattle.std.specs.List.{list_all};
+ghost use Rattle.ebpf_linker.specs.Numbered.{Sound, is_in, is_above, is_list_sound};
 
 use crate::reference::{Call, Target};
 
@@ -15,30 +16,47 @@ fn is_in(count: usize, target: Target) -> bool
     }
 }
 
-// Whether the slots of references rise, and each leads to one of so many functions or nowhere.
-fn list_is_sound(calls: &[Call], count: usize) -> bool
-    ensures rises { result ≡ true → Rises 0 calls.now }
-    ensures within { result ≡ true → All (λ c. IsIn count c.target) calls.now }
+// Whether a slot is above the one before, if there is one.
+fn is_above(before: Option<usize>, slot: usize) -> bool
+    ensures { result ≡ is_above before slot }
 {
-    let mut low = 0;
+    match before {
+        Some(before) => before < slot,
+        None => true,
+    }
+}
+
+// Whether the slots of references rise, and each leads to one of so many functions or nowhere.
+fn is_list_sound(calls: &[Call], count: usize) -> bool
+    ensures { result ≡ is_list_sound count None calls.now }
+{
+    let mut before = None;
     for call in calls {
-        if call.slot < low || call.slot == usize::MAX || !is_in(count, call.target) {
+        if !is_above(before, call.slot) || !is_in(count, call.target) {
             return false;
         }
-        low = call.slot + 1;
+        before = Some(call.slot);
+    }
+    true
+}
+
+// Whether this holds of each list.
+fn are_lists_sound(calls: &[Vec<Call>], count: usize) -> bool
+    ensures { result ≡ list_all (λ v. is_list_sound count None v.items) calls.now }
+{
+    for list in calls {
+        if !is_list_sound(list, count) {
+            return false;
+        }
     }
     true
 }
 
 /// Whether the references of functions may be linked: the slots of each list rise, and each leads to one of `count`
 /// functions or nowhere.
+#[tactic(auto, using(crate::proofs::Soundly::sound_tests))]
 pub fn is_sound(calls: &[Vec<Call>], count: usize) -> bool
-    ensures { result ≡ true → Sound count calls.now }
+    ensures { IsTrue result ↔ Sound count calls.now }
 {
-    for list in calls {
-        if !list_is_sound(list, count) {
-            return false;
-        }
-    }
-    true
+    are_lists_sound(calls, count)
 }

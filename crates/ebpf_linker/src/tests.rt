@@ -1,79 +1,13 @@
 //! Programs and functions linked, as texts.
 
-use crate::{Body, Call, Fault, Target, is_sound, link};
+use crate::test_functions::{
+    CALLS, CALLS_TWICE, ENDS, EXIT, LOAD, NOTHING, Reference, linked, lists, plain,
+};
+use crate::{Body, Call, Fault, Target};
 use ebpf_btf::{bpf_func_info, bpf_line_info};
 use ebpf_parts::insn::bpf_insn;
 use std::alloc::{AllocError, Global};
 use std::test::Fail;
-
-const CALL: bpf_insn = bpf_insn {
-    code: 0x85,
-    regs: 0x10,
-    off: 0,
-    imm: -1,
-};
-
-const EXIT: bpf_insn = bpf_insn {
-    code: 0x95,
-    regs: 0,
-    off: 0,
-    imm: 0,
-};
-
-const LOAD: bpf_insn = bpf_insn {
-    code: 0x18,
-    regs: 0x01,
-    off: 0,
-    imm: 8,
-};
-
-const NOTHING: bpf_insn = bpf_insn {
-    code: 0,
-    regs: 0,
-    off: 0,
-    imm: 0,
-};
-
-const CALLS: [bpf_insn; 2] = [CALL, EXIT];
-
-const CALLS_TWICE: [bpf_insn; 3] = [CALL, CALL, EXIT];
-
-const ENDS: [bpf_insn; 1] = [EXIT];
-
-/// A reference from a slot of a function to a function.
-type Reference = (usize, usize, Target);
-
-/// A function without records.
-fn plain(slots: &[bpf_insn]) -> Body<'_> {
-    Body {
-        slots,
-        func_info: &[],
-        line_info: &[],
-    }
-}
-
-/// The references of so many functions, each list in the order in which they are given.
-fn lists(
-    alloc: Global,
-    count: usize,
-    references: &[Reference],
-) -> Result<Vec<Vec<Call>>, AllocError> {
-    let mut lists = Vec::new(alloc);
-    for function in 0..count {
-        let mut list = Vec::new(alloc);
-        for (from, slot, target) in references {
-            if *from != function {
-                continue;
-            }
-            list.push(Call {
-                slot: *slot,
-                target: *target,
-            })?;
-        }
-        lists.push(list)?;
-    }
-    Ok(lists)
-}
 
 /// The first function linked: the imm and the registers of each slot, or the fault.
 fn outcome(
@@ -82,12 +16,10 @@ fn outcome(
     references: &[Reference],
 ) -> Result<String, AllocError> {
     let calls = lists(alloc, bodies.len(), references)?;
-    if bodies.is_empty() || calls.len() != bodies.len() || !is_sound(&calls, bodies.len()) {
-        return format!(in alloc; "unsound");
-    }
-    let program = match link(alloc, bodies, &calls, 0)? {
-        Ok(program) => program,
-        Err(fault) => return format!(in alloc; "{fault:?}"),
+    let program = match linked(alloc, bodies, &calls)? {
+        Some(Ok(program)) => program,
+        Some(Err(fault)) => return format!(in alloc; "{fault:?}"),
+        None => return format!(in alloc; "unsound"),
     };
     let mut text = String::new(alloc);
     for slot in program.slots.iter() {
@@ -299,15 +231,13 @@ fn chain(alloc: Global, count: usize) -> Result<String, AllocError> {
     }
     calls.push(Vec::new(alloc))?;
     bodies.push(plain(&ENDS))?;
-    if calls.len() != bodies.len() || !is_sound(&calls, bodies.len()) || bodies.is_empty() {
-        return format!(in alloc; "unsound");
-    }
-    match link(alloc, &bodies, &calls, 0)? {
-        Ok(program) => {
+    match linked(alloc, &bodies, &calls)? {
+        Some(Ok(program)) => {
             let next = program.slots.iter().filter(|slot| slot.imm == 1).count();
             format!(in alloc; "{} {next}", program.slots.len())
         }
-        Err(fault) => format!(in alloc; "{fault:?}"),
+        Some(Err(fault)) => format!(in alloc; "{fault:?}"),
+        None => format!(in alloc; "unsound"),
     }
 }
 

@@ -30,10 +30,10 @@ returns-in-Some-step c =
     let C = c.args.calls.now in
     let p = c.args.start in
     let F = functions B C in
-    let s = search_at c.loop-top.order.items c.loop-top.found.items c.pop.new.self.items c.loop-top.used in
-    let t = search_at c.advance.new.order.items c.advance.new.found.items c.advance.new.pending.items c.advance.new.used in
+    let s = search_at c.loop-top.progress.order.items c.loop-top.progress.found.items c.pop.new.self.items c.loop-top.progress.used in
+    let t = search_at c.advance.new.self.order.items c.advance.new.self.found.items c.advance.new.self.pending.items c.advance.new.self.used in
     let top = c.in-Some.top in
-    let st = subst (State (length B) (seen B C p) p c.loop-top.order.items c.loop-top.found.items) c.in-Some.ensures.items c.loop-top.invariant.state in
+    let st = subst (State (length B) (seen B C p) p c.loop-top.progress.order.items c.loop-top.progress.found.items) c.in-Some.ensures.items c.loop-top.invariant.state in
     let a = subst (λ (u : Option Fault). Advanced F (seen B C p) top s t u) c.in-Some-step.is c.in_ok-step.ensures in
     finds B C p (Err c.in-Some-step.fault) (refused F (length B) (seen B C p) p (sought B p (length B) C c.requires.sound) s t top c.in-Some-step.fault st c.loop-top.invariant.counted (slice_get (seen B C p top.function) top.next) refl a)
 
@@ -43,12 +43,12 @@ loop-top-smaller c =
     let C = c.args.calls.now in
     let p = c.args.start in
     let F = functions B C in
-    let s = search_at c.loop-top.order.items c.loop-top.found.items c.pop.new.self.items c.loop-top.used in
-    let t = search_at c.advance.new.order.items c.advance.new.found.items c.advance.new.pending.items c.advance.new.used in
+    let s = search_at c.loop-top.progress.order.items c.loop-top.progress.found.items c.pop.new.self.items c.loop-top.progress.used in
+    let t = search_at c.advance.new.self.order.items c.advance.new.self.found.items c.advance.new.self.pending.items c.advance.new.self.used in
     let top = c.in-Some.top in
     let a = subst (λ (u : Option Fault). Advanced F (seen B C p) top s t u) c.in_default-step.is c.in_ok-step.ensures in
     let less = less_left F (length B) (seen B C p) top s t (sought B p (length B) C c.requires.sound) c.loop-top.invariant.state.flags a in
-    subst (λ (u : List Open). unfound c.advance.new.found.items (seen B C p) 0 + left_in (seen B C p) c.advance.new.pending.items < unfound c.loop-top.found.items (seen B C p) 0 + left_in (seen B C p) u) (sym c.in-Some.ensures.items) less
+    subst (λ (u : List Open). unfound c.advance.new.self.found.items (seen B C p) 0 + left_in (seen B C p) c.advance.new.self.pending.items < unfound c.loop-top.progress.found.items (seen B C p) 0 + left_in (seen B C p) u) (sym c.in-Some.ensures.items) less
 
 pub loop-top-preserved : goal.loop-top-preserved
 loop-top-preserved c =
@@ -56,10 +56,10 @@ loop-top-preserved c =
     let C = c.args.calls.now in
     let p = c.args.start in
     let F = functions B C in
-    let s = search_at c.loop-top.order.items c.loop-top.found.items c.pop.new.self.items c.loop-top.used in
-    let t = search_at c.advance.new.order.items c.advance.new.found.items c.advance.new.pending.items c.advance.new.used in
+    let s = search_at c.loop-top.progress.order.items c.loop-top.progress.found.items c.pop.new.self.items c.loop-top.progress.used in
+    let t = search_at c.advance.new.self.order.items c.advance.new.self.found.items c.advance.new.self.pending.items c.advance.new.self.used in
     let top = c.in-Some.top in
-    let st = subst (State (length B) (seen B C p) p c.loop-top.order.items c.loop-top.found.items) c.in-Some.ensures.items c.loop-top.invariant.state in
+    let st = subst (State (length B) (seen B C p) p c.loop-top.progress.order.items c.loop-top.progress.found.items) c.in-Some.ensures.items c.loop-top.invariant.state in
     let a = subst (λ (u : Option Fault). Advanced F (seen B C p) top s t u) c.in_default-step.is c.in_ok-step.ensures in
     record {
       state = advanced (length B) (seen B C p) p F (sought B p (length B) C c.requires.sound) s t top st a;
@@ -71,5 +71,5 @@ returns c =
     let B = c.args.bodies.now in
     let C = c.args.calls.now in
     let p = c.args.start in
-    let empty : length c.loop-top.pending.items ≡ 0 = omega (arith, c.loop-top.pending.ok.0, c.in_default.ensures.cases.0) in
-    finds B C p (Ok c.loop-top.order) (found_all (functions B C) (length B) (seen B C p) p c.loop-top.order.items c.loop-top.found.items c.loop-top.pending.items c.loop-top.used empty c.loop-top.invariant.state c.loop-top.invariant.counted)
+    let empty : length c.loop-top.progress.pending.items ≡ 0 = omega (arith, c.loop-top.progress.pending.ok.0, c.in_default.ensures.cases.0) in
+    finds B C p (Ok c.loop-top.progress.order) (found_all (functions B C) (length B) (seen B C p) p c.loop-top.progress.order.items c.loop-top.progress.found.items c.loop-top.progress.pending.items c.loop-top.progress.used empty c.loop-top.invariant.state c.loop-top.invariant.counted)

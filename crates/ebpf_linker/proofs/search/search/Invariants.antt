@@ -8,9 +8,9 @@ use Rattle.ebpf_linker.proofs.search.search.Given as goal
 
 abbrev pub invariant-loop-top : goal.invariant-loop-top
 invariant-loop-top l = record {
-  state : State (length l.bodies) (seen l.bodies l.calls l.start) l.start l.order.items l.found.items l.pending.items;
-  counted : Counted (functions l.bodies l.calls) l.order.items l.used;
+  state : State (length l.bodies) (seen l.bodies l.calls l.start) l.start l.progress.order.items l.progress.found.items l.progress.pending.items;
+  counted : Counted (functions l.bodies l.calls) l.progress.order.items l.progress.used;
 }
 
 abbrev pub decreases-loop-top : goal.decreases-loop-top
-decreases-loop-top l = left_of (seen l.bodies l.calls l.start) (search_at l.order.items l.found.items l.pending.items l.used)
+decreases-loop-top l = left_of (seen l.bodies l.calls l.start) (search_at l.progress.order.items l.progress.found.items l.progress.pending.items l.progress.used)

@@ -1,0 +1,86 @@
+//! Functions and references for tests.
+
+use crate::{Body, Call, Fault, LinkedProgram, Target, is_sound, link};
+use ebpf_parts::insn::bpf_insn;
+use std::alloc::{AllocError, Global};
+
+pub const CALL: bpf_insn = bpf_insn {
+    code: 0x85,
+    regs: 0x10,
+    off: 0,
+    imm: -1,
+};
+
+pub const EXIT: bpf_insn = bpf_insn {
+    code: 0x95,
+    regs: 0,
+    off: 0,
+    imm: 0,
+};
+
+pub const LOAD: bpf_insn = bpf_insn {
+    code: 0x18,
+    regs: 0x01,
+    off: 0,
+    imm: 8,
+};
+
+pub const NOTHING: bpf_insn = bpf_insn {
+    code: 0,
+    regs: 0,
+    off: 0,
+    imm: 0,
+};
+
+pub const CALLS: [bpf_insn; 2] = [CALL, EXIT];
+
+pub const CALLS_TWICE: [bpf_insn; 3] = [CALL, CALL, EXIT];
+
+pub const ENDS: [bpf_insn; 1] = [EXIT];
+
+/// A reference from a slot of a function to a function.
+pub type Reference = (usize, usize, Target);
+
+/// A function without records.
+pub fn plain(slots: &[bpf_insn]) -> Body<'_> {
+    Body {
+        slots,
+        func_info: &[],
+        line_info: &[],
+    }
+}
+
+/// The references of so many functions, each list in the order in which they are given.
+pub fn lists(
+    alloc: Global,
+    count: usize,
+    references: &[Reference],
+) -> Result<Vec<Vec<Call>>, AllocError> {
+    let mut lists = Vec::new(alloc);
+    for function in 0..count {
+        let mut list = Vec::new(alloc);
+        for (from, slot, target) in references {
+            if *from != function {
+                continue;
+            }
+            list.push(Call {
+                slot: *slot,
+                target: *target,
+            })?;
+        }
+        lists.push(list)?;
+    }
+    Ok(lists)
+}
+
+/// The first function linked; none where the references are not sound.
+pub fn linked(
+    alloc: Global,
+    bodies: &[Body<'_>],
+    calls: &[Vec<Call>],
+) -> Result<Option<Result<LinkedProgram, Fault>>, AllocError> {
+    if bodies.is_empty() || calls.len() != bodies.len() || !is_sound(calls, bodies.len()) {
+        return Ok(None);
+    }
+    Ok(Some(link(alloc, bodies, calls, 0)?))
+}
