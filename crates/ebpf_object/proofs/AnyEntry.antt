@@ -1,5 +1,5 @@
 -- A test of the values of a map in any order, and of its entries in the order of the keys.
-use Rattle.std.proofs.Common.{◌≡◌, Bool, true, false, cond, not, ◌||◌, List, [], ◌∷◌, map, Option, Some, None, refl, sym, ap, ◌∙◌}
+use Rattle.std.proofs.Common.{◌≡◌, Bool, true, false, cond, ◌||◌, List, [], ◌∷◌, Some, None, refl, sym, ap, ◌∙◌}
 use Rattle.std.specs.declared.cmp.Ordering.{Ordering}
 use Rattle.std.specs.declared.cmp.Ordering.TheVariants.{Less, Equal, Greater}
 use Rattle.std.specs.Ordering.{eq_by_cmp, is_eq}
@@ -7,7 +7,7 @@ use Rattle.std.specs.Cmp.{IsTotalOrder}
 use Rattle.std.specs.List.{list_any, IsDistinct, AllByRecursion}
 use Rattle.std.specs.Map.{lookup, keys_of, values_of}
 use Rattle.std.specs.BTreeMap.{is_at}
-use Rattle.std.specs.FinMap.{FinMap, from_entries, get, get-entries, entries, entries-insert, find, put}
+use Rattle.std.specs.FinMap.{from_entries, get-entries, entries, entries-insert, find, put}
 use Rattle.std.specs.FinMap.Entries.{by_order}
 use Rattle.std.specs.String.{string_eq}
 use Rattle.std.specs.declared.string.String.{String}

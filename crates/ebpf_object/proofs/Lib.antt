@@ -1,12 +1,13 @@
 pub mod AddedLemmas
 pub mod AnyEntry
-pub mod ExternErrors
+pub mod FirstNames
 pub mod FromFile
 pub mod GivenValues
 pub mod Grouped
 pub mod Offsets
 pub mod Patching
 pub mod ProgramNames
+pub mod Rebuilt
 pub mod Replaced
 pub mod SanitizedTwice
 pub mod Sanitizing
@@ -15,3 +16,10 @@ pub mod Places
 pub mod Tiles
 pub mod TypeErrors
 pub mod Words
+pub mod Overwrites
+pub mod PatchedPlaces
+pub mod PatchedBytes
+pub mod VariablePatches
+pub mod LastEntries
+pub mod TextKeys
+pub mod SectionTables

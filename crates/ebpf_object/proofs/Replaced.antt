@@ -1,8 +1,8 @@
 -- Functions that take the places of others.
-use Rattle.std.proofs.Common.{◌≡◌, ℕ, Bool, true, false, cond, List, [], ◌∷◌, Option, Some, None, Result, Ok, Err, refl, sym, ap, subst, ◌∙◌}
+use Rattle.std.proofs.Common.{◌≡◌, Bool, true, false, cond, List, [], ◌∷◌, Option, Some, None, Result, Ok, Err, refl, sym, ap, ◌∙◌}
 use Rattle.std.specs.Prelude.{MatchBool, MatchOption, if◌then◌else◌, is_some}
-use Rattle.std.specs.FinMap.{FinMap, get, insert, find, contains_key, get-insert, from_entries, get-from_entries}
-use Rattle.std.specs.List.{list_any, AllByRecursion}
+use Rattle.std.specs.FinMap.{FinMap, get, insert, find, get-insert, from_entries, get-from_entries}
+use Rattle.std.specs.List.{AllByRecursion}
 use Rattle.std.specs.List.Sorted.{IsStrictlySortedBy}
 use Rattle.std.specs.Map.{keys_of}
 use Rattle.std.specs.Ordering.{eq_by_cmp, is_eq}
@@ -11,7 +11,7 @@ use Rattle.ebpf_base.proofs.Maps.{key_exact}
 use Rattle.ebpf_base.specs.Keys.{key_cmp, key_total}
 use Rattle.ebpf_object.specs.Joined.{replaced, is_program_key, AreJoined}
 use Rattle.ebpf_reloc.proofs.Keys.{is_equal}
-use Rattle.ebpf_reloc.specs.Linking.{ProgramValue, key_of, IsLinked, AreLinked}
+use Rattle.ebpf_reloc.specs.Linking.{ProgramValue, IsLinked, AreLinked}
 use Rattle.ebpf_reloc.specs.Places.{LinkableValue}
 use Rattle.ebpf_reloc.specs.References.{Key}
 use Rattle.ebpf_reloc.specs.declared.function.Function.{Function}

@@ -1,8 +1,8 @@
 -- Walks over symbols and offsets.
-use Rattle.std.proofs.Common.{◌≡◌, ℕ, suc, zero, ◌+◌, ◌<◌, Bool, true, false, List, [], ◌∷◌, ◌++◌, length, take, drop, Option, Some, None, refl, sym, ap, ◌∙◌, arith, get_or}
+use Rattle.std.proofs.Common.{◌≡◌, ℕ, suc, ◌+◌, ◌<◌, Bool, true, false, List, [], ◌∷◌, ◌++◌, length, take, drop, Some, None, refl, sym, ap, ◌∙◌, arith}
 use Rattle.std.proofs.Math.Seq.{take-suc, drop-cons}
 use Rattle.std.specs.List.{find}
-use Rattle.std.specs.Prelude.{is_some, if◌then◌else◌, ◌&&◌, ◌==◌, slice_index_or}
+use Rattle.std.specs.Prelude.{is_some, if◌then◌else◌, ◌&&◌, slice_index_or}
 use Rattle.ebpf_object.specs.Symbols.{SymbolValue}
 use Rattle.ebpf_object.specs.Texts.{is_text_at, is_defined_text, repeated_from}
 

@@ -1,16 +1,15 @@
 -- The functions of a Text section tile it.
-use Rattle.std.proofs.Common.{◌≡◌, ℕ, suc, zero, ◌+◌, ◌-◌, ◌*◌, ◌/◌, ◌%◌, ◌<◌, ◌≤◌, Bool, true, false, not, ◌||◌, List, [], ◌∷◌, ◌++◌, map, length, take, drop, Option, Some, None, refl, sym, ap, ◌∙◌, arith, nat_lt, append-nil, get_or}
-use Rattle.std.specs.Prelude.{if◌then◌else◌, slice_range, slice_index, ◌==◌}
+use Rattle.std.proofs.Common.{◌≡◌, ℕ, suc, zero, ◌+◌, ◌-◌, ◌*◌, ◌/◌, ◌%◌, ◌<◌, ◌≤◌, true, false, List, [], ◌∷◌, ◌++◌, map, length, take, drop, Option, Some, None, refl, sym, ap, ◌∙◌, arith, nat_lt, get_or}
+use Rattle.std.specs.Prelude.{if◌then◌else◌, slice_range, slice_index}
 use Rattle.std.specs.Int.{w16, w32, cast_signed}
 use Rattle.std.specs.List.{flat_map, range_with_len}
 use Rattle.byteorder.specs.Endian.{little_from}
 use Rattle.ebpf_btf.specs.Numbers.{number_at}
 use Rattle.std.proofs.lemmas.List.{get_or-take, get_or-drop, length-take, length-drop}
 use Rattle.std.proofs.lemmas.Bool.Decides.{nat_tests}
-use Rattle.ebpf_base.specs.Faults.{or_else, first_in, first_of, first_some}
+use Rattle.ebpf_base.specs.Faults.{or_else, first_some}
 use Rattle.ebpf_parts.specs.declared.insn.bpf_insn.{bpf_insn}
 use Rattle.ebpf_reloc.specs.declared.function.Function.{Function}
-use Rattle.ebpf_parts.specs.declared.error.ParseError.{ParseError}
 use Rattle.ebpf_parts.specs.Sections.{SectionValue}
 use Rattle.ebpf_parts.specs.Slots.{slot_at, slots_of, code_faults}
 use Rattle.ebpf_object.specs.Records.{Said}
@@ -77,12 +76,12 @@ slots_of_range bytes w m inside =
     ∙ slots_shift bytes w m 0 m (omega arith) ∙ ap (λ v. slots_in bytes v m) e
 
 -- what is known of the symbol where nothing stops
-record Stands (s : SectionValue) (o : ℕ) (z : Option SymbolValue) : Type 0 where
-  y : SymbolValue
-  found : z ≡ Some y
-  some : 0 < y.size
-  inside : o + y.size ≤ length s.bytes
-  whole : y.size % 8 ≡ 0
+pub record Stands (s : SectionValue) (o : ℕ) (z : Option SymbolValue) : Type 0 where
+  pub y : SymbolValue
+  pub found : z ≡ Some y
+  pub some : 0 < y.size
+  pub inside : o + y.size ≤ length s.bytes
+  pub whole : y.size % 8 ≡ 0
 
 size_known : (s : SectionValue) (o : ℕ) (y : SymbolValue) → text_stop_of s o (Some y) ≡ None → (0 < y.size) × (o + y.size ≤ length s.bytes)
 size_known s o y e = grind (arith, nat_tests)
@@ -91,7 +90,7 @@ whole_known : (s : SectionValue) (o : ℕ) (y : SymbolValue) → text_stop_of s 
 unfolding code_faults
 whole_known s o y e = grind (arith, nat_tests)
 
-stands : (s : SectionValue) (o : ℕ) (z : Option SymbolValue) → text_stop_of s o z ≡ None → Stands s o z
+pub stands : (s : SectionValue) (o : ℕ) (z : Option SymbolValue) → text_stop_of s o z ≡ None → Stands s o z
 stands s o None e = absurd (let wrong : ⊥ = cc in wrong)
 stands s o (Some y) e =
     let known : (0 < y.size) × (o + y.size ≤ length s.bytes) = size_known s o y e in

@@ -1,5 +1,5 @@
 -- The maps of data sections (libbpf's `.data`, `.rodata` and `.bss`).
-use Rattle.std.specs.Prelude.{ℕ, ◌^◌, not, List, [], ◌∷◌, Option, Some, None, nat_lt, replicate}
+use Rattle.std.specs.Prelude.{ℕ, ◌^◌, not, List, [], ◌∷◌, Option, None, nat_lt, replicate}
 use Rattle.ebpf_base.specs.Faults.{first_of}
 use Rattle.ebpf_parts.specs.Sections.{SectionValue}
 use Rattle.ebpf_parts.specs.declared.error.ParseError.{ParseError}

@@ -1,5 +1,5 @@
 -- The symbols of a file, with their names.
-use Rattle.std.specs.Prelude.{ℕ, Bool, List, [], map, Option, Some, None, unwrap_or, is_some, if◌then◌else◌}
+use Rattle.std.specs.Prelude.{ℕ, List, [], map, Option, Some, None, unwrap_or, is_some, if◌then◌else◌}
 use Rattle.std.specs.FinMap.{FinMap, empty}
 use Rattle.std.specs.Ordering.{nat_cmp}
 use Rattle.ebpf_base.specs.Faults.{first_some}

@@ -1,12 +1,11 @@
 -- The type information of a file, and what it says of instructions: its sections `.BTF` and `.BTF.ext` (libbpf's names).
-use Rattle.std.specs.Prelude.{ℕ, Bool, false, not, ◌==◌, length, List, [], ◌∷◌, ◌++◌, Option, Some, None, Result, codes, option_map, if◌then◌else◌}
+use Rattle.std.specs.Prelude.{ℕ, Bool, false, not, ◌==◌, length, List, [], Option, Some, None, Result, codes, option_map}
 use Rattle.std.specs.FinMap.{FinMap, empty}
 use Rattle.std.specs.Result.{result_ok}
 use Rattle.ebpf_base.specs.Faults.{or_else, fault_of}
 use Rattle.ebpf_base.specs.Keyed.{put_all}
 use Rattle.ebpf_base.specs.Keys.{text_cmp}
 use Rattle.ebpf_btf.specs.ExtReading.{ExtInfo, read_ext}
-use Rattle.ebpf_btf.specs.Memory.{is_memory}
 use Rattle.ebpf_btf.specs.Reading.{type_info_of}
 use Rattle.ebpf_btf.specs.TypeInfo.{TypeInfo}
 use Rattle.ebpf_btf.specs.declared.endianness.Endianness.{Endianness}
@@ -18,16 +17,12 @@ use Rattle.ebpf_object.specs.Parts.{name_in}
 use Rattle.ebpf_object.specs.Terms.{section_named}
 use Rattle.ebpf_parts.specs.Sections.{section_of, section_fault}
 use Rattle.ebpf_parts.specs.declared.error.ParseError.{ParseError}
-use Rattle.ebpf_parts.specs.declared.error.ParseError.TheVariants.{BtfError, OutOfMemory}
+use Rattle.ebpf_parts.specs.declared.error.ParseError.TheVariants.{BtfError}
 
 -- a section's number, by its name
 abbrev pub names_in : Option SectionOf → List (List ℕ × SectionIndex)
 names_in None = []
 names_in (Some s) = name_in (section_of s)
-
--- the parsing error of an error of the type information: a want of memory is one here too
-abbrev pub parse_error : TypeError → ParseError
-parse_error e = if is_memory e then OutOfMemory else BtfError e
 
 -- ---- types
 

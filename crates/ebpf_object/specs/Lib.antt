@@ -20,3 +20,5 @@ pub mod OlderHelpers
 pub mod Patches
 pub mod PatchValues
 pub mod TypedExterns
+pub mod PatchedBytes
+pub mod TiledSections

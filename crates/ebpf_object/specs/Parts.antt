@@ -1,11 +1,11 @@
 -- What each section gives to an object.
-use Rattle.std.specs.Prelude.{ℕ, Bool, ◌||◌, List, [], ◌∷◌, map, length, Option, Some, None, ◌==◌, if◌then◌else◌, codes}
+use Rattle.std.specs.Prelude.{ℕ, Bool, ◌||◌, List, [], ◌∷◌, map, length, Option, None, ◌==◌, if◌then◌else◌, codes}
 use Rattle.std.specs.FinMap.{FinMap, empty}
 use Rattle.std.specs.List.{flat_map}
 use Rattle.std.specs.Ordering.{nat_cmp}
 use Rattle.ebpf_base.specs.Faults.{or_else, first_of, first_some}
 use Rattle.ebpf_base.specs.Keyed.{put_all}
-use Rattle.ebpf_base.specs.Keys.{text_cmp, key_cmp}
+use Rattle.ebpf_base.specs.Keys.{text_cmp}
 use Rattle.ebpf_btf.specs.TypeInfo.{TypeInfo}
 use Rattle.ebpf_elf.specs.Names.{is_name}
 use Rattle.ebpf_elf.specs.Sections.{SectionOf, sections, section_name}

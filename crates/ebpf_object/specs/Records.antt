@@ -1,8 +1,9 @@
 -- What `.BTF.ext` says of a function: the records of its section that stand at its slots.
-use Rattle.std.specs.Prelude.{ℕ, ◌+◌, ◌-◌, ◌/◌, ◌&&◌, Bool, List, [], ◌∷◌, map, filter, Option, Some, None, ◌==◌, nat_le, nat_lt, slice_index_or}
+use Rattle.std.specs.Prelude.{ℕ, ◌+◌, ◌-◌, ◌/◌, ◌&&◌, Bool, List, map, filter, Option, Some, None, ◌==◌, nat_le, nat_lt, slice_index_or}
+use Rattle.std.specs.FinMap.{FinMap, empty}
+use Rattle.ebpf_base.specs.Keys.{text_cmp}
 use Rattle.ebpf_btf.specs.ExtInfos.{func_info_at, line_info_at}
 use Rattle.ebpf_btf.specs.ExtReading.{ExtInfo}
-use Rattle.ebpf_btf.specs.ExtInfos.{no_func_info, no_line_info}
 use Rattle.ebpf_btf.specs.declared.ext_infos.bpf_func_info.{bpf_func_info}
 use Rattle.ebpf_btf.specs.declared.ext_infos.bpf_line_info.{bpf_line_info}
 use Rattle.ebpf_btf.specs.declared.ext_infos.FuncSecInfo.{FuncSecInfo}
@@ -15,18 +16,28 @@ pub record Said : Type 0 where
   pub func_size : ℕ
   pub line_size : ℕ
 
+-- what is said of all sections, by their names
+pub record Gathered : Type 0 where
+  pub funcs : FinMap text_cmp FuncSecInfo
+  pub lines : FinMap text_cmp LineSecInfo
+  pub func_size : ℕ
+  pub line_size : ℕ
+
 -- a file without `.BTF.ext` says nothing
-abbrev pub nothing_said : Said
-nothing_said = record { funcs = no_func_info; lines = no_line_info; func_size = 0; line_size = 0 }
+abbrev pub gathered_of : Option ExtInfo → Gathered
+gathered_of None = record { funcs = empty; lines = empty; func_size = 0; line_size = 0 }
+gathered_of (Some x) = record { funcs = x.func_info; lines = x.line_info; func_size = x.func_record_size; line_size = x.line_record_size }
+
+abbrev pub said_at : Gathered → List ℕ → Said
+said_at g name = record {
+  funcs = func_info_at g.funcs name;
+  lines = line_info_at g.lines name;
+  func_size = g.func_size;
+  line_size = g.line_size;
+}
 
 abbrev pub said_of : Option ExtInfo → List ℕ → Said
-said_of None name = nothing_said
-said_of (Some x) name = record {
-  funcs = func_info_at x.func_info name;
-  lines = line_info_at x.line_info name;
-  func_size = x.func_record_size;
-  line_size = x.line_record_size;
-}
+said_of ext name = said_at (gathered_of ext) name
 
 -- the number of the slot that a place in the section falls into; a slot has 8 bytes
 abbrev pub slot_of : ℕ → ℕ

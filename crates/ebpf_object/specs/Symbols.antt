@@ -1,5 +1,5 @@
 -- The symbols that a section has.
-use Rattle.std.specs.Prelude.{ℕ, Bool, true, false, ◌&&◌, not, List, length, Option, Some, None, ◌==◌, filter}
+use Rattle.std.specs.Prelude.{ℕ, Bool, true, false, List, Option, Some, None, ◌==◌, filter}
 use Rattle.ebpf_elf.specs.declared.entries.SymbolKind.{SymbolKind}
 use Rattle.ebpf_elf.specs.declared.entries.SymbolKind.TheVariants.{Text}
 

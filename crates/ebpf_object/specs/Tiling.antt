@@ -1,5 +1,5 @@
 -- That the functions of a Text section tile it.
-use Rattle.std.specs.Prelude.{◌≡◌, List, Option, None}
+use Rattle.std.specs.Prelude.{◌≡◌, List, None}
 use Rattle.std.specs.List.{flat_map}
 use Rattle.ebpf_object.specs.Records.{Said}
 use Rattle.ebpf_object.specs.Symbols.{SymbolValue}

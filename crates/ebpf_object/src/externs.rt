@@ -7,11 +7,10 @@ ghost use Rattle.ebpf_object.specs.FileExterns.{externs_beside, externs_stop};
 ghost use Rattle.ebpf_object.specs.FileSymbols.{file_symbols, symbols_fault};
 ghost use Rattle.ebpf_parts.specs.Memory.{is_memory};
 
-use crate::file_types::parse_error;
 use crate::symbol_names::weak_by_name;
 use ebpf_base::ByName;
 use ebpf_btf::Btf;
-use ebpf_declarations::collect_externs;
+use ebpf_declarations::{collect_externs, parse_error};
 use ebpf_elf::ElfFile;
 use ebpf_parts::ParseError;
 use ebpf_reloc::ExternDesc;
@@ -26,7 +25,7 @@ pub struct FileExterns {
 
 impl FileExterns {
     /// Those of a file, whose symbols have names, beside its types.
-    #[tactic(auto, using(crate::proofs::ExternErrors::refused))]
+    #[tactic(auto, using(crate::proofs::TypeErrors::said))]
     pub fn read(
         alloc: Global,
         file: &ElfFile<'_>,

@@ -7,26 +7,17 @@ ghost use Rattle.ebpf_base.specs.Keyed.{put_all};
 ghost use Rattle.ebpf_btf.specs.ExtReading.{read_ext};
 ghost use Rattle.ebpf_btf.specs.Reading.{type_info_of};
 ghost use Rattle.ebpf_elf.specs.File.{order_of};
-ghost use Rattle.ebpf_object.specs.FileTypes.{parse_error, btf_of, btf_stop, ext_of, ext_stop, ext_beside, ext_stop_beside, ext_names_beside, said_in, said_fault_in, said_section, names_in, type_names, names_met, file_types_fault};
+ghost use Rattle.ebpf_object.specs.FileTypes.{btf_of, btf_stop, ext_of, ext_stop, ext_beside, ext_stop_beside, ext_names_beside, said_in, said_fault_in, said_section, names_in, type_names, names_met, file_types_fault};
 ghost use Rattle.ebpf_object.specs.Parts.{name_in};
 ghost use Rattle.ebpf_parts.specs.Memory.{is_memory};
 ghost use Rattle.ebpf_parts.specs.declared.error.ParseError.TheVariants.{BtfError as TypeFault};
 
 use ebpf_base::ByName;
-use ebpf_btf::{Btf, BtfError, BtfExt, Endianness};
+use ebpf_btf::{Btf, BtfExt, Endianness};
+use ebpf_declarations::parse_error;
 use ebpf_elf::{ElfFile, SectionIndex};
 use ebpf_parts::{ParseError, Section};
 use std::alloc::Global;
-
-/// The parsing error of an error of the type information. A want of memory is one here too.
-pub fn parse_error(error: BtfError) -> ParseError
-    ensures { result ≡ parse_error error }
-{
-    match error {
-        BtfError::OutOfMemory => ParseError::OutOfMemory,
-        _ => ParseError::BtfError(error),
-    }
-}
 
 /// The types that some bytes are.
 #[tactic(auto, using(crate::proofs::TypeErrors::refused))]

@@ -5,6 +5,8 @@ ghost use Rattle.ebpf_base.specs.Keyed.{LaterStands};
 ghost use Rattle.ebpf_base.specs.Keys.{text_cmp, key_cmp};
 ghost use Rattle.ebpf_elf.specs.declared.entries.ElfRelocation.{ElfRelocation};
 ghost use Rattle.ebpf_elf.specs.declared.entries.SectionIndex.{SectionIndex};
+ghost use Rattle.ebpf_object.specs.PatchedBytes.{GreatestNameStands, OtherBytesStay, LengthsStay, MapsStay, PatchesAreValues, ValuesArePatches};
+ghost use Rattle.ebpf_object.specs.TiledSections.{AtEachAddress, InOrder, SectionsTile};
 ghost use Rattle.ebpf_object.specs.Tiling.{FunctionsTile};
 ghost use Rattle.ebpf_object.specs.declared.program.Program.{Program};
 ghost use Rattle.ebpf_parts.specs.declared.maps.either.Map.{Map};
@@ -26,4 +28,24 @@ pub fn later_entries_stand()
 /// The functions of a Text section in order of their offset, joined, are the slots of the section's data.
 pub fn functions_tile()
     ensures { FunctionsTile }
+{}
+
+/// What `Object::patch_map_data` makes of the maps' data, byte by byte: of the variables whose value has a byte for a
+/// place, the one whose name is the greatest in byte order gives it, and each other byte is as before.
+pub fn greatest_name_stands()
+    ensures covered { GreatestNameStands }
+    ensures uncovered { OtherBytesStay }
+    ensures lengths { LengthsStay }
+    ensures maps_stay { MapsStay }
+    ensures patches_are_values { PatchesAreValues }
+    ensures values_are_patches { ValuesArePatches }
+{}
+
+/// In the table of functions of an object a Text section's number and an address have the function that begins there.
+/// Where the section's addresses stay below 2^64, the table's functions of the section in order of their addresses are
+/// those that its symbols give in order of their offset; joined they are the slots of the section's data.
+pub fn sections_tile()
+    ensures at_each_address { AtEachAddress }
+    ensures in_order { InOrder }
+    ensures tiled { SectionsTile }
 {}

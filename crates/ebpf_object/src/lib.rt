@@ -19,6 +19,7 @@ mod program;
 mod program_functions;
 mod queries;
 mod records;
+mod records_by_name;
 mod relocate_calls;
 mod relocations;
 pub mod sanitize;

@@ -25,7 +25,7 @@ use crate::groups::Groups;
 use crate::legacy_maps::put_legacy_maps;
 use crate::program::Program;
 use crate::program_functions::{put_functions, put_programs};
-use crate::records::SectionRecords;
+use crate::records_by_name::{Context, RecordsByName};
 use crate::relocations::{by_offset, read_relocation_sections};
 use crate::shared::Shared;
 use crate::symbols::NamedSymbol;
@@ -92,11 +92,11 @@ impl Parts {
     fn add_programs(
         &mut self,
         alloc: Global,
-        shared: &Shared,
+        context: &Context<'_>,
         section: &Section<'_>,
         symbols: &[NamedSymbol<'_>],
     ) -> Result<(), ParseError>
-        ensures put { OnOk result (self.new ≡ record self.old { programs = put_all self.old.programs (programs_of shared.now.terms section.now symbols.now (program_section section.now.name)); functions = put_all self.old.functions (map placed (program_functions (said_of shared.now.btf_ext section.now.name) section.now symbols.now)); relocations = put_all self.old.relocations (kept_at section.now.index.0 section.now.relocations) }) }
+        ensures put { OnOk result (self.new ≡ record self.old { programs = put_all self.old.programs (programs_of context.now.terms section.now symbols.now (program_section section.now.name)); functions = put_all self.old.functions (map placed (program_functions (said_of context.now.btf_ext section.now.name) section.now symbols.now)); relocations = put_all self.old.relocations (kept_at section.now.index.0 section.now.relocations) }) }
         ensures fault { Refuses is_memory result (program_section_fault section.now symbols.now) }
     {
         let kind = ProgramSection::from_str(alloc, section.name)?;
@@ -105,12 +105,12 @@ impl Parts {
                 section_name: Text::from_str(alloc, section.name)?,
             });
         }
-        let records = SectionRecords::named(alloc, &shared.btf_ext, section.name)?;
+        let records = context.records.of(section.name);
         put_functions(alloc, &mut self.functions, &records, section, symbols)?;
         put_programs(
             alloc,
             &mut self.programs,
-            &shared.terms,
+            &context.shared.terms,
             kind,
             section,
             symbols,
@@ -122,14 +122,14 @@ impl Parts {
     fn add_texts(
         &mut self,
         alloc: Global,
-        shared: &Shared,
+        context: &Context<'_>,
         section: &Section<'_>,
         symbols: &[NamedSymbol<'_>],
     ) -> Result<(), ParseError>
-        ensures put { OnOk result (self.new ≡ record self.old { functions = put_all self.old.functions (map placed (text_functions (said_of shared.now.btf_ext section.now.name) section.now symbols.now)); relocations = put_all self.old.relocations (kept_at section.now.index.0 section.now.relocations) }) }
+        ensures put { OnOk result (self.new ≡ record self.old { functions = put_all self.old.functions (map placed (text_functions (said_of context.now.btf_ext section.now.name) section.now symbols.now)); relocations = put_all self.old.relocations (kept_at section.now.index.0 section.now.relocations) }) }
         ensures fault { Refuses is_memory result (text_fault section.now symbols.now) }
     {
-        let records = SectionRecords::named(alloc, &shared.btf_ext, section.name)?;
+        let records = context.records.of(section.name);
         let functions = text_functions(alloc, &records, section, symbols)?;
         put_texts(&mut self.functions, functions)?;
         put_relocations(alloc, &mut self.relocations, section)
@@ -140,23 +140,23 @@ impl Parts {
     fn add_kind(
         &mut self,
         alloc: Global,
-        shared: &Shared,
+        context: &Context<'_>,
         section: &Section<'_>,
         symbols: &[NamedSymbol<'_>],
     ) -> Result<(), ParseError>
-        ensures put { OnOk result (record self.new { section_infos = put_all self.new.section_infos ((section.now.name, section.now.index) ∷ []) } ≡ added shared.now self.old section.now symbols.now) }
-        ensures fault { Refuses is_memory result (fault_in shared.now section.now symbols.now) }
+        ensures put { OnOk result (record self.new { section_infos = put_all self.new.section_infos ((section.now.name, section.now.index) ∷ []) } ≡ added context.now self.old section.now symbols.now) }
+        ensures fault { Refuses is_memory result (fault_in context.now section.now symbols.now) }
     {
         match section.kind {
-            EbpfSectionKind::Program => self.add_programs(alloc, shared, section, symbols),
+            EbpfSectionKind::Program => self.add_programs(alloc, context, section, symbols),
             EbpfSectionKind::Data | EbpfSectionKind::Rodata | EbpfSectionKind::Bss => {
                 put_data_map(alloc, &mut self.maps, section)
             }
             EbpfSectionKind::Maps => put_legacy_maps(alloc, &mut self.maps, section, symbols),
             EbpfSectionKind::BtfMaps => {
-                put_declared_maps(alloc, &mut self.maps, &shared.btf, section, symbols)
+                put_declared_maps(alloc, &mut self.maps, &context.shared.btf, section, symbols)
             }
-            EbpfSectionKind::Text => self.add_texts(alloc, shared, section, symbols),
+            EbpfSectionKind::Text => self.add_texts(alloc, context, section, symbols),
             _ => Ok(()),
         }
     }
@@ -165,20 +165,20 @@ impl Parts {
     fn add_section(
         &mut self,
         alloc: Global,
-        shared: &Shared,
+        context: &Context<'_>,
         section: &ElfSection<'_>,
         tables: &[ElfRelocationSection<'_>],
         symbols: &[NamedSymbol<'_>],
     ) -> Result<(), ParseError>
         requires { tables.now ≡ filter (λ r. target_of r == section.now.index) (relocation_sections section.now.file) }
-        ensures put { OnOk result (self.new ≡ added_at shared.now self.old section.now symbols.now) }
-        ensures fault { Refuses is_memory result (fault_at shared.now symbols.now section.now) }
+        ensures put { OnOk result (self.new ≡ added_at context.now self.old section.now symbols.now) }
+        ensures fault { Refuses is_memory result (fault_at context.now symbols.now section.now) }
     {
         if is_type_information(section) {
             return Ok(());
         }
         let section = Section::with_relocations(alloc, section, tables)?;
-        self.add_kind(alloc, shared, &section, symbols)?;
+        self.add_kind(alloc, context, &section, symbols)?;
         remember(alloc, &mut self.section_infos, &section)
     }
 }
@@ -197,10 +197,18 @@ pub fn read_sections(
     ensures fault { Refuses is_memory result (sections_fault shared.now file.now) }
 {
     let tables = read_relocation_sections(alloc, file)?;
+    let records = RecordsByName::gather(alloc, &shared.btf_ext)?;
+    let context = Context { shared, records };
     let mut parts = Parts::new(alloc, section_infos);
     for section in file.sections() {
         let index = section.index().0;
-        parts.add_section(alloc, shared, &section, tables.of(index), symbols.of(index))?;
+        parts.add_section(
+            alloc,
+            &context,
+            &section,
+            tables.of(index),
+            symbols.of(index),
+        )?;
     }
     Ok(parts)
 }

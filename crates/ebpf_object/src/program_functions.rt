@@ -30,7 +30,7 @@ impl NamedSymbol<'_> {
 #[tactic(auto, unfolding(crate::specs::Programs::program_function, crate::specs::Programs::program_stop))]
 fn function_of(
     alloc: Global,
-    records: &SectionRecords<'_>,
+    records: &SectionRecords<'_, '_>,
     section: &Section<'_>,
     symbol: &NamedSymbol<'_>,
 ) -> Result<Function, ParseError>
@@ -68,7 +68,7 @@ fn function_of(
 pub fn put_functions(
     alloc: Global,
     functions: &mut ByKey<Function>,
-    records: &SectionRecords<'_>,
+    records: &SectionRecords<'_, '_>,
     section: &Section<'_>,
     symbols: &[NamedSymbol<'_>],
 ) -> Result<(), ParseError>

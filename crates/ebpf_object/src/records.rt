@@ -1,18 +1,16 @@
 //! What `.BTF.ext` says of the functions of a section.
 
 ghost use Rattle.std.specs.Prelude.{◌≡◌, ◌==◌, ◌+◌, ◌<◌, ◌^◌, ℕ, [], IfOk, IfErr, true, map, filter, length};
-ghost use Rattle.ebpf_btf.specs.ExtInfos.{func_info_at, line_info_at};
+ghost use Rattle.ebpf_btf.specs.ExtInfos.{func_info_at, line_info_at, no_func_info, no_line_info};
 ghost use Rattle.std.specs.List.{All, range_with_len};
 ghost use Rattle.ebpf_object.specs.Groups.{group_at};
-ghost use Rattle.ebpf_object.specs.Records.{Said, said_of, is_func_at, is_line_in, func_from, line_from, line_at, line_slot, funcs_at, lines_in};
+ghost use Rattle.ebpf_object.specs.Records.{Said, is_func_at, is_line_in, func_from, line_from, line_at, line_slot, funcs_at, lines_in};
 ghost use Rattle.ebpf_parts.specs.Memory.{is_memory};
 
 use crate::groups::Groups;
 use crate::slot_places::{funcs_by_slot, lines_by_slot, places_of};
 use ebpf_base::Items;
-use ebpf_btf::{
-    BtfExt, FuncInfo, FuncSecInfo, LineInfo, LineSecInfo, bpf_func_info, bpf_line_info,
-};
+use ebpf_btf::{FuncInfo, FuncSecInfo, LineInfo, LineSecInfo, bpf_func_info, bpf_line_info};
 use ebpf_parts::ParseError;
 use std::alloc::Global;
 use std::marker::Model;
@@ -75,8 +73,20 @@ impl<'e> FuncRecords<'e> {
         })
     }
 
+    /// None.
+    pub fn none(alloc: Global) -> Result<FuncRecords<'e>, ParseError>
+        ensures info { IfOk result (λ r. r ≡ no_func_info) }
+        ensures memory { IfErr result (λ e. is_memory e ≡ true) }
+    {
+        FuncRecords::new(alloc, 0, 0, &[])
+    }
+
     /// Those of the section with a name.
-    fn named(alloc: Global, info: &'e FuncInfo, name: &str) -> Result<FuncRecords<'e>, ParseError>
+    pub fn named(
+        alloc: Global,
+        info: &'e FuncInfo,
+        name: &str,
+    ) -> Result<FuncRecords<'e>, ParseError>
         ensures info { IfOk result (λ r. r ≡ func_info_at info.now.sections name.now) }
         ensures memory { IfErr result (λ e. is_memory e ≡ true) }
     {
@@ -87,7 +97,7 @@ impl<'e> FuncRecords<'e> {
                 said.num_info,
                 said.func_info.as_slice(),
             ),
-            None => FuncRecords::new(alloc, 0, 0, &[]),
+            None => FuncRecords::none(alloc),
         }
     }
 
@@ -193,8 +203,20 @@ impl<'e> LineRecords<'e> {
         })
     }
 
+    /// None.
+    pub fn none(alloc: Global) -> Result<LineRecords<'e>, ParseError>
+        ensures info { IfOk result (λ r. r ≡ no_line_info) }
+        ensures memory { IfErr result (λ e. is_memory e ≡ true) }
+    {
+        LineRecords::new(alloc, 0, 0, &[])
+    }
+
     /// Those of the section with a name.
-    fn named(alloc: Global, info: &'e LineInfo, name: &str) -> Result<LineRecords<'e>, ParseError>
+    pub fn named(
+        alloc: Global,
+        info: &'e LineInfo,
+        name: &str,
+    ) -> Result<LineRecords<'e>, ParseError>
         ensures info { IfOk result (λ r. r ≡ line_info_at info.now.sections name.now) }
         ensures memory { IfErr result (λ e. is_memory e ≡ true) }
     {
@@ -205,7 +227,7 @@ impl<'e> LineRecords<'e> {
                 said.num_info,
                 said.line_info.as_slice(),
             ),
-            None => LineRecords::new(alloc, 0, 0, &[]),
+            None => LineRecords::none(alloc),
         }
     }
 
@@ -248,44 +270,17 @@ impl<'e> LineRecords<'e> {
     }
 }
 
-/// What is said of a section.
+/// What is said of a section, lent.
 #[derive(Drop)]
-pub struct SectionRecords<'e> {
-    pub funcs: FuncRecords<'e>,
-    pub lines: LineRecords<'e>,
+pub struct SectionRecords<'r, 'e> {
+    pub funcs: &'r FuncRecords<'e>,
+    pub lines: &'r LineRecords<'e>,
     pub func_size: u32,
     pub line_size: u32,
 }
 
-impl<'e> Model for SectionRecords<'e> {
+impl<'r, 'e> Model for SectionRecords<'r, 'e> {
     ghost Value = { Said };
 
-    ghost view = { λ r. record { funcs = r.funcs; lines = r.lines; func_size = r.func_size; line_size = r.line_size } };
-}
-
-impl<'e> SectionRecords<'e> {
-    /// Of the section with a name; nothing in a file without `.BTF.ext`.
-    pub fn named(
-        alloc: Global,
-        ext: &'e Option<BtfExt>,
-        name: &str,
-    ) -> Result<SectionRecords<'e>, ParseError>
-        ensures said { IfOk result (λ said. said ≡ said_of ext.now name.now) }
-        ensures memory { IfErr result (λ e. is_memory e ≡ true) }
-    {
-        match ext {
-            Some(ext) => Ok(SectionRecords {
-                funcs: FuncRecords::named(alloc, &ext.func_info, name)?,
-                lines: LineRecords::named(alloc, &ext.line_info, name)?,
-                func_size: ext.func_info_rec_size(),
-                line_size: ext.line_info_rec_size(),
-            }),
-            None => Ok(SectionRecords {
-                funcs: FuncRecords::new(alloc, 0, 0, &[])?,
-                lines: LineRecords::new(alloc, 0, 0, &[])?,
-                func_size: 0,
-                line_size: 0,
-            }),
-        }
-    }
+    ghost view = { λ r. record { funcs = r.funcs.now; lines = r.lines.now; func_size = r.func_size; line_size = r.line_size } };
 }

@@ -1,10 +1,10 @@
 //! Symbols by their names.
 
 ghost use Rattle.std.specs.Prelude.{◌≡◌, IfOk, OnOk, IfErr, true, if◌then◌else◌};
-ghost use Rattle.std.specs.FinMap.{contains_key, insert};
+ghost use Rattle.std.specs.FinMap.{contains_key, get, insert};
 ghost use Rattle.ebpf_base.specs.Faults.{Refuses};
 ghost use Rattle.ebpf_object.specs.FileSymbols.{file_symbols, symbols_fault};
-ghost use Rattle.ebpf_object.specs.SymbolNames.{numbers_by_name, weak_by_name};
+ghost use Rattle.ebpf_object.specs.SymbolNames.{numbers_by_name, weak_named};
 ghost use Rattle.ebpf_parts.specs.Memory.{is_memory};
 
 use crate::symbols::NamedSymbol;
@@ -29,8 +29,9 @@ pub fn numbers_by_name(
 }
 
 /// Whether the symbols of a file are weak, by name; of equal names the first.
+#[tactic(auto, using(crate::proofs::FirstNames::before_all, crate::proofs::FirstNames::one_more, crate::proofs::FirstNames::all_named))]
 pub fn weak_by_name(alloc: Global, file: &ElfFile<'_>) -> Result<ByName<bool>, ParseError>
-    ensures weak { IfOk result (λ weak. weak ≡ weak_by_name (file_symbols file.now)) }
+    ensures weak { IfOk result (λ weak. get weak ≡ weak_named (file_symbols file.now)) }
     ensures fault { Refuses is_memory result (symbols_fault file.now) }
 {
     let mut weak = ByName::new(alloc);

@@ -20,7 +20,7 @@ use std::alloc::Global;
 #[tactic(auto, unfolding(crate::specs::Texts::text_function))]
 fn function_of(
     alloc: Global,
-    records: &SectionRecords<'_>,
+    records: &SectionRecords<'_, '_>,
     section: &Section<'_>,
     symbol: &NamedSymbol<'_>,
     offset: usize,
@@ -61,7 +61,7 @@ fn function_of(
 #[tactic(auto, unfolding(crate::specs::Texts::function_at, crate::specs::Texts::stop_at, crate::specs::Texts::size_at, crate::specs::Texts::symbol_at_offset))]
 fn function_at(
     alloc: Global,
-    records: &SectionRecords<'_>,
+    records: &SectionRecords<'_, '_>,
     section: &Section<'_>,
     symbols: &TextSymbols<'_, '_>,
     offset: usize,
@@ -87,7 +87,7 @@ fn function_at(
 #[tactic(auto, using(crate::proofs::Offsets::functions_more, crate::proofs::Offsets::fault_more, crate::proofs::Offsets::none_left))]
 fn walk(
     alloc: Global,
-    records: &SectionRecords<'_>,
+    records: &SectionRecords<'_, '_>,
     section: &Section<'_>,
     symbols: &TextSymbols<'_, '_>,
 ) -> Result<Items<Function>, ParseError>
@@ -108,7 +108,7 @@ fn walk(
 #[tactic(auto, unfolding(crate::specs::Texts::text_fault))]
 pub fn text_functions(
     alloc: Global,
-    records: &SectionRecords<'_>,
+    records: &SectionRecords<'_, '_>,
     section: &Section<'_>,
     symbols: &[NamedSymbol<'_>],
 ) -> Result<Items<Function>, ParseError>

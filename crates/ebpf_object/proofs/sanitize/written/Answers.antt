@@ -1,4 +1,4 @@
-use Rattle.std.proofs.Common.{◌≡◌, false, ap, ◌∙◌}
+use Rattle.std.proofs.Common.{false, ap, ◌∙◌}
 use Rattle.std.specs.Prelude.{option_map}
 use Rattle.std.specs.FinMap.{get, from_entries}
 use Rattle.ebpf_base.specs.Keys.{key_cmp}

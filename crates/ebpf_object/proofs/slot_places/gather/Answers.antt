@@ -1,4 +1,4 @@
-use Rattle.std.proofs.Common.{◌≡◌, ◌+◌, ◌-◌, ◌<◌, ◌++◌, ap, ◌∙◌, rules, arith}
+use Rattle.std.proofs.Common.{◌≡◌, ◌+◌, ◌-◌, ◌<◌, ◌++◌, ap, ◌∙◌, rules}
 use Rattle.std.specs.List.{flat_map, range_with_len}
 use Rattle.ebpf_object.specs.Groups.{group_at}
 use Rattle.ebpf_object.proofs.Places.{numbers_more}

@@ -1,4 +1,4 @@
-use Rattle.std.proofs.Common.{◌≡◌, subst, ap, ◌∙◌}
+use Rattle.std.proofs.Common.{subst, ap, ◌∙◌}
 use Rattle.std.specs.FinMap.{get}
 use Rattle.ebpf_base.specs.Faults.{Refuses, first_some}
 use Rattle.ebpf_base.specs.Keys.{lent_bytes}
