@@ -2,8 +2,14 @@
 #![tactic(auto)]
 
 mod arguments;
+#[cfg(test)]
+mod call_rows;
+#[cfg(test)]
+mod changed_rows;
 mod link;
 mod program_text;
+#[cfg(test)]
+mod test_runs;
 #[cfg(test)]
 mod tests;
 

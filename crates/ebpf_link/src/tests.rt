@@ -1,48 +1,12 @@
 //! What the program prints, and its statuses.
 
-use crate::arguments::{Words, WordsError, read_words};
+use crate::arguments::{WordsError, read_words};
 use crate::link::{cannot_read, run_link};
-use ebpf_base::Text;
-use ebpf_samples::{SampleFile, call_object};
+use crate::test_runs::{run, texts};
+use ebpf_samples::{EXIT, SampleFile, call_object};
 use std::alloc::{AllocError, Global};
 use std::io::{self, ErrorKind, Write};
 use std::test::Fail;
-
-const EXIT: [u8; 8] = [0x95, 0, 0, 0, 0, 0, 0, 0];
-
-/// What a run left: its status and what it wrote.
-#[derive(Debug, Drop)]
-struct Printed {
-    status: u8,
-    out: Vec<u8>,
-    err: Vec<u8>,
-}
-
-fn run(alloc: Global, file: &[u8], program: Option<&str>) -> Result<Printed, AllocError> {
-    let program = match program {
-        Some(name) => Some(Text::from_str(alloc, name)?),
-        None => None,
-    };
-    let words = Words {
-        file: Text::from_str(alloc, "file.o")?,
-        btf: None,
-        kallsyms: None,
-        program,
-    };
-    let mut out = Vec::new(alloc);
-    let mut err = Vec::new(alloc);
-    let none: &[u8] = &[];
-    let status = run_link(alloc, &words, file, None, none, &mut out, &mut err);
-    Ok(Printed { status, out, err })
-}
-
-fn texts(alloc: Global, words: &[&str]) -> Result<Vec<String>, AllocError> {
-    let mut all = Vec::new(alloc);
-    for word in words {
-        all.push(String::from_str(alloc, word)?)?;
-    }
-    Ok(all)
-}
 
 /// Whether words give the usage line.
 fn is_refused(alloc: Global, words: &[&str]) -> Result<bool, AllocError> {

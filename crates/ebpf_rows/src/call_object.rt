@@ -1,7 +1,7 @@
 //! Rows on the smallest object with a call, whole and with one change.
 
 use crate::outcome::{license_of, outcome, whole_outcome};
-use ebpf_samples::call_object;
+use ebpf_samples::{call_object, changed_call_object};
 use std::alloc::{AllocError, Global};
 use std::test::Fail;
 
@@ -10,22 +10,9 @@ const SIZE: usize = 88 + 24 + 16;
 
 const ADDRESS: usize = 88 + 24 + 8;
 
-/// The object with other bytes from a place on.
-fn changed(alloc: Global, at: usize, bytes: &[u8]) -> Result<Vec<u8>, AllocError> {
-    let mut file = call_object(alloc)?;
-    let mut place = at;
-    for byte in bytes {
-        if let Some(old) = file.get_mut(place) {
-            *old = *byte;
-        }
-        place = place.saturating_add(1);
-    }
-    Ok(file)
-}
-
 /// What the object with other bytes from a place on gives.
 fn changed_outcome(alloc: Global, at: usize, bytes: &[u8]) -> Result<String, AllocError> {
-    let file = changed(alloc, at, bytes)?;
+    let file = changed_call_object(alloc, at, bytes)?;
     outcome(alloc, file.as_slice())
 }
 

@@ -14,6 +14,10 @@ mod declared_maps;
 #[cfg(test)]
 mod externs;
 #[cfg(test)]
+mod linked;
+#[cfg(test)]
+mod linked_records;
+#[cfg(test)]
 mod maps;
 #[cfg(test)]
 mod order;
@@ -21,6 +25,8 @@ mod order;
 mod outcome;
 #[cfg(test)]
 mod parts;
+#[cfg(test)]
+mod patched;
 #[cfg(test)]
 mod programs;
 #[cfg(test)]

@@ -2,6 +2,7 @@
 
 use ebpf_object::Object;
 use std::alloc::{AllocError, Global};
+use std::collections::HashSet;
 
 /// A line for each program, in byte order of their names.
 fn put_programs(alloc: Global, text: &mut String, object: &Object) -> Result<(), AllocError> {
@@ -185,6 +186,42 @@ pub fn records_outcome(alloc: Global, bytes: &[u8]) -> Result<String, AllocError
             let mut text = String::new(alloc);
             put_records(&mut text, &object)?;
             put_names(alloc, &mut text, &object)?;
+            Ok(text)
+        }
+        Err(error) => format!(in alloc; "{error:?}"),
+    }
+}
+
+/// Joins the programs of an object with what they reach: no text, or the error in a line.
+fn join(alloc: Global, object: &mut Object) -> Result<String, AllocError> {
+    let mut sections = HashSet::new(alloc);
+    for (key, _) in object.functions.iter() {
+        sections.insert(key.0)?;
+    }
+    match object.relocate_calls(&sections) {
+        Ok(()) => Ok(String::new(alloc)),
+        Err(error) => format!(in alloc; "{error:?}\n"),
+    }
+}
+
+/// What joining the programs of the object that the bytes are answers, and the functions that it then has.
+pub fn joined_outcome(alloc: Global, bytes: &[u8]) -> Result<String, AllocError> {
+    match Object::parse(alloc, bytes) {
+        Ok(mut object) => {
+            let mut text = join(alloc, &mut object)?;
+            put_functions(&mut text, &object)?;
+            Ok(text)
+        }
+        Err(error) => format!(in alloc; "{error:?}"),
+    }
+}
+
+/// What joining the programs of the object that the bytes are answers, and the records that its functions then have.
+pub fn joined_records_outcome(alloc: Global, bytes: &[u8]) -> Result<String, AllocError> {
+    match Object::parse(alloc, bytes) {
+        Ok(mut object) => {
+            let mut text = join(alloc, &mut object)?;
+            put_records(&mut text, &object)?;
             Ok(text)
         }
         Err(error) => format!(in alloc; "{error:?}"),

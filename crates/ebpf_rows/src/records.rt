@@ -1,22 +1,11 @@
 //! Rows on type information, and on what it says of functions.
 
 use crate::outcome::{outcome, records_outcome};
-use ebpf_samples::{SampleFile, put_words};
+use ebpf_samples::{SampleFile, put_words, section_names};
 use std::alloc::{AllocError, Global};
 use std::test::Fail;
 
 const FUNCTION: u8 = 0x12;
-
-/// The strings of the type information: the names of two sections, at 1 and at 10.
-const STRINGS: &[u8] = b"\0kprobe/p\0.text\0";
-
-/// Type information of strings alone.
-fn types(alloc: Global) -> Result<Vec<u8>, AllocError> {
-    let mut bytes = Vec::new(alloc);
-    put_words(&mut bytes, &[0x1eb9f, 24, 0, 0, 0, 16])?;
-    bytes.extend_from_slice(STRINGS)?;
-    Ok(bytes)
-}
 
 /// Records on functions and on lines of both sections; the places are in bytes.
 fn said(alloc: Global) -> Result<Vec<u8>, AllocError> {
@@ -46,7 +35,7 @@ fn with_records(alloc: Global) -> Result<SampleFile, AllocError> {
 #[test]
 fn functions_have_their_records(rt: HostRuntime) -> Result<(), Fail> {
     let mut file = with_records(rt.alloc())?;
-    let types = types(rt.alloc())?;
+    let types = section_names(rt.alloc())?;
     let said = said(rt.alloc())?;
     file.section(".BTF", 1, 0, types.as_slice())?;
     file.section(".BTF.ext", 1, 0, said.as_slice())?;

@@ -16,7 +16,7 @@ pub struct SampleSection {
 }
 
 /// The number of a length, which is small here.
-fn number(length: usize) -> u32 {
+pub fn number(length: usize) -> u32 {
     u32::try_from(length).unwrap_or(u32::MAX)
 }
 

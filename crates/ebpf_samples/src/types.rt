@@ -1,6 +1,6 @@
 //! A builder of small type information, little endian.
 
-use crate::sample::put_words;
+use crate::sample::{number, put_words};
 use std::alloc::{AllocError, Global};
 
 /// A type, that has the id of its place in a list, from 1 on.
@@ -35,11 +35,6 @@ pub enum SampleType<'a> {
 struct Types {
     strings: Vec<u8>,
     bytes: Vec<u8>,
-}
-
-/// The number of a length, which is small here.
-fn number(length: usize) -> u32 {
-    u32::try_from(length).unwrap_or(u32::MAX)
 }
 
 /// The word of a kind with a number of further entries.
