@@ -7,7 +7,6 @@ use Rattle.ebpf_btf.specs.Next.{if_some, if_ok}
 use Rattle.ebpf_btf.specs.Steps.{type_at, resolved, size_of}
 use Rattle.ebpf_btf.specs.Strings.{text_at}
 use Rattle.ebpf_btf.specs.Types.{type_word}
-use Rattle.ebpf_btf.specs.TypeInfo.{TypeInfo}
 use Rattle.ebpf_btf.specs.declared.error.BtfError.{BtfError}
 use Rattle.ebpf_btf.specs.declared.error.BtfError.TheVariants.{UnexpectedBtfType, InvalidValuesSpec, InnerMapCannotBePinned, MultiLevelMapInMapNotSupported}
 use Rattle.ebpf_btf.specs.declared.members.BtfMember.{BtfMember}

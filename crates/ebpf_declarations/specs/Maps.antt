@@ -1,5 +1,5 @@
 -- The maps that types declare in the DATASECs of a section as `.maps` (libbpf's "BTF-defined maps").
-use Rattle.std.specs.Prelude.{ℕ, List, [], ◌∷◌, Option, Some, None, Result, Ok, Err}
+use Rattle.std.specs.Prelude.{ℕ, List, [], Option, Some, None, Result, Ok, Err}
 use Rattle.std.specs.List.{flat_map}
 use Rattle.ebpf_base.specs.Faults.{first_some, fault_of}
 use Rattle.ebpf_btf.specs.Next.{if_some, if_ok}

@@ -1,6 +1,6 @@
 -- The INT and the VAR that stand in for what a DATASEC of externs names as functions, since the kernel takes
 -- variables alone there.
-use Rattle.std.specs.Prelude.{ℕ, ◌+◌, Bool, ◌&&◌, false, List, length, Option, Some, None, ◌==◌, codes}
+use Rattle.std.specs.Prelude.{ℕ, Bool, false, List, length, Option, None, ◌==◌, codes}
 use Rattle.std.specs.List.{position}
 use Rattle.ebpf_base.specs.Faults.{or_else}
 use Rattle.ebpf_btf.specs.Additions.{with_type, with_string, number_fault}

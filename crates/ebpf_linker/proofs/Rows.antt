@@ -1,10 +1,10 @@
 -- What the machines visit in small programs.
-use Rattle.std.proofs.Common.{◌≡◌, ℕ, zero, suc, Bool, true, false, List, [], ◌∷◌, Option, Some, None, refl, map}
+use Rattle.std.proofs.Common.{◌≡◌, ℕ, zero, suc, true, false, List, [], ◌∷◌, Option, Some, None, refl, map}
 use Rattle.std.specs.Prelude.{ℤ, pos, negsuc}
 use Rattle.ebpf_parts.specs.declared.insn.bpf_insn.{bpf_insn}
 use Rattle.ebpf_linker.specs.Slots.{flow}
-use Rattle.ebpf_linker.specs.Functions.{Reference, Nothing, Names, References, Functions, Content}
-use Rattle.ebpf_linker.specs.Machine.{Stop, Ended, Waiting, Going, run, begin, separate, flat, name}
+use Rattle.ebpf_linker.specs.Functions.{Nothing, Names, References, Functions, Content}
+use Rattle.ebpf_linker.specs.Machine.{Ended, Waiting, run, begin, separate, flat, name}
 
 abbrev call : ℤ → bpf_insn
 call d = record { code = 0x85; regs = 16; off = pos 0; imm = d }

@@ -1,8 +1,7 @@
 -- Each pseudo call is a reference.
-use Rattle.std.proofs.Common.{◌≡◌, ◌≢◌, ℕ, Bool, true, false, List, Option, Some, None, refl, sym, ap, subst, ◌∙◌}
+use Rattle.std.proofs.Common.{◌≡◌, ◌≢◌, ℕ, Bool, true, false, List, Option, Some, None}
 use Rattle.std.specs.Prelude.{ℤ, slice_get, option_map, unwrap_or, if◌then◌else◌}
-use Rattle.std.specs.FinMap.{FinMap, get, contains_key}
-use Rattle.ebpf_base.specs.Keys.{key_cmp}
+use Rattle.std.specs.FinMap.{get, contains_key}
 use Rattle.ebpf_elf.specs.declared.entries.ElfRelocation.{ElfRelocation}
 use Rattle.ebpf_linker.specs.Functions.{Reference, Nothing, Faulty, Names, or_empty}
 use Rattle.ebpf_linker.specs.Machine.{CallsRefer}
@@ -14,7 +13,7 @@ use Rattle.ebpf_reloc.specs.declared.function.Function.{Function}
 use Rattle.ebpf_reloc.specs.declared.place.Place.{Place}
 use Rattle.ebpf_reloc.specs.declared.place.Place.TheVariants.{Absent, Unsupported, At}
 use Rattle.ebpf_reloc.specs.declared.symbol.Symbol.{Symbol}
-use Rattle.ebpf_reloc.specs.Places.{LinkableValue, place_of, relocated_place, relocation_of, own_place, placed, place_if, place_by, is_usable, symbol_place, address_of, modulo}
+use Rattle.ebpf_reloc.specs.Places.{LinkableValue, place_of, relocated_place, relocation_of, own_place, placed, place_if, place_by, is_usable, symbol_place, address_of}
 use Rattle.ebpf_reloc.specs.References.{Key, content_of, looked_up, reference_of, functions_of}
 
 abbrev IsThere : Place → Type 0

@@ -1,22 +1,19 @@
 -- The functions by number are the functions by key.
-use Rattle.std.proofs.Common.{◌≡◌, ◌≢◌, ◌<◌, ◌≤◌, ◌+◌, ℕ, zero, suc, Bool, true, false, cond, List, [], ◌∷◌, length, map, get_or, Option, Some, None, refl, sym, ap, subst, ◌∙◌, ⊎_elim, arith}
+use Rattle.std.proofs.Common.{◌≡◌, ◌<◌, ◌+◌, ℕ, zero, suc, Bool, true, false, List, [], ◌∷◌, length, map, Option, Some, None, refl, sym, ap, subst, ◌∙◌, arith}
 use Rattle.std.specs.Prelude.{is_some, slice_get, ◌==◌, option_map, if◌then◌else◌, Vec, All, Result, Ok, Err, IfOk}
 use Rattle.std.specs.declared.alloc.AllocError.{AllocError}
 use Rattle.std.specs.declared.alloc.Global.{Global}
-use Rattle.std.specs.FinMap.{FinMap, get, contains_key, entries}
-use Rattle.std.specs.List.Sorted.{IsStrictlySortedBy}
-use Rattle.std.proofs.lemmas.Bool.{cases_lt}
+use Rattle.std.specs.FinMap.{get, contains_key, entries}
 use Rattle.std.proofs.lemmas.List.{length-map}
 use Rattle.std.proofs.lemmas.List.Elements.{All-nil, All-cons}
-use Rattle.std.proofs.lemmas.Option.{slice_get-map, slice_get-get_or, slice_get_past}
-use Rattle.ebpf_base.specs.Keys.{key_cmp}
+use Rattle.std.proofs.lemmas.Option.{slice_get-map}
 use Rattle.ebpf_base.proofs.Sorted.{entries_rise}
 use Rattle.ebpf_linker.specs.declared.body.Body.{Body}
 use Rattle.ebpf_linker.specs.declared.reference.Call.{Call}
 use Rattle.ebpf_linker.specs.declared.reference.Fault.{Fault}
 use Rattle.ebpf_linker.specs.declared.reference.Target.{Target}
 use Rattle.ebpf_linker.specs.declared.reference.Target.TheVariants.{Function as ToFunction, Nowhere}
-use Rattle.ebpf_linker.specs.Functions.{Reference, Nothing, Faulty, Names, Content}
+use Rattle.ebpf_linker.specs.Functions.{Names}
 use Rattle.ebpf_linker.specs.Numbered.{of_target, referred, items_of, calls_at, content_of as body_content, option_content, functions, Rises, IsIn, Sound}
 use Rattle.ebpf_linker.specs.declared.body.LinkedProgram.{LinkedProgram}
 use Rattle.ebpf_linker.specs.Renaming.{renamed, Numbers, answer_named}
@@ -25,8 +22,7 @@ use Rattle.ebpf_parts.specs.declared.insn.bpf_insn.{bpf_insn}
 use Rattle.ebpf_linker.proofs.Carry.{carried}
 use Rattle.ebpf_reloc.proofs.ByNumber.{of_option, led, referred_at, calls_rise}
 use Rattle.ebpf_reloc.proofs.Keys.{count_keys, function_at, has_number, number_names, one_number}
-use Rattle.ebpf_reloc.specs.declared.error.RelocationError.{RelocationError}
-use Rattle.ebpf_reloc.specs.declared.error.RelocationError.TheVariants.{UnknownFunction, FunctionInfoMismatch, ProgramTooLong, InvalidLineInfo}
+use Rattle.ebpf_reloc.specs.declared.error.RelocationError.TheVariants.{FunctionInfoMismatch, ProgramTooLong, InvalidLineInfo}
 use Rattle.ebpf_reloc.specs.declared.function.Function.{Function}
 use Rattle.ebpf_reloc.specs.declared.place.Place.{Place}
 use Rattle.ebpf_reloc.specs.declared.place.Place.TheVariants.{Absent, Unsupported, At}

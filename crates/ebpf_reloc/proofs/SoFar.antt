@@ -1,9 +1,9 @@
 -- The programs that are linked so far.
-use Rattle.std.proofs.Common.{◌≡◌, ◌<◌, ◌≤◌, ◌+◌, ℕ, Bool, true, false, cond, List, [], ◌∷◌, length, drop, Option, Some, None, refl, sym, ap, subst, ◌∙◌, ⊎_elim, arith}
+use Rattle.std.proofs.Common.{◌≡◌, ◌<◌, ◌≤◌, ◌+◌, ℕ, Bool, true, false, cond, List, length, drop, Option, Some, None, refl, sym, ap, subst, ◌∙◌, ⊎_elim, arith}
 use Rattle.std.specs.Prelude.{slice_get, slice_index_or, is_some, ◌||◌, MatchBool, ⊤}
 use Rattle.std.specs.FinMap.{FinMap, get, contains_key, insert, empty, get-insert, get-empty}
 use Rattle.std.specs.List.{list_any}
-use Rattle.std.specs.Ordering.{eq_by_cmp, is_eq}
+use Rattle.std.specs.Ordering.{eq_by_cmp}
 use Rattle.std.proofs.lemmas.Bool.{cases_lt}
 use Rattle.std.proofs.lemmas.Option.{slice_get-get_or, get_or_from_slice_get}
 use Rattle.ebpf_base.proofs.Maps.{key_exact}

@@ -1,4 +1,4 @@
-use Rattle.std.proofs.Common.{List, ℕ, map, subst, sym, ap, ◌∙◌, Ok, Err}
+use Rattle.std.proofs.Common.{List, map, subst, sym, ap, ◌∙◌, Err}
 use Rattle.ebpf_linker.specs.Renaming.{answer_named}
 use Rattle.ebpf_linker.specs.Result.{IsLinking}
 use Rattle.ebpf_reloc.proofs.Finished.{is_linked, is_fault, unless_memory}

@@ -1,4 +1,4 @@
-use Rattle.std.proofs.Common.{List, ℕ, map, subst, sym, ap, ◌∙◌}
+use Rattle.std.proofs.Common.{ℕ, map, subst, sym, ap, ◌∙◌}
 use Rattle.ebpf_linker.specs.Numbered.{content_of as body_content, Sound}
 use Rattle.ebpf_reloc.proofs.NumberedKeys.{calls_sound, count_bodies, count_calls, linked_by_key}
 use Rattle.ebpf_reloc.specs.Places.{read}

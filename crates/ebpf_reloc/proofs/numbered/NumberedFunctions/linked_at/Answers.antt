@@ -1,4 +1,4 @@
-use Rattle.std.proofs.Common.{◌≡◌, List, ℕ, Some, None, subst, sym, ap, ◌∙◌, IfOk, IfErr, MatchBool}
+use Rattle.std.proofs.Common.{List, ℕ, subst, sym, ap, ◌∙◌, IfOk, IfErr, MatchBool}
 use Rattle.std.specs.Prelude.{⊤}
 use Rattle.std.specs.List.Sorted.{IsStrictlySortedBy}
 use Rattle.ebpf_base.proofs.Sorted.{entries_rise}
