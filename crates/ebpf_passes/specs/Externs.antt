@@ -13,6 +13,7 @@ use Rattle.ebpf_reloc.specs.declared.symbol.Symbol.{Symbol}
 use Rattle.ebpf_passes.specs.declared.edit.Edit.{Edit}
 use Rattle.ebpf_passes.specs.declared.edit.Edit.TheVariants.{Stay, Slot, Pair}
 use Rattle.ebpf_passes.specs.declared.extern_rule.Load.{Load}
+use Rattle.ebpf_passes.specs.declared.extern_rule.Load.TheVariants.{Id, Address}
 use Rattle.ebpf_passes.specs.declared.refusal.Fault.{Fault}
 use Rattle.ebpf_passes.specs.declared.refusal.Fault.TheVariants.{UnknownSymbol, InvalidOffset, ExternNotFound, UnresolvableSymbol}
 use Rattle.ebpf_passes.specs.Maps.{pointed}
@@ -40,36 +41,34 @@ call_edit desc symbol slot =
     if desc.is_resolved then known_call desc.kernel_btf_id slot
     else (if desc.is_weak then Ok (Slot (absent_call slot symbol)) else Err UnresolvableSymbol)
 
--- the id of a variable: source 3 (the kernel's BPF_PSEUDO_BTF_ID)
-abbrev pub by_id : ℕ → Load
-by_id id = record { source = 3; imm = cast_signed w32 id; next = pos 0 }
-
--- an address, its low half first
-abbrev pub by_address : ℕ → Load
-by_address address = record { source = 0; imm = cast_signed w32 (address % 2 ^ 32); next = cast_signed w32 (address / 2 ^ 32) }
-
-abbrev pub load_without_id : Option ℕ → Bool → Option Load
-load_without_id (Some address) weak = Some (by_address address)
-load_without_id None weak = if weak then Some (by_address 0) else None
+abbrev pub address_without_id : Option ℕ → Bool → Option Load
+address_without_id (Some address) weak = Some (Address address)
+address_without_id None weak = if weak then Some (Address 0) else None
 
 abbrev pub load_by : Option ℕ → Option ℕ → Bool → Option Load
-load_by (Some id) address weak = Some (by_id id)
-load_by None address weak = load_without_id address weak
+load_by (Some id) address weak = Some (Id id)
+load_by None address weak = address_without_id address weak
 
 -- what a load takes from an extern: its id, else its address, else 0 where it is weak
 abbrev pub load_of : ExternDesc → Option Load
 load_of desc = load_by desc.kernel_btf_id desc.ksym_addr desc.is_weak
 
-abbrev pub loaded : Option Load → bpf_insn → Bool → Result Edit Fault
-loaded None slot more = Err UnresolvableSymbol
-loaded (Some load) slot more = if more then Ok (Pair (pointed slot load.source load.imm) load.next) else Err InvalidOffset
+-- An id has source 3 (the kernel's BPF_PSEUDO_BTF_ID) and 0 in the slot after it; an address has source 0, its low
+-- half in the slot and its high half in the one after it.
+abbrev pub loaded : Load → bpf_insn → Edit
+loaded (Id id) slot = Pair (pointed slot 3 (cast_signed w32 id)) (pos 0)
+loaded (Address address) slot = Pair (pointed slot 0 (cast_signed w32 (address % 2 ^ 32))) (cast_signed w32 (address / 2 ^ 32))
+
+abbrev pub load_edit : Option Load → bpf_insn → Bool → Result Edit Fault
+load_edit None slot more = Err UnresolvableSymbol
+load_edit (Some load) slot more = if more then Ok (loaded load slot) else Err InvalidOffset
 
 -- a call has code 0x85, a load of 64 bits 0x18 (RFC 9669, sections 4.3 and 5.4)
 abbrev pub known_edit : Option ExternDesc → ℕ → bpf_insn → Bool → Result Edit Fault
 known_edit None symbol slot more = Err ExternNotFound
 known_edit (Some desc) symbol slot more =
     if slot.code == 0x85 then call_edit desc symbol slot
-    else (if slot.code == 0x18 then loaded (load_of desc) slot more else Err InvalidOffset)
+    else (if slot.code == 0x18 then load_edit (load_of desc) slot more else Err InvalidOffset)
 
 -- a symbol that is no extern is no matter of externs
 abbrev pub to_symbol : ExternInputs → Option Symbol → ElfRelocation → bpf_insn → Bool → Result Edit Fault

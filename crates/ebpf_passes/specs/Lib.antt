@@ -1,5 +1,7 @@
 pub mod Edits
 pub mod Relocated
+pub mod Turns
 pub mod Maps
 pub mod Externs
 pub mod Rules
+pub mod Passes

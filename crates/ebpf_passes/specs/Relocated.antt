@@ -97,6 +97,10 @@ error_by UnresolvableSymbol symbols kept r =
 abbrev pub error_of : FinMap nat_cmp Symbol → Kept → Refusal → RelocationError
 error_of symbols kept r = error_by r.fault symbols kept r
 
+-- want of memory, the one answer beside
+abbrev pub out_of_memory : EbpfRelocationError
+out_of_memory = record { function = []; error = error.OutOfMemory }
+
 -- the fault of a function
 abbrev pub function_fault : Says → FinMap nat_cmp Symbol → Relocations → Function → Option EbpfRelocationError
 function_fault says symbols relocations f =

@@ -1,7 +1,7 @@
 //! What relocations to externs make of slots.
 
 ghost use Rattle.std.specs.Prelude.{◌≡◌, ◌<◌, [], Some, unwrap_or};
-ghost use Rattle.ebpf_passes.specs.Externs.{kernel_call, absent_call, call_edit, by_id, by_address, load_of, loaded, known_edit, extern_edit};
+ghost use Rattle.ebpf_passes.specs.Externs.{kernel_call, absent_call, call_edit, load_of, loaded, load_edit, known_edit, extern_edit};
 ghost use Rattle.ebpf_passes.specs.Rules.{extern_inputs};
 
 use crate::edit::Edit;
@@ -23,17 +23,14 @@ pub struct ExternRule<'a> {
 
 /// What a load takes from an extern.
 #[derive(Clone, Copy, Debug, PartialEq, Eq)]
-pub struct Load {
-    /// The source register, which says what the numbers are.
-    pub source: u8,
-    /// The immediate of the load's slot.
-    pub imm: i32,
-    /// The immediate of the slot after it.
-    pub next: i32,
-    ghost is_register: { source < 16 },
+pub enum Load {
+    /// The id of the kernel's type of it.
+    Id(u32),
+    /// Its address in the kernel.
+    Address(u64),
 }
 
-/// A number's low 32 bits.
+/// The numbers of 32 bits.
 const BITS: u64 = 0x1_0000_0000;
 
 /// A call of a kernel function by its id.
@@ -78,70 +75,54 @@ fn call_edit(desc: &ExternDesc, symbol: usize, slot: bpf_insn) -> Result<Edit, F
     }
 }
 
-/// An id in a load.
-fn by_id(id: u32) -> Load
-    ensures { result ≡ by_id id }
-{
-    Load {
-        source: 3,
-        imm: id.cast_signed(),
-        next: 0,
-    }
-}
-
-/// An address in a load.
-fn by_address(address: u64) -> Load
-    ensures { result ≡ by_address address }
-{
-    Load {
-        source: 0,
-        imm: ((address % BITS) as u32).cast_signed(),
-        next: ((address / BITS) as u32).cast_signed(),
-    }
-}
-
 /// What a load takes from an extern.
 fn load_of(desc: &ExternDesc) -> Option<Load>
     ensures { result ≡ load_of desc.now }
 {
     if let Some(id) = desc.kernel_btf_id {
-        return Some(by_id(id));
+        return Some(Load::Id(id));
     }
     match desc.ksym_addr {
-        Some(address) => Some(by_address(address)),
-        None if desc.is_weak => Some(by_address(0)),
+        Some(address) => Some(Load::Address(address)),
+        None if desc.is_weak => Some(Load::Address(0)),
         None => None,
     }
 }
 
-/// What a load with these numbers becomes.
-fn loaded(load: Option<Load>, slot: bpf_insn, more: bool) -> Result<Edit, Fault>
-    ensures { result ≡ loaded load slot more }
+/// What a load of an id or an address becomes.
+fn loaded(load: Load, slot: bpf_insn) -> Edit
+    ensures { result ≡ loaded load slot }
 {
-    let Some(load) = load else {
+    match load {
+        Load::Id(id) => Edit::Pair(pointed(slot, 3, id.cast_signed()), 0),
+        Load::Address(address) => {
+            let low = ((address % BITS) as u32).cast_signed();
+            let high = ((address / BITS) as u32).cast_signed();
+            Edit::Pair(pointed(slot, 0, low), high)
+        }
+    }
+}
+
+/// What a load of an extern becomes.
+fn load_edit(desc: &ExternDesc, slot: bpf_insn, more: bool) -> Result<Edit, Fault>
+    ensures { result ≡ load_edit (load_of desc.now) slot more }
+{
+    let Some(load) = load_of(desc) else {
         return Err(Fault::UnresolvableSymbol);
     };
     if !more {
         return Err(Fault::InvalidOffset);
     }
-    Ok(Edit::Pair(
-        pointed(slot, load.source, load.imm),
-        load.next,
-    ))
+    Ok(loaded(load, slot))
 }
 
 /// What an extern makes of a slot that refers to it.
-fn known_edit(
-    desc: &ExternDesc,
-    symbol: usize,
-    slot: bpf_insn,
-    more: bool,
-) -> Result<Edit, Fault>
+fn known_edit(desc: &ExternDesc, symbol: usize, slot: bpf_insn, more: bool) -> Result<Edit, Fault>
     ensures { result ≡ known_edit (Some desc.now) symbol slot more }
 {
     match slot.code {
         0x85 => call_edit(desc, symbol, slot),
-        0x18 => loaded(load_of(desc), slot, more),
+        0x18 => load_edit(desc, slot, more),
         _ => Err(Fault::InvalidOffset),
     }
 }

@@ -2,8 +2,17 @@
 #![tactic(auto)]
 
 mod edit;
+mod errors;
 mod extern_rule;
+mod externs;
+mod functions;
 mod map_rule;
 mod map_tables;
+mod maps;
 mod refusal;
 mod rule;
+mod search;
+mod slots;
+
+pub use externs::relocate_externs;
+pub use maps::relocate_maps;

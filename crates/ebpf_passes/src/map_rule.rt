@@ -52,12 +52,7 @@ fn shifted(imm: i32, address: u64) -> Option<i32>
 }
 
 /// What a map makes of a slot that refers to it, by the address of the slot's symbol.
-fn target_edit(
-    target: MapTarget,
-    address: u64,
-    slot: bpf_insn,
-    more: bool,
-) -> Result<Edit, Fault>
+fn target_edit(target: MapTarget, address: u64, slot: bpf_insn, more: bool) -> Result<Edit, Fault>
     ensures { result ≡ target_edit target address slot more }
 {
     if !target.has_data {

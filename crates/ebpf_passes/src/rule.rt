@@ -23,12 +23,7 @@ pub enum Rule<'a> {
 
 impl<'a> Rule<'a> {
     /// What becomes of a slot with a relocation.
-    pub fn edit(
-        &self,
-        relocation: Relocation,
-        slot: bpf_insn,
-        more: bool,
-    ) -> Result<Edit, Fault>
+    pub fn edit(&self, relocation: Relocation, slot: bpf_insn, more: bool) -> Result<Edit, Fault>
         ensures { result ≡ says_of self.now relocation slot more }
     {
         match self {
