@@ -1,12 +1,11 @@
 -- Relocations in the order of their offsets: what stands at an offset.
-use Rattle.std.proofs.Common.{◌≡◌, ℕ, ◌+◌, ◌-◌, ◌/◌, ◌<◌, ◌≤◌, ◌≢◌, Bool, true, false, cond, List, [], ◌∷◌, length, Some, None, Option, refl, sym, ap, subst, ◌∙◌, arith, ◌&&◌, T, nat_le, nat_lt}
+use Rattle.std.proofs.Common.{◌≡◌, ℕ, ◌<◌, ◌≤◌, ◌≢◌, Bool, true, false, cond, List, [], ◌∷◌, Some, None, Option, refl, sym, ap, ◌∙◌, arith, ◌&&◌, T, nat_le}
 use Rattle.std.proofs.lemmas.Bool.Decides.{nat_tests}
 use Rattle.std.specs.declared.cmp.Ordering.TheVariants.{Less, Equal, Greater}
 use Rattle.std.specs.Ordering.{nat_cmp, eq_by_cmp, is_eq, is_lt}
 use Rattle.std.specs.Cmp.{nat_cmp_total, tied_itself, ranked}
-use Rattle.std.specs.FinMap.{FinMap, find, is_sorted, entries, entries_sorted, nat_cmp-IsAntisymmetric}
+use Rattle.std.specs.FinMap.{find, is_sorted, nat_cmp-IsAntisymmetric}
 use Rattle.std.specs.FinMap.Entries.{below_all}
-use Rattle.std.specs.List.{filter}
 use Rattle.ebpf_base.specs.Faults.{first_some, or_else}
 use Rattle.ebpf_base.specs.Parts.{entries_from}
 use Rattle.ebpf_elf.specs.declared.entries.ElfRelocation.{ElfRelocation}

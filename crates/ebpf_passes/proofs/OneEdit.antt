@@ -1,5 +1,5 @@
 -- One edit more: the slots after it, where it stands past those that were made.
-use Rattle.std.proofs.Common.{◌≡◌, ℕ, zero, suc, ◌+◌, ◌<◌, ◌≤◌, ◌≢◌, List, length, refl, sym, ap, subst, ◌∙◌, arith, set, get_or-set_same, get_or-set_other, inl, inr, add-one}
+use Rattle.std.proofs.Common.{◌≡◌, ℕ, zero, suc, ◌+◌, ◌<◌, ◌≤◌, ◌≢◌, List, length, refl, sym, ap, ◌∙◌, arith, set, get_or-set_same, get_or-set_other, inl, inr, add-one}
 use Rattle.std.proofs.lemmas.Bool.{cases_lt, cases_eq}
 use Rattle.std.proofs.lemmas.List.{length-set}
 use Rattle.std.specs.Prelude.{ℤ, pos}

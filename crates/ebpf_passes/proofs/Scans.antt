@@ -1,9 +1,9 @@
 -- The first relocation that can't be applied, found with what the edit before it leaves.
-use Rattle.std.proofs.Common.{◌≡◌, ℕ, zero, suc, ◌+◌, ◌-◌, ◌*◌, ◌/◌, ◌%◌, ◌<◌, ◌≤◌, ◌≢◌, Bool, true, false, List, [], ◌∷◌, length, Some, None, Option, Result, Ok, Err, refl, sym, ap, subst, ◌∙◌, arith, nat_le, nat_lt, ◌&&◌, add-one, if◌then◌else◌, ◌==◌, inl, inr}
-use Rattle.std.proofs.lemmas.Bool.{cases_lt, cases_eq}
+use Rattle.std.proofs.Common.{◌≡◌, ℕ, zero, suc, ◌+◌, ◌-◌, ◌*◌, ◌/◌, ◌%◌, ◌<◌, ◌≤◌, ◌≢◌, Bool, true, false, List, [], ◌∷◌, length, Some, None, Option, Result, Ok, Err, refl, sym, ap, ◌∙◌, arith, nat_le, nat_lt, ◌&&◌, if◌then◌else◌, ◌==◌, inl, inr}
+use Rattle.std.proofs.lemmas.Bool.{cases_eq}
 use Rattle.std.proofs.lemmas.Bool.Decides.{nat_tests}
 use Rattle.std.specs.Ordering.{nat_cmp}
-use Rattle.std.specs.FinMap.{FinMap, get, get-entries, find, entries, entries_sorted}
+use Rattle.std.specs.FinMap.{get, get-entries, find, entries, entries_sorted}
 use Rattle.ebpf_base.specs.Faults.{first_some, or_else}
 use Rattle.ebpf_base.specs.Parts.{entries_from}
 use Rattle.ebpf_elf.specs.declared.entries.ElfRelocation.{ElfRelocation}

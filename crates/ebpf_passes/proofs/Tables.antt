@@ -1,5 +1,5 @@
 -- The maps that are handed in, with one more at the end.
-use Rattle.std.proofs.Common.{◌≡◌, ℕ, List, [], ◌∷◌, ◌++◌, map, fold, refl, sym, ap, ◌∙◌, Option, Some, None}
+use Rattle.std.proofs.Common.{◌≡◌, ℕ, List, [], ◌∷◌, ◌++◌, map, refl, sym, ap, ◌∙◌, Option, Some, None}
 use Rattle.std.specs.FinMap.{FinMap, insert, empty}
 use Rattle.std.specs.List.{flat_map}
 use Rattle.std.specs.Ordering.{nat_cmp}
@@ -34,10 +34,14 @@ sections_push : (table : Table) (given : List GivenMap) (m : GivenMap)
 sections_push table [] m = refl
 sections_push table (n ∷ given) m = sections_push (insert table (section_index_of n.2.now) (target_of n)) given m
 
-pub tables_push : (given : List GivenMap) (m : GivenMap) → tables_of (given ++ m ∷ []) ≡ with_map (tables_of given) m.1 m.2.now
+tables_push : (given : List GivenMap) (m : GivenMap) → tables_of (given ++ m ∷ []) ≡ with_map (tables_of given) m.1 m.2.now
 unfolding tables_of
 tables_push given m = λ i. record { by_symbol = symbols_push empty given m i; by_section = sections_push empty given m i }
 
 pub tables_none : tables_of [] ≡ record { by_symbol = empty; by_section = empty }
 unfolding tables_of
 tables_none = refl
+
+-- one more of the maps that were read
+pub tables_next : (tables next : MapTables) (given : List GivenMap) (m : GivenMap) → tables ≡ tables_of given → next ≡ with_map tables m.1 m.2.now → next ≡ tables_of (given ++ m ∷ [])
+tables_next tables next given m before is = is ∙ ap (λ t. with_map t m.1 m.2.now) before ∙ sym (tables_push given m)

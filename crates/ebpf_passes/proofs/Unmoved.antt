@@ -1,7 +1,7 @@
 -- A function in a section without relocations.
-use Rattle.std.proofs.Common.{◌≡◌, List, [], None, Option, refl, sym, ap, ◌∙◌, length}
-use Rattle.std.specs.Prelude.{ℕ, option_map, unwrap_or}
-use Rattle.std.specs.FinMap.{FinMap, get, empty, entries}
+use Rattle.std.proofs.Common.{◌≡◌, None, sym, ap, ◌∙◌, length}
+use Rattle.std.specs.Prelude.{option_map, unwrap_or}
+use Rattle.std.specs.FinMap.{FinMap, get, empty}
 use Rattle.std.specs.Ordering.{nat_cmp}
 use Rattle.ebpf_base.specs.Faults.{first_some}
 use Rattle.ebpf_base.specs.Parts.{entries_from}
@@ -10,7 +10,7 @@ use Rattle.ebpf_elf.specs.declared.entries.ElfRelocation.{ElfRelocation}
 use Rattle.ebpf_reloc.specs.declared.function.Function.{Function}
 use Rattle.ebpf_reloc.specs.declared.symbol.Symbol.{Symbol}
 use Rattle.ebpf_passes.specs.Edits.{slots_after}
-use Rattle.ebpf_passes.specs.Relocated.{Says, Kept, Relocations, kept_of, edit_at, refusal_at, first_refusal, function_fault, error_of, relocated}
+use Rattle.ebpf_passes.specs.Relocated.{Says, Relocations, kept_of, edit_at, refusal_at, first_refusal, function_fault, error_of, relocated}
 use Rattle.ebpf_passes.specs.Turns.{run}
 use Rattle.ebpf_passes.proofs.Runs.{run_makes}
 

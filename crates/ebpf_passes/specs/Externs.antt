@@ -1,5 +1,5 @@
 -- The kernel's ids and addresses in slots.
-use Rattle.std.specs.Prelude.{ℕ, ℤ, pos, ◌+◌, ◌/◌, ◌%◌, ◌^◌, ◌==◌, Bool, if◌then◌else◌, List, [], Option, Some, None, unwrap_or, Result, Ok, Err}
+use Rattle.std.specs.Prelude.{ℕ, pos, ◌+◌, ◌/◌, ◌%◌, ◌^◌, ◌==◌, Bool, if◌then◌else◌, [], Option, Some, None, unwrap_or, Result, Ok, Err}
 use Rattle.std.specs.FinMap.{FinMap, get}
 use Rattle.std.specs.Int.{w32, cast_signed}
 use Rattle.std.specs.Ordering.{nat_cmp}

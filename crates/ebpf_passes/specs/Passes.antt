@@ -9,7 +9,7 @@ use Rattle.ebpf_reloc.specs.declared.error.EbpfRelocationError.{EbpfRelocationEr
 use Rattle.ebpf_reloc.specs.declared.extern_desc.ExternDesc.{ExternDesc}
 use Rattle.ebpf_reloc.specs.declared.function.Function.{Function}
 use Rattle.ebpf_reloc.specs.declared.symbol.Symbol.{Symbol}
-use Rattle.ebpf_passes.specs.Externs.{ExternInputs, extern_edit}
+use Rattle.ebpf_passes.specs.Externs.{extern_edit}
 use Rattle.ebpf_passes.specs.Maps.{GivenMap, MapInputs, tables_of, map_edit}
 use Rattle.ebpf_passes.specs.Relocated.{Relocations, relocated, first_fault}
 

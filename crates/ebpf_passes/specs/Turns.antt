@@ -8,7 +8,7 @@ use Rattle.ebpf_passes.specs.declared.refusal.Fault.{Fault}
 use Rattle.ebpf_passes.specs.declared.refusal.Fault.TheVariants.{InvalidOffset}
 use Rattle.ebpf_passes.specs.declared.refusal.Refusal.{Refusal}
 use Rattle.ebpf_passes.specs.Edits.{slot_at}
-use Rattle.ebpf_passes.specs.Relocated.{Says, edit_of, refused}
+use Rattle.ebpf_passes.specs.Relocated.{Says, edit_of}
 
 -- the slots after an edit of slot j
 abbrev pub applied : List bpf_insn → ℕ → Edit → List bpf_insn

@@ -1,4 +1,4 @@
-use Rattle.std.proofs.Common.{rules, ◌≡◌, ◌∙◌, sym}
+use Rattle.std.proofs.Common.{rules, ◌≡◌, ◌∙◌}
 use Rattle.std.specs.FinMap.{entries}
 use Rattle.ebpf_base.specs.Parts.{entries_from}
 use Rattle.ebpf_passes.specs.Rules.{says_of}
