@@ -1,6 +1,7 @@
-mod OneEdit
 mod InOrder
-pub mod Scans
+pub mod MapChains
+mod OneEdit
 pub mod Runs
+pub mod Scans
 pub mod Tables
 pub mod Unmoved

@@ -5,3 +5,4 @@ pub mod Maps
 pub mod Externs
 pub mod Rules
 pub mod Passes
+pub mod MapChains

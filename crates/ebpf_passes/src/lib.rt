@@ -6,6 +6,7 @@ mod errors;
 mod extern_rule;
 mod externs;
 mod functions;
+pub mod laws;
 mod map_rule;
 mod map_tables;
 mod maps;
