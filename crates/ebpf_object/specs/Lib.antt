@@ -22,3 +22,4 @@ pub mod PatchValues
 pub mod TypedExterns
 pub mod PatchedBytes
 pub mod TiledSections
+pub mod WrittenSlots

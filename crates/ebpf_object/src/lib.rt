@@ -21,6 +21,8 @@ mod queries;
 mod records;
 mod records_by_name;
 mod relocate_calls;
+mod relocate_externs;
+mod relocate_maps;
 mod relocations;
 pub mod sanitize;
 mod shared;

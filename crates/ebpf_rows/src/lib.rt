@@ -14,9 +14,13 @@ mod declared_maps;
 #[cfg(test)]
 mod externs;
 #[cfg(test)]
+mod known_externs;
+#[cfg(test)]
 mod linked;
 #[cfg(test)]
 mod linked_records;
+#[cfg(test)]
+mod mapped;
 #[cfg(test)]
 mod maps;
 #[cfg(test)]

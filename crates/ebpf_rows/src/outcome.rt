@@ -192,12 +192,32 @@ pub fn records_outcome(alloc: Global, bytes: &[u8]) -> Result<String, AllocError
     }
 }
 
-/// Joins the programs of an object with what they reach: no text, or the error in a line.
-fn join(alloc: Global, object: &mut Object) -> Result<String, AllocError> {
+/// The numbers of the sections that functions stand in.
+pub fn text_sections(alloc: Global, object: &Object) -> Result<HashSet<usize>, AllocError> {
     let mut sections = HashSet::new(alloc);
     for (key, _) in object.functions.iter() {
         sections.insert(key.0)?;
     }
+    Ok(sections)
+}
+
+/// The slots of all functions, by their keys, each as eight bytes.
+pub fn put_slots_of(text: &mut String, object: &Object) -> Result<(), AllocError> {
+    let mut before = " ";
+    for (_, function) in object.functions.iter() {
+        for slot in function.instructions.iter() {
+            let [b0, b1, b2, b3, b4, b5, b6, b7] = slot.to_bytes();
+            write!(text, "{before}{b0:02x} {b1:02x} {b2:02x} {b3:02x}")?;
+            write!(text, " {b4:02x} {b5:02x} {b6:02x} {b7:02x}")?;
+            before = ", ";
+        }
+    }
+    Ok(())
+}
+
+/// Joins the programs of an object with what they reach: no text, or the error in a line.
+fn join(alloc: Global, object: &mut Object) -> Result<String, AllocError> {
+    let sections = text_sections(alloc, object)?;
     match object.relocate_calls(&sections) {
         Ok(()) => Ok(String::new(alloc)),
         Err(error) => format!(in alloc; "{error:?}\n"),
