@@ -35,27 +35,41 @@ const WEAK: ExternDesc = ExternDesc {
     is_resolved: false,
 };
 
-const fn with_id(id: u32) -> ExternDesc {
-    ExternDesc {
-        btf_id: 1,
-        is_typed: true,
-        is_weak: false,
-        kernel_btf_id: Some(id),
-        ksym_addr: None,
-        is_resolved: true,
-    }
-}
+const WITH_ID_5: ExternDesc = ExternDesc {
+    btf_id: 1,
+    is_typed: true,
+    is_weak: false,
+    kernel_btf_id: Some(5),
+    ksym_addr: None,
+    is_resolved: true,
+};
 
-const fn with_address(address: u64) -> ExternDesc {
-    ExternDesc {
-        btf_id: 1,
-        is_typed: false,
-        is_weak: false,
-        kernel_btf_id: None,
-        ksym_addr: Some(address),
-        is_resolved: true,
-    }
-}
+const WITH_ID_9: ExternDesc = ExternDesc {
+    btf_id: 1,
+    is_typed: true,
+    is_weak: false,
+    kernel_btf_id: Some(9),
+    ksym_addr: None,
+    is_resolved: true,
+};
+
+const FAR: ExternDesc = ExternDesc {
+    btf_id: 1,
+    is_typed: false,
+    is_weak: false,
+    kernel_btf_id: None,
+    ksym_addr: Some(0xffff_ffff_8100_0010),
+    is_resolved: true,
+};
+
+const NEAR: ExternDesc = ExternDesc {
+    btf_id: 1,
+    is_typed: false,
+    is_weak: false,
+    kernel_btf_id: None,
+    ksym_addr: Some(0x2_0000_0001),
+    is_resolved: true,
+};
 
 /// A file with the program `p` of these slots in section 3, and with relocations of it; symbol 1 is the extern `v`,
 /// symbol 2 `p`, and symbol 3 the extern `w`.
@@ -137,25 +151,25 @@ const ROWS: [Row; 16] = [
     (
         &[LOAD, NOTHING],
         &[(0, 1, 1)],
-        with_address(0xffff_ffff_8100_0010),
+        FAR,
         "Ok(()) 18 01 00 00 10 00 00 81, 00 00 00 00 ff ff ff ff",
     ),
     (
         &[LOAD, [0, 0, 0, 0, 6, 0, 0, 0]],
         &[(0, 1, 1)],
-        with_id(5),
+        WITH_ID_5,
         "Ok(()) 18 31 00 00 05 00 00 00, 00 00 00 00 00 00 00 00",
     ),
     (
         &[CALL],
         &[(0, 1, 10)],
-        with_id(9),
+        WITH_ID_9,
         "Ok(()) 85 20 00 00 09 00 00 00",
     ),
     (
         &[CALL],
         &[(0, 1, 10)],
-        with_address(4096),
+        NEAR,
         "Err(EbpfRelocationError { function: Text { text: \"p\" }, error: UnresolvableSymbol { name: Text { text: \"v\" } } }) 85 10 00 00 ff ff ff ff",
     ),
     (
@@ -167,37 +181,37 @@ const ROWS: [Row; 16] = [
     (
         &[CALL, LOAD],
         &[(0, 1, 10), (8, 3, 1)],
-        with_id(9),
+        WITH_ID_9,
         "Err(EbpfRelocationError { function: Text { text: \"p\" }, error: ExternNotFound { name: Text { text: \"w\" } } }) 85 10 00 00 ff ff ff ff, 18 01 00 00 00 00 00 00",
     ),
     (
         &[CALL],
         &[(0, 2, 10)],
-        with_id(9),
+        WITH_ID_9,
         "Ok(()) 85 10 00 00 ff ff ff ff",
     ),
     (
         &[CALL],
         &[(0, 7, 10)],
-        with_id(9),
+        WITH_ID_9,
         "Err(EbpfRelocationError { function: Text { text: \"p\" }, error: UnknownSymbol { index: 7 } }) 85 10 00 00 ff ff ff ff",
     ),
     (
         &[CALL],
         &[(2, 1, 10)],
-        with_id(9),
+        WITH_ID_9,
         "Err(EbpfRelocationError { function: Text { text: \"p\" }, error: InvalidRelocationOffset { offset: 2, relocation_number: 0 } }) 85 10 00 00 ff ff ff ff",
     ),
     (
         &[LOAD, CALL, NOTHING],
         &[(0, 1, 1), (8, 1, 10)],
-        with_id(9),
+        WITH_ID_9,
         "Ok(()) 18 31 00 00 09 00 00 00, 85 20 00 00 09 00 00 00, 00 00 00 00 00 00 00 00",
     ),
     (
         &[LOAD, LOAD, NOTHING],
         &[(0, 1, 1), (8, 1, 1)],
-        with_address(0x2_0000_0001),
+        NEAR,
         "Ok(()) 18 01 00 00 01 00 00 00, 18 01 00 00 01 00 00 00, 00 00 00 00 02 00 00 00",
     ),
 ];

@@ -11,12 +11,12 @@ use std::test::Fail;
 
 const NOTHING: SampleSlot = [0; 8];
 
-/// A load of 64 bits with this immediate.
-const fn load(imm: u8) -> SampleSlot {
-    [0x18, 1, 0, 0, imm, 0, 0, 0]
-}
+/// Loads of 64 bits.
+const LOAD: SampleSlot = [0x18, 1, 0, 0, 0, 0, 0, 0];
 
-/// The last byte of a map's data has the greatest immediate.
+const LOAD_8: SampleSlot = [0x18, 1, 0, 0, 8, 0, 0, 0];
+
+/// A load with the greatest immediate.
 const LAST: SampleSlot = [0x18, 1, 0, 0, 0xff, 0xff, 0xff, 0x7f];
 
 /// A file with the program `p` of these slots in section 3 and with relocations of it. `.data` is section 4, `.bss`
@@ -91,31 +91,31 @@ type Row = (
 
 const ROWS: [Row; 13] = [
     (
-        &[load(8), NOTHING],
+        &[LOAD_8, NOTHING],
         &[(0, 2, 1)],
         &[(".data", 7)],
         "Ok(()) 18 21 00 00 07 00 00 00, 00 00 00 00 18 00 00 00",
     ),
     (
-        &[load(8), NOTHING],
+        &[LOAD_8, NOTHING],
         &[(0, 4, 1)],
         &[("m", 7)],
         "Ok(()) 18 11 00 00 07 00 00 00, 00 00 00 00 00 00 00 00",
     ),
     (
-        &[load(0)],
+        &[LOAD],
         &[(0, 4, 1)],
         &[("m", 1)],
         "Ok(()) 18 11 00 00 01 00 00 00",
     ),
     (
-        &[load(8), NOTHING, NOTHING],
+        &[LOAD_8, NOTHING, NOTHING],
         &[(0, 2, 1), (8, 3, 1)],
         &[(".data", 7), (".bss", 9)],
         "Ok(()) 18 21 00 00 07 00 00 00, 00 20 00 00 09 00 00 00, 00 00 00 00 7c 00 00 00",
     ),
     (
-        &[load(8), NOTHING, NOTHING],
+        &[LOAD_8, NOTHING, NOTHING],
         &[(0, 2, 1), (8, 4, 1)],
         &[(".data", 7), ("m", 9)],
         "Ok(()) 18 21 00 00 07 00 00 00, 00 10 00 00 09 00 00 00, 00 00 00 00 00 00 00 00",
@@ -127,42 +127,42 @@ const ROWS: [Row; 13] = [
         "Err(EbpfRelocationError { function: Text { text: \"p\" }, error: MapAddressOverflow { offset: 0 } }) 18 01 00 00 ff ff ff 7f, 00 00 00 00 00 00 00 00",
     ),
     (
-        &[load(8), NOTHING],
+        &[LOAD_8, NOTHING],
         &[(4, 2, 1)],
         &[(".data", 7)],
         "Err(EbpfRelocationError { function: Text { text: \"p\" }, error: InvalidRelocationOffset { offset: 4, relocation_number: 0 } }) 18 01 00 00 08 00 00 00, 00 00 00 00 00 00 00 00",
     ),
     (
-        &[load(8), load(8)],
+        &[LOAD_8, LOAD_8],
         &[(0, 4, 1), (8, 2, 1)],
         &[("m", 1), (".data", 7)],
         "Err(EbpfRelocationError { function: Text { text: \"p\" }, error: InvalidRelocationOffset { offset: 8, relocation_number: 1 } }) 18 01 00 00 08 00 00 00, 18 01 00 00 08 00 00 00",
     ),
     (
-        &[load(8)],
+        &[LOAD_8],
         &[(0, 9, 1)],
         &[],
         "Err(EbpfRelocationError { function: Text { text: \"p\" }, error: UnknownSymbol { index: 9 } }) 18 01 00 00 08 00 00 00",
     ),
     (
-        &[load(8)],
+        &[LOAD_8],
         &[(0, 5, 1)],
         &[("m", 1)],
         "Err(EbpfRelocationError { function: Text { text: \"p\" }, error: SectionNotFound { section_index: 7, symbol_index: 5, symbol_name: Some(Text { text: \"x\" }) } }) 18 01 00 00 08 00 00 00",
     ),
     (
-        &[load(8), load(8), [0x85, 0x10, 0, 0, 0, 0, 0, 0]],
+        &[LOAD_8, LOAD_8, [0x85, 0x10, 0, 0, 0, 0, 0, 0]],
         &[(0, 1, 1), (8, 7, 1), (16, 5, 10)],
         &[("m", 1)],
         "Ok(()) 18 01 00 00 08 00 00 00, 18 01 00 00 08 00 00 00, 85 10 00 00 00 00 00 00",
     ),
     (
-        &[load(0)],
+        &[LOAD],
         &[(0, 4, 1)],
         &[("m", 1), ("m", 2)],
         "Ok(()) 18 11 00 00 02 00 00 00",
     ),
-    (&[load(0)], &[(8, 4, 1)], &[], "Ok(()) 18 01 00 00 00 00 00 00"),
+    (&[LOAD], &[(8, 4, 1)], &[], "Ok(()) 18 01 00 00 00 00 00 00"),
 ];
 
 #[test]
