@@ -8,3 +8,4 @@ pub mod NumberedKeys
 pub mod CallsRefer
 pub mod Finished
 pub mod SoFar
+pub mod Gathered
