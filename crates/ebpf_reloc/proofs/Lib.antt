@@ -9,3 +9,4 @@ pub mod CallsRefer
 pub mod Finished
 pub mod SoFar
 pub mod Gathered
+pub mod Shapes
