@@ -173,12 +173,12 @@ module _ {K E : Type 0} (F : Functions K E) (R : References K E) (p : K) where
 
   pub one_fault : (d e : E) → LeastFault F R p d → LeastFault F R p e → d ≡ e
   one_fault d e h g = elim (before_cases (h.path ++ h.slot ∷ []) (g.path ++ g.slot ∷ [])) [
-      | inl b ↦ absurd (g.none_before h.path h.slot d h.stands b)
-      | inr (inl same) ↦
+    | inl b ↦ absurd (g.none_before h.path h.slot d h.stands b)
+    | inr (inl same) ↦
         let (path, slot) = last_same h.path g.path h.slot g.slot same in
         one_at g.path g.slot d e (subst (λ (x : List ℕ). StandsAt F R p x g.slot d) path (subst (λ (x : ℕ). StandsAt F R p h.path x d) slot h.stands)) g.stands
-      | inr (inr b) ↦ absurd (h.none_before g.path g.slot e g.stands b)
-    ]
+    | inr (inr b) ↦ absurd (h.none_before g.path g.slot e g.stands b)
+  ]
 
 -- a program is linked, or has a least fault, but not both
 pub not_linked : {K E : Type 0} (F : Functions K E) (p : K) (ks : List K) (l : LinkedProgram) (e : E) → IsProgram F p ks l → LeastFault F (linking F p) p e → ⊥

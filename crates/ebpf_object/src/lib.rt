@@ -29,6 +29,7 @@ mod symbol_names;
 mod symbols;
 mod terms;
 mod text;
+mod text_sections;
 mod text_symbols;
 mod version;
 

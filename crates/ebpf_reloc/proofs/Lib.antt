@@ -10,3 +10,4 @@ pub mod Finished
 pub mod SoFar
 pub mod Gathered
 pub mod Shapes
+pub mod OneResult

@@ -7,3 +7,4 @@ pub mod Shapes
 pub mod References
 pub mod Numbers
 pub mod Linking
+pub mod Laws

@@ -6,6 +6,7 @@ mod error;
 mod extern_desc;
 mod function;
 mod kept_relocations;
+pub mod laws;
 mod linkable;
 mod linking;
 mod numbered;
