@@ -1,13 +1,19 @@
 -- Maps of which each value is made anew: their entries, what they answer, and the laws of `map`.
 use Rattle.std.proofs.Common.{◌≡◌, ◌&&◌, T, Bool, cond, true, false, suc, List, [], ◌∷◌, map, length, Option, Some, None, refl, sym, ap, subst, ◌∙◌}
 use Rattle.std.specs.declared.cmp.Ordering.{Ordering}
-use Rattle.std.specs.Option.{option_map, is_some}
-use Rattle.std.specs.Ordering.{is_lt, eq_by_cmp}
+use Rattle.std.specs.declared.cmp.Ordering.TheVariants.{Less, Equal, Greater}
+use Rattle.std.specs.List.{IsDistinct, AllByRecursion}
+use Rattle.std.specs.Option.{option_map, option_or, is_some}
+use Rattle.std.specs.Ordering.{is_lt, is_eq, eq_by_cmp}
 use Rattle.std.specs.Cmp.{IsTotalOrder}
 use Rattle.std.specs.Map.{keys_of}
-use Rattle.std.specs.FinMap.{FinMap, IsAntisymmetric, from_entries, from_sorted, empty, entries, entries_sorted, entries-from_sorted, get, get-entries, find, len, len-entries, is_sorted, same_map, same_entries_map, get-from_entries, insert, get-insert}
+use Rattle.std.specs.FinMap.{FinMap, IsAntisymmetric, from_entries, from_sorted, empty, entries, entries_sorted, entries-from_sorted, get, get-entries, find, len, len-entries, is_sorted, same_map, same_entries_map, get-from_entries, insert, get-insert, get-empty}
 use Rattle.std.specs.FinMap.Entries.{below_all}
+use Rattle.std.proofs.lemmas.Map.Keys.{IsDistinct-from_sorted}
+use Rattle.ebpf_base.specs.Keyed.{put_all, last_at}
 use Rattle.ebpf_base.specs.Mapped.{map_entries, map_values}
+use Rattle.ebpf_base.proofs.Keyed.{later_stands}
+use Rattle.ebpf_base.proofs.Sorted.{entries_rise}
 
 module _ {K V W : Type 0} (R : K → K → Ordering) (f : V → W) where
   below_all-map_entries : (k : K) (es : List (K × V)) → below_all R k (map_entries f es) ≡ below_all R k es
@@ -121,3 +127,41 @@ module _ {K V : Type 0} {R : K → K → Ordering} where
 
   pub map_values-stay : (f : V → V) → ((v : V) → f v ≡ v) → (m : FinMap R V) → map_values f m ≡ m
   map_values-stay f h m = map_values-same f (λ v. v) h m ∙ map_values-identity m
+
+is_equal : (r : Ordering) → is_eq r ≡ true → r ≡ Equal
+is_equal Less h = cc
+is_equal Equal h = refl
+is_equal Greater h = cc
+
+-- entries of which no two have one key, put into a map
+module _ {K X : Type 0} {R : K → K → Ordering} (o : IsTotalOrder R) (exact : IsAntisymmetric R) where
+  find-apart : (q k : K) → eq_by_cmp R q k ≡ true → (es : List (K × X)) → AllByRecursion (λ y. eq_by_cmp R k y ≡ false) (keys_of es) → find R q es ≡ None
+  find-apart q k at [] h = refl
+  find-apart q k at (e ∷ es) h =
+      let is : q ≡ k = exact q k (is_equal (R q k) at) in
+      let other : eq_by_cmp R q e.0 ≡ false = ap (λ r. eq_by_cmp R r e.0) is ∙ h.0 in
+      rw other (find-apart q k at es h.1)
+
+  last_found : (q : K) (es : List (K × X)) → IsDistinct (eq_by_cmp R) (keys_of es) → (before : Option X) → last_at R q before es ≡ option_or (find R q es) before
+  unfolding IsDistinct
+  last_found q [] apart before = refl
+  last_found q (e ∷ es) apart before =
+      last_found q es apart.1 (cond (eq_by_cmp R q e.0) (Some e.1) before) ∙ step (eq_by_cmp R q e.0) refl
+    where
+      step : (b : Bool) → eq_by_cmp R q e.0 ≡ b → option_or (find R q es) (cond b (Some e.1) before) ≡ option_or (cond b (Some e.1) (find R q es)) before
+      step true at = rw (find-apart q e.0 at es apart.0) refl
+      step false at = refl
+
+or_none : {X : Type 0} (x : Option X) → option_or x None ≡ x
+or_none None = refl
+or_none (Some v) = refl
+
+-- the entries of a map, each made anew and put into a map one after the other
+pub put_all-map_values : {K V W : Type 0} {R : K → K → Ordering} → IsTotalOrder R → IsAntisymmetric R → (f : V → W) (m : FinMap R V) → put_all empty (map_entries f (entries m)) ≡ map_values f m
+put_all-map_values {R = R} o exact f m = map_values-from_get f o exact m _ (λ q.
+    later_stands o empty (map_entries f (entries m)) q
+    ∙ last_found o exact q (map_entries f (entries m)) (subst (λ ks. IsDistinct (eq_by_cmp R) ks) (sym (keys_of-map_entries f (entries m))) (IsDistinct-from_sorted R _ (entries_rise m))) (get empty q)
+    ∙ ap (option_or (find R q (map_entries f (entries m)))) (get-empty R q)
+    ∙ or_none _
+    ∙ find-map_entries R f q (entries m)
+    ∙ ap (option_map f) (sym (get-entries m q)))

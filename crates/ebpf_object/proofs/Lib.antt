@@ -23,3 +23,4 @@ pub mod VariablePatches
 pub mod LastEntries
 pub mod TextKeys
 pub mod SectionTables
+pub mod OneJoining

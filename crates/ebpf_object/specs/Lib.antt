@@ -4,6 +4,7 @@ pub mod Groups
 pub mod Relocations
 pub mod Programs
 pub mod Terms
+pub mod TextSections
 pub mod Records
 pub mod Texts
 pub mod Tiling

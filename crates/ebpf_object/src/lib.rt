@@ -31,6 +31,7 @@ mod symbol_names;
 mod symbols;
 mod terms;
 mod text;
+mod text_sections;
 mod text_symbols;
 mod version;
 
