@@ -3,5 +3,6 @@ pub mod MapChains
 mod OneEdit
 pub mod Runs
 pub mod Scans
+pub mod Shapes
 pub mod Tables
 pub mod Unmoved

@@ -3,11 +3,10 @@ use Rattle.std.proofs.Common.{◌≡◌, ℕ, zero, suc, ◌+◌, ◌-◌, ◌*�
 use Rattle.std.proofs.lemmas.Bool.Decides.{nat_tests}
 use Rattle.std.proofs.lemmas.Int.{ints}
 use Rattle.std.proofs.lemmas.List.FromFn.{sum_by-map-range_with_len_more}
-use Rattle.std.specs.Prelude.{ℤ, pos, ◌+ℤ◌, ◌==◌, ◌||◌, nat_eq, sum, unwrap_or}
+use Rattle.std.specs.Prelude.{ℤ, pos, ◌+ℤ◌, ◌==◌, ◌||◌, sum, unwrap_or}
 use Rattle.std.specs.declared.cmp.Ordering.{Ordering}
 use Rattle.std.specs.declared.cmp.Ordering.TheVariants.{Less, Equal, Greater}
 use Rattle.std.specs.FinMap.{get, get-entries, find, entries, nat_cmp-IsAntisymmetric}
-use Rattle.std.specs.HashSet.{contains}
 use Rattle.std.specs.List.{range_with_len}
 use Rattle.std.specs.Ordering.{nat_cmp, is_eq, eq_by_cmp}
 use Rattle.ebpf_base.specs.Faults.{first_some, or_else}
@@ -104,7 +103,7 @@ module _ (slot next : bpf_insn) (more : Bool) where
 
   in_place : (inputs : MapInputs) (o : Option ℕ) (r : ElfRelocation) (symbol : Symbol) → Follows (section_address inputs o r symbol slot) (in_section inputs o r symbol slot more)
   in_place inputs None r symbol = stays
-  in_place inputs (Some section) r symbol = by (is_pseudo_call slot || contains nat_eq inputs.text_sections section)
+  in_place inputs (Some section) r symbol = by (is_pseudo_call slot || inputs.text_sections section)
     where
       by : (b : Bool) → Follows (cond b None (address_in (target_at inputs.tables r.symbol_index section) symbol.address)) (cond b (Ok Stay) (found_edit (target_at inputs.tables r.symbol_index section) section symbol.address slot more))
       by true = stays

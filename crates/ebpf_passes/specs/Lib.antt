@@ -1,8 +1,9 @@
 pub mod Edits
-pub mod Relocated
-pub mod Turns
-pub mod Maps
 pub mod Externs
-pub mod Rules
-pub mod Passes
 pub mod MapChains
+pub mod Maps
+pub mod Passes
+pub mod Relocated
+pub mod Rules
+pub mod Shapes
+pub mod Turns

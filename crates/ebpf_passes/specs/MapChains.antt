@@ -1,7 +1,6 @@
 -- The places in maps' data that slots in a row add up.
-use Rattle.std.specs.Prelude.{◌≡◌, ◌⊎◌, ◌≤◌, ◌<◌, ℕ, pos, ◌+◌, ◌*◌, ◌+ℤ◌, ◌||◌, if◌then◌else◌, nat_eq, length, map, sum, Option, Some, None, IsSome, unwrap_or}
+use Rattle.std.specs.Prelude.{◌≡◌, ◌⊎◌, ◌≤◌, ◌<◌, ℕ, pos, ◌+◌, ◌*◌, ◌+ℤ◌, ◌||◌, if◌then◌else◌, length, map, sum, Option, Some, None, IsSome, unwrap_or}
 use Rattle.std.specs.FinMap.{get}
-use Rattle.std.specs.HashSet.{contains}
 use Rattle.std.specs.List.{range_with_len}
 use Rattle.ebpf_elf.specs.declared.entries.ElfRelocation.{ElfRelocation}
 use Rattle.ebpf_linker.specs.Slots.{is_pseudo_call}
@@ -20,7 +19,7 @@ address_in (Some target) address = if target.has_data then Some address else Non
 abbrev pub section_address : MapInputs → Option ℕ → ElfRelocation → Symbol → bpf_insn → Option ℕ
 section_address inputs None relocation symbol slot = None
 section_address inputs (Some section) relocation symbol slot =
-    if is_pseudo_call slot || contains nat_eq inputs.text_sections section
+    if is_pseudo_call slot || inputs.text_sections section
     then None
     else address_in (target_at inputs.tables relocation.symbol_index section) symbol.address
 

@@ -1,7 +1,6 @@
 -- Descriptors of maps in slots.
-use Rattle.std.specs.Prelude.{ℕ, ℤ, pos, negsuc, ◌^◌, ◌+ℤ◌, Bool, true, false, ◌||◌, if◌then◌else◌, nat_eq, nat_lt, List, [], ◌∷◌, map, Option, Some, None, Result, Ok, Err}
+use Rattle.std.specs.Prelude.{ℕ, ℤ, pos, negsuc, ◌^◌, ◌+ℤ◌, Bool, true, false, ◌||◌, if◌then◌else◌, nat_lt, List, [], ◌∷◌, map, Option, Some, None, Result, Ok, Err}
 use Rattle.std.specs.FinMap.{FinMap, get, insert, empty}
-use Rattle.std.specs.HashSet.{contains}
 use Rattle.std.specs.List.{flat_map}
 use Rattle.std.specs.Ordering.{nat_cmp}
 use Rattle.ebpf_base.specs.Faults.{or_else}
@@ -99,7 +98,7 @@ target_at tables symbol section = or_else (get tables.by_symbol symbol) (get tab
 -- a call of a function and a symbol among the functions are no matter of maps
 abbrev pub section_edit : MapInputs → ℕ → ElfRelocation → Symbol → bpf_insn → Bool → Result Edit Fault
 section_edit inputs section relocation symbol slot more =
-    if is_pseudo_call slot || contains nat_eq inputs.text_sections section
+    if is_pseudo_call slot || inputs.text_sections section
     then Ok Stay
     else found_edit (target_at inputs.tables relocation.symbol_index section) section symbol.address slot more
 

@@ -1,6 +1,7 @@
 -- What the passes say of relocations.
 use Rattle.std.specs.FinMap.{FinMap}
 use Rattle.std.specs.Ordering.{nat_cmp}
+use Rattle.ebpf_reloc.specs.Places.{sections_in}
 use Rattle.ebpf_reloc.specs.declared.symbol.Symbol.{Symbol}
 use Rattle.ebpf_passes.specs.declared.extern_rule.ExternRule.{ExternRule}
 use Rattle.ebpf_passes.specs.declared.map_rule.MapRule.{MapRule}
@@ -11,7 +12,7 @@ use Rattle.ebpf_passes.specs.Maps.{MapInputs, map_edit}
 use Rattle.ebpf_passes.specs.Relocated.{Says}
 
 abbrev pub map_inputs : MapRule → MapInputs
-map_inputs rule = record { symbols = rule.symbols.now; tables = rule.tables.now; text_sections = rule.text_sections.now }
+map_inputs rule = record { symbols = rule.symbols.now; tables = rule.tables.now; text_sections = sections_in rule.text_sections.now }
 
 abbrev pub extern_inputs : ExternRule → ExternInputs
 extern_inputs rule = record { symbols = rule.symbols.now; externs = rule.externs.now }
