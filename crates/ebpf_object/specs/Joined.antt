@@ -6,7 +6,7 @@ use Rattle.std.specs.Map.{keys_of}
 use Rattle.std.specs.Ordering.{eq_by_cmp}
 use Rattle.ebpf_base.specs.Keys.{text_cmp, key_cmp}
 use Rattle.ebpf_object.specs.declared.object.Object.{Object}
-use Rattle.ebpf_object.specs.declared.program.Program.{Program}
+use Rattle.ebpf_parsing.specs.declared.program.Program.{Program}
 use Rattle.ebpf_reloc.specs.Linking.{ProgramValue, key_of, IsLinked}
 use Rattle.ebpf_reloc.specs.Places.{LinkableValue, TextSections}
 use Rattle.ebpf_reloc.specs.References.{Key}

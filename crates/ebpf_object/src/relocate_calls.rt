@@ -10,8 +10,8 @@ ghost use Rattle.ebpf_reloc.specs.Linking.{AreLinked, IsFirstFault};
 ghost use Rattle.ebpf_reloc.specs.Memory.{is_memory_at};
 
 use crate::object::Object;
-use crate::program::Program;
 use ebpf_base::{ByKey, ByName};
+use ebpf_parsing::Program;
 use ebpf_reloc::{EbpfRelocationError, Function, Linkable, ProgramKey, relocate_calls};
 use std::alloc::{AllocError, Global};
 use std::collections::HashSet;
