@@ -6,7 +6,7 @@ use crate::variants::{
     variant_of_parsing, variant_of_relocation, variant_of_resolving, variant_of_types,
 };
 use ebpf_btf::BtfError;
-use ebpf_object::KsymsError;
+use ebpf_ksyms::KsymsError;
 use ebpf_parts::ParseError;
 use ebpf_reloc::EbpfRelocationError;
 use std::fmt;

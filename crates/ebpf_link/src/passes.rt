@@ -5,6 +5,7 @@ ghost use Rattle.std.specs.Prelude.{◌≡◌, OnOk};
 use crate::failure::Failure;
 use ebpf_base::ByName;
 use ebpf_btf::Btf;
+use ebpf_ksyms::resolve_externs;
 use ebpf_object::Object;
 use ebpf_parts::maps::Map;
 use std::alloc::{AllocError, Global};
@@ -57,17 +58,29 @@ fn relocate_maps(alloc: Global, object: &mut Object) -> Result<(), Failure<'stat
     answer
 }
 
-/// Resolves the externs and writes what is known of them.
-fn relocate_externs<K: BufRead + Drop>(
+/// Resolves the externs.
+fn resolve<K: BufRead + Drop>(
+    alloc: Global,
     object: &mut Object,
     kernel_btf: Option<&Btf>,
     kallsyms: K,
 ) -> Result<(), Failure<'static>>
-    ensures { OnOk result (object.new ≡ record object.old { functions = object.new.functions; externs = object.new.externs }) }
+    ensures { OnOk result (object.new ≡ record object.old { externs = object.new.externs }) }
 {
-    if let Err(error) = object.resolve_externs(kernel_btf, kallsyms) {
-        return Err(Failure::of_resolving(&error));
+    let btf = object.btf.as_ref();
+    match resolve_externs(alloc, btf, &object.externs, kernel_btf, kallsyms) {
+        Ok(externs) => {
+            object.externs = externs;
+            Ok(())
+        }
+        Err(error) => Err(Failure::of_resolving(&error)),
     }
+}
+
+/// Writes what is known of the externs.
+fn relocate_externs(object: &mut Object) -> Result<(), Failure<'static>>
+    ensures { OnOk result (object.new ≡ record object.old { functions = object.new.functions }) }
+{
     match object.relocate_externs() {
         Ok(()) => Ok(()),
         Err(refusal) => Err(Failure::of_externs(&refusal)),
@@ -97,6 +110,7 @@ pub fn run_passes<K: BufRead + Drop>(
     ensures { OnOk result (object.new ≡ record object.old { functions = object.new.functions; externs = object.new.externs }) }
 {
     relocate_maps(alloc, object)?;
-    relocate_externs(object, kernel_btf, kallsyms)?;
+    resolve(alloc, object, kernel_btf, kallsyms)?;
+    relocate_externs(object)?;
     join_calls(alloc, object)
 }

@@ -1,7 +1,7 @@
 //! The names of the variants of errors.
 
 use ebpf_btf::BtfError;
-use ebpf_object::KsymsError;
+use ebpf_ksyms::KsymsError;
 use ebpf_parts::ParseError;
 use ebpf_reloc::RelocationError;
 

@@ -13,3 +13,5 @@ pub mod LastEntries
 pub mod OffsetOrder
 pub mod TextKeys
 pub mod SectionTables
+pub mod EntriesStand
+pub mod Standing

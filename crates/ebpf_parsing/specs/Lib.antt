@@ -17,3 +17,4 @@ pub mod FileExterns
 pub mod Contents
 pub mod Parts
 pub mod TiledSections
+pub mod Standing

@@ -5,6 +5,7 @@ ghost use Rattle.ebpf_base.specs.Keyed.{LaterStands};
 ghost use Rattle.ebpf_base.specs.Keys.{text_cmp, key_cmp};
 ghost use Rattle.ebpf_elf.specs.declared.entries.ElfRelocation.{ElfRelocation};
 ghost use Rattle.ebpf_elf.specs.declared.entries.SectionIndex.{SectionIndex};
+ghost use Rattle.ebpf_parsing.specs.Standing.{FunctionsAtTheirKeys, SymbolsAtTheirNumbers, RelocationsAtTheirOffsets, ProgramsHaveFunctions, ExternsAreUnresolved};
 ghost use Rattle.ebpf_parsing.specs.TiledSections.{AtEachAddress, InOrder, SectionsTile};
 ghost use Rattle.ebpf_parsing.specs.Tiling.{FunctionsTile};
 ghost use Rattle.ebpf_parsing.specs.declared.program.Program.{Program};
@@ -36,4 +37,29 @@ pub fn sections_tile()
     ensures at_each_address { AtEachAddress }
     ensures in_order { InOrder }
     ensures tiled { SectionsTile }
+{}
+
+/// At a section and an address stands a function of this section, at this address.
+pub fn functions_stand_at_their_keys()
+    ensures { FunctionsAtTheirKeys }
+{}
+
+/// At a number stands the symbol with this number of the file's symbol table, with a name.
+pub fn symbols_stand_at_their_numbers()
+    ensures { SymbolsAtTheirNumbers }
+{}
+
+/// At an offset of a section stands a relocation with this offset; no table of a section is empty.
+pub fn relocations_stand_at_their_offsets()
+    ensures { RelocationsAtTheirOffsets }
+{}
+
+/// The key of each program is that of a function.
+pub fn programs_have_functions()
+    ensures { ProgramsHaveFunctions }
+{}
+
+/// No extern has an id or an address of the kernel, or is resolved.
+pub fn externs_are_unresolved()
+    ensures { ExternsAreUnresolved }
 {}
