@@ -1,10 +1,16 @@
+pub mod CandidateLaws
 pub mod CandidateRows
 pub mod Comparing
 pub mod Copies
+pub mod Essentials
 pub mod ExtSections
+pub mod ExtSpelled
 pub mod Fields
 pub mod InOrder
+pub mod KindRows
 pub mod Looks
+pub mod LossyTexts
+pub mod NearTexts
 pub mod OneAfterOther
 pub mod RecordPlaces
 pub mod Refusals
@@ -12,3 +18,5 @@ pub mod RelocationLists
 pub mod RowRange
 pub mod Spelling
 pub mod Texts
+pub mod Unions
+pub mod UnreadNames

@@ -5,7 +5,9 @@ pub mod EssentialNames
 pub mod ExtFormat
 pub mod ExtInfos
 pub mod ExtReading
+pub mod ExtSpelling
 pub mod Format
+pub mod KindTables
 pub mod Memory
 pub mod Next
 pub mod Numbers
@@ -16,3 +18,5 @@ pub mod Strings
 pub mod TypeInfo
 pub mod TypeRows
 pub mod Types
+pub mod Unions
+pub mod Variants
