@@ -125,11 +125,22 @@ pub past : (known : Known) (parent : ℕ) (t : BtfType) (ms : List BtfMember) (l
 past known parent t ms l inside bits i left le = rw (drop_all i ms le) (none_left known l inside bits left)
 
 -- an unnamed member, in whose type the search came to this
-pub entered : (known : Known) (parent : ℕ) (t : BtfType) (ms : List BtfMember) (inside bits i left n : ℕ) (d : BtfMember) (id : ℕ)
+pub entered : (known : Known) (parent : ℕ) (t : BtfType) (ms : List BtfMember) (inside bits i left n : ℕ) (d : BtfMember) (id b : ℕ) (vs : List Member) (r : Result Answer PlaceFault)
     → i < length ms → left ≡ n + 1 → inside < 64 → known.role_of inside (member_at parent t (i, get_or ms i d)) ≡ Ok (Unnamed id)
+    → vs ≡ known.members_of id → b ≡ bits + (member_at parent t (i, get_or ms i d)).bits
+    → run known n (view known (64 - (inside + 1)) (inside + 1) b vs) ≡ r
     → run known left (view known (64 - inside) inside bits (left_from parent t i ms))
-    ≡ after (run known n (view known (64 - (inside + 1)) (inside + 1) (bits + (member_at parent t (i, get_or ms i d)).bits) (known.members_of id)))
-      (λ r. run known r (view known (64 - inside) inside bits (left_from parent t (i + 1) ms)))
-entered known parent t ms inside bits i left n d id lt e below_deepest is =
+    ≡ after r (λ rest. run known rest (view known (64 - inside) inside bits (left_from parent t (i + 1) ms)))
+entered known parent t ms inside bits i left n d id b vs r lt e below_deepest is members bits_is inner =
     let level : 64 - inside ≡ suc (64 - (inside + 1)) = omega arith in
-    rw level (arm known parent t ms (suc (64 - (inside + 1))) inside bits i left n d (Ok (Unnamed id)) lt e is)
+    rw level (arm known parent t ms (suc (64 - (inside + 1))) inside bits i left n d (Ok (Unnamed id)) lt e is
+    ∙ ap (λ (a : Result Answer PlaceFault). after a (λ rest. run known rest (view known (suc (64 - (inside + 1))) inside bits (left_from parent t (i + 1) ms)))) (rw (← bits_is, ← members) inner))
+
+-- no members
+pub none_in : (known : Known) (l inside bits left : ℕ) (ms : List Member) → ms ≡ [] → run known left (view known l inside bits ms) ≡ Ok (Absent left)
+none_in known l inside bits left ms none = rw none (none_left known l inside bits left)
+
+-- all members
+pub all_left : (known : Known) (l inside bits left id : ℕ) (t : BtfType) (vs : List Member) (ms : List BtfMember) → vs ≡ members_from id t 0 ms
+    → run known left (view known l inside bits vs) ≡ run known left (view known l inside bits (left_from id t 0 ms))
+all_left known l inside bits left id t vs ms is = ap (λ (us : List Member). run known left (view known l inside bits us)) is

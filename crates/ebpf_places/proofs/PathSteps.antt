@@ -27,3 +27,11 @@ module _ (local target : TypeInfo) where
   -- a path at its end
   pub path_end : (path : List Step) (i : ℕ) (from : Spot) → length path ≤ i → followed local target (drop i path) from ≡ Ok (Some from.place)
   path_end path i from le = rw (drop_all i path le) (followed_none from)
+
+  -- a path that has come to a step which leads so
+  pub path_at : (path : List Step) (i : ℕ) (by : Step) (from : Spot) (r : Result (Option Spot) PlaceFault) → i < length path → by ≡ get_or path i by → stepped local target from by ≡ r
+      → followed local target (drop i path) from ≡ if_fine r (λ led_to. onward led_to (followed local target (drop (i + 1) path)))
+  path_at path i by from r lt item is =
+      path_step path i by from lt
+      ∙ ap (λ (a : Result (Option Spot) PlaceFault). if_fine a (λ led_to. onward led_to (followed local target (drop (i + 1) path))))
+        (ap (stepped local target from) (sym item) ∙ is)

@@ -14,23 +14,23 @@ use Rattle.ebpf_places.specs.declared.role.Role.TheVariants.{Unnamed, Other, Sou
 use Rattle.ebpf_places.specs.Members.{Member, if_read, known, named_role, unnamed_levels}
 use Rattle.ebpf_places.proofs.ViewEntries.{IsShallow}
 
-fits_leads : (fits : Result Bool BtfError) (id : ℕ) → if_read fits (λ b. Ok {X = Role} {E = PlaceFault} (if b then Sought else Misfit)) ≡ Ok (Unnamed id) → ⊥
+fits_leads : (fits : Result Bool BtfError) (id : ℕ) → if_read fits (λ b. Ok (if b then Sought else Misfit)) ≡ Ok (Unnamed id) → ⊥
 fits_leads (Ok true) id h = cc
 fits_leads (Ok false) id h = cc
 fits_leads (Err e) id h = cc
 
 same_leads : (same : Bool) (fits : Result Bool BtfError) (id : ℕ)
-    → (if same then if_read fits (λ b. Ok {X = Role} {E = PlaceFault} (if b then Sought else Misfit)) else Ok Other) ≡ Ok (Unnamed id) → ⊥
+    → (if same then if_read fits (λ b. Ok (if b then Sought else Misfit)) else Ok Other) ≡ Ok (Unnamed id) → ⊥
 same_leads true fits id h = fits_leads fits id h
 same_leads false fits id h = cc
 
 text_leads : (text : Result (List ℕ) BtfError) (name : List ℕ) (fits : Result Bool BtfError) (id : ℕ)
-    → if_read text (λ t. if bytes_eq t name then if_read fits (λ b. Ok {X = Role} {E = PlaceFault} (if b then Sought else Misfit)) else Ok Other) ≡ Ok (Unnamed id) → ⊥
+    → if_read text (λ t. if bytes_eq t name then if_read fits (λ b. Ok (if b then Sought else Misfit)) else Ok Other) ≡ Ok (Unnamed id) → ⊥
 text_leads (Ok t) name fits id h = same_leads (bytes_eq t name) fits id h
 text_leads (Err e) name fits id h = cc
 
 by_tests : (unnamed deep : Bool) (type_id : Result ℕ BtfError) (named : Result Role PlaceFault) (id : ℕ) → (named ≡ Ok (Unnamed id) → ⊥)
-    → (if unnamed then (if deep then if_read type_id (λ i. Ok {X = Role} {E = PlaceFault} (Unnamed i)) else Err NestingLevel) else named) ≡ Ok (Unnamed id) → deep ≡ true
+    → (if unnamed then (if deep then if_read type_id (λ i. Ok (Unnamed i)) else Err NestingLevel) else named) ≡ Ok (Unnamed id) → deep ≡ true
 by_tests true true type_id named id leads h = refl
 by_tests true false type_id named id leads h = cc
 by_tests false deep type_id named id leads h = absurd (leads h)

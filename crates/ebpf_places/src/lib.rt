@@ -5,10 +5,12 @@
 #![tactic(auto)]
 
 mod fault;
+pub mod laws;
 mod places;
 mod role;
 mod search;
 mod steps;
+mod types;
 mod walk;
 
 pub use fault::PlaceFault;

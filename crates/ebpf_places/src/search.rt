@@ -10,6 +10,7 @@ ghost use Rattle.ebpf_places.specs.Searches.{IsFoundSmall, IsSmall, run, search_
 
 use crate::fault::PlaceFault;
 use crate::role::{Role, Wanted, role_of};
+use crate::types::type_at;
 use ebpf_btf::Btf;
 
 /// How many entries a search looks at.
@@ -51,7 +52,7 @@ fn search(
         Gives is_memory result (run scene entries (view scene (64 - inside) inside bits (members_in wanted.entry.target.now.types parent))) }
     ensures small { IsSmall result }
 {
-    let Some(ty) = wanted.target.types().get(parent as usize) else {
+    let Some(ty) = type_at(wanted.target, parent) else {
         return Ok(Answer::Absent { left: entries });
     };
     let Some(members) = ty.members() else {

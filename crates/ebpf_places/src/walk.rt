@@ -2,13 +2,15 @@
 
 ghost use Rattle.std.specs.Prelude.{◌≡◌, ◌+◌, ◌*◌, ◌<◌, ◌≤◌, ◌^◌, nat_lt, if◌then◌else◌, Some, None, Ok};
 ghost use Rattle.ebpf_base.specs.Faults.{Gives};
-ghost use Rattle.ebpf_places.specs.Memory.{is_memory};
+ghost use Rattle.ebpf_places.specs.Memory.{MemoryAside, is_memory};
+ghost use Rattle.ebpf_places.specs.Paths.{PathLeads};
 ghost use Rattle.ebpf_places.specs.Places.{begun, by_index, by_name, elements_of, followed, is_accepted, is_last_member, is_last_of, place_of, stepped, to_element, to_member};
 
 use crate::fault::PlaceFault;
 use crate::places::{Place, PlaceEnd};
 use crate::search::{FoundMember, find_member};
 use crate::steps::Step;
+use crate::types::type_at;
 use ebpf_btf::{Btf, BtfError, BtfType};
 
 /// How many parts a path may have before a step.
@@ -60,7 +62,7 @@ fn is_last_member(target: &Btf, end: PlaceEnd) -> bool
 {
     match end {
         PlaceEnd::Element { .. } => false,
-        PlaceEnd::Member { parent, index } => match target.types().get(parent as usize) {
+        PlaceEnd::Member { parent, index } => match type_at(target, parent) {
             Some(ty) => is_last_of(index, ty),
             None => false,
         },
@@ -116,7 +118,7 @@ fn by_index(
     requires { from.parts < 64 }
     ensures { result ≡ by_index target.now from type_id index }
 {
-    let Some(ty) = target.types().get(type_id as usize) else {
+    let Some(ty) = type_at(target, type_id) else {
         return Ok(None);
     };
     let Some(elements) = elements_of(ty) else {
@@ -211,6 +213,25 @@ fn begin(target: &Btf, root_type: u32, index: usize) -> Result<Spot, PlaceFault>
     to_element(target, 0, 1, type_id, index)
 }
 
+/// Where a path leads whose first step is the root index; another path leads nowhere.
+fn place(
+    local: &Btf,
+    target: &Btf,
+    root_type: u32,
+    path: &[Step],
+) -> Result<Option<Place>, PlaceFault>
+    ensures { Gives is_memory result (place_of local.now target.now root_type path.now) }
+{
+    let Some((first, path)) = path.split_first() else {
+        return Ok(None);
+    };
+    let Step::Index { index } = first else {
+        return Ok(None);
+    };
+    let start = begin(target, root_type, *index)?;
+    follow_all(local, target, path, start)
+}
+
 /// Where a path leads in the target type `root_type`. None where it leads nowhere: where a name has no member, where an
 /// index has no ARRAY or is not below its length, and where the first step is no index.
 ///
@@ -228,14 +249,8 @@ pub fn place_in(
     root_type: u32,
     path: &[Step],
 ) -> Result<Option<Place>, PlaceFault>
-    ensures { Gives is_memory result (place_of local.now target.now root_type path.now) }
+    ensures leads { MemoryAside result (PathLeads local.now target.now root_type path.now) }
+    ensures same { Gives is_memory result (place_of local.now target.now root_type path.now) }
 {
-    let Some((first, path)) = path.split_first() else {
-        return Ok(None);
-    };
-    let Step::Index { index } = first else {
-        return Ok(None);
-    };
-    let start = begin(target, root_type, *index)?;
-    follow_all(local, target, path, start)
+    place(local, target, root_type, path)
 }
