@@ -57,11 +57,11 @@ module _ (local target : TypeInfo) where
     | inr long ↦ subst (StepLeads local target from by) (sym (step_long from by long)) (TooLong by long)
   ]
 
-  one_step : (from : Spot) (by : Step) (a : Result (Option Spot) PlaceFault) → StepLeads local target from by a → a ≡ stepped local target from by
-  one_step from by a (TooLong by long) = sym (step_long from by long)
-  one_step from by a (NoType by e near is) = sym (step_read from by (Err e) near is)
-  one_step from by a (ToElement index id near is) = sym (step_read from (Index index) (Ok id) near is)
-  one_step from by a (ToMember name local_type id first near is member) =
+  one_step : (from : Spot) {by : Step} {a : Result (Option Spot) PlaceFault} → StepLeads local target from by a → a ≡ stepped local target from by
+  one_step from (TooLong by long) = sym (step_long from by long)
+  one_step from (NoType by e near is) = sym (step_read from by (Err e) near is)
+  one_step from (ToElement index id near is) = sym (step_read from (Index index) (Ok id) near is)
+  one_step from (ToMember name local_type id first near is member) =
       ap (λ (x : Result (Option FoundMember) PlaceFault). if_fine x (by_found from))
       (one_first_member name local_type id first (sought (known local target name local_type) search_entries (members_in target.types id)) member (first_member name local_type id))
       ∙ sym (step_read from (Name name local_type) (Ok id) near is)
@@ -83,7 +83,7 @@ module _ (local target : TypeInfo) where
   follow_by : (by : Step) (path : List Step) (from : Spot) (r : Result (Option Spot) PlaceFault) → StepLeads local target from by r
       → followed local target (by ∷ path) from ≡ if_fine r (λ led_to. onward led_to (followed local target path))
   unfolding followed
-  follow_by by path from r one = ap (λ (x : Result (Option Spot) PlaceFault). if_fine x (λ led_to. onward led_to (followed local target path))) (sym (one_step from by r one))
+  follow_by by path from r one = ap (λ (x : Result (Option Spot) PlaceFault). if_fine x (λ led_to. onward led_to (followed local target path))) (sym (one_step from one))
 
   end_of : (from : Spot) → Ok (Some from.place) ≡ followed local target [] from
   unfolding followed

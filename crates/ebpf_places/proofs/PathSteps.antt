@@ -1,5 +1,5 @@
 -- One step of a path.
-use Rattle.std.proofs.Common.{◌≡◌, ℕ, suc, ◌+◌, ◌<◌, ◌≤◌, List, [], ◌∷◌, length, get_or, drop, Option, Some, None, Result, Ok, Err, refl, sym, ap, ◌∙◌, drop-cons, add-one}
+use Rattle.std.proofs.Common.{◌≡◌, ℕ, suc, ◌+◌, ◌<◌, ◌≤◌, List, [], ◌∷◌, length, get_or, drop, Option, Some, None, Result, Ok, Err, refl, sym, ap, ◌∙◌, arith, drop-cons, add-one}
 use Rattle.std.proofs.lemmas.List.{drop_all}
 use Rattle.ebpf_btf.specs.TypeInfo.{TypeInfo}
 use Rattle.ebpf_places.specs.declared.fault.PlaceFault.{PlaceFault}
@@ -35,3 +35,20 @@ module _ (local target : TypeInfo) where
       path_step path i by from lt
       ∙ ap (λ (a : Result (Option Spot) PlaceFault). if_fine a (λ led_to. onward led_to (followed local target (drop (i + 1) path))))
         (ap (stepped local target from) (sym item) ∙ is)
+
+  -- ---- the first step
+
+  pub place_empty : (root : ℕ) (path : List Step) → length path ≡ 0 → place_of local target root path ≡ Ok None
+  unfolding place_of
+  place_empty root [] none = refl
+  place_empty root (by ∷ path) none = absurd (omega arith)
+
+  pub place_named : (root : ℕ) (path rest : List Step) (by : Step) (name : List ℕ) (local_type : ℕ) → path ≡ by ∷ rest → by ≡ Name name local_type
+      → place_of local target root path ≡ Ok None
+  unfolding place_of
+  place_named root path rest by name local_type split is = rw (split, is) refl
+
+  pub place_begun : (root : ℕ) (path rest : List Step) (by : Step) (index : ℕ) (r : Result Spot PlaceFault) → path ≡ by ∷ rest → by ≡ Index index → r ≡ begun target root index
+      → place_of local target root path ≡ if_fine r (followed local target rest)
+  unfolding place_of
+  place_begun root path rest by index r split is begins = rw (split, is, begins) refl
