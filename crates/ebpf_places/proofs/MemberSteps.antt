@@ -100,7 +100,7 @@ module _ (known : Known) (parent : ℕ) (t : BtfType) (ms : List BtfMember) (l i
       → known.role_of inside (member_at parent t (i, get_or ms i d)) ≡ role
       → run known left (view known l inside bits (left_from parent t i ms))
       ≡ at_role known role (entry inside bits (member_at parent t (i, get_or ms i d))) n
-        (λ id. lower known l (inside + 1) (bits + (member_at parent t (i, get_or ms i d)).bits) (known.members_of id)) (view known l inside bits (left_from parent t (i + 1) ms))
+      (λ id. lower known l (inside + 1) (bits + (member_at parent t (i, get_or ms i d)).bits) (known.members_of id)) (view known l inside bits (left_from parent t (i + 1) ms))
   arm n d role lt e is =
       let m : Member = member_at parent t (i, get_or ms i d) in
       let split : left_from parent t i ms ≡ m ∷ left_from parent t (i + 1) ms = rw (drop-cons ms i d lt, add-one i) refl in

@@ -34,7 +34,7 @@ module _ (local target : TypeInfo) where
   path_at path i by from r lt item is =
       path_step path i by from lt
       ∙ ap (λ (a : Result (Option Spot) PlaceFault). if_fine a (λ led_to. onward led_to (followed local target (drop (i + 1) path))))
-        (ap (stepped local target from) (sym item) ∙ is)
+      (ap (stepped local target from) (sym item) ∙ is)
 
   -- ---- the first step
 
