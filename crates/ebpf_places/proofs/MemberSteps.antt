@@ -1,7 +1,7 @@
 -- One member of a search.
-use Rattle.std.proofs.Common.{◌≡◌, ℕ, zero, suc, ◌+◌, ◌-◌, ◌<◌, ◌≤◌, if◌then◌else◌, List, [], ◌∷◌, ◌++◌, map, Option, Some, None, Result, Ok, Err, refl, sym, ap, ◌∙◌, arith, drop, get_or, length, drop-cons, add-one}
+use Rattle.std.proofs.Common.{◌≡◌, ℕ, zero, suc, ◌+◌, ◌-◌, ◌<◌, ◌≤◌, if◌then◌else◌, List, [], ◌∷◌, ◌++◌, Option, Some, None, Result, Ok, Err, refl, sym, ap, ◌∙◌, arith, drop, get_or, length, drop-cons, add-one}
 use Rattle.std.proofs.lemmas.List.{drop_all}
-use Rattle.std.specs.List.{enumerate_from, flat_map}
+use Rattle.std.specs.List.{flat_map}
 use Rattle.ebpf_btf.specs.declared.members.BtfMember.{BtfMember}
 use Rattle.ebpf_btf.specs.declared.types.BtfType.{BtfType}
 use Rattle.ebpf_places.specs.declared.fault.PlaceFault.{PlaceFault}
@@ -10,8 +10,7 @@ use Rattle.ebpf_places.specs.declared.role.Role.{Role}
 use Rattle.ebpf_places.specs.declared.role.Role.TheVariants.{Unnamed, Other, Sought, Misfit}
 use Rattle.ebpf_places.specs.declared.search.Answer.{Answer}
 use Rattle.ebpf_places.specs.declared.search.Answer.TheVariants.{Found, Absent}
-use Rattle.ebpf_places.specs.declared.search.FoundMember.{FoundMember}
-use Rattle.ebpf_places.specs.Members.{Known, Member, member_at, members_from, unnamed_levels}
+use Rattle.ebpf_places.specs.Members.{Known, Member, member_at, members_from}
 use Rattle.ebpf_places.specs.MemberViews.{Entry, below, entry, flat, is_misfit, nothing, own, view}
 use Rattle.ebpf_places.specs.Searches.{found, or_on, run, stop, stop_by}
 

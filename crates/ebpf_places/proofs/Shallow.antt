@@ -10,7 +10,7 @@ use Rattle.ebpf_places.specs.declared.fault.PlaceFault.{PlaceFault}
 use Rattle.ebpf_places.specs.declared.fault.PlaceFault.TheVariants.{NestingLevel}
 use Rattle.ebpf_places.specs.declared.role.Role.{Role}
 use Rattle.ebpf_places.specs.declared.role.Role.TheVariants.{Unnamed, Other, Sought, Misfit}
-use Rattle.ebpf_places.specs.Members.{Member, if_read, known, named_role, unnamed_levels}
+use Rattle.ebpf_places.specs.Members.{if_read, known, named_role, unnamed_levels}
 use Rattle.ebpf_places.proofs.ViewEntries.{IsShallow}
 
 fits_leads : (fits : Result Bool BtfError) (id : ℕ) → if_read fits (λ b. Ok (if b then Sought else Misfit)) ≡ Ok (Unnamed id) → ⊥

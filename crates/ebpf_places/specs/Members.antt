@@ -1,6 +1,6 @@
 -- The members of a type, and what each of them is to a search for a name (the kernel's
 -- tools/lib/bpf/relo_core.c, bpf_core_match_member).
-use Rattle.std.specs.Prelude.{ℕ, ◌==◌, nat_lt, if◌then◌else◌, Bool, List, [], map, slice_get, unwrap_or, Option, Result, Ok, Err}
+use Rattle.std.specs.Prelude.{ℕ, ◌==◌, nat_lt, if◌then◌else◌, List, [], map, slice_get, unwrap_or, Result, Ok, Err}
 use Rattle.std.specs.List.{enumerate_from}
 use Rattle.std.specs.Option.{option_map_or}
 use Rattle.ebpf_btf.specs.declared.error.BtfError.{BtfError}
