@@ -1,79 +1,77 @@
-//! What is said of two types, as texts.
+//! What is said of two types: of their fields, or of the types themselves.
 
-use crate::bytes::btf_bytes;
-use ebpf_btf::{Btf, BtfError, Endianness, fields_are_compatible, types_are_compatible};
+use crate::parsed::{fault, target, types};
+use ebpf_btf::{Btf, BtfError, fields_are_compatible, types_are_compatible};
+use ebpf_cases::{Action, Files, no_action};
 use std::alloc::{AllocError, Global};
 
-/// Types by their words, with these strings.
-pub fn parsed(alloc: Global, words: &[u32], strings: &[u8]) -> Result<Btf, BtfError> {
-    let bytes = btf_bytes(alloc, Endianness::Little, words, strings)?;
-    Btf::parse(alloc, &bytes, Endianness::Little)
-}
-
-fn said(alloc: Global, found: Result<bool, BtfError>) -> Result<String, AllocError> {
+/// Whether two types fit, or why that can't be said.
+fn said(
+    alloc: Global,
+    of_fields: bool,
+    local: (&Btf, u32),
+    target: (&Btf, u32),
+) -> Result<String, AllocError> {
+    let found = if of_fields {
+        fields_are_compatible(local.0, local.1, target.0, target.1)
+    } else {
+        types_are_compatible(local.0, local.1, target.0, target.1)
+    };
     match found {
         Ok(fits) => format!(in alloc; "{fits}"),
-        Err(error) => format!(in alloc; "{error:?}"),
+        Err(error) => fault(alloc, &error),
     }
 }
 
-/// Whether fields of two types fit, or why that can't be said.
-pub fn fields(
-    alloc: Global,
-    local: &Btf,
-    local_id: u32,
-    target: &Btf,
-    target_id: u32,
-) -> Result<String, AllocError> {
-    let found = fields_are_compatible(local, local_id, target, target_id);
-    said(alloc, found)
+/// Both type information of a case.
+fn both(alloc: Global, files: &Files) -> Result<(Btf, Btf), BtfError> {
+    Ok((types(alloc, files)?, target(alloc, files)?))
 }
 
-/// Whether two types fit, or why that can't be said.
-pub fn types(
-    alloc: Global,
-    local: &Btf,
-    local_id: u32,
-    target: &Btf,
-    target_id: u32,
-) -> Result<String, AllocError> {
-    let found = types_are_compatible(local, local_id, target, target_id);
-    said(alloc, found)
-}
-
-/// A local id, a target id, and what is to be said.
-pub type Row<'a> = (u32, u32, &'a str);
-
-/// What is wrong with the first row of fields of which another thing is said.
-pub fn wrong_fields(
-    alloc: Global,
-    local: &Btf,
-    target: &Btf,
-    rows: &[Row],
-) -> Result<String, AllocError> {
-    for (one, other, expected) in rows {
-        let found = fields(alloc, local, *one, target, *other)?;
-        if found.as_str() != *expected {
-            let found = found.as_str();
-            return format!(in alloc; "{one} {other} give {found} and not {expected}");
-        }
+/// What is said of a local and a target type.
+pub fn one_pair(alloc: Global, files: &Files, action: &Action<'_>) -> Result<String, AllocError> {
+    let (Some(one), Some(other)) = (action.small_number(0), action.small_number(1)) else {
+        return no_action(alloc);
+    };
+    match both(alloc, files) {
+        Ok((local, target)) => said(
+            alloc,
+            action.name == "fields",
+            (&local, one),
+            (&target, other),
+        ),
+        Err(error) => fault(alloc, &error),
     }
-    Ok(String::new(alloc))
 }
 
-/// What is wrong with the first row of types of which another thing is said.
-pub fn wrong_types(
+/// What is said of a local type and each target type.
+fn with_each(
     alloc: Global,
-    local: &Btf,
+    of_fields: bool,
+    local: (&Btf, u32),
     target: &Btf,
-    rows: &[Row],
 ) -> Result<String, AllocError> {
-    for (one, other, expected) in rows {
-        let found = types(alloc, local, *one, target, *other)?;
-        if found.as_str() != *expected {
-            let found = found.as_str();
-            return format!(in alloc; "{one} {other} give {found} and not {expected}");
-        }
+    let mut text = String::new(alloc);
+    write!(text, "with each:")?;
+    for (other, _ty) in target.types().iter().enumerate() {
+        let found = said(alloc, of_fields, local, (target, other as u32))?;
+        write!(text, " {found}")?;
     }
-    Ok(String::new(alloc))
+    Ok(text)
+}
+
+/// What is said of a local type and each target type, beside each other.
+pub fn all_pairs(alloc: Global, files: &Files, action: &Action<'_>) -> Result<String, AllocError> {
+    let Some(one) = action.small_number(0) else {
+        return no_action(alloc);
+    };
+    match both(alloc, files) {
+        Ok((local, target)) => with_each(
+            alloc,
+            action.name == "all_fields",
+            (&local, one),
+            &target,
+        ),
+        Err(error) => fault(alloc, &error),
+    }
 }
