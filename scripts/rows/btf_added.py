@@ -11,7 +11,7 @@ def depth(number):
 
 def cases():
     number = "Int { name_offset: 0, size: 4, int_data: 32 }"
-    new = 'new: [Unknown], Ok(""), Err(InvalidStringOffset { offset: 1 })'
+    new = "new: [Unknown], 0: , 1: InvalidStringOffset { offset: 1 }"
     texts = btf(ty(7, FLOAT, 8), ty(9, FLOAT, 4), strings=b"\0int\0\0" + "\u00e9".encode() + b"\0")
     # A number with id 1, 33 CONSTs over it that each hold the one before, and a TYPEDEF of itself.
     modifiers = btf(NUMBER, *(ty(0, CONST, below) for below in range(1, 34)), typedef(0, 35))

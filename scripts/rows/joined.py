@@ -47,6 +47,12 @@ def two_names():
     return file.relocations(3, [(0, 3, CALL32)]).bytes()
 
 
+def chain(callers):
+    """A program that calls the first of a chain of functions, each of which calls the next, up to one that ends."""
+    functions = [("f", [call_by(1), EXIT])] * callers + [("f", [EXIT])]
+    return calling([CALL, EXIT], functions, [(0, 2)])
+
+
 def two_faults():
     """A program that calls f, whose call finds no function, and then what is data."""
     file = program([CALL, CALL, EXIT], [("f", [call_by(5), EXIT])]).symbol("d", 1, 4, 0, 8)
@@ -161,4 +167,10 @@ def faults():
 
 def cases():
     joined = [Case(name, data, {"joined slots": expected}) for name, data, expected in joins()]
+    counts = """
+        program p slots 401
+        200: 85 10 00 00 01 00 00 00
+        201: 95 00 00 00 00 00 00 00
+    """
+    joined.append(Case("a chain of 200 functions", chain(199), {"joined slot_counts": counts}))
     return joined + [Case(name, data, {"joined functions": expected}) for name, data, expected in faults()]

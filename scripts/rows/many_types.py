@@ -49,8 +49,8 @@ def last_types():
 def expected_lines():
     rows = last_types()
     # Void is the one candidate of its kind; eight types of a group have a size.
-    candidates = 1 + GROUPS * sum(row[3] for row in rows)
-    yield f"types {10 * GROUPS + 1}, candidates {candidates}, with a size {8 * GROUPS}"
+    candidates = 1 + sum(rows[(number - 1) % 10][3] for number in range(7, 10 * GROUPS + 1, 7))
+    yield f"types {10 * GROUPS + 1}, candidates of each seventh {candidates}, with a size {8 * GROUPS}"
     first = 10 * (GROUPS - 1) + 1
     # The lowest id of a kind and a name: that of the first group, where the name is no group's own.
     lowest = [1, None, 3, 4, 3, None, 7, None, 9, None]

@@ -2,6 +2,7 @@
 import struct
 
 from make_call_object import call_object
+from rows import reader
 from rows.case import Case
 from rows.elf import changed
 
@@ -44,6 +45,9 @@ def cases():
                 "prefixes 0 64": "64: ElfError(TooShort)",
                 "prefixes 64 616": "552: ElfError(BadSectionTable)",
                 "prefixes 616 617": "1: parsed",
+                # nor does any of its bytes, set to 00 or ff, give anything but this
+                "bytes 0 616 0": reader.each_byte(call_object(), 0),
+                "bytes 0 616 255": reader.each_byte(call_object(), 255),
             },
         ),
         Case(

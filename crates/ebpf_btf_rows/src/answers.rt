@@ -13,7 +13,8 @@ fn number(alloc: Global, answer: Result<u32, BtfError>) -> Result<String, AllocE
     }
 }
 
-fn text(alloc: Global, btf: &Btf, offset: u32) -> Result<String, AllocError> {
+/// The text at an offset, or why there is none.
+pub fn text_at(alloc: Global, btf: &Btf, offset: u32) -> Result<String, AllocError> {
     match btf.string_at(offset) {
         Ok(text) => String::from_str(alloc, text.as_str()),
         Err(error) => fault(alloc, &error),
@@ -98,7 +99,7 @@ fn answer(alloc: Global, btf: &Btf, action: &Action<'_>) -> Result<String, Alloc
         return no_action(alloc);
     };
     match action.name {
-        "text" => text(alloc, btf, asked),
+        "text" => text_at(alloc, btf, asked),
         "resolved" => number(alloc, btf.resolve_type(asked)),
         "size" => number(alloc, btf.type_size(asked)),
         "type" | "accessors" | "name" | "error_name" => of_type(alloc, btf, action.name, asked),
@@ -106,16 +107,30 @@ fn answer(alloc: Global, btf: &Btf, action: &Action<'_>) -> Result<String, Alloc
     }
 }
 
-/// The answer of the types of a case, and that of a copy of them where it is another one.
-pub fn answer_twice(alloc: Global, files: &Files, action: &Action<'_>) -> Result<String, AllocError> {
-    let btf = match types(alloc, files) {
-        Ok(btf) => btf,
-        Err(error) => return fault(alloc, &error),
-    };
-    let mut answered = answer(alloc, &btf, action)?;
-    let of_copy = answer(alloc, &btf.clone()?, action)?;
+/// The answer of a copy.
+fn answer_of_copy(alloc: Global, btf: &Btf, action: &Action<'_>) -> Result<String, AllocError> {
+    let copy = btf.clone()?;
+    answer(alloc, &copy, action)
+}
+
+/// An answer, and that of a copy where it is another one.
+fn both_answers(alloc: Global, btf: &Btf, action: &Action<'_>) -> Result<String, AllocError> {
+    let mut answered = answer(alloc, btf, action)?;
+    let of_copy = answer_of_copy(alloc, btf, action)?;
     if answered.as_str() != of_copy.as_str() {
         write!(answered, "\ncopy: {of_copy}")?;
     }
     Ok(answered)
+}
+
+/// The answer of the types of a case, and that of a copy of them where it is another one.
+pub fn answer_twice(
+    alloc: Global,
+    files: &Files,
+    action: &Action<'_>,
+) -> Result<String, AllocError> {
+    match types(alloc, files) {
+        Ok(btf) => both_answers(alloc, &btf, action),
+        Err(error) => fault(alloc, &error),
+    }
 }

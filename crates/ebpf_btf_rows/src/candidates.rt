@@ -2,15 +2,29 @@
 
 use crate::kinds::kind_of;
 use crate::parsed::{fault, types};
-use ebpf_btf::{Btf, BtfError, BtfKind, TypeIndex};
+use ebpf_btf::{Btf, BtfKind, TypeIndex};
 use ebpf_cases::{Action, Files, no_action};
 use std::alloc::{AllocError, Global};
 
 /// The ids of a kind and a name, as a text.
-fn found(alloc: Global, btf: &Btf, kind: BtfKind, name: &str) -> Result<String, BtfError> {
-    let index = TypeIndex::new(alloc, btf)?;
-    let ids = index.candidates(kind, name)?;
-    Ok(format!(in alloc; "{ids:?}")?)
+fn listed(
+    alloc: Global,
+    index: &TypeIndex<'_>,
+    kind: BtfKind,
+    name: &str,
+) -> Result<String, AllocError> {
+    match index.candidates(kind, name) {
+        Ok(ids) => format!(in alloc; "{ids:?}"),
+        Err(error) => fault(alloc, &error),
+    }
+}
+
+/// The same, with an index of its own.
+fn found(alloc: Global, btf: &Btf, kind: BtfKind, name: &str) -> Result<String, AllocError> {
+    match TypeIndex::new(alloc, btf) {
+        Ok(index) => listed(alloc, &index, kind, name),
+        Err(error) => fault(alloc, &error),
+    }
 }
 
 /// The candidates of a kind and a name among the types of a case.
@@ -22,12 +36,8 @@ pub fn candidates(
     let Some(kind) = kind_of(action.word(0)) else {
         return no_action(alloc);
     };
-    let btf = match types(alloc, files) {
-        Ok(btf) => btf,
-        Err(error) => return fault(alloc, &error),
-    };
-    match found(alloc, &btf, kind, action.word(1)) {
-        Ok(text) => Ok(text),
+    match types(alloc, files) {
+        Ok(btf) => found(alloc, &btf, kind, action.word(1)),
         Err(error) => fault(alloc, &error),
     }
 }

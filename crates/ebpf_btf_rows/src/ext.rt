@@ -1,7 +1,7 @@
 //! What `.BTF.ext` says: of functions and lines, and its relocations.
 
 use crate::parsed::{fault, ordered, types};
-use ebpf_btf::{BtfError, BtfExt, Endianness, RelocationKind};
+use ebpf_btf::{Btf, BtfExt, Endianness, RelocationKind};
 use ebpf_cases::{Action, Files, Tally, no_action};
 use std::alloc::{AllocError, Global};
 
@@ -26,49 +26,55 @@ fn answer(alloc: Global, ext: &BtfExt, action: &Action<'_>) -> Result<String, Al
     }
 }
 
-/// The file `ext` of a case.
-fn parsed(alloc: Global, files: &Files) -> Result<BtfExt, BtfError> {
-    let btf = types(alloc, files)?;
-    let (bytes, order) = ordered(files, "big ext", "ext");
-    BtfExt::parse(alloc, bytes, order, &btf)
+/// The answer of a copy.
+fn answer_of_copy(alloc: Global, ext: &BtfExt, action: &Action<'_>) -> Result<String, AllocError> {
+    let copy = ext.clone()?;
+    answer(alloc, &copy, action)
 }
 
-/// The answer of the file `ext` of a case, and that of a copy where it is another one.
-pub fn ext_outcome(
-    alloc: Global,
-    files: &Files,
-    action: &Action<'_>,
-) -> Result<String, AllocError> {
-    let ext = match parsed(alloc, files) {
-        Ok(ext) => ext,
-        Err(error) => return fault(alloc, &error),
-    };
-    let mut answered = answer(alloc, &ext, action)?;
-    let of_copy = answer(alloc, &ext.clone()?, action)?;
+/// An answer, and that of a copy where it is another one.
+fn both_answers(alloc: Global, ext: &BtfExt, action: &Action<'_>) -> Result<String, AllocError> {
+    let mut answered = answer(alloc, ext, action)?;
+    let of_copy = answer_of_copy(alloc, ext, action)?;
     if answered.as_str() != of_copy.as_str() {
         write!(answered, "\ncopy: {of_copy}")?;
     }
     Ok(answered)
 }
 
+/// The answer of the file `ext` of a case.
+fn of_ext(
+    alloc: Global,
+    files: &Files,
+    btf: &Btf,
+    action: &Action<'_>,
+) -> Result<String, AllocError> {
+    let (bytes, order) = ordered(files, "big ext", "ext");
+    match BtfExt::parse(alloc, bytes, order, btf) {
+        Ok(ext) => both_answers(alloc, &ext, action),
+        Err(error) => fault(alloc, &error),
+    }
+}
+
 /// Whether the first bytes of the file can be read.
-fn cut_outcome(alloc: Global, files: &Files, length: u32) -> Result<String, AllocError> {
-    let bytes = files.get("ext");
+fn cut_outcome(
+    alloc: Global,
+    bytes: &[u8],
+    btf: &Btf,
+    length: u32,
+) -> Result<String, AllocError> {
     let part = bytes.get(..length as usize).unwrap_or(bytes);
-    let found = match types(alloc, files) {
-        Ok(btf) => BtfExt::parse(alloc, part, Endianness::Little, &btf),
-        Err(error) => return fault(alloc, &error),
-    };
-    match found {
+    match BtfExt::parse(alloc, part, Endianness::Little, btf) {
         Ok(_ext) => String::from_str(alloc, "read"),
         Err(error) => fault(alloc, &error),
     }
 }
 
 /// What the first bytes give, for each length from one number up to another.
-pub fn ext_prefixes(
+fn prefixes(
     alloc: Global,
-    files: &Files,
+    bytes: &[u8],
+    btf: &Btf,
     action: &Action<'_>,
 ) -> Result<String, AllocError> {
     let (Some(from), Some(to)) = (action.small_number(0), action.small_number(1)) else {
@@ -76,10 +82,23 @@ pub fn ext_prefixes(
     };
     let mut tally = Tally::new(alloc);
     for length in from..to {
-        let text = cut_outcome(alloc, files, length)?;
+        let text = cut_outcome(alloc, bytes, btf, length)?;
         tally.count(text.as_str())?;
     }
     tally.text()
+}
+
+/// The answer of the file `ext` of a case, or what its first bytes give.
+pub fn ext_outcome(
+    alloc: Global,
+    files: &Files,
+    action: &Action<'_>,
+) -> Result<String, AllocError> {
+    match types(alloc, files) {
+        Ok(btf) if action.name == "ext_prefixes" => prefixes(alloc, files.get("ext"), &btf, action),
+        Ok(btf) => of_ext(alloc, files, &btf, action),
+        Err(error) => fault(alloc, &error),
+    }
 }
 
 /// The kind of a relocation's number, which is the number of the kind again.

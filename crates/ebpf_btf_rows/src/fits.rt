@@ -1,7 +1,7 @@
 //! What is said of two types: of their fields, or of the types themselves.
 
 use crate::parsed::{fault, target, types};
-use ebpf_btf::{Btf, BtfError, fields_are_compatible, types_are_compatible};
+use ebpf_btf::{Btf, fields_are_compatible, types_are_compatible};
 use ebpf_cases::{Action, Files, no_action};
 use std::alloc::{AllocError, Global};
 
@@ -23,28 +23,7 @@ fn said(
     }
 }
 
-/// Both type information of a case.
-fn both(alloc: Global, files: &Files) -> Result<(Btf, Btf), BtfError> {
-    Ok((types(alloc, files)?, target(alloc, files)?))
-}
-
-/// What is said of a local and a target type.
-pub fn one_pair(alloc: Global, files: &Files, action: &Action<'_>) -> Result<String, AllocError> {
-    let (Some(one), Some(other)) = (action.small_number(0), action.small_number(1)) else {
-        return no_action(alloc);
-    };
-    match both(alloc, files) {
-        Ok((local, target)) => said(
-            alloc,
-            action.name == "fields",
-            (&local, one),
-            (&target, other),
-        ),
-        Err(error) => fault(alloc, &error),
-    }
-}
-
-/// What is said of a local type and each target type.
+/// What is said of a local type and each target type, beside each other.
 fn with_each(
     alloc: Global,
     of_fields: bool,
@@ -60,18 +39,43 @@ fn with_each(
     Ok(text)
 }
 
-/// What is said of a local type and each target type, beside each other.
-pub fn all_pairs(alloc: Global, files: &Files, action: &Action<'_>) -> Result<String, AllocError> {
+/// What an action asks of both type information.
+fn of_both(
+    alloc: Global,
+    local: &Btf,
+    target: &Btf,
+    action: &Action<'_>,
+) -> Result<String, AllocError> {
     let Some(one) = action.small_number(0) else {
         return no_action(alloc);
     };
-    match both(alloc, files) {
-        Ok((local, target)) => with_each(
-            alloc,
-            action.name == "all_fields",
-            (&local, one),
-            &target,
-        ),
+    let of_fields = matches!(action.name, "fields" | "all_fields");
+    if matches!(action.name, "all_fields" | "all_types") {
+        return with_each(alloc, of_fields, (local, one), target);
+    }
+    match action.small_number(1) {
+        Some(other) => said(alloc, of_fields, (local, one), (target, other)),
+        None => no_action(alloc),
+    }
+}
+
+/// What an action asks of type information and the target of its case.
+fn with_target(
+    alloc: Global,
+    files: &Files,
+    local: &Btf,
+    action: &Action<'_>,
+) -> Result<String, AllocError> {
+    match target(alloc, files) {
+        Ok(target) => of_both(alloc, local, &target, action),
+        Err(error) => fault(alloc, &error),
+    }
+}
+
+/// What is said of a local type and one or each target type.
+pub fn fits(alloc: Global, files: &Files, action: &Action<'_>) -> Result<String, AllocError> {
+    match types(alloc, files) {
+        Ok(local) => with_target(alloc, files, &local, action),
         Err(error) => fault(alloc, &error),
     }
 }

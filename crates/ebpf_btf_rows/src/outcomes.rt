@@ -4,8 +4,8 @@ use crate::added::added;
 use crate::answers::answer_twice;
 use crate::candidates::candidates;
 use crate::changed::{all_bytes, prefixes};
-use crate::ext::{ext_outcome, ext_prefixes, relocation_kind};
-use crate::fits::{all_pairs, one_pair};
+use crate::ext::{ext_outcome, relocation_kind};
+use crate::fits::fits;
 use ebpf_cases::{Action, Files, Outcomes};
 use std::alloc::{AllocError, Global};
 
@@ -25,10 +25,10 @@ impl Outcomes for TypeOutcomes {
             "candidates" => candidates(alloc, files, action),
             "prefixes" => prefixes(alloc, files, action),
             "all_bytes" => all_bytes(alloc, files, action),
-            "fields" | "types" => one_pair(alloc, files, action),
-            "all_fields" | "all_types" => all_pairs(alloc, files, action),
-            "ext" | "funcs" | "lines" | "relocations" => ext_outcome(alloc, files, action),
-            "ext_prefixes" => ext_prefixes(alloc, files, action),
+            "fields" | "types" | "all_fields" | "all_types" => fits(alloc, files, action),
+            "ext" | "funcs" | "lines" | "relocations" | "ext_prefixes" => {
+                ext_outcome(alloc, files, action)
+            }
             "relocation_kind" => relocation_kind(alloc, action),
             _ => answer_twice(alloc, files, action),
         }

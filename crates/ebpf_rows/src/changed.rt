@@ -1,26 +1,28 @@
 //! Files that are cut, and files with another byte.
 
-use ebpf_cases::{Action, Tally, no_action};
-use ebpf_object::Object;
+use crate::parsed::on_object;
+use ebpf_cases::{Action, Files, Tally, no_action};
 use std::alloc::{AllocError, Global};
 
 /// Whether the bytes are an object, or the error.
-fn outcome(alloc: Global, bytes: &[u8]) -> Result<String, AllocError> {
-    match Object::parse(alloc, bytes) {
-        Ok(_object) => String::from_str(alloc, "parsed"),
-        Err(error) => format!(in alloc; "{error:?}"),
-    }
+fn outcome(alloc: Global, files: &Files, bytes: &[u8]) -> Result<String, AllocError> {
+    let action = Action {
+        name: "is_object",
+        words: Vec::new(alloc),
+    };
+    on_object(alloc, files, bytes, &action)
 }
 
 /// What the first bytes give, for each length from one number up to another.
-pub fn prefixes(alloc: Global, bytes: &[u8], action: &Action<'_>) -> Result<String, AllocError> {
+pub fn prefixes(alloc: Global, files: &Files, action: &Action<'_>) -> Result<String, AllocError> {
+    let bytes = files.get("object");
     let (Some(from), Some(to)) = (action.small_number(0), action.small_number(1)) else {
         return no_action(alloc);
     };
     let mut tally = Tally::new(alloc);
     for length in from..to {
         let part = bytes.get(..length as usize).unwrap_or(bytes);
-        let text = outcome(alloc, part)?;
+        let text = outcome(alloc, files, part)?;
         tally.count(text.as_str())?;
     }
     tally.text()
@@ -29,19 +31,19 @@ pub fn prefixes(alloc: Global, bytes: &[u8], action: &Action<'_>) -> Result<Stri
 /// What the bytes give with another one at a place.
 fn changed_outcome(
     alloc: Global,
-    bytes: &[u8],
+    files: &Files,
     place: u32,
     value: u8,
 ) -> Result<String, AllocError> {
-    let mut bytes = bytes.to_vec(alloc)?;
+    let mut bytes = files.get("object").to_vec(alloc)?;
     if let Some(byte) = bytes.get_mut(place as usize) {
         *byte = value;
     }
-    outcome(alloc, bytes.as_slice())
+    outcome(alloc, files, bytes.as_slice())
 }
 
 /// What the bytes give with one value at each place from one number up to another.
-pub fn bytes(alloc: Global, bytes: &[u8], action: &Action<'_>) -> Result<String, AllocError> {
+pub fn bytes(alloc: Global, files: &Files, action: &Action<'_>) -> Result<String, AllocError> {
     let (Some(from), Some(to)) = (action.small_number(0), action.small_number(1)) else {
         return no_action(alloc);
     };
@@ -50,7 +52,7 @@ pub fn bytes(alloc: Global, bytes: &[u8], action: &Action<'_>) -> Result<String,
     };
     let mut tally = Tally::new(alloc);
     for place in from..to {
-        let text = changed_outcome(alloc, bytes, place, value)?;
+        let text = changed_outcome(alloc, files, place, value)?;
         tally.count(text.as_str())?;
     }
     tally.text()

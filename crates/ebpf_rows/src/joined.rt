@@ -5,19 +5,33 @@ use crate::tables::put_functions;
 use ebpf_cases::{Action, Tally, no_action};
 use ebpf_object::Object;
 use ebpf_parts::insn::bpf_insn;
-use ebpf_reloc::Function;
+use ebpf_reloc::{EbpfRelocationError, Function};
 use std::alloc::{AllocError, Global};
 use std::collections::HashSet;
 
-/// Joins the programs of an object with what they reach: no text, or the error in a line.
-fn join(alloc: Global, object: &mut Object) -> Result<String, AllocError> {
+/// The numbers of the sections that functions stand in.
+fn text_sections(alloc: Global, object: &Object) -> Result<HashSet<usize>, AllocError> {
     let mut sections = HashSet::new(alloc);
     for (key, _) in object.functions.iter() {
         sections.insert(key.0)?;
     }
-    match object.relocate_calls(&sections) {
+    Ok(sections)
+}
+
+/// Why programs can't be joined, in a line.
+fn refusal(alloc: Global, error: &EbpfRelocationError) -> Result<String, AllocError> {
+    format!(in alloc; "{error:?}\n")
+}
+
+/// Joins the programs of an object with what they reach: no text, or the error in a line.
+fn join(
+    alloc: Global,
+    object: &mut Object,
+    sections: &HashSet<usize>,
+) -> Result<String, AllocError> {
+    match object.relocate_calls(sections) {
         Ok(()) => Ok(String::new(alloc)),
-        Err(error) => format!(in alloc; "{error:?}\n"),
+        Err(error) => refusal(alloc, &error),
     }
 }
 
@@ -80,18 +94,19 @@ fn put_slots(
     Ok(())
 }
 
-/// What joining the programs of the object that the bytes are answers, and then its functions, records or slots.
-pub fn joined(alloc: Global, bytes: &[u8], action: &Action<'_>) -> Result<String, AllocError> {
-    let mut object = match Object::parse(alloc, bytes) {
-        Ok(object) => object,
-        Err(error) => return format!(in alloc; "{error:?}"),
-    };
-    let mut text = join(alloc, &mut object)?;
+/// What joining the programs of an object answers, and then its functions, records or slots.
+pub fn joined(
+    alloc: Global,
+    object: &mut Object,
+    action: &Action<'_>,
+) -> Result<String, AllocError> {
+    let sections = text_sections(alloc, object)?;
+    let mut text = join(alloc, object, &sections)?;
     match action.word(0) {
-        "functions" => put_functions(&mut text, &object)?,
-        "records" => put_records(&mut text, &object)?,
-        "slots" => put_slots(alloc, &mut text, &object, false)?,
-        "slot_counts" => put_slots(alloc, &mut text, &object, true)?,
+        "functions" => put_functions(&mut text, object)?,
+        "records" => put_records(&mut text, object)?,
+        "slots" => put_slots(alloc, &mut text, object, false)?,
+        "slot_counts" => put_slots(alloc, &mut text, object, true)?,
         _ => return no_action(alloc),
     }
     Ok(text)

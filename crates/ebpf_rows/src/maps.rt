@@ -42,6 +42,16 @@ fn described(alloc: Global, map: &Map) -> Result<String, AllocError> {
     )
 }
 
+/// What may be read of a map, and the id that a legacy map keeps.
+fn described_with_id(alloc: Global, map: &Map) -> Result<String, AllocError> {
+    let mut text = described(alloc, map)?;
+    if let Map::Legacy(legacy) = map {
+        let id = legacy.def.id;
+        write!(text, " id {id}")?;
+    }
+    Ok(text)
+}
+
 /// What is made of a Bloom filter that a kernel describes with an id and a value type.
 pub fn map_info(alloc: Global, action: &Action<'_>) -> Result<String, AllocError> {
     let (Some(id), Some(value_type)) = (action.small_number(0), action.small_number(1)) else {
@@ -62,23 +72,34 @@ pub fn map_info(alloc: Global, action: &Action<'_>) -> Result<String, AllocError
         ..Default::default()
     };
     let map = parse_map_info(alloc, info, pinning);
-    let mut text = described(alloc, &map)?;
-    if let Map::Legacy(legacy) = &map {
-        let id = legacy.def.id;
-        write!(text, " id {id}")?;
-    }
+    described_with_id(alloc, &map)
+}
+
+/// Changes a map.
+fn change(map: &mut Map) -> Result<(), AllocError> {
+    map.set_value_size(9);
+    map.set_max_entries(17);
+    map.data_mut().push(5)?;
+    Ok(())
+}
+
+/// What may be read of a map, and whether it holds others.
+fn described_with_inner(alloc: Global, map: &Map) -> Result<String, AllocError> {
+    let mut text = described(alloc, map)?;
+    let holds = map.inner()?.is_some();
+    write!(text, " holds a map {holds}")?;
     Ok(text)
+}
+
+/// What is made of a map that is changed and then copied.
+fn changed_copy(alloc: Global, map: &mut Map) -> Result<String, AllocError> {
+    change(map)?;
+    let copy = map.clone()?;
+    described_with_inner(alloc, &copy)
 }
 
 /// What is made of a map by its parameters that is changed and then copied.
 pub fn map_copy(alloc: Global) -> Result<String, AllocError> {
     let mut map = Map::new_from_params(alloc, 1, 4, 8, 16, 32);
-    map.set_value_size(9);
-    map.set_max_entries(17);
-    map.data_mut().push(5)?;
-    let copy = map.clone()?;
-    let mut text = described(alloc, &copy)?;
-    let holds = copy.inner()?.is_some();
-    write!(text, " holds a map {holds}")?;
-    Ok(text)
+    changed_copy(alloc, &mut map)
 }

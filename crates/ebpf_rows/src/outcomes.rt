@@ -1,13 +1,9 @@
 //! The actions, by name.
 
 use crate::changed::{bytes, prefixes};
-use crate::joined::joined;
-use crate::names::kind;
 use crate::maps::{map_copy, map_info};
-use crate::names::{map_type, pinning, program_type};
-use crate::parsed::parsed;
-use crate::patched::patched;
-use crate::sanitized::sanitized;
+use crate::names::{kind, map_type, pinning, program_type};
+use crate::parsed::on_object;
 use ebpf_cases::{Action, Files, Outcomes};
 use std::alloc::{AllocError, Global};
 
@@ -22,7 +18,6 @@ impl Outcomes for ObjectOutcomes {
         files: &Files,
         action: &Action<'_>,
     ) -> Result<String, AllocError> {
-        let object = files.get("object");
         match action.name {
             "kind" => kind(alloc, action),
             "map_type" => map_type(alloc, action),
@@ -30,12 +25,9 @@ impl Outcomes for ObjectOutcomes {
             "pinning" => pinning(alloc, action),
             "map_info" => map_info(alloc, action),
             "map_copy" => map_copy(alloc),
-            "prefixes" => prefixes(alloc, object, action),
-            "bytes" => bytes(alloc, object, action),
-            "patched" => patched(alloc, files, action),
-            "sanitized" => sanitized(alloc, object, action),
-            "joined" => joined(alloc, object, action),
-            _ => parsed(alloc, object, action),
+            "prefixes" => prefixes(alloc, files, action),
+            "bytes" => bytes(alloc, files, action),
+            _ => on_object(alloc, files, files.get("object"), action),
         }
     }
 }

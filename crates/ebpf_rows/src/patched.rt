@@ -2,6 +2,7 @@
 
 use ebpf_cases::{Action, Files, no_action};
 use ebpf_object::Object;
+use ebpf_parts::ParseError;
 use std::alloc::{AllocError, Global};
 use std::collections::HashMap;
 
@@ -22,21 +23,32 @@ fn values<'a>(
     Ok(Some(values))
 }
 
-/// What writing values gives, and the data of `.data` then.
-pub fn patched(alloc: Global, files: &Files, action: &Action<'_>) -> Result<String, AllocError> {
-    let mut object = match Object::parse(alloc, files.get("object")) {
-        Ok(object) => object,
-        Err(error) => return format!(in alloc; "{error:?}"),
-    };
-    let Some(values) = values(alloc, files, action.words.as_slice())? else {
-        return no_action(alloc);
-    };
-    let mut text = String::new(alloc);
-    let outcome = object.patch_map_data(values);
-    write!(text, "{outcome:?}")?;
+/// What an outcome says.
+fn said(alloc: Global, outcome: &Result<(), ParseError>) -> Result<String, AllocError> {
+    format!(in alloc; "{outcome:?}")
+}
+
+/// The data of `.data`.
+fn put_data(text: &mut String, object: &Object) -> Result<(), AllocError> {
     if let Some(map) = object.maps.get(".data") {
         let data = map.data();
         write!(text, " {data:?}")?;
     }
+    Ok(())
+}
+
+/// What writing values gives, and the data of `.data` then.
+pub fn patched(
+    alloc: Global,
+    files: &Files,
+    object: &mut Object,
+    action: &Action<'_>,
+) -> Result<String, AllocError> {
+    let Some(values) = values(alloc, files, action.words.as_slice())? else {
+        return no_action(alloc);
+    };
+    let outcome = object.patch_map_data(values);
+    let mut text = said(alloc, &outcome)?;
+    put_data(&mut text, object)?;
     Ok(text)
 }

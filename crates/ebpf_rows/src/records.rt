@@ -1,7 +1,8 @@
 //! What type information says of instructions, line by line.
 
+use ebpf_btf::{Btf, Relocation};
 use ebpf_object::Object;
-use std::alloc::AllocError;
+use std::alloc::{AllocError, Global};
 
 /// A line for the records of each function, by its key.
 pub fn put_records(text: &mut String, object: &Object) -> Result<(), AllocError> {
@@ -26,19 +27,39 @@ pub fn put_records(text: &mut String, object: &Object) -> Result<(), AllocError>
     Ok(())
 }
 
-/// A line for each relocation of types, with its section and its access string.
-pub fn put_type_relocations(text: &mut String, object: &Object) -> Result<(), AllocError> {
+/// The text at an offset, or why there is none.
+fn said(alloc: Global, btf: &Btf, offset: u32) -> Result<String, AllocError> {
+    let found = btf.string_at(offset);
+    format!(in alloc; "{found:?}")
+}
+
+/// A line for a relocation of types, with its access string.
+fn put_relocation(
+    alloc: Global,
+    text: &mut String,
+    btf: &Btf,
+    relocation: &Relocation,
+) -> Result<(), AllocError> {
+    let (at, held) = (relocation.insn_off, relocation.type_id);
+    let (kind, number) = (relocation.kind, relocation.number);
+    let path = said(alloc, btf, relocation.access_str_off)?;
+    writeln!(text, "{number} at {at} type {held} {path} {kind:?}")
+}
+
+/// A line for each section with relocations of types, and for each of these.
+pub fn put_type_relocations(
+    alloc: Global,
+    text: &mut String,
+    object: &Object,
+) -> Result<(), AllocError> {
     let (Some(btf), Some(ext)) = (&object.btf, &object.btf_ext) else {
         return Ok(());
     };
     for (section, relocations) in ext.relocations() {
-        let name = btf.string_at(*section);
-        writeln!(text, "in {name:?}")?;
+        let name = said(alloc, btf, *section)?;
+        writeln!(text, "in {name}")?;
         for relocation in relocations.as_slice() {
-            let (at, held) = (relocation.insn_off, relocation.type_id);
-            let (kind, number) = (relocation.kind, relocation.number);
-            let path = btf.string_at(relocation.access_str_off);
-            writeln!(text, "{number} at {at} type {held} {path:?} {kind:?}")?;
+            put_relocation(alloc, text, btf, relocation)?;
         }
     }
     Ok(())
