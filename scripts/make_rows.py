@@ -5,8 +5,9 @@ crates/ebpf_rows and crates/ebpf_btf_rows, and stdout of crates/ebpf_bench. usag
 A new row: in the module of rows/ on its subject, or in a new one listed below, add to its cases() a
     Case("its name", bytes or {"name of a file": bytes}, {"action and its words": "the lines that it has to give"})
 with files made by rows/elf.py and rows/btf.py. What has to be given is written by hand, from the definitions or from
-another reader, and never taken from what the program prints. A new action is an arm of the `match` in src/outcomes.rt of
-the program and a function that gives its text. Then run this script, and `rt ci` compares.
+another reader, and never taken from what the program prints. A new action is a function that gives its text and an arm of
+the `match` in src/objects.rt of ebpf_rows (in src/outcomes.rt of ebpf_btf_rows): it borrows the object and doesn't hold it,
+or its proof takes minutes. Then run this script, and `rt ci` compares.
 """
 from pathlib import Path
 

@@ -14,9 +14,8 @@ class Case:
         self.gives = gives
 
 
-def file_lines(name, data):
-    """The lines of a file. Lines that follow each other and are the same are written once."""
-    yield f"file {name}"
+def plain_lines(data):
+    """The lines of bytes. Lines that follow each other and are the same are written once."""
     digits = [data[at : at + WIDTH].hex() for at in range(0, len(data), WIDTH)]
     at = 0
     while at < len(digits):
@@ -25,6 +24,36 @@ def file_lines(name, data):
             times += 1
         yield f"hex {digits[at]}" if times == 1 else f"times {times} {digits[at]}"
         at += times
+
+
+def rising(data, at):
+    """How many rows of 24 bytes from a place on are the same but for the number of eight bytes behind the first eight,
+    and by how much that grows from row to row: symbols of functions that lie in a row."""
+    rows = 1
+    step = None
+    while True:
+        here, there = (data[at + 24 * row : at + 24 * row + 24] for row in (rows - 1, rows))
+        if len(there) < 24 or here[:8] != there[:8] or here[16:] != there[16:]:
+            return rows, step
+        growth = int.from_bytes(there[8:16], "little") - int.from_bytes(here[8:16], "little")
+        if growth < 1 or step not in (None, growth):
+            return rows, step
+        rows, step = rows + 1, growth
+
+
+def file_lines(name, data):
+    """The lines of a file."""
+    yield f"file {name}"
+    start = at = 0
+    while at < len(data):
+        rows, step = rising(data, at)
+        if rows < 8:
+            at += 8
+            continue
+        yield from plain_lines(data[start:at])
+        yield f"rising {rows} 8 {step} {data[at:at + 24].hex()}"
+        start = at = at + 24 * rows
+    yield from plain_lines(data[start:])
 
 
 def outcome_lines(text):

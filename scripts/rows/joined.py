@@ -49,8 +49,12 @@ def two_names():
 
 def chain(callers):
     """A program that calls the first of a chain of functions, each of which calls the next, up to one that ends."""
-    functions = [("f", [call_by(1), EXIT])] * callers + [("f", [EXIT])]
-    return calling([CALL, EXIT], functions, [(0, 2)])
+    file = File().code("kprobe/p", CALL + EXIT).symbol("p", FUNCTION, 3, 0, 16)
+    name = file.add_name("f")
+    for number in range(callers):
+        file.symbol(name, FUNCTION, 4, 16 * number, 16)
+    file.symbol(name, FUNCTION, 4, 16 * callers, 8)
+    return file.code(".text", (call_by(1) + EXIT) * callers + EXIT).relocations(3, [(0, 2, CALL32)]).bytes()
 
 
 def two_faults():
@@ -168,9 +172,9 @@ def faults():
 def cases():
     joined = [Case(name, data, {"joined slots": expected}) for name, data, expected in joins()]
     counts = """
-        program p slots 401
-        200: 85 10 00 00 01 00 00 00
-        201: 95 00 00 00 00 00 00 00
+        program p slots 20001
+        10000: 85 10 00 00 01 00 00 00
+        10001: 95 00 00 00 00 00 00 00
     """
-    joined.append(Case("a chain of 200 functions", chain(199), {"joined slot_counts": counts}))
+    joined.append(Case("a chain of 10,000 functions", chain(9999), {"joined slot_counts": counts}))
     return joined + [Case(name, data, {"joined functions": expected}) for name, data, expected in faults()]

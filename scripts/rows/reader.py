@@ -5,7 +5,7 @@ from collections import Counter
 
 from rows.elf import changed
 
-PROGBITS, SYMTAB, STRTAB, NOBITS, REL = 1, 2, 3, 8, 9
+PROGBITS, SYMTAB, STRTAB, RELA, NOBITS, REL = 1, 2, 3, 4, 8, 9
 
 
 class Fault(Exception):
@@ -74,7 +74,7 @@ class File:
         self.symbols = list(struct.iter_unpack("<IBBHQQ", table.bytes))[1:]
         refuse_if(any(symbol[3] == 0xFFFF for symbol in self.symbols), "ElfError(ExtendedNumbering)")
         for section in self.sections[1:]:
-            if section.kind in (REL, REL - 5) and section.info and section.link == tables[0]:
+            if section.kind in (REL, RELA) and section.info and section.link == tables[0]:
                 self.read_relocations(section)
 
     def read_relocations(self, section):

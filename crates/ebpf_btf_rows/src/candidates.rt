@@ -28,11 +28,7 @@ fn found(alloc: Global, btf: &Btf, kind: BtfKind, name: &str) -> Result<String, 
 }
 
 /// The candidates of a kind and a name among the types of a case.
-pub fn candidates(
-    alloc: Global,
-    files: &Files,
-    action: &Action<'_>,
-) -> Result<String, AllocError> {
+pub fn candidates(alloc: Global, files: &Files, action: &Action<'_>) -> Result<String, AllocError> {
     let Some(kind) = kind_of(action.word(0)) else {
         return no_action(alloc);
     };

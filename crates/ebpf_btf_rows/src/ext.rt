@@ -57,12 +57,7 @@ fn of_ext(
 }
 
 /// Whether the first bytes of the file can be read.
-fn cut_outcome(
-    alloc: Global,
-    bytes: &[u8],
-    btf: &Btf,
-    length: u32,
-) -> Result<String, AllocError> {
+fn cut_outcome(alloc: Global, bytes: &[u8], btf: &Btf, length: u32) -> Result<String, AllocError> {
     let part = bytes.get(..length as usize).unwrap_or(bytes);
     match BtfExt::parse(alloc, part, Endianness::Little, btf) {
         Ok(_ext) => String::from_str(alloc, "read"),

@@ -5,11 +5,7 @@ use ebpf_cases::Files;
 use std::alloc::{AllocError, Global};
 
 /// The bytes of a file and their order: those of `big NAME`, if that has any, are big endian, and those of `NAME` little.
-pub fn ordered<'a>(
-    files: &'a Files,
-    big_name: &str,
-    little_name: &str,
-) -> (&'a [u8], Endianness) {
+pub fn ordered<'a>(files: &'a Files, big_name: &str, little_name: &str) -> (&'a [u8], Endianness) {
     let big = files.get(big_name);
     if big.is_empty() {
         (files.get(little_name), Endianness::Little)

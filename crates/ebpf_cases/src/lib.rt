@@ -4,11 +4,13 @@
 //! A case is lines. A line that is empty or that begins with `#` says nothing.
 //!
 //! ```text
-//! case NAME         a new case, without files
-//! file NAME         a new file of the case, without bytes
-//! hex DIGITS        appends the bytes to the file
-//! times N DIGITS    appends them so many times
-//! do NAME WORD..    an action on the files
+//! case NAME                      a new case, without files
+//! file NAME                      a new file of the case, without bytes
+//! hex DIGITS                     appends the bytes to the file
+//! times N DIGITS                 appends them so many times
+//! rising N PLACE STEP DIGITS     the same, where from one time to the next the little endian number of eight bytes at
+//!                                a place among them grows by a step
+//! do NAME WORD..                 an action on the files
 //! ```
 #![tactic(auto)]
 
@@ -20,6 +22,6 @@ mod tally;
 mod task;
 
 pub use action::{Action, no_action};
-pub use files::Files;
+pub use files::{Files, Rise};
 pub use run::{Outcomes, run_cases};
 pub use tally::Tally;

@@ -1,6 +1,6 @@
 //! What a line of cases asks for.
 
-use crate::files::Files;
+use crate::files::{Files, Rise};
 use std::alloc::AllocError;
 
 /// What is left to do for a line, once the files have taken what it says of them.
@@ -21,15 +21,53 @@ fn of_bytes<'a>(taken: bool) -> Task<'a> {
     if taken { Task::Nothing } else { Task::Unknown }
 }
 
-/// Takes a number and digits.
+/// The number that a word is.
+fn number(word: Option<&str>) -> Option<u64> {
+    word?.parse::<u64>().ok()
+}
+
+/// Takes a number of times and digits.
 fn take_times<'a>(files: &mut Files, rest: &str) -> Result<Task<'a>, AllocError> {
-    let Some((times, digits)) = rest.split_once(' ') else {
+    let mut words = rest.split(' ');
+    let (Some(times), Some(digits)) = (number(words.next()), words.next()) else {
         return Ok(Task::Unknown);
     };
-    match times.parse::<u32>() {
-        Ok(times) => Ok(of_bytes(files.append(times, digits)?)),
-        Err(_) => Ok(Task::Unknown),
-    }
+    let rise = Rise {
+        times,
+        place: 0,
+        step: 0,
+    };
+    Ok(of_bytes(files.append(digits, rise)?))
+}
+
+/// Takes a number of times, a place, how much the number there grows, and digits.
+fn take_rising<'a>(files: &mut Files, rest: &str) -> Result<Task<'a>, AllocError> {
+    let mut words = rest.split(' ');
+    let (times, place, step) = (
+        number(words.next()),
+        number(words.next()),
+        number(words.next()),
+    );
+    let (Some(times), Some(place), Some(step), Some(digits)) = (times, place, step, words.next())
+    else {
+        return Ok(Task::Unknown);
+    };
+    let rise = Rise {
+        times,
+        place: place as usize,
+        step,
+    };
+    Ok(of_bytes(files.append(digits, rise)?))
+}
+
+/// Takes digits.
+fn take_digits<'a>(files: &mut Files, digits: &str) -> Result<Task<'a>, AllocError> {
+    let rise = Rise {
+        times: 1,
+        place: 0,
+        step: 0,
+    };
+    Ok(of_bytes(files.append(digits, rise)?))
 }
 
 impl<'a> Task<'a> {
@@ -46,8 +84,9 @@ impl<'a> Task<'a> {
                 files.start(rest)?;
                 Ok(Task::Nothing)
             }
-            "hex" => Ok(of_bytes(files.append(1, rest)?)),
+            "hex" => take_digits(files, rest),
             "times" => take_times(files, rest),
+            "rising" => take_rising(files, rest),
             "do" => Ok(Task::Action(rest)),
             _ if word.starts_with('#') => Ok(Task::Nothing),
             _ => Ok(Task::Unknown),

@@ -1,6 +1,6 @@
 //! Files that are cut, and files with another byte.
 
-use crate::parsed::on_object;
+use crate::objects::on_object;
 use ebpf_cases::{Action, Files, Tally, no_action};
 use std::alloc::{AllocError, Global};
 

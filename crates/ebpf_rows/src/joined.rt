@@ -42,11 +42,7 @@ fn slot_text(alloc: Global, slot: &bpf_insn) -> Result<String, AllocError> {
 }
 
 /// A line for each slot of a function.
-fn put_each_slot(
-    alloc: Global,
-    text: &mut String,
-    function: &Function,
-) -> Result<(), AllocError> {
+fn put_each_slot(alloc: Global, text: &mut String, function: &Function) -> Result<(), AllocError> {
     for slot in function.instructions.iter() {
         let slot = slot_text(alloc, slot)?;
         writeln!(text, "{slot}")?;

@@ -3,7 +3,7 @@
 use crate::changed::{bytes, prefixes};
 use crate::maps::{map_copy, map_info};
 use crate::names::{kind, map_type, pinning, program_type};
-use crate::parsed::on_object;
+use crate::objects::on_object;
 use ebpf_cases::{Action, Files, Outcomes};
 use std::alloc::{AllocError, Global};
 
