@@ -1,7 +1,7 @@
 //! What types declare of an object, line by line.
 
 use ebpf_object::Object;
-use ebpf_parts::maps::{BtfMapDef, Map};
+use ebpf_parts::maps::{BtfMap, BtfMapDef, Map};
 use std::alloc::{AllocError, Global};
 
 /// What is said of a map, as words: each size beside the id of its type.
@@ -17,21 +17,31 @@ fn put_definition(text: &mut String, def: &BtfMapDef) -> Result<(), AllocError> 
     )
 }
 
+/// The rest of a line for a map.
+fn put_btf_map(text: &mut String, map: &BtfMap) -> Result<(), AllocError> {
+    let (section, symbol) = (map.section_index, map.symbol_index);
+    write!(text, "in {section} symbol {symbol} ")?;
+    put_definition(text, &map.def)?;
+    writeln!(text)
+}
+
+/// A line for the maps that a map holds.
+fn put_inner(text: &mut String, inner: &Option<Map>) -> Result<(), AllocError> {
+    if let Some(Map::Btf(inner)) = inner {
+        write!(text, "inner ")?;
+        put_btf_map(text, inner)?;
+    }
+    Ok(())
+}
+
 /// A line for a map that types declare, and one for the maps that it holds.
 fn put_map(text: &mut String, name: &str, map: &Map) -> Result<(), AllocError> {
     if let Map::Btf(map) = map {
-        let (section, symbol) = (map.section_index, map.symbol_index);
-        write!(text, "map {name} in {section} symbol {symbol} ")?;
-        put_definition(text, &map.def)?;
-        writeln!(text)?;
+        write!(text, "map {name} ")?;
+        put_btf_map(text, map)?;
     }
-    if let Some(Map::Btf(inner)) = map.inner()? {
-        let (section, symbol) = (inner.section_index, inner.symbol_index);
-        write!(text, "inner in {section} symbol {symbol} ")?;
-        put_definition(text, &inner.def)?;
-        writeln!(text)?;
-    }
-    Ok(())
+    let inner = map.inner()?;
+    put_inner(text, &inner)
 }
 
 /// A line for each map that types declare, in byte order of their names.
