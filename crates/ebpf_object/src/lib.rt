@@ -1,15 +1,20 @@
 //! eBPF objects: what an ELF file with eBPF programs holds.
 #![tactic(auto)]
 
+pub mod elf;
+pub mod extern_types;
 mod globals;
 pub mod laws;
+pub mod obj;
 mod object;
 mod patch;
 mod patch_data;
 mod patch_plan;
 mod queries;
 mod relocate_calls;
+pub mod relocation;
 pub mod sanitize;
 
 pub use ebpf_parsing::Program;
+pub use ebpf_parts::{insn, maps, programs};
 pub use object::Object;
