@@ -2,7 +2,11 @@
 
 ghost use Rattle.ebpf_object.specs.PatchedBytes.{GreatestNameStands, OtherBytesStay, LengthsStay, MapsStay, PatchesAreValues, ValuesArePatches};
 
-pub use ebpf_parsing::laws::{functions_tile, later_entries_stand, sections_tile};
+pub use ebpf_parsing::laws::{
+    externs_are_unresolved, functions_stand_at_their_keys, functions_tile, later_entries_stand,
+    programs_have_functions, relocations_stand_at_their_offsets, sections_tile,
+    symbols_stand_at_their_numbers,
+};
 
 /// What `Object::patch_map_data` makes of the maps' data, byte by byte: of the variables whose value has a byte for a
 /// place, the one whose name is the greatest in byte order gives it, and each other byte is as before.

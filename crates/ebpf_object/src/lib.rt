@@ -1,8 +1,11 @@
 //! eBPF objects: what an ELF file with eBPF programs holds.
 #![tactic(auto)]
 
+pub mod elf;
+pub mod extern_types;
 mod globals;
 pub mod laws;
+pub mod obj;
 mod object;
 mod patch;
 mod patch_data;
@@ -11,8 +14,10 @@ mod queries;
 mod relocate_calls;
 mod relocate_externs;
 mod relocate_maps;
+pub mod relocation;
 pub mod sanitize;
 mod text_sections;
 
 pub use ebpf_parsing::Program;
+pub use ebpf_parts::{insn, maps, programs};
 pub use object::Object;

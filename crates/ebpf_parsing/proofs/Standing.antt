@@ -85,8 +85,13 @@ IsTable section table = ((o : ℕ) (r : ElfRelocation) → get table o ≡ Some 
 
 table_stands : (section : ℕ) (rs : List ElfRelocation) → AllByRecursion (λ e. IsTable e.0 e.1) (kept_at section rs)
 table_stands section [] = tt
-table_stands section (r ∷ rs) = (((λ o x e. stands nat_cmp exact_unsigned (λ k y. y.offset ≡ k) o later_number_stands (map offset_of (r ∷ rs)) (all_offsets (r ∷ rs)) x e),
-    (r.offset, known nat_cmp nat_cmp_total r.offset later_number_stands (map offset_of (r ∷ rs)) r (0, refl))), tt)
+table_stands section (r ∷ rs) = (
+  (
+    (λ o x e. stands nat_cmp exact_unsigned (λ k y. y.offset ≡ k) o later_number_stands (map offset_of (r ∷ rs)) (all_offsets (r ∷ rs)) x e),
+    (r.offset, known nat_cmp nat_cmp_total r.offset later_number_stands (map offset_of (r ∷ rs)) r (0, refl)),
+  ),
+  tt,
+)
 
 tables_by : (kind : EbpfSectionKind) (s : SectionValue) → AllByRecursion (λ e. IsTable e.0 e.1) (relocations_by kind s)
 tables_by Programs s = table_stands s.index.0 s.relocations
@@ -127,9 +132,9 @@ programs_stand bytes name p e =
     let ext = ext_of bytes in
     let all : List ((ℕ × ℕ) × Function) = function_entries ext bytes in
     let found = stands text_cmp text_exact (λ n x. (f : Function) × Among ((x.section_index, x.address), f) all) name later_text_stands (program_entries (license_of bytes) (kernel_version_of bytes) bytes)
-        (all_flat_map (λ x. (f : Function) × Among ((x.1.section_index, x.1.address), f) all) (λ s. programs_in (license_of bytes) (kernel_version_of bytes) s (own_symbols bytes s)) (object_sections bytes)
-        (λ i s here. programs_of_kind all (said_of ext s.name) s (license_of bytes) (kernel_version_of bytes) s.kind (own_symbols bytes s)
-        (λ j b g. in_flat_map b (λ t. functions_in ext t (own_symbols bytes t)) (object_sections bytes) i s here j g))) p e in
+    (all_flat_map (λ x. (f : Function) × Among ((x.1.section_index, x.1.address), f) all) (λ s. programs_in (license_of bytes) (kernel_version_of bytes) s (own_symbols bytes s)) (object_sections bytes)
+    (λ i s here. programs_of_kind all (said_of ext s.name) s (license_of bytes) (kernel_version_of bytes) s.kind (own_symbols bytes s)
+    (λ j b g. in_flat_map b (λ t. functions_in ext t (own_symbols bytes t)) (object_sections bytes) i s here j g))) p e in
     known key_cmp key_total (p.section_index, p.address) later_key_stands all found.0 found.1
 
 -- ---- externs

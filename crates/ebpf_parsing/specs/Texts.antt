@@ -1,6 +1,6 @@
 -- The functions of a Text section, by its symbols.
-use Rattle.std.specs.Prelude.{ℕ, suc, zero, ◌+◌, ◌%◌, ◌^◌, Bool, ◌&&◌, ◌||◌, List, [], ◌∷◌, ◌++◌, length, Option, Some, None, ◌==◌, nat_lt, if◌then◌else◌, slice_range, is_some}
-use Rattle.std.specs.List.{find, flat_map}
+use Rattle.std.specs.Prelude.{ℕ, suc, zero, ◌+◌, ◌%◌, ◌^◌, Bool, ◌&&◌, ◌||◌, List, [], ◌∷◌, length, take, slice_get, Option, Some, None, ◌==◌, nat_lt, if◌then◌else◌, slice_range, is_some}
+use Rattle.std.specs.List.{find, flat_map, range_with_len}
 use Rattle.ebpf_base.specs.Faults.{or_else, first_in, first_some}
 use Rattle.ebpf_parsing.specs.Records.{Said, slot_of, funcs_at, lines_in}
 use Rattle.ebpf_parsing.specs.Symbols.{SymbolValue, is_text}
@@ -20,19 +20,21 @@ is_text_at address y = is_defined_text y && y.address == address
 
 -- ---- two symbols at one address
 
--- the address of the first defined Text symbol whose address one before it has too
-abbrev pub repeated_from : List SymbolValue → List SymbolValue → Option ℕ
-repeated_from before [] = None
-repeated_from before (y ∷ rest) =
-    if is_defined_text y && is_some (find (is_text_at y.address) before) then Some y.address
-    else repeated_from (before ++ y ∷ []) rest
+-- the address of a symbol that names a function where one of those before it does
+abbrev pub repeated_address : List SymbolValue → Option SymbolValue → Option ℕ
+repeated_address before None = None
+repeated_address before (Some y) = if is_defined_text y && is_some (find (is_text_at y.address) before) then Some y.address else None
+
+-- the first such address, by the symbols' places
+abbrev pub repeated : List SymbolValue → Option ℕ
+repeated symbols = first_some (λ i. repeated_address (take i symbols) (slice_get symbols i)) (range_with_len 0 (length symbols))
 
 abbrev pub conflict_fault_at : ℕ → Option ℕ → Option ParseError
 conflict_fault_at section None = None
 conflict_fault_at section (Some address) = Some (SymbolTableConflict section address)
 
 unfoldable pub conflict_fault : ℕ → List SymbolValue → Option ParseError
-conflict_fault section symbols = conflict_fault_at section (repeated_from [] symbols)
+conflict_fault section symbols = conflict_fault_at section (repeated symbols)
 
 -- ---- the function at an offset of the section
 

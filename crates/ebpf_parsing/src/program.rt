@@ -4,6 +4,7 @@ ghost use Rattle.std.specs.Prelude.{◌≡◌};
 
 use ebpf_base::Items;
 use ebpf_parts::ProgramSection;
+use std::alloc::AllocError;
 
 /// A program: the function that its key names, and how it is attached.
 #[derive(Debug, Drop)]
@@ -26,5 +27,19 @@ impl Program {
         ensures { result ≡ (self.now.section_index, self.now.address) }
     {
         (self.section_index, self.address)
+    }
+}
+
+impl Clone for Program {
+    ghost is_clone = { λ old copy. copy ≡ old };
+
+    fn clone(&self) -> Result<Program, AllocError> {
+        Ok(Program {
+            license: self.license.copied()?,
+            kernel_version: self.kernel_version,
+            section: self.section,
+            section_index: self.section_index,
+            address: self.address,
+        })
     }
 }

@@ -24,7 +24,7 @@ impl NamedSymbol<'_> {
 }
 
 /// The defined Text symbols by their address.
-#[tactic(auto, using(crate::proofs::TextLemmas::find_front, crate::proofs::TextLemmas::repeated_more, crate::proofs::TextLemmas::repeated_here), unfolding(crate::specs::Texts::conflict_fault))]
+#[tactic(auto, using(crate::proofs::TextLemmas::find_front, crate::proofs::TextLemmas::repeated_more, crate::proofs::TextLemmas::repeated_here, crate::proofs::TextLemmas::repeated_is), unfolding(crate::specs::Texts::conflict_fault))]
 fn by_address<'s, 'a>(
     alloc: Global,
     section_index: usize,

@@ -68,7 +68,7 @@ module _ (bytes : List ℕ) (small : All (λ b. b < 256) bytes) (p : ℕ) (insid
       ≡ slice_index bytes (p + 4) ∷ slice_index bytes (p + 5) ∷ slice_index bytes (p + 6) ∷ slice_index bytes (p + 7) ∷ []
   number_bytes =
       let known = four (slice_index bytes (p + 4)) (slice_index bytes (p + 5)) (slice_index bytes (p + 6)) (slice_index bytes (p + 7))
-          (small_at 4 (omega arith)) (small_at 5 (omega arith)) (small_at 6 (omega arith)) (small_at 7 (omega arith)) in
+      (small_at 4 (omega arith)) (small_at 5 (omega arith)) (small_at 6 (omega arith)) (small_at 7 (omega arith)) in
       ap (λ n. little_bytes 4 (cast_unsigned w32 (cast_signed w32 n))) number_is ∙ ap (little_bytes 4) (of_z-to_z w32 _ known.0) ∙ known.1
 
   range_is : slice_range bytes p (p + 8) ≡ slice_index bytes p ∷ slice_index bytes (p + 1) ∷ slice_index bytes (p + 2) ∷ slice_index bytes (p + 3)
