@@ -8,6 +8,8 @@ mod call_rows;
 mod changed_rows;
 mod failure;
 mod link;
+#[cfg(test)]
+mod pass_rows;
 mod passes;
 mod program_text;
 #[cfg(test)]
