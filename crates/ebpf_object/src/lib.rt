@@ -9,6 +9,7 @@ mod patch_data;
 mod patch_plan;
 mod queries;
 mod relocate_calls;
+mod resolve_externs;
 pub mod sanitize;
 
 pub use ebpf_parsing::Program;
