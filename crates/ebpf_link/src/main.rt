@@ -2,10 +2,6 @@
 #![tactic(auto)]
 
 mod arguments;
-#[cfg(test)]
-mod call_rows;
-#[cfg(test)]
-mod changed_rows;
 mod failure;
 mod link;
 #[cfg(test)]
