@@ -1,0 +1,91 @@
+//! The bytes that a program loads for a field.
+
+ghost use Rattle.std.specs.Prelude.{◌≡◌, ◌<◌, ◌^◌};
+ghost use Rattle.ebpf_core.specs.Containers.{aligned, bit_field_extent, container, holds, may_have, plain_extent};
+
+use ebpf_btf::BtfError;
+
+/// The bytes that a program loads for a field, counted from the start of its root type.
+#[derive(Clone, Copy, Debug, PartialEq, Eq)]
+pub struct Extent {
+    /// The first byte.
+    pub start: u64,
+    /// The number of bytes.
+    pub size: u64,
+    /// The number of bits that the field has.
+    pub width: u64,
+}
+
+/// The first byte of the aligned container of `size` bytes that has the bit.
+fn aligned(bit: u64, size: u64) -> u64
+    requires few { bit < 2 ^ 32 }
+    requires some { 0 < size }
+    ensures { result ≡ aligned bit size }
+{
+    let byte = bit / 8;
+    byte - byte % size
+}
+
+/// Whether that container has all `width` bits of a field.
+fn holds(bit: u64, width: u64, size: u64) -> bool
+    requires few { bit < 2 ^ 32 }
+    requires narrow { width < 2 ^ 32 }
+    requires small { size < 2 ^ 36 }
+    requires some { 0 < size }
+    ensures { result ≡ holds bit width size }
+{
+    bit + width <= (aligned(bit, size) + size) * 8
+}
+
+/// Whether a container may have this size, where the field's type has `size` bytes: a size is doubled while it is
+/// below 8.
+fn may_have(size: u64, doubled: u64) -> bool
+    ensures { result ≡ may_have size doubled }
+{
+    doubled == size || doubled < 16
+}
+
+/// The size of the smallest container that holds a bit field.
+#[tactic(auto, unfolding(crate::specs::Containers::container))]
+fn container(bit: u32, width: u32, size: u32) -> Option<u64>
+    ensures { result ≡ container bit width size }
+{
+    if size == 0 {
+        return None;
+    }
+    let (bit, width, size) = (u64::from(bit), u64::from(width), u64::from(size));
+    [size, size * 2, size * 4, size * 8]
+        .iter()
+        .copied()
+        .find(|doubled| may_have(size, *doubled) && holds(bit, width, *doubled))
+}
+
+/// The extent of a field that is no bit field.
+pub fn plain_extent(bit: u32, size: u32) -> Extent
+    ensures { result ≡ plain_extent bit size }
+{
+    Extent {
+        start: u64::from(bit / 8),
+        size: u64::from(size),
+        width: u64::from(size) * 8,
+    }
+}
+
+/// The extent of a bit field of `width` bits, whose type states a size or none.
+///
+/// `InvalidTypeInfo` where no size or size 0 is stated, or no container that it may have holds the field.
+pub fn bit_field_extent(bit: u32, width: u32, stated: Option<u32>) -> Result<Extent, BtfError>
+    ensures { result ≡ bit_field_extent bit width stated }
+{
+    let Some(size) = stated else {
+        return Err(BtfError::InvalidTypeInfo);
+    };
+    let Some(found) = container(bit, width, size) else {
+        return Err(BtfError::InvalidTypeInfo);
+    };
+    Ok(Extent {
+        start: aligned(u64::from(bit), found),
+        size: found,
+        width: u64::from(width),
+    })
+}
