@@ -21,14 +21,13 @@ holds bit width size = nat_le (bit + width) ((aligned bit size + size) * 8)
 abbrev pub doubled_sizes : ℕ → List ℕ
 doubled_sizes size = size ∷ size * 2 ∷ size * 4 ∷ size * 8 ∷ []
 
--- a size is doubled while it is below 8
-abbrev pub may_have : ℕ → ℕ → Bool
-may_have size doubled = doubled == size || nat_lt doubled 16
+-- whether one of these sizes is that of a container: a size is doubled while it is below 8
+abbrev pub is_container : ℕ → ℕ → ℕ → ℕ → Bool
+is_container bit width size doubled = (doubled == size || nat_lt doubled 16) && holds bit width doubled
 
 -- the size of the smallest container that holds a field whose type has a size; none holds one of a type of no bytes
 unfoldable pub container : ℕ → ℕ → ℕ → Option ℕ
-container bit width size =
-    if size == 0 then None else find (λ n. may_have size n && holds bit width n) (doubled_sizes size)
+container bit width size = if size == 0 then None else find (is_container bit width size) (doubled_sizes size)
 
 -- ---- extents: the first byte and the number of bytes that are loaded, and the number of the field's bits
 

@@ -16,10 +16,10 @@ use Rattle.ebpf_btf.specs.Types.{array_of, bit_offset, members_of}
 use Rattle.ebpf_btf.specs.Variants.{variants_of}
 use Rattle.ebpf_core.specs.declared.error.RelocationError.{RelocationError}
 use Rattle.ebpf_core.specs.declared.error.RelocationError.TheVariants.{InvalidAccessString, InvalidAccessIndex, InvalidRelocationKindForType, BtfError}
-use Rattle.ebpf_core.specs.declared.local_path.LocalPath.{LocalPath}
-use Rattle.ebpf_core.specs.declared.local_path.NamedPath.{NamedPath}
-use Rattle.ebpf_core.specs.declared.local_path.NamedPath.TheVariants as paths
-use Rattle.ebpf_core.specs.declared.local_walk.Reached.{Reached}
+use Rattle.ebpf_core.specs.declared.paths.LocalPath.{LocalPath}
+use Rattle.ebpf_core.specs.declared.paths.NamedPath.{NamedPath}
+use Rattle.ebpf_core.specs.declared.paths.NamedPath.TheVariants as paths
+use Rattle.ebpf_core.specs.declared.local_walk.LocalSpot.{LocalSpot}
 use Rattle.ebpf_core.specs.declared.subject.Subject.{Subject}
 use Rattle.ebpf_core.specs.declared.subject.Subject.TheVariants as subjects
 use Rattle.ebpf_places.specs.declared.places.PlaceEnd.{PlaceEnd}
@@ -46,13 +46,13 @@ wrong_kind number = Err (InvalidRelocationKindForType number [] [] [])
 -- ---- a field: the steps to it
 
 -- A path that has come so many bits from the root type's first. Bits are 32 bits wide.
-abbrev pub reached : List Step → ℕ → PlaceEnd → ℕ → ℕ → Result Reached RelocationError
+abbrev pub reached : List Step → ℕ → PlaceEnd → ℕ → ℕ → Result LocalSpot RelocationError
 reached steps bits end index type_id =
     if nat_lt bits (2 ^ 32) then Ok (record { steps = steps; place = record { bits = bits; end = end }; index = index; type_id = type_id })
     else Err (BtfError InvalidTypeInfo)
 
 -- to an element of a type, of which the first is at a bit
-abbrev pub to_element : TypeInfo → List Step → ℕ → ℕ → ℕ → Result Reached RelocationError
+abbrev pub to_element : TypeInfo → List Step → ℕ → ℕ → ℕ → Result LocalSpot RelocationError
 to_element info steps bits id index =
     if_ok (of_types (size_of info.types id)) (λ size. reached (steps ++ Index index ∷ []) (bits + index * size * 8) (Element id) index id)
 
@@ -67,32 +67,32 @@ type_of_step types (Element id) = result_ok (resolved_type types id)
 type_of_step types (Member parent index) = slice_get types parent
 
 -- whether the last step led to the last member of a STRUCT
-abbrev pub ends_struct : List BtfType → Reached → Bool
+abbrev pub ends_struct : List BtfType → LocalSpot → Bool
 ends_struct types from = if_some (type_of_step types from.place.end) (is_last_member from.index) false
 
 -- an index is below the number of elements, or there are none and the ARRAY ends a STRUCT
-abbrev pub is_element : List BtfType → Reached → ℕ → ℕ → Bool
+abbrev pub is_element : List BtfType → LocalSpot → ℕ → ℕ → Bool
 is_element types from count index = nat_lt index count || (count == 0 && ends_struct types from)
 
-abbrev pub into_array : TypeInfo → List ℕ → Reached → BtfArray → ℕ → Result Reached RelocationError
+abbrev pub into_array : TypeInfo → List ℕ → LocalSpot → BtfArray → ℕ → Result LocalSpot RelocationError
 into_array info access from array index =
     if is_element info.types from array.len index then to_element info from.steps from.place.bits array.element_type index
     else past access index array.len
 
 -- a member without a name adds its bits and no step
-abbrev pub to_member : TypeInfo → Reached → ℕ → BtfType → ℕ → BtfMember → Result Reached RelocationError
+abbrev pub to_member : TypeInfo → LocalSpot → ℕ → BtfType → ℕ → BtfMember → Result LocalSpot RelocationError
 to_member info from parent t index member =
     if member.name_offset == 0
     then reached from.steps (from.place.bits + bit_offset t member) from.place.end from.index member.btf_type
     else if_ok (of_types (text_at info.strings member.name_offset)) (λ name.
         reached (from.steps ++ Name name member.btf_type ∷ []) (from.place.bits + bit_offset t member) (Member parent index) index member.btf_type)
 
-abbrev pub into_members : TypeInfo → List ℕ → Reached → ℕ → BtfType → List BtfMember → ℕ → Result Reached RelocationError
+abbrev pub into_members : TypeInfo → List ℕ → LocalSpot → ℕ → BtfType → List BtfMember → ℕ → Result LocalSpot RelocationError
 into_members info access from parent t members index =
     if_some (slice_get members index) (to_member info from parent t index) (past access index (length members))
 
 -- where a part leads: to a member of a STRUCT or UNION, or to an element of an ARRAY
-unfoldable pub part_step : TypeInfo → ℕ → List ℕ → Reached → ℕ → Result Reached RelocationError
+unfoldable pub part_step : TypeInfo → ℕ → List ℕ → LocalSpot → ℕ → Result LocalSpot RelocationError
 part_step info number access from part =
     if_ok (of_types (resolved info.types from.type_id)) (λ id.
     if_ok (of_types (type_at info.types id)) (λ t.
@@ -100,7 +100,7 @@ part_step info number access from part =
     (if_some (array_of t) (λ array. into_array info access from array part) (wrong_kind number))))
 
 -- where parts lead, one after the other
-unfoldable pub walked : TypeInfo → ℕ → List ℕ → List ℕ → Reached → Result Reached RelocationError
+unfoldable pub walked : TypeInfo → ℕ → List ℕ → List ℕ → LocalSpot → Result LocalSpot RelocationError
 walked info number access [] from = Ok from
 walked info number access (part ∷ parts) from = if_ok (part_step info number access from part) (walked info number access parts)
 
@@ -119,7 +119,7 @@ lone (part ∷ []) = Some part
 lone _ = None
 
 abbrev pub type_path : List ℕ → List ℕ → Result NamedPath RelocationError
-type_path access parts = if_some (lone parts) (λ part. if part == 0 then Ok paths.Type else wrong_string access) (wrong_string access)
+type_path access parts = if_some (lone parts) (λ part. if part == 0 then Ok paths.WholeType else wrong_string access) (wrong_string access)
 
 abbrev pub named_variant : TypeInfo → BtfVariant → Result NamedPath RelocationError
 named_variant info variant = if_ok (of_types (text_at info.strings variant.name_offset)) (λ name. Ok (paths.Variant name))
@@ -135,7 +135,7 @@ variant_path info number access t parts =
 -- ---- the local side of a record
 
 abbrev pub path_for : TypeInfo → ℕ → List ℕ → ℕ → List ℕ → Subject → Result NamedPath RelocationError
-path_for info number access id parts subjects.Type = type_path access parts
+path_for info number access id parts subjects.WholeType = type_path access parts
 path_for info number access id parts subjects.Variant = if_ok (of_types (type_at info.types id)) (λ t. variant_path info number access t parts)
 path_for info number access id parts subjects.Field = field_path info number access id parts
 

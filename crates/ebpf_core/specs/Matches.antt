@@ -11,8 +11,8 @@ use Rattle.ebpf_btf.specs.TypeInfo.{TypeInfo}
 use Rattle.ebpf_btf.specs.Variants.{variants_of}
 use Rattle.ebpf_core.specs.declared.error.RelocationError.{RelocationError}
 use Rattle.ebpf_core.specs.declared.error.RelocationError.TheVariants.{MaximumNestingLevelReached, BtfError}
-use Rattle.ebpf_core.specs.declared.local_path.NamedPath.{NamedPath}
-use Rattle.ebpf_core.specs.declared.local_path.NamedPath.TheVariants as paths
+use Rattle.ebpf_core.specs.declared.paths.NamedPath.{NamedPath}
+use Rattle.ebpf_core.specs.declared.paths.NamedPath.TheVariants as paths
 use Rattle.ebpf_core.specs.declared.matches.Found.{Found}
 use Rattle.ebpf_core.specs.declared.matches.Found.TheVariants as found
 use Rattle.ebpf_core.specs.declared.matches.Match.{Match}
@@ -44,8 +44,8 @@ by_place target id (Err (Btf e)) = Err (BtfError e)
 
 -- what a path of the local type leads to in a candidate
 unfoldable pub found_in : TypeInfo → TypeInfo → ℕ → NamedPath → ℕ → Result (Option Found) RelocationError
-found_in local target local_id paths.Type id =
-    if_ok (of_types (types_compatible local local_id target id)) (λ fits. Ok (if fits then Some found.Type else None))
+found_in local target local_id paths.WholeType id =
+    if_ok (of_types (types_compatible local local_id target id)) (λ fits. Ok (if fits then Some found.WholeType else None))
 found_in local target local_id (paths.Variant name) id = if_ok (of_types (variant_in target name id)) (λ value. Ok (option_map found.Variant value))
 found_in local target local_id (paths.Field steps place) id = by_place target id (place_of local target id steps)
 

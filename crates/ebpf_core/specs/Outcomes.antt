@@ -15,9 +15,9 @@ use Rattle.ebpf_core.specs.declared.field.FieldFault.{FieldFault}
 use Rattle.ebpf_core.specs.declared.field.FieldFault.TheVariants.{OfElement, Types}
 use Rattle.ebpf_core.specs.declared.field.FieldValue.{FieldValue}
 use Rattle.ebpf_core.specs.declared.field.LoadedField.{LoadedField}
-use Rattle.ebpf_core.specs.declared.local_path.LocalPath.{LocalPath}
-use Rattle.ebpf_core.specs.declared.local_path.NamedPath.{NamedPath}
-use Rattle.ebpf_core.specs.declared.local_path.NamedPath.TheVariants as paths
+use Rattle.ebpf_core.specs.declared.paths.LocalPath.{LocalPath}
+use Rattle.ebpf_core.specs.declared.paths.NamedPath.{NamedPath}
+use Rattle.ebpf_core.specs.declared.paths.NamedPath.TheVariants as paths
 use Rattle.ebpf_core.specs.declared.matches.Found.{Found}
 use Rattle.ebpf_core.specs.declared.matches.Found.TheVariants as found
 use Rattle.ebpf_core.specs.declared.matches.Match.{Match}
@@ -50,7 +50,7 @@ field_in id bits value =
     record { candidate = id; bits = bits; number = option_map (λ v. v.number) value; loaded = option_and_then (λ v. v.loaded) value }
 
 abbrev pub value_in : TypeInfo → RelocationKind → ℕ → Found → Result MatchValue RelocationError
-value_in target kind id found.Type = if_ok (of_types (type_number target kind id)) (λ number. Ok (number_in id number))
+value_in target kind id found.WholeType = if_ok (of_types (type_number target kind id)) (λ number. Ok (number_in id number))
 value_in target kind id (found.Variant value) = Ok (number_in id (variant_number kind value))
 value_in target kind id (found.Field place) = Ok (field_in id place.bits (result_ok (field_value target kind place)))
 
@@ -68,7 +68,7 @@ loaded_by number (Err (Types e)) = Err (BtfError e)
 -- what is loaded of the local field, of which a record's kind can be asked
 unfoldable pub local_loaded : TypeInfo → Relocation → NamedPath → Result (Option LoadedField) RelocationError
 local_loaded local r (paths.Field steps place) = loaded_by r.number (field_value local r.kind place)
-local_loaded local r paths.Type = Ok None
+local_loaded local r paths.WholeType = Ok None
 local_loaded local r (paths.Variant name) = Ok None
 
 -- ---- all candidates

@@ -14,7 +14,6 @@ use std::alloc::{AllocError, Global};
 const MOST_PARTS: usize = 64;
 
 /// The number that a piece of an access string writes.
-#[tactic(auto, using(crate::proofs::Parts::part_read))]
 fn part_of(piece: &str) -> Option<usize>
     ensures { result ≡ part_of piece.now }
 {

@@ -1,7 +1,7 @@
 //! The bytes that a program loads for a field.
 
-ghost use Rattle.std.specs.Prelude.{◌≡◌, ◌<◌, ◌^◌};
-ghost use Rattle.ebpf_core.specs.Containers.{aligned, bit_field_extent, container, holds, may_have, plain_extent};
+ghost use Rattle.std.specs.Prelude.{◌≡◌, ◌<◌, ◌^◌, IfSome};
+ghost use Rattle.ebpf_core.specs.Containers.{aligned, bit_field_extent, container, holds, is_container, plain_extent};
 
 use ebpf_btf::BtfError;
 
@@ -37,27 +37,41 @@ fn holds(bit: u64, width: u64, size: u64) -> bool
     bit + width <= (aligned(bit, size) + size) * 8
 }
 
-/// Whether a container may have this size, where the field's type has `size` bytes: a size is doubled while it is
-/// below 8.
-fn may_have(size: u64, doubled: u64) -> bool
-    ensures { result ≡ may_have size doubled }
+/// Whether a container of `doubled` bytes is one for a bit field whose type has `size`: a size is doubled while it is
+/// below 8, and the container holds the field.
+fn is_container(bit: u64, width: u64, size: u64, doubled: u64) -> bool
+    requires few { bit < 2 ^ 32 }
+    requires narrow { width < 2 ^ 32 }
+    requires small { doubled < 2 ^ 36 }
+    requires some { 0 < doubled }
+    ensures { result ≡ is_container bit width size doubled }
 {
-    doubled == size || doubled < 16
+    (doubled == size || doubled < 16) && holds(bit, width, doubled)
 }
 
 /// The size of the smallest container that holds a bit field.
 #[tactic(auto, unfolding(crate::specs::Containers::container))]
 fn container(bit: u32, width: u32, size: u32) -> Option<u64>
-    ensures { result ≡ container bit width size }
+    ensures size { result ≡ container bit width size }
+    ensures some { IfSome result (λ n. 0 < n) }
 {
     if size == 0 {
         return None;
     }
     let (bit, width, size) = (u64::from(bit), u64::from(width), u64::from(size));
-    [size, size * 2, size * 4, size * 8]
-        .iter()
-        .copied()
-        .find(|doubled| may_have(size, *doubled) && holds(bit, width, *doubled))
+    if is_container(bit, width, size, size) {
+        return Some(size);
+    }
+    if is_container(bit, width, size, size * 2) {
+        return Some(size * 2);
+    }
+    if is_container(bit, width, size, size * 4) {
+        return Some(size * 4);
+    }
+    if is_container(bit, width, size, size * 8) {
+        return Some(size * 8);
+    }
+    None
 }
 
 /// The extent of a field that is no bit field.

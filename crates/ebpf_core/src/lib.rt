@@ -6,15 +6,16 @@ mod error;
 mod extent;
 mod faults;
 mod field;
-mod local_path;
+
 mod local_walk;
 mod matches;
 mod outcome;
+mod paths;
 mod subject;
 mod values;
 mod wording;
 
 pub use error::RelocationError;
 pub use field::{FieldClass, LoadedField};
-pub use local_path::{LocalPath, NamedPath, local_path};
+pub use paths::{LocalPath, NamedPath, local_path};
 pub use outcome::{Outcome, outcome_among};

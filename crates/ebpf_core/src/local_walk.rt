@@ -8,7 +8,7 @@ ghost use Rattle.ebpf_core.specs.LocalPaths.{ends_struct, field_path, into_array
 use crate::error::RelocationError;
 use crate::faults::{invalid_access_index, invalid_access_string, invalid_kind};
 use crate::wording::{Record, kind_words, path_words};
-use crate::local_path::NamedPath;
+use crate::paths::NamedPath;
 use ebpf_base::{Items, Text};
 use ebpf_btf::{Btf, BtfArray, BtfError, BtfMember, BtfType};
 use ebpf_places::{Place, PlaceEnd, Step};
@@ -16,7 +16,7 @@ use std::alloc::Global;
 
 /// How far a path has come.
 #[derive(Debug, Drop)]
-pub struct Reached {
+pub struct LocalSpot {
     /// The steps: the root index, names and indices. A member without a name is none.
     pub steps: Items<Step>,
     /// The bits from the start of the root type, and the last step.
@@ -34,7 +34,7 @@ fn reached(
     end: PlaceEnd,
     index: usize,
     type_id: u32,
-) -> Result<Reached, RelocationError>
+) -> Result<LocalSpot, RelocationError>
     ensures { Tells result (reached steps bits end index type_id) }
 {
     if bits >= 0x1_0000_0000 {
@@ -44,7 +44,7 @@ fn reached(
         bits: bits as u32,
         end,
     };
-    Ok(Reached {
+    Ok(LocalSpot {
         steps,
         place,
         index,
@@ -59,7 +59,7 @@ fn to_element(
     bits: u32,
     type_id: u32,
     index: usize,
-) -> Result<Reached, RelocationError>
+) -> Result<LocalSpot, RelocationError>
     ensures { Tells result (to_element local.now steps bits type_id index) }
 {
     let size = local.type_size(type_id)?;
@@ -90,7 +90,7 @@ fn type_of_step(local: &Btf, end: PlaceEnd) -> Option<&BtfType>
 }
 
 /// Whether the last step led to the last member of a STRUCT.
-fn ends_struct(local: &Btf, from: &Reached) -> bool
+fn ends_struct(local: &Btf, from: &LocalSpot) -> bool
     ensures { result ≡ ends_struct local.now.types from.now }
 {
     match type_of_step(local, from.place.end) {
@@ -100,7 +100,7 @@ fn ends_struct(local: &Btf, from: &Reached) -> bool
 }
 
 /// Whether an index is that of an element: it is below their number, or there are none and the ARRAY ends a STRUCT.
-fn is_element(local: &Btf, from: &Reached, count: u32, index: usize) -> bool
+fn is_element(local: &Btf, from: &LocalSpot, count: u32, index: usize) -> bool
     ensures { result ≡ is_element local.now.types from.now count index }
 {
     index < count as usize || (count == 0 && ends_struct(local, from))
@@ -111,10 +111,10 @@ fn into_array(
     alloc: Global,
     local: &Btf,
     record: Record<'_>,
-    from: Reached,
+    from: LocalSpot,
     array: BtfArray,
     index: usize,
-) -> Result<Reached, RelocationError>
+) -> Result<LocalSpot, RelocationError>
     ensures { Tells result (into_array local.now record.entry.access.now from array index) }
 {
     if !is_element(local, &from, array.len, index) {
@@ -129,12 +129,12 @@ fn into_array(
 fn to_member(
     alloc: Global,
     local: &Btf,
-    from: Reached,
+    from: LocalSpot,
     parent: u32,
     ty: &BtfType,
     index: usize,
     member: &BtfMember,
-) -> Result<Reached, RelocationError>
+) -> Result<LocalSpot, RelocationError>
     ensures { Tells result (to_member local.now from parent ty.now index member.now) }
 {
     let bits = u128::from(from.place.bits) + u128::from(ty.member_bit_offset(member));
@@ -156,12 +156,12 @@ fn into_members(
     alloc: Global,
     local: &Btf,
     record: Record<'_>,
-    from: Reached,
+    from: LocalSpot,
     parent: u32,
     ty: &BtfType,
     members: &[BtfMember],
     index: usize,
-) -> Result<Reached, RelocationError>
+) -> Result<LocalSpot, RelocationError>
     ensures { Tells result (into_members local.now record.entry.access.now from parent ty.now members.now index) }
 {
     match members.get(index) {
@@ -180,9 +180,9 @@ fn part_step(
     alloc: Global,
     local: &Btf,
     record: Record<'_>,
-    from: Reached,
+    from: LocalSpot,
     part: usize,
-) -> Result<Reached, RelocationError>
+) -> Result<LocalSpot, RelocationError>
     ensures { Tells result (part_step local.now record.entry.number record.entry.access.now from part) }
 {
     let type_id = local.resolve_type(from.type_id)?;

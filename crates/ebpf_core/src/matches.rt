@@ -8,7 +8,7 @@ ghost use Rattle.ebpf_places.specs.Places.{place_of};
 
 use crate::error::RelocationError;
 use crate::faults::too_nested;
-use crate::local_path::NamedPath;
+use crate::paths::NamedPath;
 use ebpf_base::{Items, Text};
 use ebpf_btf::{Btf, BtfError, BtfType, types_are_compatible};
 use ebpf_places::{Place, PlaceFault, Step, place_in};
@@ -17,8 +17,8 @@ use std::alloc::Global;
 /// What a path leads to in a type that matches.
 #[derive(Clone, Copy, Debug, PartialEq, Eq)]
 pub enum Found {
-    /// The type itself.
-    Type,
+    /// The type as a whole.
+    WholeType,
     /// A variant with its value.
     Variant {
         value: u64,
@@ -115,9 +115,9 @@ fn found_in(
     ensures { Tells result (found_in local.now target.now local_id path.now candidate) }
 {
     match path {
-        NamedPath::Type => {
+        NamedPath::WholeType => {
             if types_are_compatible(local, local_id, target, candidate)? {
-                return Ok(Some(Found::Type));
+                return Ok(Some(Found::WholeType));
             }
             Ok(None)
         }

@@ -8,7 +8,7 @@ ghost use Rattle.ebpf_core.specs.Outcomes.{agree, concluded, differing_names, lo
 use crate::error::RelocationError;
 use crate::faults::invalid_kind;
 use crate::field::{FieldFault, LoadedField, field_value};
-use crate::local_path::{LocalPath, NamedPath};
+use crate::paths::{LocalPath, NamedPath};
 use crate::matches::{matches_among, name_at};
 use crate::values::{MatchValue, match_values};
 use crate::wording::path_words;

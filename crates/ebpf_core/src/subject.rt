@@ -10,8 +10,8 @@ use ebpf_btf::RelocationKind;
 pub enum Subject {
     /// A field: a member or an element.
     Field,
-    /// A type.
-    Type,
+    /// A type as a whole.
+    WholeType,
     /// A variant of an enumeration.
     Variant,
 }
@@ -30,7 +30,7 @@ pub fn subject_of(kind: RelocationKind) -> Subject
         RelocationKind::TypeIdLocal
         | RelocationKind::TypeIdTarget
         | RelocationKind::TypeExists
-        | RelocationKind::TypeSize => Subject::Type,
+        | RelocationKind::TypeSize => Subject::WholeType,
         RelocationKind::EnumVariantExists | RelocationKind::EnumVariantValue => Subject::Variant,
     }
 }

@@ -83,7 +83,7 @@ fn match_value(
     ensures { Tells result (match_value target.now kind found) }
 {
     match found.found {
-        Found::Type => Ok(number_in(
+        Found::WholeType => Ok(number_in(
             found.candidate,
             type_number(target, kind, found.candidate)?,
         )),

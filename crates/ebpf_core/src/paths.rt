@@ -18,8 +18,8 @@ use std::alloc::Global;
 /// What a record asks about, by the names that its local type has.
 #[derive(Debug, Drop)]
 pub enum NamedPath {
-    /// The type itself.
-    Type,
+    /// The type as a whole.
+    WholeType,
     /// The variant of an enumeration with a name.
     Variant {
         name: Text,
@@ -55,7 +55,7 @@ fn type_path(alloc: Global, access: &str, parts: &[usize]) -> Result<NamedPath, 
     ensures { Tells result (type_path access.now parts.now) }
 {
     if lone(parts) == Some(0) {
-        return Ok(NamedPath::Type);
+        return Ok(NamedPath::WholeType);
     }
     invalid_access_string(alloc, access)
 }
@@ -112,7 +112,7 @@ fn path_for(
     ensures { Tells result (path_for local.now record.entry.number record.entry.access.now type_id parts.now (subject_of record.entry.kind)) }
 {
     match subject_of(record.kind) {
-        Subject::Type => type_path(alloc, record.access, parts),
+        Subject::WholeType => type_path(alloc, record.access, parts),
         Subject::Variant => {
             let ty = local.type_by_id(type_id)?;
             variant_path(alloc, local, record, ty, parts)

@@ -1,0 +1,34 @@
+-- One step of a walk over a list, whose results so far are kept.
+use Rattle.std.proofs.Common.{◌≡◌, ℕ, suc, ◌+◌, ◌<◌, ◌≤◌, Bool, true, false, List, [], ◌∷◌, ◌++◌, length, drop, Option, Some, None, Result, Ok, Err, refl, sym, ap, ◌∙◌, append_assoc, arith}
+use Rattle.std.specs.Prelude.{slice_index_or, option_map, if◌then◌else◌, filter, not}
+use Rattle.std.specs.List.{filter_map}
+use Rattle.std.proofs.Math.Seq.{drop-cons}
+use Rattle.std.proofs.lemmas.List.{drop_all}
+use Rattle.ebpf_core.specs.AccessStrings.{all_of}
+use Rattle.ebpf_core.specs.Answers.{each, if_ok}
+
+-- what is left from a member on
+pub rest_more : {X : Type 0} (xs : List X) (i : ℕ) (x : X) → i < length xs → x ≡ slice_index_or xs i x → drop i xs ≡ x ∷ drop (i + 1) xs
+rest_more xs i x below here =
+    let on : suc i ≡ i + 1 = omega arith in
+    drop-cons xs i x below ∙ ap (λ y. y ∷ drop (suc i) xs) (sym here) ∙ ap (λ n. x ∷ drop n xs) on
+
+-- at the end nothing is left
+pub rest_none : {X : Type 0} (xs : List X) (i : ℕ) → length xs ≤ i → drop i xs ≡ []
+rest_none xs i past = drop_all i xs past
+
+-- what is kept, and then a list that there may be
+abbrev pub after : {X : Type 0} → List X → Option (List X) → Option (List X)
+after kept rest = option_map (λ ys. kept ++ ys) rest
+
+after_push : {X : Type 0} (kept : List X) (x : X) (rest : Option (List X)) → after kept (option_map (λ ys. x ∷ ys) rest) ≡ after (kept ++ x ∷ []) rest
+after_push kept x None = refl
+after_push kept x (Some ys) = ap Some (sym (append_assoc kept (x ∷ []) ys))
+
+-- what is kept, and then an answer
+abbrev pub onto : {X E : Type 0} → List X → Result (List X) E → Result (List X) E
+onto kept rest = if_ok rest (λ ys. Ok (kept ++ ys))
+
+pub onto_push : {X E : Type 0} (kept : List X) (x : X) (rest : Result (List X) E) → onto kept (if_ok rest (λ ys. Ok (x ∷ ys))) ≡ onto (kept ++ x ∷ []) rest
+onto_push kept x (Err e) = refl
+onto_push kept x (Ok ys) = ap Ok (sym (append_assoc kept (x ∷ []) ys))

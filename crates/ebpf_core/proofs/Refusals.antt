@@ -1,0 +1,1 @@
+-- A refusal that a call hands on.
