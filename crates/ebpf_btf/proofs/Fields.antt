@@ -4,7 +4,8 @@ use Rattle.ebpf_btf.specs.declared.error.BtfError.{BtfError}
 use Rattle.ebpf_btf.specs.declared.error.BtfError.TheVariants.{MaximumTypeDepth}
 use Rattle.ebpf_btf.specs.declared.pair.Pair.{Pair}
 use Rattle.ebpf_btf.specs.declared.types.BtfType.{BtfType}
-use Rattle.ebpf_btf.specs.Compatibility.{both, element, elements, fields_fit, if_resolved, resolved_type, types_fit}
+use Rattle.ebpf_btf.specs.Steps.{resolved_type}
+use Rattle.ebpf_btf.specs.Compatibility.{both, element, elements, fields_fit, if_resolved, types_fit}
 use Rattle.ebpf_btf.specs.Next.{if_some}
 use Rattle.ebpf_btf.specs.TypeInfo.{TypeInfo}
 

@@ -1,10 +1,12 @@
 pub mod CandidateRows
 pub mod Comparing
 pub mod Copies
+pub mod Essentials
 pub mod ExtSections
 pub mod Fields
 pub mod InOrder
 pub mod Looks
+pub mod LossyTexts
 pub mod OneAfterOther
 pub mod RecordPlaces
 pub mod Refusals

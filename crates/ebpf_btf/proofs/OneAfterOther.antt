@@ -1,6 +1,6 @@
 -- Types one after the other, up to an end.
 use Rattle.std.proofs.Common.{◌≡◌, ◌-◌, ◌+◌, ◌<◌, ◌≤◌, ◌==◌, ℕ, zero, suc, Bool, true, false, List, [], ◌∷◌, ◌++◌, Option, Some, None, Ok, Err, MatchBool, refl, ap, sym, arith, append_assoc, append-nil, subst, nat_lt}
-use Rattle.std.specs.Prelude.{⊤}
+use Rattle.std.specs.Prelude.{⊤, slice_get}
 use Rattle.std.specs.Option.{ok_or}
 use Rattle.std.proofs.lemmas.Bool.Decides.{nat_tests}
 use Rattle.ebpf_btf.specs.Memory.{is_memory}
@@ -128,3 +128,8 @@ read_cut o bytes place end xs all e more rest is = by_memory (is_memory e) is
     by_memory : (b : Bool) → MatchBool b ⊤ (ok_or (type_before o bytes place end) InvalidTypeInfo ≡ Err e) → MatchBool b ⊤ (ok_or all InvalidTypeInfo ≡ Err e)
     by_memory true given = given
     by_memory false given = by_type (type_before o bytes place end) refl given
+
+-- the first of them stays first
+pub first_stays : {X : Type 0} (xs ys : List X) (x : X) → slice_get xs 0 ≡ Some x → slice_get (xs ++ ys) 0 ≡ Some x
+first_stays [] ys x is = cc
+first_stays (y ∷ xs) ys x is = is

@@ -15,7 +15,7 @@ use Rattle.ebpf_btf.specs.declared.types.BtfType.{BtfType}
 use Rattle.ebpf_btf.specs.declared.types.BtfType.TheVariants.{Int, Ptr, Array, FuncProto}
 use Rattle.ebpf_btf.specs.EssentialNames.{essential_name}
 use Rattle.ebpf_btf.specs.Next.{if_ok, if_some}
-use Rattle.ebpf_btf.specs.Steps.{resolved, type_at}
+use Rattle.ebpf_btf.specs.Steps.{resolved_type, type_at}
 use Rattle.ebpf_btf.specs.Strings.{type_name}
 use Rattle.ebpf_btf.specs.TypeInfo.{TypeInfo}
 use Rattle.ebpf_btf.specs.Types.{kind_of, kind_number}
@@ -29,10 +29,6 @@ pair_of i j = record { local = i; target = j }
 abbrev pub both : Option ℕ → Option ℕ → Option Pair
 both (Some i) (Some j) = Some (pair_of i j)
 both _ _ = None
-
--- the type that an id leads to, past those that stand for others
-abbrev pub resolved_type : List BtfType → ℕ → Result BtfType BtfError
-resolved_type types id = if_ok (resolved types id) (λ found. type_at types found)
 
 -- what follows for the two types that a pair leads to, the local one first
 abbrev pub if_resolved : {X : Type 0} → List BtfType → List BtfType → Pair → (BtfType → BtfType → Result X BtfError) → Result X BtfError

@@ -16,3 +16,4 @@ pub mod Strings
 pub mod TypeInfo
 pub mod TypeRows
 pub mod Types
+pub mod Variants

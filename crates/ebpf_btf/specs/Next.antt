@@ -1,4 +1,5 @@
 -- What follows an answer.
+use denote.Ref.{Bor}
 use Rattle.std.specs.Prelude.{Option, Some, None, Result, Ok, Err}
 use Rattle.ebpf_btf.specs.declared.error.BtfError.{BtfError}
 
@@ -11,3 +12,8 @@ if_some (Some x) next other = next x
 abbrev pub if_ok : {A X : Type 0} → Result A BtfError → (A → Result X BtfError) → Result X BtfError
 if_ok (Ok x) next = next x
 if_ok (Err e) next = Err e
+
+-- the value that an answer lends
+abbrev pub lent : {A : Type 0} → Result (Bor A) BtfError → Result A BtfError
+lent (Ok x) = Ok x.now
+lent (Err e) = Err e

@@ -36,6 +36,10 @@ resolved_from (suc left) types start id =
 abbrev pub resolved : List BtfType → ℕ → Result ℕ BtfError
 resolved types id = resolved_from looks types id id
 
+-- the type that an id leads to, past those that stand for others
+abbrev pub resolved_type : List BtfType → ℕ → Result BtfType BtfError
+resolved_type types id = if_ok (resolved types id) (λ found. type_at types found)
+
 -- ---- sizes in bytes
 
 -- the size that a type has of its own: 8 of a PTR, else the one that it states

@@ -9,6 +9,8 @@ use Rattle.ebpf_btf.specs.declared.types.BtfType.{BtfType}
 use Rattle.ebpf_btf.specs.TypeInfo.{TypeInfo}
 use Rattle.ebpf_btf.specs.Types.{name_of, is_kind}
 use Rattle.ebpf_btf.specs.declared.kind.BtfKind.{BtfKind}
+use Rattle.ebpf_btf.specs.EssentialNames.{essential_name}
+use Rattle.ebpf_btf.specs.Next.{if_ok}
 
 -- the bytes up to the first zero byte
 abbrev pub before_zero : List ℕ → Option (List ℕ)
@@ -23,6 +25,14 @@ text_or_fault offset (Some bytes) = Ok (utf8_lossy bytes)
 -- There is none where the offset is outside the strings or no zero byte follows.
 unfoldable pub text_at : List ℕ → ℕ → Result (List ℕ) BtfError
 text_at strings offset = text_or_fault offset (before_zero (drop offset strings))
+
+-- whether the text at an offset is a given one
+abbrev pub is_name_at : List ℕ → ℕ → List ℕ → Result Bool BtfError
+is_name_at strings offset text = if_ok (text_at strings offset) (λ read. Ok (bytes_eq read text))
+
+-- whether the two are equal before the first three underscores
+abbrev pub is_essential_name_at : List ℕ → ℕ → List ℕ → Result Bool BtfError
+is_essential_name_at strings offset text = if_ok (text_at strings offset) (λ read. Ok (bytes_eq (essential_name read) (essential_name text)))
 
 -- the name of a type
 abbrev pub type_name : TypeInfo → BtfType → Result (List ℕ) BtfError

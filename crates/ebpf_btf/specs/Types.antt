@@ -1,5 +1,6 @@
 -- What types say of themselves (the kernel's Documentation/bpf/btf.rst, 2.2 "Type Encoding").
 use Rattle.std.specs.Prelude.{ℕ, ◌/◌, ◌%◌, ◌^◌, Bool, false, List, Option, Some, None, ◌==◌, if◌then◌else◌}
+use Rattle.ebpf_btf.specs.declared.array.BtfArray.{BtfArray}
 use Rattle.ebpf_btf.specs.declared.kind.BtfKind.{BtfKind}
 use Rattle.ebpf_btf.specs.declared.kind.BtfKind.TheVariants as kinds
 use Rattle.ebpf_btf.specs.declared.members.BtfMember.{BtfMember}
@@ -121,3 +122,16 @@ bit_offset t member = if has_bit_fields t then member.offset % 2 ^ 24 else membe
 -- the size in bits of a member that is a bit field, else 0
 unfoldable pub bit_field_size : BtfType → BtfMember → ℕ
 bit_field_size t member = if has_bit_fields t then member.offset / 2 ^ 24 else 0
+
+-- whether values are signed: of an INT as its encoding says (BTF_INT_SIGNED, bit 0 of the bits 24 to 27 of its word),
+-- of an ENUM or ENUM64 as its kind_flag does
+unfoldable pub is_signed : BtfType → Bool
+is_signed (Int _ _ bits) = bits / 2 ^ 24 % 2 == 1
+is_signed (Enum _ _ flag _) = flag
+is_signed (Enum64 _ _ flag _) = flag
+is_signed _ = false
+
+-- the elements of an ARRAY
+unfoldable pub array_of : BtfType → Option BtfArray
+array_of (Array _ element index len) = Some (record { element_type = element; index_type = index; len = len })
+array_of _ = None

@@ -1,6 +1,6 @@
 //! Types and their strings.
 
-ghost use Rattle.std.specs.Prelude.{◌≡◌, ◌≤◌, ◌^◌, ◌∷◌, ◌++◌, [], length, slice_get, IfOk, IfErr, OnOk, OnErr, Ok};
+ghost use Rattle.std.specs.Prelude.{◌≡◌, ◌≤◌, ◌^◌, ◌∷◌, ◌++◌, [], length, slice_get, IfOk, IfErr, OnOk, OnErr, Ok, Some};
 ghost use Rattle.std.specs.Option.{option_copied};
 ghost use Rattle.std.specs.Result.{result_ok};
 ghost use Rattle.std.specs.Cow.{cow_str_bytes};
@@ -10,6 +10,7 @@ ghost use Rattle.ebpf_btf.specs.Strings.{text_at};
 ghost use Rattle.ebpf_btf.specs.TypeInfo.{no_types};
 ghost use Rattle.ebpf_btf.specs.Additions.{with_type, with_string, number_fault};
 ghost use Rattle.ebpf_btf.specs.declared.error.BtfError.TheVariants.{OutOfMemory, UnknownBtfType};
+ghost use Rattle.ebpf_btf.specs.declared.types.BtfType.TheVariants.{Unknown};
 
 use crate::clones::copy_list;
 use crate::error::BtfError;
@@ -30,14 +31,15 @@ pub struct Btf {
 }
 
 impl Model for Btf {
-    ghost use Rattle.std.specs.Prelude.{◌≤◌, ◌^◌, length};
+    ghost use Rattle.std.specs.Prelude.{◌≡◌, ◌≤◌, ◌^◌, length, slice_get, Some};
     ghost use Rattle.ebpf_btf.specs.TypeInfo.{TypeInfo};
+    ghost use Rattle.ebpf_btf.specs.declared.types.BtfType.TheVariants.{Unknown};
 
     ghost Value = { TypeInfo };
 
     ghost view = { λ b. record { types = b.types; strings = b.strings.items } };
 
-    ghost invariant = { λ b. length b.types ≤ 2 ^ 32 };
+    ghost invariant = { λ b. (length b.types ≤ 2 ^ 32) × (slice_get b.types 0 ≡ Some Unknown) };
 }
 
 impl Btf {
@@ -56,7 +58,8 @@ impl Btf {
 
     /// The types, and the strings that have their names.
     pub(crate) fn from_parts(types: Items<BtfType>, strings: Vec<u8>) -> Btf
-        requires { length types ≤ 2 ^ 32 }
+        requires few { length types ≤ 2 ^ 32 }
+        requires void { slice_get types 0 ≡ Some Unknown }
         ensures types { result.types ≡ types }
         ensures strings { result.strings ≡ strings.items }
     {
@@ -67,6 +70,7 @@ impl Btf {
     pub fn types(&self) -> &[BtfType]
         ensures all { result.now ≡ self.now.types }
         ensures few { length result.now ≤ 2 ^ 32 }
+        ensures void { slice_get result.now 0 ≡ Some Unknown }
     {
         self.types.as_slice()
     }
@@ -92,6 +96,13 @@ impl Btf {
         ensures fault { Refuses is_memory result (fault_of (text_at self.now.strings offset)) }
     {
         read_text(*self.strings.allocator(), &self.strings, offset)
+    }
+
+    /// The bytes of the strings.
+    pub(crate) fn strings(&self) -> &[u8]
+        ensures { result.now ≡ self.now.strings }
+    {
+        &self.strings
     }
 
     /// The memory that the types and strings lie in.

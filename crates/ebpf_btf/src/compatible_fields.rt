@@ -7,9 +7,9 @@ ghost use Rattle.ebpf_btf.specs.Memory.{is_memory};
 
 use crate::btf::Btf;
 use crate::error::BtfError;
-use crate::essential_name::essential_name;
+use crate::flavors::essential_name;
 use crate::kind::BtfKind;
-use crate::pair::{Pair, both, both_begin_at_0, resolved_type, same_kind};
+use crate::pair::{Pair, both, both_begin_at_0, same_kind};
 use crate::types::BtfType;
 
 /// How many pairs of fields may be met: the one given, and 32 of elements.
@@ -106,8 +106,8 @@ pub fn fields_are_compatible(
         target: target_id,
     };
     for _level in 0..FIELD_LEVELS {
-        let local_type = resolved_type(local, pair.local)?;
-        let target_type = resolved_type(target, pair.target)?;
+        let local_type = local.resolved_type(pair.local)?;
+        let target_type = target.resolved_type(pair.target)?;
         let Some(elements) = both(element(local_type), element(target_type)) else {
             return types_fit(local, local_type, target, target_type);
         };

@@ -7,7 +7,7 @@ use crate::btf::Btf;
 use crate::error::BtfError;
 use crate::kind::BtfKind;
 use crate::members::BtfParam;
-use crate::pair::{Pair, both, both_begin_at_0, resolved_type, same_kind};
+use crate::pair::{Pair, both, both_begin_at_0, same_kind};
 use crate::types::BtfType;
 
 /// How many levels of pairs there may be: the one of the pair given, and 32 below it.
@@ -95,8 +95,8 @@ fn compare(sides: Sides<'_>, levels: u32, left: u32, pair: Pair) -> Result<Verdi
             type_id: sides.root,
         });
     }
-    let local = resolved_type(sides.local, pair.local)?;
-    let target = resolved_type(sides.target, pair.target)?;
+    let local = sides.local.resolved_type(pair.local)?;
+    let target = sides.target.resolved_type(pair.target)?;
     if !agree(local, target) {
         return Ok(Verdict::Different);
     }

@@ -1,13 +1,13 @@
 //! The BTF layer of an eBPF object file.
 #![tactic(auto)]
 
+mod array;
 mod btf;
 mod clones;
 mod compatible_fields;
 mod compatible_types;
 mod endianness;
 mod error;
-mod essential_name;
 mod ext;
 mod ext_clones;
 mod ext_infos;
@@ -15,8 +15,10 @@ mod ext_part;
 mod ext_records;
 mod ext_sections;
 mod fallback;
+mod flavors;
 mod kind;
 mod lists;
+mod lossy;
 mod members;
 mod names;
 pub mod numbers;
@@ -29,7 +31,9 @@ mod strings;
 mod type_index;
 mod type_row;
 mod types;
+mod variants;
 
+pub use array::BtfArray;
 pub use btf::Btf;
 pub use compatible_fields::fields_are_compatible;
 pub use compatible_types::types_are_compatible;
@@ -38,8 +42,10 @@ pub use error::BtfError;
 pub use ext::BtfExt;
 pub use ext_infos::{FuncInfo, FuncSecInfo, LineInfo, LineSecInfo, bpf_func_info, bpf_line_info};
 pub use fallback::{BoxedFallback, Enum64Fallback};
+pub use flavors::essential_name;
 pub use kind::BtfKind;
 pub use members::{BtfEnum, BtfEnum64, BtfMember, BtfParam, DataSecEntry, Enum64VariantFallback};
 pub use relocation::{Relocation, RelocationKind};
 pub use type_index::TypeIndex;
 pub use types::BtfType;
+pub use variants::BtfVariant;

@@ -5,13 +5,16 @@ ghost use Rattle.std.specs.Option.{ok_or};
 ghost use Rattle.std.specs.Cow.{cow_str_bytes};
 ghost use Rattle.ebpf_base.specs.Faults.{Refuses, Gives, fault_of};
 ghost use Rattle.ebpf_btf.specs.Memory.{is_memory};
-ghost use Rattle.ebpf_btf.specs.Strings.{type_name, is_text, is_named, id_of_name};
+ghost use Rattle.ebpf_btf.specs.Strings.{type_name, is_text, is_named, id_of_name, is_name_at, is_essential_name_at};
 ghost use Rattle.ebpf_btf.specs.Types.{is_kind};
 ghost use Rattle.ebpf_btf.specs.declared.error.BtfError.TheVariants.{OutOfMemory, UnknownBtfTypeName};
 
 use crate::btf::Btf;
 use crate::error::BtfError;
+use crate::flavors::essential_name;
 use crate::kind::BtfKind;
+use crate::lossy::{reads_as, reads_essentially_as};
+use crate::strings::read_bytes;
 use crate::types::BtfType;
 use ebpf_base::Text;
 use std::alloc::Global;
@@ -34,6 +37,31 @@ impl Btf {
         ensures fault { Refuses is_memory result (fault_of (type_name self.now ty.now)) }
     {
         self.string_at(ty.name_offset())
+    }
+
+    /// Whether the text at an offset of the strings, as `string_at` gives it, is this one. No memory is taken.
+    ///
+    /// `InvalidStringOffset` where the offset is outside the strings or no zero byte follows.
+    pub fn is_name_at(&self, offset: u32, text: &str) -> Result<bool, BtfError>
+        ensures { result ≡ is_name_at self.now.strings offset text.now }
+    {
+        match read_bytes(self.strings(), offset) {
+            Ok(bytes) => Ok(reads_as(bytes, text.as_bytes())),
+            Err(e) => Err(e),
+        }
+    }
+
+    /// Whether the text at an offset of the strings, as `string_at` gives it, is this one, both taken before their
+    /// first three underscores. No memory is taken.
+    ///
+    /// `InvalidStringOffset` where the offset is outside the strings or no zero byte follows.
+    pub fn is_essential_name_at(&self, offset: u32, text: &str) -> Result<bool, BtfError>
+        ensures { result ≡ is_essential_name_at self.now.strings offset text.now }
+    {
+        match read_bytes(self.strings(), offset) {
+            Ok(bytes) => Ok(reads_essentially_as(bytes, essential_name(text.as_bytes()))),
+            Err(e) => Err(e),
+        }
     }
 
     /// A copy of a type's name, for errors. None where it can't be read, or where memory is refused.

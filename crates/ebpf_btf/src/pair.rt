@@ -1,10 +1,8 @@
 //! Two types, one on each side of a comparison.
 
-ghost use Rattle.std.specs.Prelude.{◌≡◌, IfOk, IfErr, Ok, Err};
-ghost use Rattle.ebpf_btf.specs.Compatibility.{both, both_begin_at_0, first_bit, resolved_type, same_kind};
+ghost use Rattle.std.specs.Prelude.{◌≡◌};
+ghost use Rattle.ebpf_btf.specs.Compatibility.{both, both_begin_at_0, first_bit, same_kind};
 
-use crate::btf::Btf;
-use crate::error::BtfError;
 use crate::types::BtfType;
 
 /// The ids of a type of an object and of one of a kernel.
@@ -22,15 +20,6 @@ pub fn both(local: Option<u32>, target: Option<u32>) -> Option<Pair>
         (Some(local), Some(target)) => Some(Pair { local, target }),
         _ => None,
     }
-}
-
-/// The type that an id leads to, past those that stand for others.
-pub fn resolved_type(btf: &Btf, type_id: u32) -> Result<&BtfType, BtfError>
-    ensures found { IfOk result (λ t. resolved_type btf.now.types type_id ≡ Ok t.now) }
-    ensures fault { IfErr result (λ e. resolved_type btf.now.types type_id ≡ Err e) }
-{
-    let resolved = btf.resolve_type(type_id)?;
-    btf.type_by_id(resolved)
 }
 
 /// Whether two types are of one kind.

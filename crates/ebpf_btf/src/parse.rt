@@ -1,6 +1,6 @@
 //! `.BTF`, read.
 
-ghost use Rattle.std.specs.Prelude.{◌≡◌, ◌+◌, ◌-◌, ◌<◌, ◌≤◌, ◌^◌, ◌∷◌, List, [], length, slice_range, IfOk, IfErr, Ok, None, option_map};
+ghost use Rattle.std.specs.Prelude.{◌≡◌, ◌+◌, ◌-◌, ◌<◌, ◌≤◌, ◌^◌, ◌∷◌, List, [], length, slice_get, slice_range, IfOk, IfErr, Ok, None, Some, option_map};
 ghost use Rattle.std.specs.Option.{ok_or};
 ghost use Rattle.ebpf_base.specs.Faults.{Gives, fault_of};
 ghost use Rattle.ebpf_btf.specs.Memory.{is_memory};
@@ -81,6 +81,7 @@ fn read_types(
     requires inside { end ≤ length bytes.now }
     ensures types { Gives is_memory result (ok_or (with_front (Unknown ∷ []) (types_from (end - start) order bytes.now start end)) InvalidTypeInfo) }
     ensures few { IfOk result (λ types. length types + start ≤ end + 1) }
+    ensures void { IfOk result (λ types. slice_get types 0 ≡ Some Unknown) }
 {
     let mut types = Items::from_vec(Vec::with_capacity(alloc, 1 + (end - start) / USUAL_LENGTH)?);
     types.push(BtfType::Unknown)?;

@@ -1,7 +1,8 @@
 //! Types that stand for others, and sizes.
 
 ghost use Rattle.std.specs.Prelude.{◌≡◌, ◌<◌, ◌^◌, IfOk};
-ghost use Rattle.ebpf_btf.specs.Steps.{modified, own_size, sized_by, repeats, times, resolved, size_of};
+ghost use Rattle.ebpf_btf.specs.Steps.{modified, own_size, sized_by, repeats, times, resolved, resolved_type, size_of};
+ghost use Rattle.ebpf_btf.specs.Next.{lent};
 
 use crate::btf::Btf;
 use crate::error::BtfError;
@@ -87,6 +88,17 @@ impl Btf {
             reached = next;
         }
         Err(BtfError::MaximumTypeDepth { type_id })
+    }
+
+    /// The first type from the one with an id on that is no TYPEDEF, VOLATILE, CONST, RESTRICT or TYPE_TAG. Its
+    /// faults are those of `resolve_type`.
+    pub fn resolved_type(&self, type_id: u32) -> Result<&BtfType, BtfError>
+        ensures { lent result ≡ resolved_type self.now.types type_id }
+    {
+        match self.resolve_type(type_id) {
+            Ok(resolved) => self.type_by_id(resolved),
+            Err(e) => Err(e),
+        }
     }
 
     /// The size of a type in bytes: 8 of a PTR, else the size that it states; of a TYPEDEF, VOLATILE, CONST,

@@ -1,6 +1,6 @@
 //! Texts in the strings.
 
-ghost use Rattle.std.specs.Prelude.{◌≡◌, ◌==◌, IfOk, Ok};
+ghost use Rattle.std.specs.Prelude.{◌≡◌, ◌==◌, IfOk, IfErr, Ok, Err};
 ghost use Rattle.std.specs.List.{position};
 ghost use Rattle.std.specs.Option.{option_copied};
 ghost use Rattle.std.specs.Cow.{cow_str_bytes};
@@ -41,18 +41,26 @@ fn lossy(alloc: Global, bytes: &[u8]) -> Result<CowStr<'_, Global>, AllocError>
     }
 }
 
-/// The text at an offset of the strings.
+/// The bytes from an offset of the strings up to the next zero byte.
 #[tactic(auto, unfolding(crate::specs::Strings::text_at))]
-pub fn read_text(alloc: Global, strings: &[u8], offset: u32) -> Result<CowStr<'_, Global>, BtfError>
-    ensures text { IfOk result (λ text. text_at strings.now offset ≡ Ok (cow_str_bytes text)) }
-    ensures fault { Refuses is_memory result (fault_of (text_at strings.now offset)) }
+pub fn read_bytes(strings: &[u8], offset: u32) -> Result<&[u8], BtfError>
+    ensures text { IfOk result (λ bytes. text_at strings.now offset ≡ Ok (utf8_lossy bytes.now)) }
+    ensures fault { IfErr result (λ e. text_at strings.now offset ≡ Err e) }
 {
     let place = offset as usize;
     if place > strings.len() {
         return Err(BtfError::InvalidStringOffset { offset: place });
     }
-    let Some(bytes) = before_zero(&strings[place..]) else {
-        return Err(BtfError::InvalidStringOffset { offset: place });
-    };
-    Ok(lossy(alloc, bytes)?)
+    match before_zero(&strings[place..]) {
+        Some(bytes) => Ok(bytes),
+        None => Err(BtfError::InvalidStringOffset { offset: place }),
+    }
+}
+
+/// The text at an offset of the strings.
+pub fn read_text(alloc: Global, strings: &[u8], offset: u32) -> Result<CowStr<'_, Global>, BtfError>
+    ensures text { IfOk result (λ text. text_at strings.now offset ≡ Ok (cow_str_bytes text)) }
+    ensures fault { Refuses is_memory result (fault_of (text_at strings.now offset)) }
+{
+    Ok(lossy(alloc, read_bytes(strings, offset)?)?)
 }

@@ -13,7 +13,7 @@ ghost use Rattle.ebpf_btf.specs.declared.kind.BtfKind.{BtfKind};
 
 use crate::btf::Btf;
 use crate::error::BtfError;
-use crate::essential_name::essential_name;
+use crate::flavors::essential_name;
 use crate::kind::BtfKind;
 use crate::type_row::{TypeRow, places_of};
 use crate::types::BtfType;
@@ -118,6 +118,13 @@ impl<'a> TypeIndex<'a> {
             ids,
             unreadable,
         })
+    }
+
+    /// The types that it was made for.
+    pub fn btf(&self) -> &'a Btf
+        ensures { result.now ≡ self.now }
+    {
+        self.btf
     }
 
     /// The ids, in increasing order, of the types of a kind whose name before the first three underscores equals

@@ -2,7 +2,7 @@
 
 ghost use Rattle.std.specs.Prelude.{◌≡◌};
 ghost use Rattle.std.specs.Option.{option_copied};
-ghost use Rattle.ebpf_btf.specs.Types.{kind_of, name_of, size_word, type_word, members_of, has_bit_fields, bit_offset, bit_field_size};
+ghost use Rattle.ebpf_btf.specs.Types.{kind_of, name_of, size_word, type_word, members_of, has_bit_fields, bit_offset, bit_field_size, is_signed};
 
 use crate::fallback::BoxedFallback;
 use crate::kind::BtfKind;
@@ -275,6 +275,19 @@ impl BtfType {
             member.offset >> 24
         } else {
             0
+        }
+    }
+
+    /// Whether values are signed: of an INT where bit 24 of its data is set, of an ENUM or ENUM64 where its
+    /// `kind_flag` is. False of others.
+    #[tactic(auto, unfolding(crate::specs::Types::is_signed))]
+    pub fn is_signed(&self) -> bool
+        ensures { result ≡ is_signed self.now }
+    {
+        match self {
+            BtfType::Int { int_data, .. } => (int_data >> 24) & 1 == 1,
+            BtfType::Enum { kind_flag, .. } | BtfType::Enum64 { kind_flag, .. } => *kind_flag,
+            _ => false,
         }
     }
 }

@@ -7,16 +7,16 @@ use Rattle.ebpf_btf.proofs.compatible_fields.fields_are_compatible.Goals as goal
 pub returns-in_err-local_type : goal.returns-in_err-local_type
 returns-in_err-local_type c =
     exact is_memory c.from_residual.result _
-    (sym c.loop-level.invariant ∙ fields_local_fault c.loop-level._level _ _ _ _ _ (omega arith) c.in_err-local_type.ensures.fault
+    (sym c.loop-level.invariant ∙ fields_local_fault c.loop-level._level _ _ _ _ _ (omega arith) (sym c.in_err-local_type.ensures)
     ∙ sym (handed_on c.from_residual.result c.in_err-local_type.field-0.0 c.from_residual.ensures.1))
 
 pub returns-in_err-target_type : goal.returns-in_err-target_type
 returns-in_err-target_type c =
     exact is_memory c.from_residual-in_err-target_type.result _
-    (sym c.loop-level.invariant ∙ fields_target_fault c.loop-level._level _ _ _ _ _ _ (omega arith) c.in_ok-local_type.ensures.found c.in_err-target_type.ensures.fault
+    (sym c.loop-level.invariant ∙ fields_target_fault c.loop-level._level _ _ _ _ _ _ (omega arith) (sym c.in_ok-local_type.ensures) (sym c.in_err-target_type.ensures)
     ∙ sym (handed_on c.from_residual-in_err-target_type.result c.in_err-target_type.field-0.0 c.from_residual-in_err-target_type.ensures.1))
 
 pub loop-level-preserved : goal.loop-level-preserved
 loop-level-preserved c =
-    sym (fields_next c.loop-level._level _ _ _ _ _ _ _ _ _ _ (omega arith) c.in_ok-local_type.ensures.found c.in_ok-target_type.ensures.found c.element.ensures c.element-in-loop-level.ensures c.both.ensures c.in-Some.is)
+    sym (fields_next c.loop-level._level _ _ _ _ _ _ _ _ _ _ (omega arith) (sym c.in_ok-local_type.ensures) (sym c.in_ok-target_type.ensures) c.element.ensures c.element-in-loop-level.ensures c.both.ensures c.in-Some.is)
     ∙ c.loop-level.invariant

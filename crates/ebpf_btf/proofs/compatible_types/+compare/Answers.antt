@@ -17,23 +17,23 @@ returns-then-levels-eq0 t c =
 pub returns-in_err-local : goal.returns-in_err-local
 returns-in_err-local t c =
     handed_on c.from_residual.result c.in_err-local.field-0.0 c.from_residual.ensures.1
-    ∙ sym (compared_local_fault c.args.levels _ _ _ c.args.left _ (c.args.levels - 1) (c.args.left - 1) (omega arith) (omega arith) _ c.in_err-local.ensures.fault)
+    ∙ sym (compared_local_fault c.args.levels _ _ _ c.args.left _ (c.args.levels - 1) (c.args.left - 1) (omega arith) (omega arith) _ (sym c.in_err-local.ensures))
 
 pub returns-in_err-target : goal.returns-in_err-target
 returns-in_err-target t c =
     handed_on c.from_residual-in_err-target.result c.in_err-target.field-0.0 c.from_residual-in_err-target.ensures.1
-    ∙ sym (compared_target_fault c.args.levels _ _ _ c.args.left _ (c.args.levels - 1) (c.args.left - 1) (omega arith) (omega arith) _ _ c.in_ok-local.ensures.found c.in_err-target.ensures.fault)
+    ∙ sym (compared_target_fault c.args.levels _ _ _ c.args.left _ (c.args.levels - 1) (c.args.left - 1) (omega arith) (omega arith) _ _ (sym c.in_ok-local.ensures) (sym c.in_err-target.ensures))
 
 pub returns-then-not-agree : goal.returns-then-not-agree
 returns-then-not-agree t c =
-    sym (compared_different c.args.levels _ _ _ c.args.left _ (c.args.levels - 1) (c.args.left - 1) (omega arith) (omega arith) _ _ c.in_ok-local.ensures.found c.in_ok-target.ensures.found (sym c.agree.ensures ∙ c.if-not-agree.true))
+    sym (compared_different c.args.levels _ _ _ c.args.left _ (c.args.levels - 1) (c.args.left - 1) (omega arith) (omega arith) _ _ (sym c.in_ok-local.ensures) (sym c.in_ok-target.ensures) (sym c.agree.ensures ∙ c.if-not-agree.true))
 
 pub loop-one-init : goal.loop-one-init
 loop-one-init t c =
     rest_all _ _ _ _ _ _ _ _ _
     (ap (λ it. iter_rest (zip_first it)) c.into_iter-one-iterator.ensures.into_iter_gives ∙ ap iter_rest c.zip-one-items.ensures.first ∙ c.iter.ensures.rest ∙ c.params_of.ensures)
     (ap (λ it. iter_rest (zip_second it)) c.into_iter-one-iterator.ensures.into_iter_gives ∙ c.zip-one-items.ensures.second.0 ∙ c.params_of-2.ensures)
-    ∙ sym (compared_parts c.args.levels _ _ c.args.sides.root c.args.left _ (c.args.levels - 1) (c.args.left - 1) (omega arith) (omega arith) _ _ c.in_ok-local.ensures.found c.in_ok-target.ensures.found (sym c.agree.ensures ∙ c.if-not-agree.false))
+    ∙ sym (compared_parts c.args.levels _ _ c.args.sides.root c.args.left _ (c.args.levels - 1) (c.args.left - 1) (omega arith) (omega arith) _ _ (sym c.in_ok-local.ensures) (sym c.in_ok-target.ensures) (sym c.agree.ensures ∙ c.if-not-agree.false))
 
 pub returns-in_err-rest : goal.returns-in_err-rest
 returns-in_err-rest t c =

@@ -1,7 +1,7 @@
 use Rattle.std.proofs.Common.{refl, arith}
 use Rattle.std.proofs.lemmas.List.{length-append}
 use Rattle.std.proofs.lemmas.Result.{err_from_is_err_and}
-use Rattle.ebpf_btf.proofs.OneAfterOther.{read_more, read_cut, types_over}
+use Rattle.ebpf_btf.proofs.OneAfterOther.{first_stays, read_more, read_cut, types_over}
 use Rattle.ebpf_btf.proofs.parse.read_types.Goals as goal
 
 pub returns-in_err-ty-clause-types : goal.returns-in_err-ty-clause-types
@@ -14,6 +14,7 @@ loop-place-preserved c =
     let step = read_more c.args.order c.args.bytes.now c.loop-place.place c.args.end c.loop-place.types c.in_ok-ty.ty c.in_ok-ty.next c.loop-place-test.true c.in_ok-ty.ensures.found in
     rw c.in_ok-push-2.ensures.ok (record {
       within = (omega (arith, c.in_ok-ty.ensures.next.0, c.in_ok-ty.ensures.next.1), c.in_ok-ty.ensures.next.1);
+      void = first_stays c.loop-place.types _ _ c.loop-place.invariant.void;
       few = rw length-append (omega (arith, c.in_ok-ty.ensures.next.0));
       rest = cc;
     })

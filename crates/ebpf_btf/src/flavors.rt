@@ -1,6 +1,6 @@
 //! Names without their flavor.
 
-ghost use Rattle.std.specs.Prelude.{◌≡◌, ◌≤◌, ◌∷◌, length, drop, nat_eq, IfSome};
+ghost use Rattle.std.specs.Prelude.{◌≡◌, ◌≤◌, ◌∷◌, length, drop, nat_eq, is_some, IfSome};
 ghost use Rattle.std.specs.List.{starts_with};
 ghost use Rattle.std.specs.Cow.{cow_str_bytes, cow_slice_items};
 ghost use Rattle.ebpf_btf.specs.EssentialNames.{essential_name, flavor_mark, flavor_place};
@@ -22,6 +22,13 @@ fn flavor_place(name: &[u8]) -> Option<usize>
     ensures inside { IfSome result (λ place. place ≤ length name.now) }
 {
     (0..name.len()).find(|place| is_flavor_at(name, *place))
+}
+
+/// Whether a name has three underscores in a row.
+pub fn has_flavor(name: &[u8]) -> bool
+    ensures { result ≡ is_some (flavor_place name.now) }
+{
+    flavor_place(name).is_some()
 }
 
 /// What stands before the first three underscores in a row, or the whole name.

@@ -1,0 +1,106 @@
+//! The variants of enumerations, in one form.
+
+ghost use Rattle.std.specs.Prelude.{◌≡◌, length, map, option_map, slice_get};
+ghost use Rattle.std.specs.Option.{option_and_then};
+ghost use Rattle.ebpf_btf.specs.Variants.{variant_of_32, variant_of_64, variant_of_fallback, variants_of, widened};
+
+use crate::fallback::Enum64Fallback;
+use crate::members::{BtfEnum, BtfEnum64, Enum64VariantFallback};
+use crate::types::BtfType;
+
+/// A variant of an enumeration of whatever kind.
+#[derive(Clone, Copy, Debug, PartialEq, Eq)]
+pub struct BtfVariant {
+    /// The offset of the variant's name in the strings.
+    pub name_offset: u32,
+    /// The value's 64 bits. One of 32 bits has been widened, by its sign where the enumeration is signed.
+    pub value: u64,
+}
+
+/// 32 bits as 64, the high ones being those of the sign.
+fn widened(signed: bool, value: u32) -> u64
+    ensures { result ≡ widened signed value }
+{
+    if signed && value >= 0x8000_0000 {
+        u64::from(value) + 0xffff_ffff_0000_0000
+    } else {
+        u64::from(value)
+    }
+}
+
+/// A variant of an ENUM.
+fn variant_of_32(signed: bool, variant: BtfEnum) -> BtfVariant
+    ensures { result ≡ variant_of_32 signed variant }
+{
+    BtfVariant {
+        name_offset: variant.name_offset,
+        value: widened(signed, variant.value),
+    }
+}
+
+/// A variant of an ENUM64.
+fn variant_of_64(variant: BtfEnum64) -> BtfVariant
+    ensures { result ≡ variant_of_64 variant }
+{
+    BtfVariant {
+        name_offset: variant.name_offset,
+        value: u64::from(variant.value_high) * 0x1_0000_0000 + u64::from(variant.value_low),
+    }
+}
+
+/// A variant of an enumeration that was made a UNION.
+fn variant_of_fallback(variant: Enum64VariantFallback) -> BtfVariant
+    ensures { result ≡ variant_of_fallback variant }
+{
+    BtfVariant {
+        name_offset: variant.name_offset,
+        value: variant.value,
+    }
+}
+
+/// The variant at a place of an enumeration that was made a UNION.
+fn fallback_variant(fallback: &Enum64Fallback, index: usize) -> Option<BtfVariant>
+    ensures { result ≡ slice_get (map variant_of_fallback fallback.now.variants) index }
+{
+    let variant = fallback.variants.get(index)?;
+    Some(variant_of_fallback(*variant))
+}
+
+impl BtfType {
+    /// The number of variants of an ENUM, an ENUM64 or a UNION that was an enumeration of 64 bits; None of others.
+    #[tactic(auto, unfolding(crate::specs::Variants::variants_of))]
+    pub fn variant_count(&self) -> Option<usize>
+        ensures { result ≡ option_map length (variants_of self.now) }
+    {
+        match self {
+            BtfType::Enum { variants, .. } => Some(variants.len()),
+            BtfType::Enum64 { variants, .. } => Some(variants.len()),
+            BtfType::Union {
+                enum64_fallback: Some(fallback),
+                ..
+            } => Some(fallback.contents().variants.len()),
+            _ => None,
+        }
+    }
+
+    /// The variant at a place, from 0, of an ENUM, an ENUM64 or a UNION that was an enumeration of 64 bits. None
+    /// where there are not so many, and of other types.
+    #[tactic(auto, unfolding(crate::specs::Variants::variants_of))]
+    pub fn variant(&self, index: usize) -> Option<BtfVariant>
+        ensures { result ≡ option_and_then (λ variants. slice_get variants index) (variants_of self.now) }
+    {
+        match self {
+            BtfType::Enum {
+                kind_flag,
+                variants,
+                ..
+            } => Some(variant_of_32(*kind_flag, *variants.get(index)?)),
+            BtfType::Enum64 { variants, .. } => Some(variant_of_64(*variants.get(index)?)),
+            BtfType::Union {
+                enum64_fallback: Some(fallback),
+                ..
+            } => fallback_variant(fallback.contents(), index),
+            _ => None,
+        }
+    }
+}
