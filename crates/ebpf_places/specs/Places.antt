@@ -1,0 +1,130 @@
+-- Where a named path leads in a target type (the kernel's tools/lib/bpf/relo_core.c, bpf_core_spec_match).
+use Rattle.std.specs.Prelude.{ℕ, ◌+◌, ◌*◌, ◌^◌, ◌==◌, ◌&&◌, ◌||◌, nat_lt, if◌then◌else◌, Bool, false, List, [], ◌∷◌, length, slice_get, Option, Some, None, Result, Ok, Err}
+use Rattle.std.specs.Prelude.{option_and_then}
+use Rattle.ebpf_btf.specs.declared.error.BtfError.TheVariants.{InvalidTypeInfo}
+use Rattle.ebpf_btf.specs.declared.types.BtfType.{BtfType}
+use Rattle.ebpf_btf.specs.declared.types.BtfType.TheVariants.{Array, Struct}
+use Rattle.ebpf_btf.specs.Steps.{resolved, size_of}
+use Rattle.ebpf_btf.specs.TypeInfo.{TypeInfo}
+use Rattle.ebpf_places.specs.declared.fault.PlaceFault.{PlaceFault}
+use Rattle.ebpf_places.specs.declared.fault.PlaceFault.TheVariants.{NestingLevel, Btf}
+use Rattle.ebpf_places.specs.declared.places.Place.{Place}
+use Rattle.ebpf_places.specs.declared.places.PlaceEnd.{PlaceEnd}
+use Rattle.ebpf_places.specs.declared.places.PlaceEnd.TheVariants.{Element, Member}
+use Rattle.ebpf_places.specs.declared.search.FoundMember.{FoundMember}
+use Rattle.ebpf_places.specs.declared.steps.Step.{Step}
+use Rattle.ebpf_places.specs.declared.steps.Step.TheVariants.{Name, Index}
+use Rattle.ebpf_places.specs.declared.walk.Elements.{Elements}
+use Rattle.ebpf_places.specs.declared.walk.Spot.{Spot}
+use Rattle.ebpf_places.specs.Members.{if_read, known, members_in}
+use Rattle.ebpf_places.specs.Searches.{search_entries, sought}
+
+-- how many parts a path may have before a step: a part is a step, or an unnamed member that a step passes
+abbrev pub path_parts : ℕ
+path_parts = 64
+
+-- a spot, so many bits from the start of the root type, where a type begins, after so many parts
+abbrev pub spot : ℕ → PlaceEnd → ℕ → ℕ → Spot
+spot bits end type_id parts = record { place = record { bits = bits; end = end }; type_id = type_id; parts = parts }
+
+-- a spot whose bits fit 32 bits
+abbrev pub reached : ℕ → PlaceEnd → ℕ → ℕ → Result Spot PlaceFault
+reached bits end type_id parts = if nat_lt bits (2 ^ 32) then Ok (spot bits end type_id parts) else Err (Btf InvalidTypeInfo)
+
+-- what follows an answer that is no fault
+abbrev pub if_fine : {A X : Type 0} → Result A PlaceFault → (A → Result X PlaceFault) → Result X PlaceFault
+if_fine (Ok x) next = next x
+if_fine (Err fault) next = Err fault
+
+-- where a spot is reached, a step leads there
+abbrev pub led : Result Spot PlaceFault → Result (Option Spot) PlaceFault
+led answer = if_fine answer (λ s. Ok (Some s))
+
+-- ---- to an element
+
+-- the elements of an ARRAY
+unfoldable pub elements_of : BtfType → Option Elements
+elements_of (Array _ id _ count) = Some (record { type_id = id; count = count })
+elements_of _ = None
+
+-- whether a member is the last one of a STRUCT
+unfoldable pub is_last_of : ℕ → BtfType → Bool
+is_last_of index (Struct _ _ _ members) = index + 1 == length members
+is_last_of index _ = false
+
+abbrev pub is_last_at : ℕ → Option BtfType → Bool
+is_last_at index (Some t) = is_last_of index t
+is_last_at index None = false
+
+-- an element that is itself an ARRAY is no STRUCT's member
+abbrev pub is_last_member : List BtfType → PlaceEnd → Bool
+is_last_member types (Member parent index) = is_last_at index (slice_get types parent)
+is_last_member types (Element id) = false
+
+-- an index has to be below the number of elements; an ARRAY of none that is the last member of a STRUCT has as many as
+-- there is room for
+abbrev pub is_accepted : List BtfType → PlaceEnd → ℕ → ℕ → Bool
+is_accepted types end count index = nat_lt index count || (count == 0 && is_last_member types end)
+
+-- the element with a number, of a type of which the first begins so many bits from the start
+abbrev pub to_element : TypeInfo → ℕ → ℕ → ℕ → ℕ → Result Spot PlaceFault
+to_element target bits parts type_id index =
+    if_read (size_of target.types type_id) (λ size. reached (bits + index * size * 8) (Element type_id) type_id parts)
+
+abbrev pub by_elements : TypeInfo → Spot → ℕ → Option Elements → Result (Option Spot) PlaceFault
+by_elements target from index None = Ok None
+by_elements target from index (Some e) =
+    if is_accepted target.types from.place.end e.count index
+    then led (to_element target from.place.bits (from.parts + 1) e.type_id index)
+    else Ok None
+
+-- where an index leads in the type with an id
+abbrev pub by_index : TypeInfo → Spot → ℕ → ℕ → Result (Option Spot) PlaceFault
+by_index target from id index = by_elements target from index (option_and_then elements_of (slice_get target.types id))
+
+-- ---- to a member
+
+abbrev pub to_member : Spot → FoundMember → Result Spot PlaceFault
+to_member from m = reached (from.place.bits + m.bits) (Member m.parent m.index) m.type_id (from.parts + m.inside + 1)
+
+abbrev pub by_found : Spot → Option FoundMember → Result (Option Spot) PlaceFault
+by_found from None = Ok None
+by_found from (Some m) = led (to_member from m)
+
+-- where a name leads in the type with an id
+abbrev pub by_name : TypeInfo → TypeInfo → Spot → ℕ → List ℕ → ℕ → Result (Option Spot) PlaceFault
+by_name local target from id name local_type =
+    if_fine (sought (known local target name local_type) search_entries (members_in target.types id)) (by_found from)
+
+-- ---- along a path
+
+-- where a step leads in the type with an id
+abbrev pub by_step : TypeInfo → TypeInfo → Spot → ℕ → Step → Result (Option Spot) PlaceFault
+by_step local target from id (Name name local_type) = by_name local target from id name local_type
+by_step local target from id (Index index) = by_index target from id index
+
+-- where a step leads from a spot
+abbrev pub stepped : TypeInfo → TypeInfo → Spot → Step → Result (Option Spot) PlaceFault
+stepped local target from by =
+    if nat_lt from.parts path_parts then if_read (resolved target.types from.type_id) (λ id. by_step local target from id by)
+    else Err NestingLevel
+
+-- where more steps lead, once one has led to a spot
+abbrev pub onward : Option Spot → (Spot → Result (Option Place) PlaceFault) → Result (Option Place) PlaceFault
+onward None next = Ok None
+onward (Some s) next = next s
+
+-- where some steps lead from a spot
+unfoldable pub followed : TypeInfo → TypeInfo → List Step → Spot → Result (Option Place) PlaceFault
+followed local target [] from = Ok (Some from.place)
+followed local target (by ∷ path) from = if_fine (stepped local target from by) (λ led_to. onward led_to (followed local target path))
+
+-- the root index counts in the type that the root stands for
+abbrev pub begun : TypeInfo → ℕ → ℕ → Result Spot PlaceFault
+begun target root index = if_read (resolved target.types root) (λ id. to_element target 0 1 id index)
+
+-- where a path leads whose first step is the root index; another path leads nowhere
+unfoldable pub place_of : TypeInfo → TypeInfo → ℕ → List Step → Result (Option Place) PlaceFault
+place_of local target root [] = Ok None
+place_of local target root (Name name local_type ∷ path) = Ok None
+place_of local target root (Index index ∷ path) = if_fine (begun target root index) (followed local target path)

@@ -1,0 +1,23 @@
+//! Where a named path leads in a target type.
+//!
+//! A path of a CO-RE relocation names members of a local type. Here it is followed in a type of a target (the types of
+//! a kernel, as a rule), where the members may lie elsewhere, or inside other unnamed members.
+#![tactic(auto)]
+
+mod fault;
+pub mod laws;
+mod places;
+mod role;
+mod search;
+mod steps;
+mod types;
+mod walk;
+
+pub use fault::PlaceFault;
+pub use places::{Place, PlaceEnd};
+pub use search::{FoundMember, find_member};
+pub use steps::Step;
+pub use walk::place_in;
+
+#[cfg(test)]
+mod tests;

@@ -1,0 +1,256 @@
+//! The way along a path.
+
+ghost use Rattle.std.specs.Prelude.{◌≡◌, ◌+◌, ◌*◌, ◌<◌, ◌≤◌, ◌^◌, nat_lt, if◌then◌else◌, Some, None, Ok};
+ghost use Rattle.ebpf_base.specs.Faults.{Gives};
+ghost use Rattle.ebpf_places.specs.Memory.{MemoryAside, is_memory};
+ghost use Rattle.ebpf_places.specs.Paths.{PathLeads};
+ghost use Rattle.ebpf_places.specs.Places.{begun, by_index, by_name, elements_of, followed, is_accepted, is_last_member, is_last_of, place_of, stepped, to_element, to_member};
+
+use crate::fault::PlaceFault;
+use crate::places::{Place, PlaceEnd};
+use crate::search::{FoundMember, find_member};
+use crate::steps::Step;
+use crate::types::type_at;
+use ebpf_btf::{Btf, BtfError, BtfType};
+
+/// How many parts a path may have before a step.
+const PATH_PARTS: u32 = 64;
+
+/// How far a path has come: a place, the type there, and how many steps and unnamed members led to it.
+#[derive(Clone, Copy)]
+pub struct Spot {
+    pub place: Place,
+    pub type_id: u32,
+    pub parts: u32,
+}
+
+/// The elements of an ARRAY: their type and their number.
+#[derive(Clone, Copy)]
+pub struct Elements {
+    pub type_id: u32,
+    pub count: u32,
+}
+
+/// The elements of an ARRAY.
+#[tactic(auto, unfolding(crate::specs::Places::elements_of))]
+fn elements_of(ty: &BtfType) -> Option<Elements>
+    ensures { result ≡ elements_of ty.now }
+{
+    match ty {
+        BtfType::Array { element_type, len, .. } => Some(Elements {
+            type_id: *element_type,
+            count: *len,
+        }),
+        _ => None,
+    }
+}
+
+/// Whether a member is the last one of a STRUCT.
+#[tactic(auto, unfolding(crate::specs::Places::is_last_of))]
+fn is_last_of(index: usize, ty: &BtfType) -> bool
+    ensures { result ≡ is_last_of index ty.now }
+{
+    match ty {
+        BtfType::Struct { members, .. } => index < members.len() && index + 1 == members.len(),
+        _ => false,
+    }
+}
+
+/// Whether a path ends in the last member of a STRUCT.
+fn is_last_member(target: &Btf, end: PlaceEnd) -> bool
+    ensures { result ≡ is_last_member target.now.types end }
+{
+    match end {
+        PlaceEnd::Element { .. } => false,
+        PlaceEnd::Member { parent, index } => match type_at(target, parent) {
+            Some(ty) => is_last_of(index, ty),
+            None => false,
+        },
+    }
+}
+
+/// Whether an index is accepted where there are so many elements.
+fn is_accepted(target: &Btf, end: PlaceEnd, count: u32, index: usize) -> bool
+    ensures { result ≡ is_accepted target.now.types end count index }
+{
+    index < count as usize || (count == 0 && is_last_member(target, end))
+}
+
+/// The bits before an element of so many bytes, which follows so many bits. None where they are past 32 bits.
+fn bits_before(bits: u32, index: usize, size: u32) -> Option<u32>
+    ensures { result ≡ (if nat_lt (bits + index * size * 8) (2 ^ 32) then Some (bits + index * size * 8) else None) }
+{
+    let element_bits = u64::from(size) * 8;
+    let before = (index as u64).checked_mul(element_bits)?;
+    let sum = before.checked_add(u64::from(bits))?;
+    u32::try_from(sum).ok()
+}
+
+/// The element with a number, of a type of which the first begins so many bits from the start.
+fn to_element(
+    target: &Btf,
+    bits: u32,
+    parts: u32,
+    type_id: u32,
+    index: usize,
+) -> Result<Spot, PlaceFault>
+    ensures { result ≡ to_element target.now bits parts type_id index }
+{
+    let size = target.type_size(type_id)?;
+    let Some(bits) = bits_before(bits, index, size) else {
+        return Err(PlaceFault::Btf(BtfError::InvalidTypeInfo));
+    };
+    let end = PlaceEnd::Element { type_id };
+    Ok(Spot {
+        place: Place { bits, end },
+        type_id,
+        parts,
+    })
+}
+
+/// Where an index leads in the type with an id.
+fn by_index(
+    target: &Btf,
+    from: Spot,
+    type_id: u32,
+    index: usize,
+) -> Result<Option<Spot>, PlaceFault>
+    requires { from.parts < 64 }
+    ensures { result ≡ by_index target.now from type_id index }
+{
+    let Some(ty) = type_at(target, type_id) else {
+        return Ok(None);
+    };
+    let Some(elements) = elements_of(ty) else {
+        return Ok(None);
+    };
+    if !is_accepted(target, from.place.end, elements.count, index) {
+        return Ok(None);
+    }
+    let spot = to_element(target, from.place.bits, from.parts + 1, elements.type_id, index)?;
+    Ok(Some(spot))
+}
+
+/// The member that was found from a spot.
+fn to_member(from: Spot, member: FoundMember) -> Result<Spot, PlaceFault>
+    requires parts { from.parts < 64 }
+    requires near { member.bits < 2 ^ 39 }
+    requires shallow { member.inside ≤ 64 }
+    ensures { result ≡ to_member from member }
+{
+    let Ok(bits) = u32::try_from(u64::from(from.place.bits) + member.bits) else {
+        return Err(PlaceFault::Btf(BtfError::InvalidTypeInfo));
+    };
+    let end = PlaceEnd::Member {
+        parent: member.parent,
+        index: member.index,
+    };
+    Ok(Spot {
+        place: Place { bits, end },
+        type_id: member.type_id,
+        parts: from.parts + member.inside + 1,
+    })
+}
+
+/// Where a name leads in the type with an id.
+fn by_name(
+    local: &Btf,
+    target: &Btf,
+    from: Spot,
+    type_id: u32,
+    name: &str,
+    local_type: u32,
+) -> Result<Option<Spot>, PlaceFault>
+    requires { from.parts < 64 }
+    ensures { Gives is_memory result (by_name local.now target.now from type_id name.now local_type) }
+{
+    match find_member(local, target, type_id, name, local_type)? {
+        Some(member) => Ok(Some(to_member(from, member)?)),
+        None => Ok(None),
+    }
+}
+
+/// Where a step leads from a spot.
+fn follow(local: &Btf, target: &Btf, from: Spot, by: &Step) -> Result<Option<Spot>, PlaceFault>
+    ensures { Gives is_memory result (stepped local.now target.now from by.now) }
+{
+    if from.parts >= PATH_PARTS {
+        return Err(PlaceFault::NestingLevel);
+    }
+    let type_id = target.resolve_type(from.type_id)?;
+    match by {
+        Step::Name { name, local_type } => {
+            by_name(local, target, from, type_id, name.as_str(), *local_type)
+        }
+        Step::Index { index } => by_index(target, from, type_id, *index),
+    }
+}
+
+/// Where some steps lead from a spot.
+fn follow_all(
+    local: &Btf,
+    target: &Btf,
+    path: &[Step],
+    from: Spot,
+) -> Result<Option<Place>, PlaceFault>
+    ensures { Gives is_memory result (followed local.now target.now path.now from) }
+{
+    let mut spot = from;
+    for by in path {
+        let Some(next) = follow(local, target, spot, by)? else {
+            return Ok(None);
+        };
+        spot = next;
+    }
+    Ok(Some(spot.place))
+}
+
+/// The spot of the root index: its elements are of the type that the root type stands for.
+fn begin(target: &Btf, root_type: u32, index: usize) -> Result<Spot, PlaceFault>
+    ensures { result ≡ begun target.now root_type index }
+{
+    let type_id = target.resolve_type(root_type)?;
+    to_element(target, 0, 1, type_id, index)
+}
+
+/// Where a path leads whose first step is the root index; another path leads nowhere.
+fn place(
+    local: &Btf,
+    target: &Btf,
+    root_type: u32,
+    path: &[Step],
+) -> Result<Option<Place>, PlaceFault>
+    ensures { Gives is_memory result (place_of local.now target.now root_type path.now) }
+{
+    let Some((first, path)) = path.split_first() else {
+        return Ok(None);
+    };
+    let Step::Index { index } = first else {
+        return Ok(None);
+    };
+    let start = begin(target, root_type, *index)?;
+    follow_all(local, target, path, start)
+}
+
+/// Where a path leads in the target type `root_type`. None where it leads nowhere: where a name has no member, where an
+/// index has no ARRAY or is not below its length, and where the first step is no index.
+///
+/// The first step is the root index: so many of the type that `root_type` stands for. Each further step begins in the
+/// type that the last one led to, past those that stand for others: an index in an ARRAY, whose length 0 accepts every
+/// index where the ARRAY is the last member of a STRUCT; a name as in `find_member`, with the id of the local member's
+/// type in `local`.
+///
+/// `NestingLevel` before a step where 64 steps and unnamed members were passed, and as in `find_member`; `Btf` as in
+/// `find_member`, and where a type or the size of an element (also for index 0) can't be read; `Btf(InvalidTypeInfo)`
+/// where the bits are past 4,294,967,295 after a step. The first fault on the way is given.
+pub fn place_in(
+    local: &Btf,
+    target: &Btf,
+    root_type: u32,
+    path: &[Step],
+) -> Result<Option<Place>, PlaceFault>
+    ensures leads { MemoryAside result (PathLeads local.now target.now root_type path.now) }
+    ensures same { Gives is_memory result (place_of local.now target.now root_type path.now) }
+{
+    place(local, target, root_type, path)
+}
