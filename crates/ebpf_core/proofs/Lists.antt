@@ -1,5 +1,5 @@
 -- One step of a walk over a list, whose results so far are kept.
-use Rattle.std.proofs.Common.{◌≡◌, ℕ, suc, ◌+◌, ◌<◌, ◌≤◌, Bool, true, false, List, [], ◌∷◌, ◌++◌, length, drop, Option, Some, None, Result, Ok, Err, refl, sym, ap, ◌∙◌, append_assoc, arith}
+use Rattle.std.proofs.Common.{◌≡◌, ℕ, suc, ◌+◌, ◌<◌, ◌≤◌, Bool, true, false, List, [], ◌∷◌, ◌++◌, length, drop, map, Option, Some, None, Result, Ok, Err, refl, sym, ap, ◌∙◌, append_assoc, append-nil, arith}
 use Rattle.std.specs.Prelude.{slice_index_or, option_map, if◌then◌else◌, filter, not}
 use Rattle.std.specs.List.{filter_map}
 use Rattle.std.proofs.Math.Seq.{drop-cons}
@@ -32,3 +32,30 @@ onto kept rest = if_ok rest (λ ys. Ok (kept ++ ys))
 pub onto_push : {X E : Type 0} (kept : List X) (x : X) (rest : Result (List X) E) → onto kept (if_ok rest (λ ys. Ok (x ∷ ys))) ≡ onto (kept ++ x ∷ []) rest
 onto_push kept x (Err e) = refl
 onto_push kept x (Ok ys) = ap Ok (sym (append_assoc kept (x ∷ []) ys))
+
+module _ {X : Type 0} (f : X → Option ℕ) (kept : List ℕ) (xs : List X) (i : ℕ) (x : X) (below : i < length xs) (here : x ≡ slice_index_or xs i x) where
+  -- a member that is there
+  pub all_more : (n : ℕ) → f x ≡ Some n → after kept (all_of (map f (drop i xs))) ≡ after (kept ++ n ∷ []) (all_of (map f (drop (i + 1) xs)))
+  all_more n is = rw (rest_more xs i x below here, is) (after_push kept n (all_of (map f (drop (i + 1) xs))))
+
+  -- one that is not
+  pub all_missing : f x ≡ None → after kept (all_of (map f (drop i xs))) ≡ None
+  all_missing is = rw (rest_more xs i x below here, is) refl
+
+-- at the end
+pub all_end : {X : Type 0} (f : X → Option ℕ) (kept : List ℕ) (xs : List X) (i : ℕ) → length xs ≤ i → after kept (all_of (map f (drop i xs))) ≡ Some kept
+all_end f kept xs i past = rw (rest_none xs i past) (ap Some (append-nil kept))
+
+module _ {X Y E : Type 0} (f : X → Result Y E) (kept : List Y) (xs : List X) (i : ℕ) where
+  -- an answer that is no fault
+  pub each_more : (x : X) (y : Y) → i < length xs → x ≡ slice_index_or xs i x → f x ≡ Ok y
+      → onto kept (each f (drop i xs)) ≡ onto (kept ++ y ∷ []) (each f (drop (i + 1) xs))
+  each_more x y below here is = rw (rest_more xs i x below here, is) (onto_push kept y (each f (drop (i + 1) xs)))
+
+  -- a fault
+  pub each_fault : (x : X) (e : E) → i < length xs → x ≡ slice_index_or xs i x → f x ≡ Err e → onto kept (each f (drop i xs)) ≡ Err e
+  each_fault x e below here is = rw (rest_more xs i x below here, is) refl
+
+  -- at the end
+  pub each_end : length xs ≤ i → onto kept (each f (drop i xs)) ≡ Ok kept
+  each_end past = rw (rest_none xs i past) (ap Ok (append-nil kept))

@@ -28,6 +28,7 @@ fn pieces_of(alloc: Global, access: &str) -> Result<Vec<&str>, AllocError>
 }
 
 /// The parts that pieces write, where each writes one.
+#[tactic(auto, using(crate::proofs::Lists::all_more, crate::proofs::Lists::all_missing, crate::proofs::Lists::all_end))]
 fn all_parts(alloc: Global, pieces: &[&str]) -> Result<Option<Items<usize>>, AllocError>
     ensures { IfOk result (λ parts. parts ≡ all_of (map (λ piece. part_of piece.now) pieces.now)) }
 {

@@ -6,7 +6,6 @@ mod error;
 mod extent;
 mod faults;
 mod field;
-
 mod local_walk;
 mod matches;
 mod outcome;
@@ -17,5 +16,5 @@ mod wording;
 
 pub use error::RelocationError;
 pub use field::{FieldClass, LoadedField};
-pub use paths::{LocalPath, NamedPath, local_path};
 pub use outcome::{Outcome, outcome_among};
+pub use paths::{LocalPath, NamedPath, local_path};

@@ -47,6 +47,7 @@ pub fn name_at(alloc: Global, btf: &Btf, type_id: u32) -> Result<Text, Relocatio
 }
 
 /// The value of the first variant of a type that has a name, flavors aside.
+#[tactic(auto, using(crate::proofs::VariantSteps::variant_passed, crate::proofs::VariantSteps::variant_met, crate::proofs::VariantSteps::variant_fault, crate::proofs::VariantSteps::variant_missing, crate::proofs::VariantSteps::variants_over))]
 fn first_variant(target: &Btf, name: &str, ty: &BtfType) -> Result<Option<u64>, BtfError>
     ensures { result ≡ first_variant target.now name.now (unwrap_or (variants_of ty.now) []) }
 {
@@ -132,7 +133,7 @@ fn found_in(
 }
 
 /// The candidates that match, in their order.
-#[tactic(auto, unfolding(crate::specs::Matches::matches))]
+#[tactic(auto, using(crate::proofs::MatchSteps::match_passed, crate::proofs::MatchSteps::match_kept, crate::proofs::MatchSteps::match_fault, crate::proofs::MatchSteps::matches_end, crate::proofs::Refusals::also))]
 pub fn matches_among(
     alloc: Global,
     local: &Btf,

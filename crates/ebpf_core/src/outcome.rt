@@ -83,6 +83,7 @@ fn local_loaded(
 }
 
 /// The names of the types whose matches differ from the first.
+#[tactic(auto, using(crate::proofs::WalkSteps::agreeing, crate::proofs::WalkSteps::differing, crate::proofs::WalkSteps::nameless, crate::proofs::WalkSteps::others_over, crate::proofs::Refusals::also))]
 fn differing_names(
     alloc: Global,
     target: &Btf,

@@ -93,6 +93,7 @@ fn match_value(
 }
 
 /// What all matches give, in order.
+#[tactic(auto, using(crate::proofs::Lists::each_more, crate::proofs::Lists::each_fault, crate::proofs::Lists::each_end, crate::proofs::Refusals::also))]
 pub fn match_values(
     alloc: Global,
     target: &Btf,

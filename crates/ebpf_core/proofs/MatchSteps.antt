@@ -1,0 +1,68 @@
+-- One step of a walk over candidates, over variants, over matches that may differ.
+use Rattle.std.proofs.Common.{◌≡◌, ℕ, suc, ◌+◌, ◌<◌, ◌≤◌, Bool, true, false, List, [], ◌∷◌, ◌++◌, length, drop, map, Option, Some, None, Result, Ok, Err, refl, sym, ap, ◌∙◌, append-nil}
+use Rattle.std.specs.Prelude.{slice_index_or, slice_get, filter, if◌then◌else◌}
+use Rattle.std.specs.List.{filter_map}
+use Rattle.ebpf_btf.specs.declared.error.BtfError.{BtfError}
+use Rattle.ebpf_btf.specs.declared.variants.BtfVariant.{BtfVariant}
+use Rattle.ebpf_btf.specs.Strings.{is_essential_name_at}
+use Rattle.ebpf_btf.specs.TypeInfo.{TypeInfo}
+use Rattle.ebpf_core.specs.declared.error.RelocationError.{RelocationError}
+use Rattle.ebpf_core.specs.declared.matches.Found.{Found}
+use Rattle.ebpf_core.specs.declared.matches.Match.{Match}
+use Rattle.ebpf_core.specs.declared.paths.NamedPath.{NamedPath}
+use Rattle.ebpf_core.specs.Answers.{each, if_ok}
+use Rattle.ebpf_core.specs.Matches.{first_variant, found_in, match_in, match_of, matches}
+use Rattle.ebpf_core.proofs.Lists.{onto, onto_push, rest_more, rest_none}
+
+-- ---- candidates
+
+abbrev kept_ones : List (Option Match) → Result (List Match) RelocationError
+kept_ones all = Ok (filter_map (λ m. m) all)
+
+passed_over : (r : Result (List (Option Match)) RelocationError) → if_ok (if_ok r (λ ys. Ok (None ∷ ys))) kept_ones ≡ if_ok r kept_ones
+passed_over (Ok ys) = refl
+passed_over (Err e) = refl
+
+put_first : (m : Match) (r : Result (List (Option Match)) RelocationError)
+    → if_ok (if_ok r (λ ys. Ok (Some m ∷ ys))) kept_ones ≡ if_ok (if_ok r kept_ones) (λ ms. Ok (m ∷ ms))
+put_first m (Ok ys) = refl
+put_first m (Err e) = refl
+
+module _ (local target : TypeInfo) (local_id : ℕ) (path : NamedPath) where
+  found_none : (id : ℕ) (ids : List ℕ) → found_in local target local_id path id ≡ Ok None
+      → matches local target local_id path (id ∷ ids) ≡ matches local target local_id path ids
+  unfolding matches
+  found_none id ids is = rw is (passed_over (each (match_in local target local_id path) ids))
+
+  found_one : (id : ℕ) (ids : List ℕ) (what : Found) → found_in local target local_id path id ≡ Ok (Some what)
+      → matches local target local_id path (id ∷ ids) ≡ if_ok (matches local target local_id path ids) (λ ms. Ok (match_of id what ∷ ms))
+  unfolding matches
+  found_one id ids what is = rw is (put_first (match_of id what) (each (match_in local target local_id path) ids))
+
+  found_fault : (id : ℕ) (ids : List ℕ) (e : RelocationError) → found_in local target local_id path id ≡ Err e
+      → matches local target local_id path (id ∷ ids) ≡ Err e
+  unfolding matches
+  found_fault id ids e is = rw is refl
+
+  no_candidates : matches local target local_id path [] ≡ Ok []
+  unfolding matches
+  no_candidates = refl
+
+  module _ (kept : List Match) (ids : List ℕ) (i id : ℕ) (below : i < length ids) (here : id ≡ slice_index_or ids i id) where
+    pub match_passed : found_in local target local_id path id ≡ Ok None
+        → onto kept (matches local target local_id path (drop i ids)) ≡ onto kept (matches local target local_id path (drop (i + 1) ids))
+    match_passed is = rw (rest_more ids i id below here, found_none id (drop (i + 1) ids) is) refl
+
+    pub match_kept : (what : Found) → found_in local target local_id path id ≡ Ok (Some what)
+        → onto kept (matches local target local_id path (drop i ids)) ≡ onto (kept ++ match_of id what ∷ []) (matches local target local_id path (drop (i + 1) ids))
+    match_kept what is =
+        rw (rest_more ids i id below here, found_one id (drop (i + 1) ids) what is)
+        (onto_push kept (match_of id what) (matches local target local_id path (drop (i + 1) ids)))
+
+    pub match_fault : (e : RelocationError) → found_in local target local_id path id ≡ Err e
+        → onto kept (matches local target local_id path (drop i ids)) ≡ Err e
+    match_fault e is = rw (rest_more ids i id below here, found_fault id (drop (i + 1) ids) e is) refl
+
+  pub matches_end : (kept : List Match) (ids : List ℕ) (i : ℕ) → length ids ≤ i
+      → onto kept (matches local target local_id path (drop i ids)) ≡ Ok kept
+  matches_end kept ids i past = rw (rest_none ids i past, no_candidates) (ap Ok (append-nil kept))

@@ -1,0 +1,8 @@
+use Rattle.std.proofs.Common.{◌≡◌, drop}
+use Rattle.ebpf_core.specs.LocalPaths.{walked}
+use Rattle.ebpf_core.proofs.local_walk.field_path.Given as goal
+
+abbrev pub invariant-loop-part : goal.invariant-loop-part
+invariant-loop-part l =
+    walked l.local l.record.number l.record.access.now (drop l.part-index l.parts) l.from
+    ≡ walked l.local l.record.number l.record.access.now l.initial.parts l.initial.from
