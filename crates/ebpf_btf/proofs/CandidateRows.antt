@@ -16,11 +16,11 @@ use Rattle.ebpf_base.specs.Keys.{text_cmp}
 use Rattle.ebpf_btf.specs.declared.error.BtfError.{BtfError}
 use Rattle.ebpf_btf.specs.declared.kind.BtfKind.{BtfKind}
 use Rattle.ebpf_btf.specs.declared.types.BtfType.{BtfType}
-use Rattle.ebpf_btf.specs.Candidates.{candidates, is_candidate, name_fault}
+use Rattle.ebpf_btf.specs.Candidates.{candidates, is_candidate}
 use Rattle.ebpf_btf.specs.EssentialNames.{essential_name}
 use Rattle.ebpf_btf.specs.Strings.{before_zero, text_at, text_or_fault, type_name}
 use Rattle.ebpf_btf.specs.TypeInfo.{TypeInfo}
-use Rattle.ebpf_btf.specs.TypeRows.{Row, kept_fault, key_row, row_cmp, row_total, rows, rows_from}
+use Rattle.ebpf_btf.specs.TypeRows.{Row, key_row, row_cmp, row_total, rows, rows_from}
 use Rattle.ebpf_btf.specs.Types.{kind_number, kind_of, is_kind, name_of}
 use Rattle.ebpf_btf.specs.declared.error.BtfError.TheVariants.{InvalidStringOffset}
 use Rattle.ebpf_btf.proofs.RowRange.{filter_sorted}
@@ -80,40 +80,11 @@ candidates_found info kind name sorted ids low high number text same_kind same_n
     ∙ ap (λ rs. map (λ (r : Row). r.id) rs) (sym there ∙ sorting)
     ∙ rows_found info kind name 0 info.types)
 
--- ---- names that can't be read
-
-no_text : (strings : List ℕ) (offset : ℕ) → result_ok (text_at strings offset) ≡ None → fault_of (text_at strings offset) ≡ Some (InvalidStringOffset offset)
-unfolding text_at
-no_text strings offset none = by_bytes (before_zero (drop offset strings)) none
-  where
-    by_bytes : (b : Option (List ℕ)) → result_ok (text_or_fault offset b) ≡ None → fault_of (text_or_fault offset b) ≡ Some (InvalidStringOffset offset)
-    by_bytes None e = refl
-    by_bytes (Some bytes) e = cc
-
 pub absent : {A B : Type 0} (f : A → B) (o : Option A) (r : Option B) → option_map f o ≡ r → ((x : A) → o ≡ Some x → ⊥) → r ≡ None
 absent f None r is missing = sym is
 absent f (Some x) r is missing = absurd (missing x refl)
-
-or_else_assoc : {E : Type 0} (a b c : Option E) → or_else (or_else a b) c ≡ or_else a (or_else b c)
-or_else_assoc None b c = refl
-or_else_assoc (Some e) b c = refl
 
 -- such a type has no row
 pub rows_skip : (info : TypeInfo) (types : List BtfType) (i : ℕ) (t : BtfType) → drop i types ≡ t ∷ drop (i + 1) types
     → result_ok (type_name info t) ≡ None → rows_from info (i + 1) (drop (i + 1) types) ≡ rows_from info i (drop i types)
 rows_skip info types i t here none = rw (here, none) refl
-
--- and its offset is kept, where it is the first of its kind
-pub faults_more : (info : TypeInfo) (types : List BtfType) (i : ℕ) (t : BtfType) (kind : BtfKind) (old new : Option ℕ) (all : Option BtfError)
-    → drop i types ≡ t ∷ drop (i + 1) types → result_ok (type_name info t) ≡ None
-    → kept_fault new ≡ or_else (kept_fault old) (if kind_number (kind_of t) == kind_number kind then Some (InvalidStringOffset (name_of t)) else None)
-    → or_else (kept_fault old) (first_some (name_fault info kind) (drop i types)) ≡ all
-    → or_else (kept_fault new) (first_some (name_fault info kind) (drop (i + 1) types)) ≡ all
-faults_more info types i t kind old new all here none kept before =
-    let fault : name_fault info kind t ≡ (if kind_number (kind_of t) == kind_number kind then Some (InvalidStringOffset (name_of t)) else None) =
-    ap (λ f. if kind_number (kind_of t) == kind_number kind then f else None) (no_text info.strings (name_of t) none) in
-    ap (λ f. or_else f (first_some (name_fault info kind) (drop (i + 1) types))) kept
-    ∙ or_else_assoc (kept_fault old) (if kind_number (kind_of t) == kind_number kind then Some (InvalidStringOffset (name_of t)) else None) (first_some (name_fault info kind) (drop (i + 1) types))
-    ∙ ap (λ f. or_else (kept_fault old) (or_else f (first_some (name_fault info kind) (drop (i + 1) types)))) (sym fault)
-    ∙ ap (λ ts. or_else (kept_fault old) (first_some (name_fault info kind) ts)) (sym here)
-    ∙ before

@@ -1,3 +1,4 @@
+pub mod CandidateLaws
 pub mod CandidateRows
 pub mod Comparing
 pub mod Copies
@@ -14,3 +15,5 @@ pub mod RelocationLists
 pub mod RowRange
 pub mod Spelling
 pub mod Texts
+pub mod Unions
+pub mod UnreadNames

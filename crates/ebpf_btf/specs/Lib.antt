@@ -16,4 +16,5 @@ pub mod Strings
 pub mod TypeInfo
 pub mod TypeRows
 pub mod Types
+pub mod Unions
 pub mod Variants

@@ -16,7 +16,9 @@ mod ext_records;
 mod ext_sections;
 mod fallback;
 mod flavors;
+mod joined_ids;
 mod kind;
+pub mod laws;
 mod lists;
 mod lossy;
 mod members;
@@ -31,6 +33,7 @@ mod strings;
 mod type_index;
 mod type_row;
 mod types;
+mod unreadable;
 mod variants;
 
 pub use array::BtfArray;

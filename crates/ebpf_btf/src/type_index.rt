@@ -3,51 +3,26 @@
 ghost use Rattle.std.specs.Prelude.{◌≡◌, ◌==◌, ◌<◌, ◌≤◌, ◌^◌, ◌++◌, ℕ, length, map, IfOk, IfErr, OnOk, None, Some, slice_index_or, option_map, if◌then◌else◌};
 ghost use Rattle.std.specs.Cow.{cow_str_bytes};
 ghost use Rattle.std.specs.Result.{result_ok};
-ghost use Rattle.ebpf_base.specs.Faults.{fault_of, or_else};
-ghost use Rattle.ebpf_btf.specs.Candidates.{candidates, candidates_fault};
+ghost use Rattle.ebpf_base.specs.Faults.{fault_of, Refuses};
+ghost use Rattle.ebpf_btf.specs.Candidates.{candidates, candidates_fault, candidates_of_both, candidates_of_both_fault};
+ghost use Rattle.ebpf_btf.specs.Memory.{is_memory};
 ghost use Rattle.ebpf_btf.specs.Strings.{type_name};
-ghost use Rattle.ebpf_btf.specs.TypeRows.{rows, kept_fault};
+ghost use Rattle.ebpf_btf.specs.TypeRows.{rows, unreadable_from};
 ghost use Rattle.ebpf_btf.specs.Types.{kind_number};
-ghost use Rattle.ebpf_btf.specs.declared.error.BtfError.TheVariants.{OutOfMemory, InvalidStringOffset};
+ghost use Rattle.ebpf_btf.specs.declared.error.BtfError.TheVariants.{OutOfMemory};
 ghost use Rattle.ebpf_btf.specs.declared.kind.BtfKind.{BtfKind};
 
 use crate::btf::Btf;
 use crate::error::BtfError;
 use crate::flavors::essential_name;
-use crate::kind::BtfKind;
+use crate::joined_ids::union;
+use crate::kind::{BtfKind, KINDS, kind_number};
 use crate::type_row::{TypeRow, places_of};
 use crate::types::BtfType;
+use crate::unreadable::{UnreadableName, UnreadableNames, keep_first, lower};
 use std::alloc::Global;
 use std::borrow::CowStr;
 use std::marker::Model;
-
-/// How many kinds there are.
-const KINDS: usize = 20;
-
-/// For each kind, at its number, the name offset of the first type whose name can't be read.
-type Unreadable = [Option<u32>; KINDS];
-
-/// The number of a kind in `.BTF`.
-#[tactic(auto, unfolding(crate::specs::Types::kind_number))]
-fn kind_number(kind: BtfKind) -> u8
-    ensures number { result ≡ kind_number kind }
-    ensures few { result < 20 }
-{
-    kind as u8
-}
-
-/// Keeps the offset of a name that can't be read, where it is the first of its kind.
-fn keep_offset(unreadable: &mut Unreadable, kind: BtfKind, offset: u32)
-    requires { length unreadable.old ≡ 20 }
-    ensures kinds { length unreadable.new ≡ 20 }
-    ensures first { (k : BtfKind) → kept_fault (slice_index_or unreadable.new (kind_number k) None)
-        ≡ or_else (kept_fault (slice_index_or unreadable.old (kind_number k) None)) (if kind_number kind == kind_number k then Some (InvalidStringOffset offset) else None) }
-{
-    let place = kind_number(kind) as usize;
-    if unreadable[place].is_none() {
-        unreadable[place] = Some(offset);
-    }
-}
 
 /// The name of a type, where it can be read.
 fn readable_name<'a>(btf: &'a Btf, ty: &BtfType) -> Result<Option<CowStr<'a, Global>>, BtfError>
@@ -62,17 +37,24 @@ fn readable_name<'a>(btf: &'a Btf, ty: &BtfType) -> Result<Option<CowStr<'a, Glo
 }
 
 /// The rows of the types whose names can be read, by id, and the offsets of the first names that can't.
-fn read_rows<'a>(alloc: Global, btf: &'a Btf) -> Result<(Vec<TypeRow<'a>>, Unreadable), BtfError>
+fn read_rows<'a>(
+    alloc: Global,
+    btf: &'a Btf,
+) -> Result<(Vec<TypeRow<'a>>, UnreadableNames), BtfError>
     ensures rows { IfOk result (λ found. found.0.items ≡ rows btf.now) }
-    ensures faults { IfOk result (λ found. (kind : BtfKind) → kept_fault (slice_index_or found.1 (kind_number kind) None) ≡ candidates_fault btf.now kind) }
+    ensures unread { IfOk result (λ found. (kind : BtfKind) → slice_index_or found.1 (kind_number kind) None ≡ unreadable_from btf.now kind 0 btf.now.types) }
     ensures kinds { IfOk result (λ found. length found.1 ≡ 20) }
     ensures memory { IfErr result (λ e. e ≡ OutOfMemory) }
 {
     let mut rows = Vec::with_capacity(alloc, btf.types().len())?;
-    let mut unreadable: Unreadable = [None; KINDS];
+    let mut unreadable: UnreadableNames = [None; KINDS];
     for (id, ty) in btf.types().iter().enumerate() {
         let Some(name) = readable_name(btf, ty)? else {
-            keep_offset(&mut unreadable, ty.kind(), ty.name_offset());
+            let first = UnreadableName {
+                id: id as u32,
+                offset: ty.name_offset(),
+            };
+            keep_first(&mut unreadable, ty.kind(), first);
             continue;
         };
         rows.push(TypeRow::new(kind_number(ty.kind()), name, id as u32))?;
@@ -88,7 +70,7 @@ pub struct TypeIndex<'a> {
     btf: &'a Btf,
     rows: Vec<TypeRow<'a>>,
     ids: Vec<u32>,
-    unreadable: Unreadable,
+    unreadable: UnreadableNames,
 }
 
 impl<'a> Model for TypeIndex<'a> {
@@ -127,23 +109,60 @@ impl<'a> TypeIndex<'a> {
         self.btf
     }
 
+    /// The first type of a kind whose name can't be read.
+    fn unreadable_of(&self, kind: BtfKind) -> Option<UnreadableName>
+        ensures { result ≡ unreadable_from self.now kind 0 self.now.types }
+    {
+        self.unreadable[kind_number(kind) as usize]
+    }
+
+    /// The ids of the types of a kind and name, names that can't be read aside.
+    fn ids_of(&self, kind: BtfKind, name: &str) -> &[u32]
+        ensures { result.now ≡ candidates self.now kind name.now }
+    {
+        let number = kind_number(kind);
+        let (start, end) = places_of(&self.rows, number, essential_name(name.as_bytes()));
+        &self.ids[start..end]
+    }
+
     /// The ids, in increasing order, of the types of a kind whose name before the first three underscores equals
     /// that of `name`. Names are compared as `Btf::string_at` gives them. No memory is taken, and the cost grows
     /// by the logarithm of the number of types.
     ///
     /// `InvalidStringOffset` where the name of a type of this kind can't be read, with the offset of the name that
     /// has the lowest id; names of other kinds play no part.
+    #[tactic(auto, using(crate::proofs::UnreadNames::fault_of_kind))]
     pub fn candidates(&self, kind: BtfKind, name: &str) -> Result<&[u32], BtfError>
         ensures ids { IfOk result (λ ids. ids.now ≡ candidates self.now kind name.now) }
         ensures fault { fault_of result ≡ candidates_fault self.now kind }
     {
-        let number = kind_number(kind);
-        if let Some(offset) = self.unreadable[number as usize] {
-            return Err(BtfError::InvalidStringOffset {
-                offset: offset as usize,
-            });
+        match self.unreadable_of(kind) {
+            Some(unreadable) => Err(unreadable.fault()),
+            None => Ok(self.ids_of(kind, name)),
         }
-        let (start, end) = places_of(&self.rows, number, essential_name(name.as_bytes()));
-        Ok(&self.ids[start..end])
+    }
+
+    /// The same of the types of either of two kinds, as an enumeration of 64 bits may stand for an ENUM64 or a UNION.
+    ///
+    /// `InvalidStringOffset` where the name of a type of either kind can't be read, with the offset of the name that
+    /// has the lowest id; `OutOfMemory` where memory for the list is refused.
+    #[tactic(auto, using(crate::proofs::UnreadNames::fault_of_kinds, crate::proofs::Unions::union_candidates))]
+    pub fn candidates_of_both(
+        &self,
+        alloc: Global,
+        first: BtfKind,
+        second: BtfKind,
+        name: &str,
+    ) -> Result<Vec<u32>, BtfError>
+        ensures ids { IfOk result (λ ids. ids.items ≡ candidates_of_both self.now first second name.now) }
+        ensures fault { Refuses is_memory result (candidates_of_both_fault self.now first second) }
+    {
+        match lower(self.unreadable_of(first), self.unreadable_of(second)) {
+            Some(unreadable) => Err(unreadable.fault()),
+            None => {
+                let ids = union(alloc, self.ids_of(first, name), self.ids_of(second, name))?;
+                Ok(ids)
+            }
+        }
     }
 }

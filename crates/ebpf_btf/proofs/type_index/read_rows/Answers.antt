@@ -3,7 +3,8 @@ use Rattle.std.specs.Cow.{cow_str_bytes}
 use Rattle.std.specs.Result.{result_ok}
 use Rattle.std.proofs.lemmas.List.{drop_more}
 use Rattle.ebpf_btf.specs.Strings.{type_name}
-use Rattle.ebpf_btf.proofs.CandidateRows.{absent, rows_skip, faults_more}
+use Rattle.ebpf_btf.proofs.CandidateRows.{absent, rows_skip}
+use Rattle.ebpf_btf.proofs.UnreadNames.{unread_more}
 use Rattle.ebpf_btf.proofs.type_index.read_rows.Goals as goal
 
 pub loop-id-preserved-in_default : goal.loop-id-preserved-in_default
@@ -17,6 +18,6 @@ loop-id-preserved-in_default c =
     let none : result_ok (type_name info t) ≡ None = absent cow_str_bytes c.in_ok-name.field-0 _ c.in_ok-name.ensures.name c.in_default.not-Some in
     record {
       rows = rw (rows_skip info info.types i t here none) c.loop-id.invariant.rows;
-      faults = λ kind. faults_more info info.types i t kind _ _ _ here none (rw (← c.kind.ensures, ← c.name_offset.ensures) (c.keep_offset.ensures.first kind)) (c.loop-id.invariant.faults kind);
-      kinds = c.keep_offset.ensures.kinds;
+      unread = λ kind. unread_more info kind info.types i t _ _ _ here none (rw (← c.kind.ensures, ← c.name_offset.ensures) (c.keep_first.ensures.first kind)) (c.loop-id.invariant.unread kind);
+      kinds = c.keep_first.ensures.kinds;
     }
