@@ -1,5 +1,5 @@
 -- An error that a call hands on.
-use Rattle.std.proofs.Common.{◌≡◌, Bool, true, false, Result, Ok, Err, refl, ap, subst}
+use Rattle.std.proofs.Common.{◌≡◌, Bool, true, false, Result, Ok, Err, ap, subst}
 use Rattle.std.specs.Prelude.{MatchBool, ⊤}
 use Rattle.std.specs.Result.{IsErrAnd}
 use Rattle.ebpf_base.specs.Faults.{Gives}

@@ -1,7 +1,7 @@
 -- One member of a search.
-use Rattle.std.proofs.Common.{◌≡◌, ℕ, zero, suc, ◌+◌, ◌-◌, ◌<◌, ◌≤◌, if◌then◌else◌, List, [], ◌∷◌, ◌++◌, map, Option, Some, None, Result, Ok, Err, refl, sym, ap, ◌∙◌, arith, drop, get_or, length, drop-cons, add-one}
+use Rattle.std.proofs.Common.{◌≡◌, ℕ, zero, suc, ◌+◌, ◌-◌, ◌<◌, ◌≤◌, if◌then◌else◌, List, [], ◌∷◌, ◌++◌, Option, Some, None, Result, Ok, Err, refl, sym, ap, ◌∙◌, arith, drop, get_or, length, drop-cons, add-one}
 use Rattle.std.proofs.lemmas.List.{drop_all}
-use Rattle.std.specs.List.{enumerate_from, flat_map}
+use Rattle.std.specs.List.{flat_map}
 use Rattle.ebpf_btf.specs.declared.members.BtfMember.{BtfMember}
 use Rattle.ebpf_btf.specs.declared.types.BtfType.{BtfType}
 use Rattle.ebpf_places.specs.declared.fault.PlaceFault.{PlaceFault}
@@ -10,8 +10,7 @@ use Rattle.ebpf_places.specs.declared.role.Role.{Role}
 use Rattle.ebpf_places.specs.declared.role.Role.TheVariants.{Unnamed, Other, Sought, Misfit}
 use Rattle.ebpf_places.specs.declared.search.Answer.{Answer}
 use Rattle.ebpf_places.specs.declared.search.Answer.TheVariants.{Found, Absent}
-use Rattle.ebpf_places.specs.declared.search.FoundMember.{FoundMember}
-use Rattle.ebpf_places.specs.Members.{Known, Member, member_at, members_from, unnamed_levels}
+use Rattle.ebpf_places.specs.Members.{Known, Member, member_at, members_from}
 use Rattle.ebpf_places.specs.MemberViews.{Entry, below, entry, flat, is_misfit, nothing, own, view}
 use Rattle.ebpf_places.specs.Searches.{found, or_on, run, stop, stop_by}
 
@@ -100,7 +99,7 @@ module _ (known : Known) (parent : ℕ) (t : BtfType) (ms : List BtfMember) (l i
       → known.role_of inside (member_at parent t (i, get_or ms i d)) ≡ role
       → run known left (view known l inside bits (left_from parent t i ms))
       ≡ at_role known role (entry inside bits (member_at parent t (i, get_or ms i d))) n
-        (λ id. lower known l (inside + 1) (bits + (member_at parent t (i, get_or ms i d)).bits) (known.members_of id)) (view known l inside bits (left_from parent t (i + 1) ms))
+      (λ id. lower known l (inside + 1) (bits + (member_at parent t (i, get_or ms i d)).bits) (known.members_of id)) (view known l inside bits (left_from parent t (i + 1) ms))
   arm n d role lt e is =
       let m : Member = member_at parent t (i, get_or ms i d) in
       let split : left_from parent t i ms ≡ m ∷ left_from parent t (i + 1) ms = rw (drop-cons ms i d lt, add-one i) refl in

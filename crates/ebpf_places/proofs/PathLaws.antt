@@ -1,11 +1,11 @@
 -- Where a path leads, as an equation and as a relation.
-use Rattle.std.proofs.Common.{◌≡◌, ℕ, ◌<◌, ◌≤◌, ltb, if◌then◌else◌, Bool, true, false, List, [], ◌∷◌, Option, Some, None, Result, Ok, Err, refl, sym, ap, ◌∙◌, subst, arith, inl, inr}
+use Rattle.std.proofs.Common.{◌≡◌, ℕ, ◌<◌, ◌≤◌, if◌then◌else◌, List, [], ◌∷◌, Option, Some, None, Result, Ok, Err, refl, sym, ap, ◌∙◌, subst, inl, inr}
 use Rattle.std.proofs.lemmas.Bool.{cases_lt, lt-ltb, le-ltb}
 use Rattle.ebpf_btf.specs.declared.error.BtfError.{BtfError}
 use Rattle.ebpf_btf.specs.Steps.{resolved}
 use Rattle.ebpf_btf.specs.TypeInfo.{TypeInfo}
 use Rattle.ebpf_places.specs.declared.fault.PlaceFault.{PlaceFault}
-use Rattle.ebpf_places.specs.declared.fault.PlaceFault.TheVariants.{NestingLevel, Btf}
+use Rattle.ebpf_places.specs.declared.fault.PlaceFault.TheVariants.{NestingLevel}
 use Rattle.ebpf_places.specs.declared.places.Place.{Place}
 use Rattle.ebpf_places.specs.declared.search.FoundMember.{FoundMember}
 use Rattle.ebpf_places.specs.declared.steps.Step.{Step}
@@ -14,7 +14,7 @@ use Rattle.ebpf_places.specs.declared.walk.Spot.{Spot}
 use Rattle.ebpf_places.specs.FirstMembers.{IsFirstMember}
 use Rattle.ebpf_places.specs.Members.{if_read, known, members_in, unnamed_levels}
 use Rattle.ebpf_places.specs.Paths.{PathLeads, NoStep, NoIndex, NoRoot, Begun, StepLeads, TooLong, NoType, ToElement, ToMember, StepsLead, Arrived, Refused, Lost, Onward}
-use Rattle.ebpf_places.specs.Places.{begun, by_found, by_index, by_step, followed, if_fine, onward, path_parts, place_of, stepped}
+use Rattle.ebpf_places.specs.Places.{begun, by_found, by_step, followed, if_fine, onward, path_parts, place_of, stepped}
 use Rattle.ebpf_places.specs.Searches.{search_entries, sought}
 use Rattle.ebpf_places.proofs.FirstEntries.{one_first, sought_first}
 use Rattle.ebpf_places.proofs.Shallow.{shallow}

@@ -1,9 +1,8 @@
 -- One step of a path.
-use Rattle.std.proofs.Common.{◌≡◌, ℕ, suc, ◌+◌, ◌<◌, ◌≤◌, List, [], ◌∷◌, length, get_or, drop, Option, Some, None, Result, Ok, Err, refl, sym, ap, ◌∙◌, arith, drop-cons, add-one}
+use Rattle.std.proofs.Common.{◌≡◌, ℕ, suc, ◌+◌, ◌<◌, ◌≤◌, List, [], ◌∷◌, length, get_or, drop, Option, Some, None, Result, Ok, refl, sym, ap, ◌∙◌, arith, drop-cons, add-one}
 use Rattle.std.proofs.lemmas.List.{drop_all}
 use Rattle.ebpf_btf.specs.TypeInfo.{TypeInfo}
 use Rattle.ebpf_places.specs.declared.fault.PlaceFault.{PlaceFault}
-use Rattle.ebpf_places.specs.declared.places.Place.{Place}
 use Rattle.ebpf_places.specs.declared.steps.Step.{Step}
 use Rattle.ebpf_places.specs.declared.steps.Step.TheVariants.{Name, Index}
 use Rattle.ebpf_places.specs.declared.walk.Spot.{Spot}
@@ -34,7 +33,7 @@ module _ (local target : TypeInfo) where
   path_at path i by from r lt item is =
       path_step path i by from lt
       ∙ ap (λ (a : Result (Option Spot) PlaceFault). if_fine a (λ led_to. onward led_to (followed local target (drop (i + 1) path))))
-        (ap (stepped local target from) (sym item) ∙ is)
+      (ap (stepped local target from) (sym item) ∙ is)
 
   -- ---- the first step
 

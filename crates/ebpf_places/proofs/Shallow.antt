@@ -1,17 +1,16 @@
 -- An unnamed member that leads on lies inside fewer than the limit.
 use Rattle.std.proofs.Common.{◌≡◌, ℕ, ltb, ◌==◌, Bool, true, false, if◌then◌else◌, List, Result, Ok, Err, refl}
-use Rattle.std.specs.Str.{bytes_eq}
 use Rattle.std.proofs.lemmas.Bool.{ltb-true}
 use Rattle.ebpf_btf.specs.declared.error.BtfError.{BtfError}
 use Rattle.ebpf_btf.specs.Compatibility.{fields_compatible}
 use Rattle.ebpf_btf.specs.Steps.{resolved}
-use Rattle.ebpf_btf.specs.Strings.{text_at}
+use Rattle.ebpf_btf.specs.Strings.{is_name_at}
 use Rattle.ebpf_btf.specs.TypeInfo.{TypeInfo}
 use Rattle.ebpf_places.specs.declared.fault.PlaceFault.{PlaceFault}
 use Rattle.ebpf_places.specs.declared.fault.PlaceFault.TheVariants.{NestingLevel}
 use Rattle.ebpf_places.specs.declared.role.Role.{Role}
 use Rattle.ebpf_places.specs.declared.role.Role.TheVariants.{Unnamed, Other, Sought, Misfit}
-use Rattle.ebpf_places.specs.Members.{Member, if_read, known, named_role, unnamed_levels}
+use Rattle.ebpf_places.specs.Members.{if_read, known, named_role, unnamed_levels}
 use Rattle.ebpf_places.proofs.ViewEntries.{IsShallow}
 
 fits_leads : (fits : Result Bool BtfError) (id : ℕ) → if_read fits (λ b. Ok (if b then Sought else Misfit)) ≡ Ok (Unnamed id) → ⊥
@@ -24,10 +23,10 @@ same_leads : (same : Bool) (fits : Result Bool BtfError) (id : ℕ)
 same_leads true fits id h = fits_leads fits id h
 same_leads false fits id h = cc
 
-text_leads : (text : Result (List ℕ) BtfError) (name : List ℕ) (fits : Result Bool BtfError) (id : ℕ)
-    → if_read text (λ t. if bytes_eq t name then if_read fits (λ b. Ok (if b then Sought else Misfit)) else Ok Other) ≡ Ok (Unnamed id) → ⊥
-text_leads (Ok t) name fits id h = same_leads (bytes_eq t name) fits id h
-text_leads (Err e) name fits id h = cc
+named_leads : (same : Result Bool BtfError) (fits : Result Bool BtfError) (id : ℕ)
+    → if_read same (λ is. if is then if_read fits (λ b. Ok (if b then Sought else Misfit)) else Ok Other) ≡ Ok (Unnamed id) → ⊥
+named_leads (Ok same) fits id h = same_leads same fits id h
+named_leads (Err e) fits id h = cc
 
 by_tests : (unnamed deep : Bool) (type_id : Result ℕ BtfError) (named : Result Role PlaceFault) (id : ℕ) → (named ≡ Ok (Unnamed id) → ⊥)
     → (if unnamed then (if deep then if_read type_id (λ i. Ok (Unnamed i)) else Err NestingLevel) else named) ≡ Ok (Unnamed id) → deep ≡ true
@@ -39,4 +38,4 @@ pub shallow : (local target : TypeInfo) (name : List ℕ) (local_type : ℕ) →
 unfolding known
 shallow local target name local_type inside m id h =
     ltb-true inside unnamed_levels (by_tests (m.name == 0) (ltb inside unnamed_levels) (resolved target.types m.type_id) (named_role local target name local_type m.name m.type_id) id
-    (text_leads (text_at target.strings m.name) name (fields_compatible local local_type target m.type_id) id) h)
+    (named_leads (is_name_at target.strings m.name name) (fields_compatible local local_type target m.type_id) id) h)

@@ -1,13 +1,11 @@
 -- The members of a type, as they are read, and what is known of them.
-use Rattle.std.proofs.Common.{◌≡◌, ℕ, List, [], Option, Some, None, Result, Ok, Err, refl, sym, ap, ◌∙◌}
+use Rattle.std.proofs.Common.{◌≡◌, ℕ, List, [], Some, None, refl}
 use Rattle.std.specs.List.{slice_get}
 use Rattle.ebpf_btf.specs.declared.members.BtfMember.{BtfMember}
 use Rattle.ebpf_btf.specs.declared.types.BtfType.{BtfType}
 use Rattle.ebpf_btf.specs.TypeInfo.{TypeInfo}
 use Rattle.ebpf_btf.specs.Types.{members_of}
-use Rattle.ebpf_places.specs.declared.fault.PlaceFault.{PlaceFault}
-use Rattle.ebpf_places.specs.declared.role.Role.{Role}
-use Rattle.ebpf_places.specs.Members.{Member, known, member_at, members_from, members_in, role}
+use Rattle.ebpf_places.specs.Members.{Member, known, members_from, members_in, role}
 
 pub no_type : (types : List BtfType) (id : ℕ) → slice_get types id ≡ None → members_in types id ≡ []
 unfolding members_in

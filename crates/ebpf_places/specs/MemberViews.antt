@@ -1,5 +1,5 @@
 -- The view of a type: its members, those of its unnamed members among them.
-use Rattle.std.specs.Prelude.{ℕ, zero, suc, ◌+◌, Bool, true, false, if◌then◌else◌, List, [], ◌∷◌, Result, Ok, Err}
+use Rattle.std.specs.Prelude.{ℕ, zero, suc, ◌+◌, Bool, true, false, if◌then◌else◌, List, [], ◌∷◌, Result, Ok}
 use Rattle.std.specs.List.{flat_map}
 use Rattle.ebpf_places.specs.declared.fault.PlaceFault.{PlaceFault}
 use Rattle.ebpf_places.specs.declared.role.Role.{Role}

@@ -1,15 +1,14 @@
 -- The members of a type, and what each of them is to a search for a name (the kernel's
 -- tools/lib/bpf/relo_core.c, bpf_core_match_member).
-use Rattle.std.specs.Prelude.{ℕ, ◌==◌, nat_lt, if◌then◌else◌, Bool, List, [], map, slice_get, unwrap_or, Option, Result, Ok, Err}
+use Rattle.std.specs.Prelude.{ℕ, ◌==◌, nat_lt, if◌then◌else◌, List, [], map, slice_get, unwrap_or, Result, Ok, Err}
 use Rattle.std.specs.List.{enumerate_from}
 use Rattle.std.specs.Option.{option_map_or}
-use Rattle.std.specs.Str.{bytes_eq}
 use Rattle.ebpf_btf.specs.declared.error.BtfError.{BtfError}
 use Rattle.ebpf_btf.specs.declared.members.BtfMember.{BtfMember}
 use Rattle.ebpf_btf.specs.declared.types.BtfType.{BtfType}
 use Rattle.ebpf_btf.specs.Compatibility.{fields_compatible}
 use Rattle.ebpf_btf.specs.Steps.{resolved}
-use Rattle.ebpf_btf.specs.Strings.{text_at}
+use Rattle.ebpf_btf.specs.Strings.{is_name_at}
 use Rattle.ebpf_btf.specs.TypeInfo.{TypeInfo}
 use Rattle.ebpf_btf.specs.Types.{bit_offset, members_of}
 use Rattle.ebpf_places.specs.declared.fault.PlaceFault.{PlaceFault}
@@ -57,8 +56,8 @@ unnamed_role target inside type_id =
 -- a member of the name is sought where the local member's type is compatible with its own
 abbrev pub named_role : TypeInfo → TypeInfo → List ℕ → ℕ → ℕ → ℕ → Result Role PlaceFault
 named_role local target name local_type name_offset type_id =
-    if_read (text_at target.strings name_offset) (λ text.
-    if bytes_eq text name
+    if_read (is_name_at target.strings name_offset name) (λ same.
+    if same
     then if_read (fields_compatible local local_type target type_id) (λ fits. Ok (if fits then Sought else Misfit))
     else Ok Other)
 

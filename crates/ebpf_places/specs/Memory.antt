@@ -1,5 +1,5 @@
 -- The one answer of this layer that no definition states: want of memory.
-use Rattle.std.specs.Prelude.{Bool, true, false, ⊤, MatchBool, Result, Ok, Err}
+use Rattle.std.specs.Prelude.{Bool, false, ⊤, MatchBool, Result, Ok, Err}
 use Rattle.ebpf_btf.specs.Memory.{is_memory as is_btf_memory}
 use Rattle.ebpf_places.specs.declared.fault.PlaceFault.{PlaceFault}
 use Rattle.ebpf_places.specs.declared.fault.PlaceFault.TheVariants.{NestingLevel, Btf}

@@ -2,10 +2,12 @@
 use Rattle.std.specs.Prelude.{ℕ, ◌+◌, ◌*◌, ◌^◌, ◌==◌, ◌&&◌, ◌||◌, nat_lt, if◌then◌else◌, Bool, false, List, [], ◌∷◌, length, slice_get, Option, Some, None, Result, Ok, Err}
 use Rattle.std.specs.Prelude.{option_and_then}
 use Rattle.ebpf_btf.specs.declared.error.BtfError.TheVariants.{InvalidTypeInfo}
+use Rattle.ebpf_btf.specs.declared.array.BtfArray.{BtfArray}
 use Rattle.ebpf_btf.specs.declared.types.BtfType.{BtfType}
-use Rattle.ebpf_btf.specs.declared.types.BtfType.TheVariants.{Array, Struct}
+use Rattle.ebpf_btf.specs.declared.types.BtfType.TheVariants.{Struct}
 use Rattle.ebpf_btf.specs.Steps.{resolved, size_of}
 use Rattle.ebpf_btf.specs.TypeInfo.{TypeInfo}
+use Rattle.ebpf_btf.specs.Types.{array_of}
 use Rattle.ebpf_places.specs.declared.fault.PlaceFault.{PlaceFault}
 use Rattle.ebpf_places.specs.declared.fault.PlaceFault.TheVariants.{NestingLevel, Btf}
 use Rattle.ebpf_places.specs.declared.places.Place.{Place}
@@ -14,7 +16,6 @@ use Rattle.ebpf_places.specs.declared.places.PlaceEnd.TheVariants.{Element, Memb
 use Rattle.ebpf_places.specs.declared.search.FoundMember.{FoundMember}
 use Rattle.ebpf_places.specs.declared.steps.Step.{Step}
 use Rattle.ebpf_places.specs.declared.steps.Step.TheVariants.{Name, Index}
-use Rattle.ebpf_places.specs.declared.walk.Elements.{Elements}
 use Rattle.ebpf_places.specs.declared.walk.Spot.{Spot}
 use Rattle.ebpf_places.specs.Members.{if_read, known, members_in}
 use Rattle.ebpf_places.specs.Searches.{search_entries, sought}
@@ -42,11 +43,6 @@ led answer = if_fine answer (λ s. Ok (Some s))
 
 -- ---- to an element
 
--- the elements of an ARRAY
-unfoldable pub elements_of : BtfType → Option Elements
-elements_of (Array _ id _ count) = Some (record { type_id = id; count = count })
-elements_of _ = None
-
 -- whether a member is the last one of a STRUCT
 unfoldable pub is_last_of : ℕ → BtfType → Bool
 is_last_of index (Struct _ _ _ members) = index + 1 == length members
@@ -71,16 +67,16 @@ abbrev pub to_element : TypeInfo → ℕ → ℕ → ℕ → ℕ → Result Spot
 to_element target bits parts type_id index =
     if_read (size_of target.types type_id) (λ size. reached (bits + index * size * 8) (Element type_id) type_id parts)
 
-abbrev pub by_elements : TypeInfo → Spot → ℕ → Option Elements → Result (Option Spot) PlaceFault
-by_elements target from index None = Ok None
-by_elements target from index (Some e) =
-    if is_accepted target.types from.place.end e.count index
-    then led (to_element target from.place.bits (from.parts + 1) e.type_id index)
+abbrev pub by_array : TypeInfo → Spot → ℕ → Option BtfArray → Result (Option Spot) PlaceFault
+by_array target from index None = Ok None
+by_array target from index (Some array) =
+    if is_accepted target.types from.place.end array.len index
+    then led (to_element target from.place.bits (from.parts + 1) array.element_type index)
     else Ok None
 
 -- where an index leads in the type with an id
 abbrev pub by_index : TypeInfo → Spot → ℕ → ℕ → Result (Option Spot) PlaceFault
-by_index target from id index = by_elements target from index (option_and_then elements_of (slice_get target.types id))
+by_index target from id index = by_array target from index (option_and_then array_of (slice_get target.types id))
 
 -- ---- to a member
 

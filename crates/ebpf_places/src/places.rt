@@ -5,14 +5,9 @@
 pub enum PlaceEnd {
     /// An element. `type_id` is the type whose size its index counts: what an ARRAY states, or what the root type
     /// stands for.
-    Element {
-        type_id: u32,
-    },
+    Element { type_id: u32 },
     /// The member `index` of the STRUCT or UNION `parent`, which is no TYPEDEF or other type that stands for it.
-    Member {
-        parent: u32,
-        index: usize,
-    },
+    Member { parent: u32, index: usize },
 }
 
 /// Where a path leads.

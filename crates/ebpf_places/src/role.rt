@@ -1,16 +1,12 @@
 //! What a member is to a search for a name.
 
-ghost use Rattle.std.specs.Prelude.{◌≡◌, ◌<◌, ◌==◌, Ok, Err, IfOk};
-ghost use Rattle.std.specs.Str.{bytes_eq};
+ghost use Rattle.std.specs.Prelude.{◌≡◌};
 ghost use Rattle.ebpf_base.specs.Faults.{Gives};
-ghost use Rattle.ebpf_btf.specs.Next.{if_ok};
-ghost use Rattle.ebpf_btf.specs.Strings.{text_at};
-ghost use Rattle.ebpf_btf.specs.Memory.{is_memory as is_btf_memory};
-ghost use Rattle.ebpf_places.specs.Members.{member_at, named_role, role, unnamed_role, unnamed_levels};
+ghost use Rattle.ebpf_places.specs.Members.{named_role, role, unnamed_role};
 ghost use Rattle.ebpf_places.specs.Memory.{is_memory};
 
 use crate::fault::PlaceFault;
-use ebpf_btf::{Btf, BtfError, BtfMember, fields_are_compatible};
+use ebpf_btf::{Btf, BtfMember, fields_are_compatible};
 
 /// Inside how many unnamed members another unnamed one is looked into at most.
 pub const UNNAMED_LEVELS: u32 = 64;
@@ -37,14 +33,6 @@ pub struct Wanted<'a> {
     pub local_type: u32,
 }
 
-/// Whether the name at an offset is this one.
-fn is_name_at(btf: &Btf, offset: u32, name: &str) -> Result<bool, BtfError>
-    ensures { Gives is_btf_memory result (if_ok (text_at btf.now.strings offset) (λ text. Ok (bytes_eq text name.now))) }
-{
-    let text = btf.string_at(offset)?;
-    Ok(text.as_str() == name)
-}
-
 /// What a member without a name is, inside so many unnamed ones.
 fn unnamed_role(target: &Btf, inside: u32, member: &BtfMember) -> Result<Role, PlaceFault>
     ensures { result ≡ unnamed_role target.now inside member.now.btf_type }
@@ -60,21 +48,22 @@ fn unnamed_role(target: &Btf, inside: u32, member: &BtfMember) -> Result<Role, P
 fn named_role(wanted: Wanted<'_>, member: &BtfMember) -> Result<Role, PlaceFault>
     ensures { Gives is_memory result (named_role wanted.entry.local.now wanted.entry.target.now wanted.entry.name.now wanted.entry.local_type member.now.name_offset member.now.btf_type) }
 {
-    if !is_name_at(wanted.target, member.name_offset, wanted.name)? {
+    if !wanted.target.is_name_at(member.name_offset, wanted.name)? {
         return Ok(Role::Other);
     }
-    if !fields_are_compatible(wanted.local, wanted.local_type, wanted.target, member.btf_type)? {
+    if !fields_are_compatible(
+        wanted.local,
+        wanted.local_type,
+        wanted.target,
+        member.btf_type,
+    )? {
         return Ok(Role::Misfit);
     }
     Ok(Role::Sought)
 }
 
 /// What a member is, inside so many unnamed ones.
-pub fn role_of(
-    wanted: Wanted<'_>,
-    inside: u32,
-    member: &BtfMember,
-) -> Result<Role, PlaceFault>
+pub fn role_of(wanted: Wanted<'_>, inside: u32, member: &BtfMember) -> Result<Role, PlaceFault>
     ensures { Gives is_memory result (role wanted.entry.local.now wanted.entry.target.now wanted.entry.name.now wanted.entry.local_type inside member.now.name_offset member.now.btf_type) }
 {
     if member.name_offset == 0 {

@@ -112,7 +112,7 @@ fn find(wanted: Wanted<'_>, parent: u32) -> Result<Option<FoundMember>, PlaceFau
 ///
 /// At each member that is met, in turn: `NestingLevel` at member 1,048,577, and at an unnamed one inside 64 unnamed ones;
 /// `Btf` where its name, or the type of an unnamed one, can't be read, or where the types can't be compared.
-/// `Btf(OutOfMemory)` where memory for a name that is not UTF-8 is refused.
+/// `Btf(OutOfMemory)` as in `fields_are_compatible`.
 pub fn find_member(
     local: &Btf,
     target: &Btf,

@@ -4,7 +4,7 @@ ghost use Rattle.std.specs.Prelude.{◌≡◌, ◌+◌, ◌*◌, ◌<◌, ◌≤
 ghost use Rattle.ebpf_base.specs.Faults.{Gives};
 ghost use Rattle.ebpf_places.specs.Memory.{MemoryAside, is_memory};
 ghost use Rattle.ebpf_places.specs.Paths.{PathLeads};
-ghost use Rattle.ebpf_places.specs.Places.{begun, by_index, by_name, elements_of, followed, is_accepted, is_last_member, is_last_of, place_of, stepped, to_element, to_member};
+ghost use Rattle.ebpf_places.specs.Places.{begun, by_index, by_name, followed, is_accepted, is_last_member, is_last_of, place_of, stepped, to_element, to_member};
 
 use crate::fault::PlaceFault;
 use crate::places::{Place, PlaceEnd};
@@ -22,27 +22,6 @@ pub struct Spot {
     pub place: Place,
     pub type_id: u32,
     pub parts: u32,
-}
-
-/// The elements of an ARRAY: their type and their number.
-#[derive(Clone, Copy)]
-pub struct Elements {
-    pub type_id: u32,
-    pub count: u32,
-}
-
-/// The elements of an ARRAY.
-#[tactic(auto, unfolding(crate::specs::Places::elements_of))]
-fn elements_of(ty: &BtfType) -> Option<Elements>
-    ensures { result ≡ elements_of ty.now }
-{
-    match ty {
-        BtfType::Array { element_type, len, .. } => Some(Elements {
-            type_id: *element_type,
-            count: *len,
-        }),
-        _ => None,
-    }
 }
 
 /// Whether a member is the last one of a STRUCT.
@@ -121,13 +100,19 @@ fn by_index(
     let Some(ty) = type_at(target, type_id) else {
         return Ok(None);
     };
-    let Some(elements) = elements_of(ty) else {
+    let Some(array) = ty.array() else {
         return Ok(None);
     };
-    if !is_accepted(target, from.place.end, elements.count, index) {
+    if !is_accepted(target, from.place.end, array.len, index) {
         return Ok(None);
     }
-    let spot = to_element(target, from.place.bits, from.parts + 1, elements.type_id, index)?;
+    let spot = to_element(
+        target,
+        from.place.bits,
+        from.parts + 1,
+        array.element_type,
+        index,
+    )?;
     Ok(Some(spot))
 }
 

@@ -1,4 +1,4 @@
-use Rattle.std.proofs.Common.{◌-◌, ◌+◌, ◌≡◌, Ok, Err, refl, sym, ap, ◌∙◌, arith}
+use Rattle.std.proofs.Common.{◌-◌, ◌+◌, Ok, Err, refl, sym, ap, ◌∙◌, arith}
 use Rattle.ebpf_places.specs.declared.role.Role.TheVariants.{Other, Misfit, Sought}
 use Rattle.ebpf_places.specs.declared.search.Answer.TheVariants.{Absent, Found}
 use Rattle.ebpf_places.specs.Members.{known}
