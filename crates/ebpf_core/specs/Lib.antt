@@ -6,4 +6,6 @@ pub mod LocalPaths
 pub mod Matches
 pub mod Memory
 pub mod Outcomes
+pub mod Searches
+pub mod Sides
 pub mod Subjects
