@@ -1,13 +1,21 @@
 -- A refusal that a call hands on: want of memory, or what is stated.
-use Rattle.std.proofs.Common.{◌≡◌, Bool, true, false, Result, Ok, Err, refl, ap}
+use Rattle.std.proofs.Common.{◌≡◌, ℕ, Bool, true, false, Option, Some, None, Result, Ok, Err, refl, ap}
 use Rattle.std.specs.Prelude.{MatchBool, ⊤}
+use Rattle.std.specs.Result.{IsErrAnd}
 use Rattle.ebpf_base.specs.Faults.{Gives}
 use Rattle.ebpf_btf.specs.Memory as types
 use Rattle.ebpf_btf.specs.declared.error.BtfError.{BtfError as TypeError}
 use Rattle.ebpf_core.specs.declared.error.RelocationError.{RelocationError}
 use Rattle.ebpf_core.specs.declared.error.RelocationError.TheVariants.{BtfError}
 use Rattle.ebpf_core.specs.Answers.{Tells, of_type_error, of_types, if_ok, told}
+use Rattle.ebpf_core.specs.Matches.{by_place}
 use Rattle.ebpf_core.specs.Memory.{is_memory}
+use Rattle.ebpf_core.specs.declared.matches.Found.{Found}
+use Rattle.ebpf_core.specs.declared.matches.Found.TheVariants as found
+use Rattle.ebpf_btf.specs.TypeInfo.{TypeInfo}
+use Rattle.ebpf_places.specs.declared.fault.PlaceFault.{PlaceFault}
+use Rattle.ebpf_places.specs.declared.fault.PlaceFault.TheVariants.{NestingLevel, Btf}
+use Rattle.ebpf_places.specs.declared.places.Place.{Place}
 
 -- what is stated of an error is stated of what follows it
 module _ {X Y : Type 0} (e : RelocationError) (one : Result X RelocationError) where
@@ -44,3 +52,34 @@ module _ {X Y : Type 0} (e : RelocationError) (one : Result X RelocationError) (
 
   pub also : (one ≡ Err (told e) → other ≡ Err (told e)) → Tells {X = X} (Err e) one → Tells {X = Y} (Err e) other
   also to h = led (is_memory e) to h
+
+-- the error that a call hands on
+handed : {X : Type 0} (r : Result X RelocationError) (e : RelocationError) → IsErrAnd r (λ f. f ≡ e) → r ≡ Err e
+handed (Ok x) e is = absurd is
+handed (Err f) e is = ap Err is
+
+pub refused_by : {X Y : Type 0} (e : RelocationError) (one : Result X RelocationError) (r other : Result Y RelocationError) → IsErrAnd r (λ f. f ≡ e)
+    → (one ≡ Err (told e) → other ≡ Err (told e)) → Tells {X = X} (Err e) one → Tells r other
+refused_by e one r other is to h = rw (handed r e is) (also e one other to h)
+
+-- ---- places
+
+module _ (target : TypeInfo) (id : ℕ) (stated : Result (Option Place) PlaceFault) where
+  pub place_found : (place : Place) → stated ≡ Ok (Some place) → by_place target id stated ≡ Ok (Some (found.Field place))
+  place_found place is = rw is refl
+
+  pub place_missing : stated ≡ Ok None → by_place target id stated ≡ Ok None
+  place_missing is = rw is refl
+
+  pub place_nested : (r : Result (Option Found) RelocationError) → stated ≡ Err NestingLevel → Tells r (by_place target id (Err NestingLevel))
+      → Tells r (by_place target id stated)
+  place_nested r is h = rw is h
+
+  turned_place : (e : TypeError) (b : Bool) → types.is_memory e ≡ b → MatchBool b ⊤ (stated ≡ Err (Btf e))
+      → Tells {X = Option Found} (Err (of_type_error e)) (by_place target id stated)
+  turned_place e true is h = rw is tt
+  turned_place e false is h = rw (is, h) refl
+
+  pub place_refused : (e : TypeError) → MatchBool (types.is_memory e) ⊤ (stated ≡ Err (Btf e))
+      → Tells {X = Option Found} (Err (of_type_error e)) (by_place target id stated)
+  place_refused e h = turned_place e (types.is_memory e) refl h

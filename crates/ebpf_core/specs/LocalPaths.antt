@@ -85,7 +85,7 @@ to_member info from parent t index member =
     if member.name_offset == 0
     then reached from.steps (from.place.bits + bit_offset t member) from.place.end from.index member.btf_type
     else if_ok (of_types (text_at info.strings member.name_offset)) (λ name.
-        reached (from.steps ++ Name name member.btf_type ∷ []) (from.place.bits + bit_offset t member) (Member parent index) index member.btf_type)
+    reached (from.steps ++ Name name member.btf_type ∷ []) (from.place.bits + bit_offset t member) (Member parent index) index member.btf_type)
 
 abbrev pub into_members : TypeInfo → List ℕ → LocalSpot → ℕ → BtfType → List BtfMember → ℕ → Result LocalSpot RelocationError
 into_members info access from parent t members index =
@@ -128,8 +128,8 @@ unfoldable pub variant_path : TypeInfo → ℕ → List ℕ → BtfType → List
 variant_path info number access t parts =
     if_some (variants_of t)
     (λ variants. if_some (lone parts)
-        (λ part. if_some (slice_get variants part) (named_variant info) (past access part (length variants)))
-        (wrong_string access))
+    (λ part. if_some (slice_get variants part) (named_variant info) (past access part (length variants)))
+    (wrong_string access))
     (wrong_kind number)
 
 -- ---- the local side of a record

@@ -42,6 +42,15 @@ fn all_parts(alloc: Global, pieces: &[&str]) -> Result<Option<Items<usize>>, All
     Ok(Some(parts))
 }
 
+/// The parts of an access string, where each piece between its colons is one.
+#[tactic(auto, using(crate::proofs::Parts::parts_listed))]
+fn parts_of(alloc: Global, access: &str) -> Result<Option<Items<usize>>, AllocError>
+    ensures { IfOk result (λ parts. parts ≡ parts_of access.now) }
+{
+    let pieces = pieces_of(alloc, access)?;
+    all_parts(alloc, &pieces)
+}
+
 /// The parts of an access string. The errors speak of it and of the name of the local type.
 ///
 /// `InvalidAccessString` where a piece between colons is no `usize`; `MaximumNestingLevelReached` where there are
@@ -53,8 +62,7 @@ pub fn access_parts(
 ) -> Result<Items<usize>, RelocationError>
     ensures { Tells result (access_parts type_name.now access.now) }
 {
-    let pieces = pieces_of(alloc, access)?;
-    let Some(parts) = all_parts(alloc, &pieces)? else {
+    let Some(parts) = parts_of(alloc, access)? else {
         return invalid_access_string(alloc, access);
     };
     if parts.len() > MOST_PARTS {

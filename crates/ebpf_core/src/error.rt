@@ -56,9 +56,7 @@ pub enum RelocationError {
         error: Text,
     },
     /// What the record asks can't be asked of its local type or field.
-    #[error(
-        "relocation {relocation_number}: {relocation_kind} can't be asked of {type_kind}: {error}"
-    )]
+    #[error("relocation {relocation_number}: {relocation_kind} can't be asked of {type_kind}: {error}")]
     InvalidRelocationKindForType {
         relocation_number: usize,
         relocation_kind: Text,

@@ -1,6 +1,6 @@
 //! The bytes that a program loads for a field.
 
-ghost use Rattle.std.specs.Prelude.{◌≡◌, ◌<◌, ◌^◌, IfSome};
+ghost use Rattle.std.specs.Prelude.{◌≡◌, ◌*◌, ◌<◌, ◌≤◌, ◌^◌, IfOk, IfSome};
 ghost use Rattle.ebpf_core.specs.Containers.{aligned, bit_field_extent, container, holds, is_container, plain_extent};
 
 use ebpf_btf::BtfError;
@@ -20,7 +20,8 @@ pub struct Extent {
 fn aligned(bit: u64, size: u64) -> u64
     requires few { bit < 2 ^ 32 }
     requires some { 0 < size }
-    ensures { result ≡ aligned bit size }
+    ensures value { result ≡ aligned bit size }
+    ensures low { result * 8 ≤ bit }
 {
     let byte = bit / 8;
     byte - byte % size
@@ -76,7 +77,9 @@ fn container(bit: u32, width: u32, size: u32) -> Option<u64>
 
 /// The extent of a field that is no bit field.
 pub fn plain_extent(bit: u32, size: u32) -> Extent
-    ensures { result ≡ plain_extent bit size }
+    ensures value { result ≡ plain_extent bit size }
+    ensures low { result.start * 8 ≤ bit }
+    ensures narrow { result.width < 2 ^ 36 }
 {
     Extent {
         start: u64::from(bit / 8),
@@ -89,7 +92,9 @@ pub fn plain_extent(bit: u32, size: u32) -> Extent
 ///
 /// `InvalidTypeInfo` where no size or size 0 is stated, or no container that it may have holds the field.
 pub fn bit_field_extent(bit: u32, width: u32, stated: Option<u32>) -> Result<Extent, BtfError>
-    ensures { result ≡ bit_field_extent bit width stated }
+    ensures value { result ≡ bit_field_extent bit width stated }
+    ensures low { IfOk result (λ extent. extent.start * 8 ≤ bit) }
+    ensures narrow { IfOk result (λ extent. extent.width < 2 ^ 36) }
 {
     let Some(size) = stated else {
         return Err(BtfError::InvalidTypeInfo);

@@ -1,6 +1,6 @@
 //! What a record learns of a field.
 
-ghost use Rattle.std.specs.Prelude.{◌≡◌, ◌<◌, ◌^◌};
+ghost use Rattle.std.specs.Prelude.{◌≡◌, ◌*◌, ◌<◌, ◌≤◌, ◌^◌, IfOk};
 ghost use Rattle.std.specs.Option.{option_copied};
 ghost use Rattle.ebpf_btf.specs.Steps.{size_of};
 ghost use Rattle.ebpf_core.specs.Fields.{asked, class_of, element_value, field_value, laid, loaded_as, member_at, member_value, shift, value_at, value_of_member, value_with};
@@ -95,7 +95,9 @@ fn laid(
     type_id: u32,
     ty: &BtfType,
 ) -> Result<(Extent, Option<LoadedField>), BtfError>
-    ensures { result ≡ laid parent.now member.now bits ty.now (size_of btf.now.types type_id) }
+    ensures value { result ≡ laid parent.now member.now bits ty.now (size_of btf.now.types type_id) }
+    ensures low { IfOk result (λ place. place.0.start * 8 ≤ bits) }
+    ensures narrow { IfOk result (λ place. place.0.width < 2 ^ 36) }
 {
     let width = parent.member_bit_field_size(member);
     if width == 0 {
@@ -107,14 +109,9 @@ fn laid(
 }
 
 /// What a kind asks of a member.
-fn asked(
-    kind: RelocationKind,
-    is_signed: bool,
-    bits: u32,
-    extent: Extent,
-) -> Result<u64, BtfError>
-    requires start { extent.start * 8 ≤ bits }
-    requires width { extent.width < 2 ^ 36 }
+fn asked(kind: RelocationKind, is_signed: bool, bits: u32, extent: Extent) -> Result<u64, BtfError>
+    requires low { extent.start * 8 ≤ bits }
+    requires narrow { extent.width < 2 ^ 36 }
     ensures { result ≡ asked kind is_signed bits extent }
 {
     match kind {
@@ -218,11 +215,7 @@ fn value_of_member(
 /// `MaximumTypeDepth` and `UnexpectedBtfType` where the field's type can't be resolved or has no size;
 /// `InvalidTypeInfo` where a bit field has no container, or a shift is negative.
 #[tactic(auto, unfolding(crate::specs::Fields::field_value))]
-pub fn field_value(
-    btf: &Btf,
-    kind: RelocationKind,
-    place: Place,
-) -> Result<FieldValue, FieldFault>
+pub fn field_value(btf: &Btf, kind: RelocationKind, place: Place) -> Result<FieldValue, FieldFault>
     ensures { result ≡ field_value btf.now kind place }
 {
     if kind == RelocationKind::FieldExists {

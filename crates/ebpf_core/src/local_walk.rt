@@ -7,8 +7,8 @@ ghost use Rattle.ebpf_core.specs.LocalPaths.{ends_struct, field_path, into_array
 
 use crate::error::RelocationError;
 use crate::faults::{invalid_access_index, invalid_access_string, invalid_kind};
-use crate::wording::{Record, kind_words, path_words};
 use crate::paths::NamedPath;
+use crate::wording::{Record, kind_words, path_words};
 use ebpf_base::{Items, Text};
 use ebpf_btf::{Btf, BtfArray, BtfError, BtfMember, BtfType};
 use ebpf_places::{Place, PlaceEnd, Step};
@@ -74,7 +74,7 @@ fn is_last_member(index: usize, ty: &BtfType) -> bool
     ensures { result ≡ is_last_member index ty.now }
 {
     match ty {
-        BtfType::Struct { members, .. } => members.len().checked_sub(1) == Some(index),
+        BtfType::Struct { members, .. } => index < members.len() && index + 1 == members.len(),
         _ => false,
     }
 }
@@ -122,7 +122,13 @@ fn into_array(
         let len = array.len as usize;
         return invalid_access_index(alloc, record.access, place, index, len, "elements");
     }
-    to_element(local, from.steps, from.place.bits, array.element_type, index)
+    to_element(
+        local,
+        from.steps,
+        from.place.bits,
+        array.element_type,
+        index,
+    )
 }
 
 /// A path that goes on to a member of a type. A member without a name adds its bits and no step.
@@ -139,7 +145,13 @@ fn to_member(
 {
     let bits = u128::from(from.place.bits) + u128::from(ty.member_bit_offset(member));
     if member.name_offset == 0 {
-        return reached(from.steps, bits, from.place.end, from.index, member.btf_type);
+        return reached(
+            from.steps,
+            bits,
+            from.place.end,
+            from.index,
+            member.btf_type,
+        );
     }
     let name = local.string_at(member.name_offset)?;
     let name = Text::from_str(alloc, name.as_str())?;
@@ -148,7 +160,13 @@ fn to_member(
         name,
         local_type: member.btf_type,
     })?;
-    reached(steps, bits, PlaceEnd::Member { parent, index }, index, member.btf_type)
+    reached(
+        steps,
+        bits,
+        PlaceEnd::Member { parent, index },
+        index,
+        member.btf_type,
+    )
 }
 
 /// A path that goes on into the members of a type.
@@ -194,7 +212,32 @@ fn part_step(
         return into_array(alloc, local, record, from, array, part);
     }
     let place = path_words(alloc, record.type_name, from.steps.as_slice())?;
-    invalid_kind(alloc, record.number, record.kind, place, kind_words(ty.kind()))
+    invalid_kind(
+        alloc,
+        record.number,
+        record.kind,
+        place,
+        kind_words(ty.kind()),
+    )
+}
+
+/// Where parts lead, one after the other.
+#[tactic(auto, using(crate::proofs::WalkSteps::part_next, crate::proofs::WalkSteps::part_refused, crate::proofs::WalkSteps::parts_over))]
+fn walk(
+    alloc: Global,
+    local: &Btf,
+    record: Record<'_>,
+    start: LocalSpot,
+    parts: &[usize],
+) -> Result<LocalSpot, RelocationError>
+    ensures { Tells result (walked local.now record.entry.number record.entry.access.now parts.now start) }
+{
+    let mut from = start;
+    for part in parts {
+        let next = part_step(alloc, local, record, from, *part)?;
+        from = next;
+    }
+    Ok(from)
 }
 
 /// The steps that the parts of an access string mean in the resolved type `type_id`, and where they lead. The first
@@ -212,12 +255,10 @@ pub fn field_path(
     let Some((root, parts)) = parts.split_first() else {
         return invalid_access_string(alloc, record.access);
     };
-    let mut from = to_element(local, Items::new(alloc), 0, type_id, *root)?;
-    for part in parts {
-        from = part_step(alloc, local, record, from, *part)?;
-    }
+    let start = to_element(local, Items::new(alloc), 0, type_id, *root)?;
+    let end = walk(alloc, local, record, start, parts)?;
     Ok(NamedPath::Field {
-        steps: from.steps,
-        place: from.place,
+        steps: end.steps,
+        place: end.place,
     })
 }

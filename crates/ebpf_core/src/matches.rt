@@ -1,10 +1,11 @@
 //! The candidates that a local path fits.
 
-ghost use Rattle.std.specs.Prelude.{◌≡◌, IfOk};
-ghost use Rattle.ebpf_base.specs.Faults.{Gives};
+ghost use Rattle.std.specs.Prelude.{◌≡◌, [], unwrap_or, Err};
+ghost use Rattle.ebpf_btf.specs.Variants.{variants_of};
 ghost use Rattle.ebpf_core.specs.Answers.{Tells, of_types};
 ghost use Rattle.ebpf_core.specs.Matches.{by_place, first_variant, found_in, match_in, matches, name_at, variant_in};
 ghost use Rattle.ebpf_places.specs.Places.{place_of};
+ghost use Rattle.ebpf_places.specs.declared.fault.PlaceFault.TheVariants.{NestingLevel};
 
 use crate::error::RelocationError;
 use crate::faults::too_nested;
@@ -20,13 +21,9 @@ pub enum Found {
     /// The type as a whole.
     WholeType,
     /// A variant with its value.
-    Variant {
-        value: u64,
-    },
+    Variant { value: u64 },
     /// A field.
-    Field {
-        place: Place,
-    },
+    Field { place: Place },
 }
 
 /// A candidate that matches.
@@ -70,27 +67,20 @@ fn variant_in(target: &Btf, name: &str, candidate: u32) -> Result<Option<u64>, B
     first_variant(target, name, ty)
 }
 
-/// A place, or the refusal that a fault on the way to it is.
-fn by_place(
+/// The refusal of a candidate in which a limit was reached.
+fn too_nested_in(
     alloc: Global,
     target: &Btf,
     candidate: u32,
-    answer: Result<Option<Place>, PlaceFault>,
 ) -> Result<Option<Found>, RelocationError>
-    ensures { Tells result (by_place target.now candidate answer) }
+    ensures { Tells result (by_place target.now candidate (Err NestingLevel)) }
 {
-    match answer {
-        Ok(Some(place)) => Ok(Some(Found::Field { place })),
-        Ok(None) => Ok(None),
-        Err(PlaceFault::NestingLevel) => {
-            let name = name_at(alloc, target, candidate)?;
-            too_nested(alloc, name.as_str())
-        }
-        Err(PlaceFault::Btf(error)) => Err(RelocationError::from(error)),
-    }
+    let name = name_at(alloc, target, candidate)?;
+    too_nested(alloc, name.as_str())
 }
 
 /// Whether a field path leads anywhere in a candidate.
+#[tactic(auto, using(crate::proofs::Refusals::place_found, crate::proofs::Refusals::place_missing, crate::proofs::Refusals::place_nested, crate::proofs::Refusals::place_refused))]
 fn field_in(
     alloc: Global,
     local: &Btf,
@@ -100,7 +90,12 @@ fn field_in(
 ) -> Result<Option<Found>, RelocationError>
     ensures { Tells result (by_place target.now candidate (place_of local.now target.now candidate steps.now)) }
 {
-    by_place(alloc, target, candidate, place_in(local, target, candidate, steps))
+    match place_in(local, target, candidate, steps) {
+        Ok(Some(place)) => Ok(Some(Found::Field { place })),
+        Ok(None) => Ok(None),
+        Err(PlaceFault::NestingLevel) => too_nested_in(alloc, target, candidate),
+        Err(PlaceFault::Btf(error)) => Err(RelocationError::from(error)),
+    }
 }
 
 /// What a path of the local type `local_id` leads to in a candidate.
@@ -133,7 +128,7 @@ fn found_in(
 }
 
 /// The candidates that match, in their order.
-#[tactic(auto, using(crate::proofs::MatchSteps::match_passed, crate::proofs::MatchSteps::match_kept, crate::proofs::MatchSteps::match_fault, crate::proofs::MatchSteps::matches_end, crate::proofs::Refusals::also))]
+#[tactic(auto, using(crate::proofs::MatchSteps::match_passed, crate::proofs::MatchSteps::match_kept, crate::proofs::MatchSteps::match_refused, crate::proofs::MatchSteps::matches_end))]
 pub fn matches_among(
     alloc: Global,
     local: &Btf,

@@ -2,14 +2,14 @@
 
 ghost use Rattle.std.specs.Prelude.{◌≡◌, not, filter, IfOk};
 ghost use Rattle.ebpf_core.specs.Answers.{Tells, each, of_types};
-ghost use Rattle.ebpf_core.specs.Matches.{name_at};
-ghost use Rattle.ebpf_core.specs.Outcomes.{agree, concluded, differing_names, local_loaded, outcome_among, settled, without_match};
+ghost use Rattle.ebpf_core.specs.Fields.{field_value};
+ghost use Rattle.ebpf_core.specs.Outcomes.{agree, concluded, differing_names, loaded_by, local_loaded, outcome_among, settled, without_match};
 
 use crate::error::RelocationError;
 use crate::faults::invalid_kind;
 use crate::field::{FieldFault, LoadedField, field_value};
-use crate::paths::{LocalPath, NamedPath};
 use crate::matches::{matches_among, name_at};
+use crate::paths::{LocalPath, NamedPath};
 use crate::values::{MatchValue, match_values};
 use crate::wording::path_words;
 use ebpf_base::{Items, Text};
@@ -57,7 +57,13 @@ fn field_loaded(
         Err(FieldFault::Types(error)) => Err(RelocationError::from(error)),
         Err(FieldFault::OfElement) => {
             let place = path_words(alloc, type_name, steps)?;
-            invalid_kind(alloc, relocation.number, relocation.kind, place, "an element")
+            invalid_kind(
+                alloc,
+                relocation.number,
+                relocation.kind,
+                place,
+                "an element",
+            )
         }
     }
 }
@@ -76,7 +82,14 @@ fn local_loaded(
     match &path.path {
         NamedPath::Field { steps, place } => {
             let type_name = path.type_name.as_str();
-            field_loaded(alloc, local, relocation, type_name, steps.as_slice(), *place)
+            field_loaded(
+                alloc,
+                local,
+                relocation,
+                type_name,
+                steps.as_slice(),
+                *place,
+            )
         }
         _ => Ok(None),
     }
@@ -156,9 +169,23 @@ pub fn outcome_among(
 ) -> Result<Outcome, RelocationError>
     ensures { Tells result (outcome_among local.now target.now relocation.now path.now candidates.now) }
 {
-    let matches = matches_among(alloc, local, target, relocation.type_id, &path.path, candidates)?;
+    let matches = matches_among(
+        alloc,
+        local,
+        target,
+        relocation.type_id,
+        &path.path,
+        candidates,
+    )?;
     let loaded = local_loaded(alloc, local, relocation, path)?;
     let values = match_values(alloc, target, relocation.kind, matches.as_slice())?;
     let type_name = path.type_name.as_str();
-    conclude(alloc, target, type_name, relocation.kind, loaded, values.as_slice())
+    conclude(
+        alloc,
+        target,
+        type_name,
+        relocation.kind,
+        loaded,
+        values.as_slice(),
+    )
 }

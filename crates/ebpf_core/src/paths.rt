@@ -3,6 +3,7 @@
 ghost use Rattle.std.specs.Prelude.{◌≡◌};
 ghost use Rattle.ebpf_core.specs.Answers.{Tells};
 ghost use Rattle.ebpf_core.specs.LocalPaths.{local_path, lone, named_variant, path_for, type_path, variant_path};
+ghost use Rattle.ebpf_core.specs.Subjects.{subject_of};
 
 use crate::access::access_parts;
 use crate::error::RelocationError;
@@ -21,14 +22,9 @@ pub enum NamedPath {
     /// The type as a whole.
     WholeType,
     /// The variant of an enumeration with a name.
-    Variant {
-        name: Text,
-    },
+    Variant { name: Text },
     /// The field that the steps lead to, which lies at `place` in the local type.
-    Field {
-        steps: Items<Step>,
-        place: Place,
-    },
+    Field { steps: Items<Step>, place: Place },
 }
 
 /// The local side of a record.
@@ -87,7 +83,13 @@ fn variant_path(
 {
     let Some(count) = ty.variant_count() else {
         let place = Text::from_str(alloc, record.type_name)?;
-        return invalid_kind(alloc, record.number, record.kind, place, kind_words(ty.kind()));
+        return invalid_kind(
+            alloc,
+            record.number,
+            record.kind,
+            place,
+            kind_words(ty.kind()),
+        );
     };
     let Some(part) = lone(parts) else {
         return invalid_access_string(alloc, record.access);

@@ -1,6 +1,6 @@
 //! Records over the types of a kernel, one after the other.
 
-ghost use Rattle.std.specs.Prelude.{◌≡◌};
+ghost use Rattle.std.specs.Prelude.{◌≡◌, Ok};
 ghost use Rattle.ebpf_base.specs.Faults.{Gives};
 ghost use Rattle.ebpf_btf.specs.Memory.{is_memory as is_btf_memory};
 ghost use Rattle.ebpf_core.specs.Answers.{Tells, of_types};
@@ -11,7 +11,7 @@ use crate::outcome::{Outcome, outcome_among};
 use crate::paths::local_path;
 use ebpf_base::{ByIndex, Items};
 use ebpf_btf::{Btf, BtfError, BtfKind, BtfType, Relocation, RelocationKind, TypeIndex};
-use std::alloc::Global;
+use std::alloc::{AllocError, Global};
 use std::marker::Model;
 
 /// Whether a type is an enumeration of 64 bits that was made a UNION.
@@ -110,6 +110,16 @@ impl<'a> CoreSearch<'a> {
         ids
     }
 
+    /// Keeps the candidates of a local type.
+    #[tactic(auto, using(crate::proofs::Kept::kept_more))]
+    fn keep(&mut self, local_id: u32, ids: Items<u32>) -> Result<(), AllocError>
+        requires { candidates_for self.old.local self.old.target local_id ≡ Ok ids }
+        ensures { self.new ≡ self.old }
+    {
+        self.kept.insert(local_id as usize, ids)?;
+        Ok(())
+    }
+
     /// What a record comes to.
     pub fn outcome(
         &mut self,
@@ -129,11 +139,25 @@ impl<'a> CoreSearch<'a> {
         }
         let type_id = relocation.type_id as usize;
         if let Some(ids) = self.kept.get(type_id) {
-            return outcome_among(alloc, self.local, self.target, relocation, &path, ids.as_slice());
+            return outcome_among(
+                alloc,
+                self.local,
+                self.target,
+                relocation,
+                &path,
+                ids.as_slice(),
+            );
         }
         let ids = self.look_up(alloc, relocation.type_id)?;
-        let outcome = outcome_among(alloc, self.local, self.target, relocation, &path, ids.as_slice());
-        self.kept.insert(type_id, ids)?;
+        let outcome = outcome_among(
+            alloc,
+            self.local,
+            self.target,
+            relocation,
+            &path,
+            ids.as_slice(),
+        );
+        self.keep(relocation.type_id, ids)?;
         outcome
     }
 }

@@ -8,13 +8,25 @@ use std::test::Fail;
 /// `struct s { int a; int b; }` behind the named types, as type 4.
 fn with_s(alloc: Global) -> Result<Btf, BtfError> {
     let mut btf = named_types(alloc)?;
-    add_struct(alloc, &mut btf, S, false, &[member(A, SIGNED, 0), member(B, SIGNED, 32)])?;
+    add_struct(
+        alloc,
+        &mut btf,
+        S,
+        false,
+        &[member(A, SIGNED, 0), member(B, SIGNED, 32)],
+    )?;
     Ok(btf)
 }
 
 /// A target `struct s` whose `b` has a type and stands at a bit.
 fn add_s_with_b(alloc: Global, btf: &mut Btf, btf_type: u32, bit: u32) -> Result<u32, BtfError> {
-    add_struct(alloc, btf, S, false, &[member(A, SIGNED, 0), member(B, btf_type, bit)])
+    add_struct(
+        alloc,
+        btf,
+        S,
+        false,
+        &[member(A, SIGNED, 0), member(B, btf_type, bit)],
+    )
 }
 
 /// What a record of a kind on `b` of the local struct comes to.
@@ -26,13 +38,28 @@ fn b_in(alloc: Global, target: &Btf, kind: RelocationKind) -> Result<String, Btf
 fn a_field_moves_into_an_unnamed_struct(rt: HostRuntime) -> Result<(), Fail> {
     let alloc = rt.alloc();
     let mut target = named_types(alloc)?;
-    let inner = add_struct(alloc, &mut target, 0, false, &[member(A, SIGNED, 0), member(B, SIGNED, 32)])?;
-    add_struct(alloc, &mut target, S, false, &[member(0, SIGNED, 0), member(0, inner, 32)])?;
+    let inner = add_struct(
+        alloc,
+        &mut target,
+        0,
+        false,
+        &[member(A, SIGNED, 0), member(B, SIGNED, 32)],
+    )?;
+    add_struct(
+        alloc,
+        &mut target,
+        S,
+        false,
+        &[member(0, SIGNED, 0), member(0, inner, 32)],
+    )?;
     let offset = b_in(alloc, &target, RelocationKind::FieldByteOffset)?;
     assert_eq!(rt; offset.as_str(), "Some(8)");
     add_s_with_b(alloc, &mut target, SIGNED, 32)?;
     let offset = b_in(alloc, &target, RelocationKind::FieldByteOffset)?;
-    assert_eq!(rt; offset.as_str(), "types of the kernel for `s` differ: [Text { text: \"s\" }]");
+    assert_eq!(rt;
+        offset.as_str(),
+        "types of the kernel for `s` differ: [Text { text: \"s\" }]"
+    );
     Ok(())
 }
 
@@ -57,12 +84,20 @@ fn every_match_agrees_also_without_a_value(rt: HostRuntime) -> Result<(), Fail> 
     assert_eq!(rt; shift.as_str(), "None");
     add_s_with_b(alloc, &mut target, UNSIGNED, 32)?;
     let shift = b_in(alloc, &target, RelocationKind::FieldLShift64)?;
-    assert_eq!(rt; shift.as_str(), "types of the kernel for `s` differ: [Text { text: \"s\" }]");
+    assert_eq!(rt;
+        shift.as_str(),
+        "types of the kernel for `s` differ: [Text { text: \"s\" }]"
+    );
     Ok(())
 }
 
 /// What is learned of a bit field `a` of a signed int, at a bit and with so many bits, on both sides.
-fn bit_field(alloc: Global, bit: u32, width: u32, kind: RelocationKind) -> Result<String, BtfError> {
+fn bit_field(
+    alloc: Global,
+    bit: u32,
+    width: u32,
+    kind: RelocationKind,
+) -> Result<String, BtfError> {
     let field = member(A, SIGNED, bit | (width << 24));
     let mut local = named_types(alloc)?;
     add_struct(alloc, &mut local, S, true, &[field])?;

@@ -7,6 +7,6 @@ mod fields;
 mod limits;
 #[cfg(test)]
 mod loads;
+pub mod sides;
 #[cfg(test)]
 mod types;
-pub mod sides;

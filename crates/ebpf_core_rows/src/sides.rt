@@ -7,12 +7,16 @@ use std::alloc::{AllocError, Global};
 
 /// Where the names `s`, `a` and `b` stand in the strings of `named_types`.
 pub const S: u32 = 1;
+
 pub const A: u32 = 3;
+
 pub const B: u32 = 5;
 
 /// The ids of the first types there: an unsigned int of 4 bytes, a signed one, an unsigned one of 16 bytes.
 pub const UNSIGNED: u32 = 1;
+
 pub const SIGNED: u32 = 2;
+
 pub const WIDE: u32 = 3;
 
 fn int(size: u32, int_data: u32) -> BtfType {

@@ -30,7 +30,10 @@ fn types_are_found_or_not(rt: HostRuntime) -> Result<(), Fail> {
     assert_eq!(rt; size.as_str(), "Some(8)");
     add_struct(alloc, &mut target, S, false, &[])?;
     let id = of_struct(alloc, &target, RelocationKind::TypeIdTarget)?;
-    assert_eq!(rt; id.as_str(), "types of the kernel for `s` differ: [Text { text: \"s\" }]");
+    assert_eq!(rt;
+        id.as_str(),
+        "types of the kernel for `s` differ: [Text { text: \"s\" }]"
+    );
     Ok(())
 }
 
@@ -52,7 +55,10 @@ fn values_are_widened_by_their_sign(rt: HostRuntime) -> Result<(), Fail> {
     let value = value_of_a(alloc, false, "0")?;
     assert_eq!(rt; value.as_str(), "Some(4294967295)");
     let refused = value_of_a(alloc, false, "1")?;
-    assert_eq!(rt; refused.as_str(), "invalid access `1` to `s`: 1 of 1: variants count from 0");
+    assert_eq!(rt;
+        refused.as_str(),
+        "invalid access `1` to `s`: 1 of 1: variants count from 0"
+    );
     let mut local = named_types(alloc)?;
     let target = named_types(alloc)?;
     let kind = RelocationKind::EnumVariantExists;
