@@ -1,5 +1,5 @@
 -- One step of a walk over a list, whose results so far are kept.
-use Rattle.std.proofs.Common.{◌≡◌, ℕ, suc, ◌+◌, ◌<◌, ◌≤◌, Bool, true, false, List, [], ◌∷◌, ◌++◌, length, drop, map, Option, Some, None, Result, Ok, Err, refl, sym, ap, ◌∙◌, append_assoc, append-nil, arith}
+use Rattle.std.proofs.Common.{◌≡◌, ℕ, suc, ◌+◌, ◌<◌, ◌≤◌, Bool, true, false, List, [], ◌∷◌, ◌++◌, length, drop, map, Option, Some, None, Result, Ok, Err, refl, sym, ap, ◌∙◌, append_assoc, append-nil, get_or, arith}
 use Rattle.std.specs.Prelude.{slice_index_or, option_map, if◌then◌else◌, filter, not}
 use Rattle.std.specs.List.{filter_map}
 use Rattle.std.proofs.Math.Seq.{drop-cons}
@@ -12,6 +12,12 @@ pub rest_more : {X : Type 0} (xs : List X) (i : ℕ) (x : X) → i < length xs �
 rest_more xs i x below here =
     let on : suc i ≡ i + 1 = omega arith in
     drop-cons xs i x below ∙ ap (λ y. y ∷ drop (suc i) xs) (sym here) ∙ ap (λ n. x ∷ drop n xs) on
+
+-- the same of numbers
+pub number_more : (xs : List ℕ) (i : ℕ) → i < length xs → drop i xs ≡ get_or xs i 0 ∷ drop (i + 1) xs
+number_more xs i below =
+    let on : suc i ≡ i + 1 = omega arith in
+    drop-cons xs i 0 below ∙ ap (λ n. get_or xs i 0 ∷ drop n xs) on
 
 -- at the end nothing is left
 pub rest_none : {X : Type 0} (xs : List X) (i : ℕ) → length xs ≤ i → drop i xs ≡ []

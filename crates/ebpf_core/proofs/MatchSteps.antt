@@ -1,5 +1,5 @@
 -- One step of a walk over candidates, over variants, over matches that may differ.
-use Rattle.std.proofs.Common.{◌≡◌, ℕ, suc, ◌+◌, ◌<◌, ◌≤◌, Bool, true, false, List, [], ◌∷◌, ◌++◌, length, drop, map, Option, Some, None, Result, Ok, Err, refl, sym, ap, ◌∙◌, append-nil}
+use Rattle.std.proofs.Common.{◌≡◌, ℕ, suc, ◌+◌, ◌<◌, ◌≤◌, Bool, true, false, List, [], ◌∷◌, ◌++◌, length, drop, map, Option, Some, None, Result, Ok, Err, refl, sym, ap, ◌∙◌, append-nil, get_or}
 use Rattle.std.specs.Prelude.{slice_index_or, slice_get, filter, if◌then◌else◌}
 use Rattle.std.specs.List.{filter_map}
 use Rattle.ebpf_btf.specs.declared.error.BtfError.{BtfError}
@@ -13,7 +13,7 @@ use Rattle.ebpf_core.specs.declared.paths.NamedPath.{NamedPath}
 use Rattle.std.specs.Result.{IsErrAnd}
 use Rattle.ebpf_core.specs.Answers.{Tells, each, if_ok, told}
 use Rattle.ebpf_core.specs.Matches.{first_variant, found_in, match_in, match_of, matches}
-use Rattle.ebpf_core.proofs.Lists.{onto, onto_push, rest_more, rest_none}
+use Rattle.ebpf_core.proofs.Lists.{onto, number_more, onto_push, rest_none}
 use Rattle.ebpf_core.proofs.Refusals.{refused_by}
 
 -- ---- candidates
@@ -50,27 +50,27 @@ module _ (local target : TypeInfo) (local_id : ℕ) (path : NamedPath) where
   unfolding matches
   no_candidates = refl
 
-  module _ (kept : List Match) (ids : List ℕ) (i id : ℕ) (below : i < length ids) (here : id ≡ slice_index_or ids i id) where
-    pub match_passed : (what : Option Found) → found_in local target local_id path id ≡ Ok what → what ≡ None
+  module _ (kept : List Match) (ids : List ℕ) (i : ℕ) (below : i < length ids) where
+    pub match_passed : (what : Option Found) → found_in local target local_id path (get_or ids i 0) ≡ Ok what → what ≡ None
         → onto kept (matches local target local_id path (drop i ids)) ≡ onto kept (matches local target local_id path (drop (i + 1) ids))
     match_passed what is none =
-        rw (rest_more ids i id below here, found_none id (drop (i + 1) ids) (is ∙ ap Ok none)) refl
+        rw (number_more ids i below, found_none (get_or ids i 0) (drop (i + 1) ids) (is ∙ ap Ok none)) refl
 
-    pub match_kept : (what : Option Found) (there : Found) → found_in local target local_id path id ≡ Ok what → what ≡ Some there
-        → onto kept (matches local target local_id path (drop i ids)) ≡ onto (kept ++ match_of id there ∷ []) (matches local target local_id path (drop (i + 1) ids))
+    pub match_kept : (what : Option Found) (there : Found) → found_in local target local_id path (get_or ids i 0) ≡ Ok what → what ≡ Some there
+        → onto kept (matches local target local_id path (drop i ids)) ≡ onto (kept ++ match_of (get_or ids i 0) there ∷ []) (matches local target local_id path (drop (i + 1) ids))
     match_kept what there is some =
-        rw (rest_more ids i id below here, found_one id (drop (i + 1) ids) there (is ∙ ap Ok some))
-        (onto_push kept (match_of id there) (matches local target local_id path (drop (i + 1) ids)))
+        rw (number_more ids i below, found_one (get_or ids i 0) (drop (i + 1) ids) there (is ∙ ap Ok some))
+        (onto_push kept (match_of (get_or ids i 0) there) (matches local target local_id path (drop (i + 1) ids)))
 
-    match_fault : (e : RelocationError) → found_in local target local_id path id ≡ Err e
+    match_fault : (e : RelocationError) → found_in local target local_id path (get_or ids i 0) ≡ Err e
         → onto kept (matches local target local_id path (drop i ids)) ≡ Err e
-    match_fault e is = rw (rest_more ids i id below here, found_fault id (drop (i + 1) ids) e is) refl
+    match_fault e is = rw (number_more ids i below, found_fault (get_or ids i 0) (drop (i + 1) ids) e is) refl
 
     pub match_refused : (all r : Result (List Match) RelocationError) (e : RelocationError) → IsErrAnd r (λ f. f ≡ e)
-        → Tells {X = Option Found} (Err e) (found_in local target local_id path id)
+        → Tells {X = Option Found} (Err e) (found_in local target local_id path (get_or ids i 0))
         → onto kept (matches local target local_id path (drop i ids)) ≡ all → Tells r all
     match_refused all r e is given so_far =
-        refused_by e (found_in local target local_id path id) r all is (λ fault. sym so_far ∙ match_fault (told e) fault) given
+        refused_by e (found_in local target local_id path (get_or ids i 0)) r all is (λ fault. sym so_far ∙ match_fault (told e) fault) given
 
   pub matches_end : (kept : List Match) (ids : List ℕ) (i : ℕ) → length ids ≤ i
       → onto kept (matches local target local_id path (drop i ids)) ≡ Ok kept

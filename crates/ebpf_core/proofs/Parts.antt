@@ -39,7 +39,8 @@ part_read piece (Err e) h =
     cc
 
 -- the parts of the texts that pieces lend
-pub parts_listed : {E : Type 0} (r : Result (Option (List ℕ)) E) (pieces : List (Bor (List ℕ))) (texts : List (List ℕ)) → map (λ piece. piece.now) pieces ≡ texts
-    → IfOk r (λ parts. parts ≡ all_of (map (λ piece. part_of piece.now) pieces)) → IfOk r (λ parts. parts ≡ all_of (map part_of texts))
-parts_listed r pieces texts lent given =
-    subst (λ (numbers : List (Option ℕ)). IfOk r (λ parts. parts ≡ all_of numbers)) (sym (map-map part_of (λ piece. piece.now) pieces) ∙ ap (map part_of) lent) given
+pub parts_listed : {E : Type 0} (r : Result (Option (List ℕ)) E) (pieces slice : List (Bor (List ℕ))) (texts : List (List ℕ)) → map (λ piece. piece.now) pieces ≡ texts
+    → slice ≡ pieces → IfOk r (λ parts. parts ≡ all_of (map (λ piece. part_of piece.now) slice)) → IfOk r (λ parts. parts ≡ all_of (map part_of texts))
+parts_listed r pieces slice texts lent same given =
+    subst (λ (numbers : List (Option ℕ)). IfOk r (λ parts. parts ≡ all_of numbers))
+    (ap (map (λ (piece : Bor (List ℕ)). part_of piece.now)) same ∙ sym (map-map part_of (λ piece. piece.now) pieces) ∙ ap (map part_of) lent) given

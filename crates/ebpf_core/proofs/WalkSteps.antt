@@ -1,5 +1,5 @@
 -- One step of a walk over the parts of an access string, and over matches that may differ.
-use Rattle.std.proofs.Common.{◌≡◌, ℕ, ◌+◌, ◌<◌, ◌≤◌, Bool, true, false, List, [], ◌∷◌, ◌++◌, length, drop, Result, Ok, Err, refl, sym, ap, ◌∙◌, append-nil}
+use Rattle.std.proofs.Common.{◌≡◌, ℕ, ◌+◌, ◌<◌, ◌≤◌, Bool, true, false, List, [], ◌∷◌, ◌++◌, length, drop, Result, Ok, Err, refl, sym, ap, ◌∙◌, append-nil, get_or}
 use Rattle.std.specs.Prelude.{slice_index_or, filter, not, if◌then◌else◌}
 use Rattle.ebpf_btf.specs.TypeInfo.{TypeInfo}
 use Rattle.ebpf_core.specs.declared.error.RelocationError.{RelocationError}
@@ -10,7 +10,7 @@ use Rattle.ebpf_core.specs.Answers.{Tells, each, if_ok, of_types, told}
 use Rattle.ebpf_core.specs.LocalPaths.{part_step, walked}
 use Rattle.ebpf_core.specs.Matches.{name_at}
 use Rattle.ebpf_core.specs.Outcomes.{agree, differing_names}
-use Rattle.ebpf_core.proofs.Lists.{onto, onto_push, rest_more, rest_none}
+use Rattle.ebpf_core.proofs.Lists.{number_more, onto, onto_push, rest_more, rest_none}
 use Rattle.ebpf_core.proofs.Refusals.{refused_by}
 
 -- ---- parts
@@ -25,17 +25,17 @@ module _ (info : TypeInfo) (number : ℕ) (access : List ℕ) where
   walked_none from = refl
 
   module _ (parts : List ℕ) (i : ℕ) (from : LocalSpot) (all : Result LocalSpot RelocationError) (so_far : walked info number access (drop i parts) from ≡ all) where
-    module _ (part : ℕ) (below : i < length parts) (here : part ≡ slice_index_or parts i part) where
-      part_taken : walked info number access (drop i parts) from ≡ if_ok (part_step info number access from part) (walked info number access (drop (i + 1) parts))
-      part_taken = ap (λ ps. walked info number access ps from) (rest_more parts i part below here) ∙ walked_on part (drop (i + 1) parts) from
+    module _ (below : i < length parts) where
+      part_taken : walked info number access (drop i parts) from ≡ if_ok (part_step info number access from (get_or parts i 0)) (walked info number access (drop (i + 1) parts))
+      part_taken = ap (λ ps. walked info number access ps from) (number_more parts i below) ∙ walked_on (get_or parts i 0) (drop (i + 1) parts) from
 
-      pub part_next : (next : LocalSpot) → part_step info number access from part ≡ Ok next → walked info number access (drop (i + 1) parts) next ≡ all
+      pub part_next : (next : LocalSpot) → part_step info number access from (get_or parts i 0) ≡ Ok next → walked info number access (drop (i + 1) parts) next ≡ all
       part_next next is = sym (part_taken ∙ ap (λ r. if_ok r (walked info number access (drop (i + 1) parts))) is) ∙ so_far
 
       pub part_refused : (r : Result LocalSpot RelocationError) (e : RelocationError) → IsErrAnd r (λ f. f ≡ e)
-          → Tells {X = LocalSpot} (Err e) (part_step info number access from part) → Tells r all
+          → Tells {X = LocalSpot} (Err e) (part_step info number access from (get_or parts i 0)) → Tells r all
       part_refused r e is given =
-          refused_by e (part_step info number access from part) r all is
+          refused_by e (part_step info number access from (get_or parts i 0)) r all is
           (λ fault. sym so_far ∙ part_taken ∙ ap (λ a. if_ok a (walked info number access (drop (i + 1) parts))) fault) given
 
     pub parts_over : length parts ≤ i → all ≡ Ok from

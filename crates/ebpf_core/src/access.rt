@@ -43,12 +43,11 @@ fn all_parts(alloc: Global, pieces: &[&str]) -> Result<Option<Items<usize>>, All
 }
 
 /// The parts of an access string, where each piece between its colons is one.
-#[tactic(auto, using(crate::proofs::Parts::parts_listed))]
 fn parts_of(alloc: Global, access: &str) -> Result<Option<Items<usize>>, AllocError>
     ensures { IfOk result (λ parts. parts ≡ parts_of access.now) }
 {
     let pieces = pieces_of(alloc, access)?;
-    all_parts(alloc, &pieces)
+    all_parts(alloc, pieces.as_slice())
 }
 
 /// The parts of an access string. The errors speak of it and of the name of the local type.

@@ -8,7 +8,7 @@ ghost use Rattle.ebpf_core.specs.LocalPaths.{ends_struct, field_path, into_array
 use crate::error::RelocationError;
 use crate::faults::{invalid_access_index, invalid_access_string, invalid_kind};
 use crate::paths::NamedPath;
-use crate::wording::{Record, kind_words, path_words};
+use crate::wording::{Request, kind_words, path_words};
 use ebpf_base::{Items, Text};
 use ebpf_btf::{Btf, BtfArray, BtfError, BtfMember, BtfType};
 use ebpf_places::{Place, PlaceEnd, Step};
@@ -110,17 +110,17 @@ fn is_element(local: &Btf, from: &LocalSpot, count: u32, index: usize) -> bool
 fn into_array(
     alloc: Global,
     local: &Btf,
-    record: Record<'_>,
+    request: Request<'_>,
     from: LocalSpot,
     array: BtfArray,
     index: usize,
 ) -> Result<LocalSpot, RelocationError>
-    ensures { Tells result (into_array local.now record.entry.access.now from array index) }
+    ensures { Tells result (into_array local.now request.entry.access.now from array index) }
 {
     if !is_element(local, &from, array.len, index) {
-        let place = path_words(alloc, record.type_name, from.steps.as_slice())?;
+        let place = path_words(alloc, request.type_name, from.steps.as_slice())?;
         let len = array.len as usize;
-        return invalid_access_index(alloc, record.access, place, index, len, "elements");
+        return invalid_access_index(alloc, request.access, place, index, len, "elements");
     }
     to_element(
         local,
@@ -173,21 +173,21 @@ fn to_member(
 fn into_members(
     alloc: Global,
     local: &Btf,
-    record: Record<'_>,
+    request: Request<'_>,
     from: LocalSpot,
     parent: u32,
     ty: &BtfType,
     members: &[BtfMember],
     index: usize,
 ) -> Result<LocalSpot, RelocationError>
-    ensures { Tells result (into_members local.now record.entry.access.now from parent ty.now members.now index) }
+    ensures { Tells result (into_members local.now request.entry.access.now from parent ty.now members.now index) }
 {
     match members.get(index) {
         Some(member) => to_member(alloc, local, from, parent, ty, index, member),
         None => {
-            let place = path_words(alloc, record.type_name, from.steps.as_slice())?;
+            let place = path_words(alloc, request.type_name, from.steps.as_slice())?;
             let len = members.len();
-            invalid_access_index(alloc, record.access, place, index, len, "members")
+            invalid_access_index(alloc, request.access, place, index, len, "members")
         }
     }
 }
@@ -197,44 +197,44 @@ fn into_members(
 fn part_step(
     alloc: Global,
     local: &Btf,
-    record: Record<'_>,
+    request: Request<'_>,
     from: LocalSpot,
     part: usize,
 ) -> Result<LocalSpot, RelocationError>
-    ensures { Tells result (part_step local.now record.entry.number record.entry.access.now from part) }
+    ensures { Tells result (part_step local.now request.entry.number request.entry.access.now from part) }
 {
     let type_id = local.resolve_type(from.type_id)?;
     let ty = local.type_by_id(type_id)?;
     if let Some(members) = ty.members() {
-        return into_members(alloc, local, record, from, type_id, ty, members, part);
+        return into_members(alloc, local, request, from, type_id, ty, members, part);
     }
     if let Some(array) = ty.array() {
-        return into_array(alloc, local, record, from, array, part);
+        return into_array(alloc, local, request, from, array, part);
     }
-    let place = path_words(alloc, record.type_name, from.steps.as_slice())?;
+    let place = path_words(alloc, request.type_name, from.steps.as_slice())?;
     invalid_kind(
         alloc,
-        record.number,
-        record.kind,
+        request.number,
+        request.kind,
         place,
         kind_words(ty.kind()),
     )
 }
 
 /// Where parts lead, one after the other.
-#[tactic(auto, using(crate::proofs::WalkSteps::part_next, crate::proofs::WalkSteps::part_refused, crate::proofs::WalkSteps::parts_over))]
+#[tactic(auto, using(crate::proofs::WalkSteps::parts_over))]
 fn walk(
     alloc: Global,
     local: &Btf,
-    record: Record<'_>,
+    request: Request<'_>,
     start: LocalSpot,
     parts: &[usize],
 ) -> Result<LocalSpot, RelocationError>
-    ensures { Tells result (walked local.now record.entry.number record.entry.access.now parts.now start) }
+    ensures { Tells result (walked local.now request.entry.number request.entry.access.now parts.now start) }
 {
     let mut from = start;
     for part in parts {
-        let next = part_step(alloc, local, record, from, *part)?;
+        let next = part_step(alloc, local, request, from, *part)?;
         from = next;
     }
     Ok(from)
@@ -246,17 +246,17 @@ fn walk(
 pub fn field_path(
     alloc: Global,
     local: &Btf,
-    record: Record<'_>,
+    request: Request<'_>,
     type_id: u32,
     parts: &[usize],
 ) -> Result<NamedPath, RelocationError>
-    ensures { Tells result (field_path local.now record.entry.number record.entry.access.now type_id parts.now) }
+    ensures { Tells result (field_path local.now request.entry.number request.entry.access.now type_id parts.now) }
 {
     let Some((root, parts)) = parts.split_first() else {
-        return invalid_access_string(alloc, record.access);
+        return invalid_access_string(alloc, request.access);
     };
     let start = to_element(local, Items::new(alloc), 0, type_id, *root)?;
-    let end = walk(alloc, local, record, start, parts)?;
+    let end = walk(alloc, local, request, start, parts)?;
     Ok(NamedPath::Field {
         steps: end.steps,
         place: end.place,

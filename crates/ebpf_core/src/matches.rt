@@ -128,7 +128,7 @@ fn found_in(
 }
 
 /// The candidates that match, in their order.
-#[tactic(auto, using(crate::proofs::MatchSteps::match_passed, crate::proofs::MatchSteps::match_kept, crate::proofs::MatchSteps::match_refused, crate::proofs::MatchSteps::matches_end))]
+#[tactic(auto, using(crate::proofs::MatchSteps::matches_end))]
 pub fn matches_among(
     alloc: Global,
     local: &Btf,

@@ -10,7 +10,7 @@ use crate::error::RelocationError;
 use crate::faults::{invalid_access_index, invalid_access_string, invalid_kind};
 use crate::local_walk::field_path;
 use crate::subject::{Subject, subject_of};
-use crate::wording::{Record, kind_words};
+use crate::wording::{Request, kind_words};
 use ebpf_base::{Items, Text};
 use ebpf_btf::{Btf, BtfType, BtfVariant, Relocation};
 use ebpf_places::{Place, Step};
@@ -75,30 +75,30 @@ fn named_variant(
 fn variant_path(
     alloc: Global,
     local: &Btf,
-    record: Record<'_>,
+    request: Request<'_>,
     ty: &BtfType,
     parts: &[usize],
 ) -> Result<NamedPath, RelocationError>
-    ensures { Tells result (variant_path local.now record.entry.number record.entry.access.now ty.now parts.now) }
+    ensures { Tells result (variant_path local.now request.entry.number request.entry.access.now ty.now parts.now) }
 {
     let Some(count) = ty.variant_count() else {
-        let place = Text::from_str(alloc, record.type_name)?;
+        let place = Text::from_str(alloc, request.type_name)?;
         return invalid_kind(
             alloc,
-            record.number,
-            record.kind,
+            request.number,
+            request.kind,
             place,
             kind_words(ty.kind()),
         );
     };
     let Some(part) = lone(parts) else {
-        return invalid_access_string(alloc, record.access);
+        return invalid_access_string(alloc, request.access);
     };
     match ty.variant(part) {
         Some(variant) => named_variant(alloc, local, variant),
         None => {
-            let place = Text::from_str(alloc, record.type_name)?;
-            invalid_access_index(alloc, record.access, place, part, count, "variants")
+            let place = Text::from_str(alloc, request.type_name)?;
+            invalid_access_index(alloc, request.access, place, part, count, "variants")
         }
     }
 }
@@ -107,19 +107,19 @@ fn variant_path(
 fn path_for(
     alloc: Global,
     local: &Btf,
-    record: Record<'_>,
+    request: Request<'_>,
     type_id: u32,
     parts: &[usize],
 ) -> Result<NamedPath, RelocationError>
-    ensures { Tells result (path_for local.now record.entry.number record.entry.access.now type_id parts.now (subject_of record.entry.kind)) }
+    ensures { Tells result (path_for local.now request.entry.number request.entry.access.now type_id parts.now (subject_of request.entry.kind)) }
 {
-    match subject_of(record.kind) {
-        Subject::WholeType => type_path(alloc, record.access, parts),
+    match subject_of(request.kind) {
+        Subject::WholeType => type_path(alloc, request.access, parts),
         Subject::Variant => {
             let ty = local.type_by_id(type_id)?;
-            variant_path(alloc, local, record, ty, parts)
+            variant_path(alloc, local, request, ty, parts)
         }
-        Subject::Field => field_path(alloc, local, record, type_id, parts),
+        Subject::Field => field_path(alloc, local, request, type_id, parts),
     }
 }
 
@@ -145,13 +145,13 @@ pub fn local_path(
     let access = local.string_at(relocation.access_str_off)?;
     let parts = access_parts(alloc, type_name.as_str(), access.as_str())?;
     let type_id = local.resolve_type(relocation.type_id)?;
-    let record = Record {
+    let request = Request {
         number: relocation.number,
         kind: relocation.kind,
         access: access.as_str(),
         type_name: type_name.as_str(),
     };
-    let path = path_for(alloc, local, record, type_id, parts.as_slice())?;
+    let path = path_for(alloc, local, request, type_id, parts.as_slice())?;
     Ok(LocalPath {
         type_name: Text::from_str(alloc, type_name.as_str())?,
         path,

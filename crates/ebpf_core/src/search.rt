@@ -111,7 +111,6 @@ impl<'a> CoreSearch<'a> {
     }
 
     /// Keeps the candidates of a local type.
-    #[tactic(auto, using(crate::proofs::Kept::kept_more))]
     fn keep(&mut self, local_id: u32, ids: Items<u32>) -> Result<(), AllocError>
         requires { candidates_for self.old.local self.old.target local_id ≡ Ok ids }
         ensures { self.new ≡ self.old }

@@ -7,7 +7,7 @@ use std::alloc::{AllocError, Global};
 
 /// A record, as its errors speak of it.
 #[derive(Clone, Copy)]
-pub struct Record<'a> {
+pub struct Request<'a> {
     /// The place among the records of its section.
     pub number: usize,
     pub kind: RelocationKind,
