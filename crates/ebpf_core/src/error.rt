@@ -35,7 +35,7 @@ pub enum RelocationError {
     },
     /// The types of the kernel that a local type stands for don't agree. `candidates` has the names of those that
     /// differ from the first, by id.
-    #[error("types of the kernel for `{type_name}` differ: {candidates:?}")]
+    #[error("types of the kernel for `{type_name}` differ")]
     ConflictingCandidates {
         type_name: Text,
         candidates: Items<Text>,

@@ -58,7 +58,7 @@ fn a_field_moves_into_an_unnamed_struct(rt: HostRuntime) -> Result<(), Fail> {
     let offset = b_in(alloc, &target, RelocationKind::FieldByteOffset)?;
     assert_eq!(rt;
         offset.as_str(),
-        "types of the kernel for `s` differ: [Text { text: \"s\" }]"
+        "types of the kernel for `s` differ"
     );
     Ok(())
 }
@@ -86,7 +86,7 @@ fn every_match_agrees_also_without_a_value(rt: HostRuntime) -> Result<(), Fail> 
     let shift = b_in(alloc, &target, RelocationKind::FieldLShift64)?;
     assert_eq!(rt;
         shift.as_str(),
-        "types of the kernel for `s` differ: [Text { text: \"s\" }]"
+        "types of the kernel for `s` differ"
     );
     Ok(())
 }
