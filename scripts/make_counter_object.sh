@@ -1,8 +1,6 @@
 #!/bin/sh
-# Makes crates/ebpf_rows/data/counter.o of counter.c beside it, and of it the constant in src/counter_object.rt, with
-# clang and llvm-strip of LLVM 14.
+# Makes crates/ebpf_rows/data/counter.o of counter.c beside it, with clang and llvm-strip of LLVM 14. make_rows.py reads it.
 set -e
 cd "$(dirname "$0")/../crates/ebpf_rows/data"
 clang -target bpf -O2 -g -fdebug-compilation-dir=. -c counter.c -o counter.o
 llvm-strip -g counter.o
-../../../scripts/object_literal.py counter.o > ../src/counter_object.rt

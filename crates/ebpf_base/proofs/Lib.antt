@@ -5,7 +5,9 @@ pub mod First
 pub mod FirstFaults
 pub mod Keyed
 pub mod Lists
+pub mod Mapped
 pub mod Maps
+pub mod Parts
 pub mod Pointwise
 pub mod Ranges
 pub mod Sorted

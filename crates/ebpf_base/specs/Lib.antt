@@ -3,3 +3,5 @@ pub mod Faults
 pub mod FirstFault
 pub mod Keyed
 pub mod Keys
+pub mod Mapped
+pub mod Parts

@@ -1,6 +1,6 @@
 //! Values by the index of a section and an address in it, in bytes, in order, seen as a finite map.
 
-ghost use Rattle.std.specs.Prelude.{◌≡◌, ℕ, ◌<◌, ◌^◌, ◌↔◌, length, OnOk, OnErr, OnSome, IfOk, IsTrue, MatchOption, Ok, Err};
+ghost use Rattle.std.specs.Prelude.{◌≡◌, ℕ, ◌<◌, ◌^◌, ◌↔◌, length, OnOk, OnErr, OnSome, IfOk, IsTrue, MatchOption, Ok, Err, true};
 ghost use Rattle.std.specs.List.{find};
 ghost use Rattle.std.specs.Option.{option_copied, option_copied_mut, option_map};
 ghost use Rattle.std.specs.Borrow.{LendsSo, sem};
@@ -10,6 +10,7 @@ ghost use Rattle.std.specs.List.Sorted.{IsStrictlySortedBy};
 ghost use Rattle.std.specs.Map.{keys_of};
 ghost use Rattle.std.specs.Ordering.{is_le};
 ghost use Rattle.ebpf_base.specs.Keys.{key_cmp, coded_key, key_total};
+ghost use Rattle.ebpf_base.specs.Mapped.{map_values, Writes, WritesBy};
 ghost use Rattle.ebpf_base.specs.contracts.by_key.ByKey.{the_row};
 
 use std::alloc::{AllocError, Global};
@@ -149,6 +150,24 @@ impl<V: Drop> ByKey<V> {
     {
         Ok(self.entries.insert(key, value)?)
     }
+
+    /// Writes each value in place, in the order of the keys. No memory is taken.
+    pub fn write_values<F: Fn(&mut V) + Drop>(&mut self, write: F)
+        requires { F.IsAlwaysCallable write }
+        ensures { (f : V → V) → WritesBy F.Fn write f → self.new ≡ map_values f self.old }
+    {
+        self.entries.retain(|_, value| is_written(&write, value));
+    }
+}
+
+// Writes a value in place, and keeps it.
+fn is_written<V, F: Fn(&mut V)>(write: &F, value: &mut V) -> bool
+    requires { F.IsAlwaysCallable write.now }
+    ensures kept { result ≡ true }
+    ensures written { Writes F.Fn write.now value.old value.new }
+{
+    write(value);
+    true
 }
 
 impl<V: Clone> Clone for ByKey<V> {

@@ -11,6 +11,7 @@ ghost use Rattle.std.specs.List.Sorted.{IsStrictlySortedBy};
 ghost use Rattle.std.specs.Map.{keys_of};
 ghost use Rattle.std.specs.Coded.{coded_ℕ};
 ghost use Rattle.std.specs.Ordering.{nat_cmp, is_le};
+ghost use Rattle.ebpf_base.specs.Parts.{entries_from, entries_from_to};
 ghost use Rattle.ebpf_base.specs.contracts.by_offset.ByOffset.{the_row};
 
 use std::alloc::{AllocError, Global};
@@ -120,6 +121,22 @@ impl<V> ByOffset<V> {
             Some((at, value)) => Some((*at, value)),
             None => None,
         }
+    }
+
+    /// The entries of the offsets from `from` on, in order.
+    pub fn from_offset(&self, from: u64) -> btree_map::Range<'_, u64, V>
+        ensures part { result ≡ entries_from from (map.entries self.now) }
+        ensures fits { length result < 2 ^ 63 }
+    {
+        self.entries.range(from..)
+    }
+
+    /// The entries of the offsets from `from` on and below `to`, in order. Where `to` isn't above `from` there are none.
+    pub fn range(&self, from: u64, to: u64) -> btree_map::Range<'_, u64, V>
+        ensures part { result ≡ entries_from_to from to (map.entries self.now) }
+        ensures fits { length result < 2 ^ 63 }
+    {
+        self.entries.range(from..to.max(from))
     }
 
     /// Puts a value in the place of the one at a key, which comes back. `Err` gives the value back

@@ -1,10 +1,17 @@
-//! `ebpf-bench`: how long type information takes to be read, to be indexed, and to be asked for candidates.
+//! `ebpf-bench`: how long type information takes to be read, to be indexed, and to be asked.
 //!
-//! It is run by hand, on the `.BTF` of a file, or on one that it makes of a kernel's size.
+//! It is run on the `.BTF` of a file, or on one that it makes of a kernel's size. It prints what it found, and on the
+//! standard error how long each step took, in microseconds.
 #![tactic(auto)]
 
+mod error;
+mod found;
+mod many_types;
+
+use crate::error::BenchError;
+use crate::found::{print_counts, print_last};
+use crate::many_types::{KERNEL_GROUPS, many_types};
 use ebpf_btf::{Btf, Endianness, TypeIndex};
-use ebpf_btf_rows::many_types::{KERNEL_GROUPS, many_types};
 use std::process::ExitCode;
 use std::time::Instant;
 use std::{env, fs};
@@ -29,62 +36,38 @@ fn only_word(rt: &HostRuntime) -> Option<String> {
 }
 
 /// The bytes of a file, or those that are made.
-fn bytes_of(rt: &HostRuntime, word: &str) -> anyhow::Result<Vec<u8>> {
+fn bytes_of(rt: &HostRuntime, word: &str) -> Result<Vec<u8>, BenchError> {
     if word == "--generated" {
         return Ok(many_types(rt.alloc(), KERNEL_GROUPS)?);
     }
     Ok(fs::read(rt, word)?)
 }
 
-/// How many candidates the names of all types have together.
-fn count_candidates(btf: &Btf, index: &TypeIndex) -> u64 {
-    let mut count = 0u64;
-    for ty in btf.types() {
-        let Ok(name) = btf.type_name(ty) else {
-            continue;
-        };
-        if let Ok(ids) = index.candidates(ty.kind(), name.as_str()) {
-            count = count.wrapping_add(ids.len() as u64);
-        }
-    }
-    count
-}
-
-/// How many types have a size.
-fn count_sized(btf: &Btf) -> u64 {
-    let mut count = 0u64;
-    for (id, _ty) in btf.types().iter().enumerate() {
-        if btf.type_size(id as u32).is_ok() {
-            count = count.wrapping_add(1);
-        }
-    }
-    count
-}
-
-/// Prints the times, in microseconds.
-fn measure(rt: &HostRuntime, bytes: &[u8]) -> anyhow::Result<()> {
-    let start = Instant::now(rt)?;
-    let btf = Btf::parse(rt.alloc(), bytes, Endianness::Little)?;
+/// Says how long a step took.
+fn say_time(rt: &HostRuntime, step: &str, start: Instant) -> Result<(), BenchError> {
     let time = start.elapsed(rt)?.as_micros();
-    let (length, types) = (bytes.len(), btf.types().len());
-    println!(rt; "parse: {time} us ({length} bytes, {types} types)")?;
-    let start = Instant::now(rt)?;
-    let index = TypeIndex::new(rt.alloc(), &btf)?;
-    let time = start.elapsed(rt)?.as_micros();
-    println!(rt; "index: {time} us")?;
-    let start = Instant::now(rt)?;
-    let count = count_candidates(&btf, &index);
-    let time = start.elapsed(rt)?.as_micros();
-    println!(rt; "candidates of each type's name: {time} us ({count} found)")?;
-    let start = Instant::now(rt)?;
-    let count = count_sized(&btf);
-    let time = start.elapsed(rt)?.as_micros();
-    println!(rt; "size of each type: {time} us ({count} have one)")?;
+    eprintln!(rt; "{step}: {time} us")?;
     Ok(())
 }
 
+/// Takes the steps.
+fn measure(rt: &HostRuntime, bytes: &[u8]) -> Result<(), BenchError> {
+    let start = Instant::now(rt)?;
+    let btf = Btf::parse(rt.alloc(), bytes, Endianness::Little)?;
+    say_time(rt, "parse", start)?;
+    let start = Instant::now(rt)?;
+    let index = TypeIndex::new(rt.alloc(), &btf)?;
+    say_time(rt, "index", start)?;
+    let start = Instant::now(rt)?;
+    print_counts(rt, &btf, &index)?;
+    say_time(rt, "candidates and sizes", start)?;
+    let start = Instant::now(rt)?;
+    print_last(rt, &btf, &index)?;
+    say_time(rt, "ten ids by name", start)
+}
+
 /// Reads the bytes and measures.
-fn run(rt: &HostRuntime, word: &str) -> anyhow::Result<()> {
+fn run(rt: &HostRuntime, word: &str) -> Result<(), BenchError> {
     let bytes = bytes_of(rt, word)?;
     measure(rt, &bytes)
 }

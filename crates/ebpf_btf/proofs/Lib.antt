@@ -4,10 +4,13 @@ pub mod Comparing
 pub mod Copies
 pub mod Essentials
 pub mod ExtSections
+pub mod ExtSpelled
 pub mod Fields
 pub mod InOrder
+pub mod KindRows
 pub mod Looks
 pub mod LossyTexts
+pub mod NearTexts
 pub mod OneAfterOther
 pub mod RecordPlaces
 pub mod Refusals

@@ -5,7 +5,9 @@ pub mod EssentialNames
 pub mod ExtFormat
 pub mod ExtInfos
 pub mod ExtReading
+pub mod ExtSpelling
 pub mod Format
+pub mod KindTables
 pub mod Memory
 pub mod Next
 pub mod Numbers

@@ -1,8 +1,9 @@
 //! `.BTF.ext`, read.
 
-ghost use Rattle.std.specs.Prelude.{◌≡◌, ◌≤◌, length, IfOk};
+ghost use Rattle.std.specs.Prelude.{◌≡◌, ◌≤◌, length, IfOk, Ok};
 ghost use Rattle.ebpf_base.specs.Faults.{Gives};
-ghost use Rattle.ebpf_btf.specs.ExtReading.{read_ext, func_sections, line_sections, relocation_sections};
+ghost use Rattle.ebpf_btf.specs.ExtReading.{ExtInfo, read_ext, func_sections, line_sections, relocation_sections};
+ghost use Rattle.ebpf_btf.specs.ExtSpelling.{SpellsExt};
 ghost use Rattle.ebpf_btf.specs.ExtFormat.{func_part, line_part, record_size};
 ghost use Rattle.ebpf_btf.specs.Memory.{is_memory};
 ghost use Rattle.ebpf_btf.specs.Reading.{header_length};
@@ -62,6 +63,38 @@ impl Model for BtfExt {
     } };
 }
 
+/// The three parts, read.
+#[tactic(auto, unfolding(crate::specs::ExtReading::read_ext, crate::specs::ExtReading::func_sections, crate::specs::ExtReading::line_sections, crate::specs::ExtReading::relocation_sections))]
+fn read_parts(
+    alloc: Global,
+    endianness: Endianness,
+    data: &[u8],
+    btf: &Btf,
+) -> Result<BtfExt, BtfError>
+    ensures { Gives is_memory result (read_ext endianness «data».now btf.now.strings) }
+{
+    let header = read_header_length(endianness, data)?;
+    let func_part = read_part(endianness, data, header, FUNC_PART)?;
+    let funcs = read_func_sections(alloc, endianness, data, btf, func_part)?;
+    let line_part = read_part(endianness, data, header, LINE_PART)?;
+    let lines = read_line_sections(alloc, endianness, data, btf, line_part)?;
+    let relocation_part = read_part(endianness, data, header, RELOCATION_PART)?;
+    let relocations = read_relocation_sections(alloc, endianness, data, relocation_part)?;
+    Ok(BtfExt {
+        func_info: FuncInfo {
+            sections: funcs,
+            alloc,
+        },
+        line_info: LineInfo {
+            sections: lines,
+            alloc,
+        },
+        relocations,
+        func_info_rec_size: func_part.record_size,
+        line_info_rec_size: line_part.record_size,
+    })
+}
+
 impl BtfExt {
     /// What `.BTF.ext` has: three parts, on functions, on lines and with CO-RE relocations. Each has the size of
     /// its records and then sections, each with the offset of its name, the number of its records and the records.
@@ -75,35 +108,18 @@ impl BtfExt {
     /// shorter than 8 bytes (functions) or 16 bytes (lines, relocations) in a section that has some.
     /// `InvalidStringOffset`: a section's name on functions or lines can't be read. `InvalidRelocationKind`: a
     /// relocation whose kind is past 11. `OutOfMemory` where memory is refused.
-    #[tactic(auto, unfolding(crate::specs::ExtReading::read_ext, crate::specs::ExtReading::func_sections, crate::specs::ExtReading::line_sections, crate::specs::ExtReading::relocation_sections))]
+    #[tactic(auto, using(crate::proofs::ExtSpelled::ext_found, crate::proofs::ExtSpelled::ext_only))]
     pub fn parse(
         alloc: Global,
         data: &[u8],
         endianness: Endianness,
         btf: &Btf,
     ) -> Result<BtfExt, BtfError>
-        ensures { Gives is_memory result (read_ext endianness «data».now btf.now.strings) }
+        ensures exact { Gives is_memory result (read_ext endianness «data».now btf.now.strings) }
+        ensures found { IfOk result (λ ext. SpellsExt endianness «data».now btf.now.strings ext) }
+        ensures only { (ext : ExtInfo) → SpellsExt endianness «data».now btf.now.strings ext → Gives is_memory result (Ok ext) }
     {
-        let header = read_header_length(endianness, data)?;
-        let func_part = read_part(endianness, data, header, FUNC_PART)?;
-        let funcs = read_func_sections(alloc, endianness, data, btf, func_part)?;
-        let line_part = read_part(endianness, data, header, LINE_PART)?;
-        let lines = read_line_sections(alloc, endianness, data, btf, line_part)?;
-        let relocation_part = read_part(endianness, data, header, RELOCATION_PART)?;
-        let relocations = read_relocation_sections(alloc, endianness, data, relocation_part)?;
-        Ok(BtfExt {
-            func_info: FuncInfo {
-                sections: funcs,
-                alloc,
-            },
-            line_info: LineInfo {
-                sections: lines,
-                alloc,
-            },
-            relocations,
-            func_info_rec_size: func_part.record_size,
-            line_info_rec_size: line_part.record_size,
-        })
+        read_parts(alloc, endianness, data, btf)
     }
 
     /// The CO-RE relocations of the sections in order, each list after the offset of its section's name in the

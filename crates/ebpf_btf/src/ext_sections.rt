@@ -11,8 +11,9 @@ use crate::endianness::Endianness;
 use crate::error::BtfError;
 use crate::ext_infos::{FuncSecInfo, LineSecInfo};
 use crate::ext_part::{Part, SECTION_HEAD, read_section_head};
-use crate::ext_records::{read_func_records, read_line_records, read_relocations};
+use crate::ext_records::read_relocations;
 use crate::relocation::Relocation;
+use crate::rows::read_rows;
 use ebpf_base::{ByName, Items, Text};
 use std::alloc::Global;
 
@@ -46,7 +47,7 @@ fn read_func_section(
     let infos = FuncSecInfo {
         sec_name_offset: head.name_offset,
         num_info: head.count,
-        func_info: read_func_records(alloc, order, bytes, place + SECTION_HEAD, size, count)?,
+        func_info: read_rows(alloc, order, bytes, place + SECTION_HEAD, size, count)?,
     };
     Ok(((name, infos), head.next))
 }
@@ -94,7 +95,7 @@ fn read_line_section(
     let infos = LineSecInfo {
         sec_name_offset: head.name_offset,
         num_info: head.count,
-        line_info: read_line_records(alloc, order, bytes, place + SECTION_HEAD, size, count)?,
+        line_info: read_rows(alloc, order, bytes, place + SECTION_HEAD, size, count)?,
     };
     Ok(((name, infos), head.next))
 }

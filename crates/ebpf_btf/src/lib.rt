@@ -28,6 +28,7 @@ mod pair;
 mod parse;
 mod read_type;
 mod relocation;
+mod rows;
 mod steps;
 mod strings;
 mod type_index;

@@ -5,7 +5,7 @@ ghost use Rattle.std.specs.Option.{ok_or};
 ghost use Rattle.std.specs.Cow.{cow_str_bytes};
 ghost use Rattle.ebpf_base.specs.Faults.{Refuses, Gives, fault_of};
 ghost use Rattle.ebpf_btf.specs.Memory.{is_memory};
-ghost use Rattle.ebpf_btf.specs.Strings.{type_name, is_text, is_named, id_of_name, is_name_at, is_essential_name_at};
+ghost use Rattle.ebpf_btf.specs.Strings.{type_name, id_of_name, is_name_at, is_essential_name_at};
 ghost use Rattle.ebpf_btf.specs.Types.{is_kind};
 ghost use Rattle.ebpf_btf.specs.declared.error.BtfError.TheVariants.{OutOfMemory, UnknownBtfTypeName};
 
@@ -14,7 +14,7 @@ use crate::error::BtfError;
 use crate::flavors::essential_name;
 use crate::kind::BtfKind;
 use crate::lossy::{reads_as, reads_essentially_as};
-use crate::strings::read_bytes;
+use crate::strings::{is_text_at, read_bytes};
 use crate::types::BtfType;
 use ebpf_base::Text;
 use std::alloc::Global;
@@ -74,38 +74,26 @@ impl Btf {
         Text::from_str(self.allocator(), name.as_str()).ok()
     }
 
-    /// Whether a name can be read and is this one.
-    fn has_name(&self, ty: &BtfType, name: &str) -> Result<bool, BtfError>
-        ensures same { IfOk result (λ b. b ≡ is_text name.now (type_name self.now ty.now)) }
-        ensures memory { IfErr result (λ e. e ≡ OutOfMemory) }
-    {
-        match self.type_name(ty) {
-            Ok(text) => Ok(text.as_str() == name),
-            Err(BtfError::OutOfMemory) => Err(BtfError::OutOfMemory),
-            Err(_) => Ok(false),
-        }
-    }
-
     /// The lowest id of a kind and name.
-    fn find_named(&self, name: &str, kind: BtfKind) -> Result<Option<u32>, BtfError>
-        ensures found { IfOk result (λ id. id ≡ id_of_name self.now name.now kind) }
-        ensures memory { IfErr result (λ e. e ≡ OutOfMemory) }
+    fn find_named(&self, name: &str, kind: BtfKind) -> Option<u32>
+        ensures { result ≡ id_of_name self.now name.now kind }
     {
         for (id, ty) in self.types().iter().enumerate() {
-            if is_kind(ty, kind) && self.has_name(ty, name)? {
-                return Ok(Some(id as u32));
+            if is_kind(ty, kind) && is_text_at(self.strings(), ty.name_offset(), name) {
+                return Some(id as u32);
             }
         }
-        Ok(None)
+        None
     }
 
-    /// The lowest id of a type with this kind and name. A name that can't be read is no name.
+    /// The lowest id of a type with this kind and name. A name that can't be read is no name. Of each name of the
+    /// kind at most as many bytes are looked at as this one has, and one; none is copied.
     ///
     /// `UnknownBtfTypeName` where there is none, `OutOfMemory` where memory is refused.
     pub fn id_by_type_name_kind(&self, name: &str, kind: BtfKind) -> Result<u32, BtfError>
         ensures { Gives is_memory result (ok_or (id_of_name self.now name.now kind) (UnknownBtfTypeName name.now)) }
     {
-        match self.find_named(name, kind)? {
+        match self.find_named(name, kind) {
             Some(id) => Ok(id),
             None => Err(BtfError::UnknownBtfTypeName {
                 type_name: Text::from_str(self.allocator(), name)?,

@@ -11,13 +11,19 @@ ghost use Rattle.ebpf_btf.specs.declared.error.BtfError.TheVariants.{InvalidType
 use crate::endianness::Endianness;
 use crate::error::BtfError;
 use crate::kind::BtfKind;
-use crate::lists::{read_entries, read_members, read_params, read_variants, read_variants64};
 use crate::numbers::read_u32;
+use crate::rows::read_rows;
 use crate::types::BtfType;
 use std::alloc::{AllocError, Global};
 
 /// The length in bytes of the words that each type begins with: name, info, size or type.
 const HEAD_LENGTH: usize = 12;
+
+/// The length in bytes of a variant of an ENUM and of a parameter.
+const TWO_WORDS: usize = 8;
+
+/// The length in bytes of a member, of a variant of an ENUM64 and of an entry of a DATASEC.
+const THREE_WORDS: usize = 12;
 
 /// The kind that an info word has in bits 24 to 28; None of the number 0 and past 19.
 #[tactic(auto, unfolding(crate::specs::Format::kind_in))]
@@ -173,36 +179,36 @@ fn read_kind(
             name_offset,
             size,
             kind_flag,
-            members: read_members(alloc, order, bytes, list, count)?,
+            members: read_rows(alloc, order, bytes, list, THREE_WORDS, count)?,
         }),
         BtfKind::Union => Ok(BtfType::Union {
             name_offset,
             size,
             kind_flag,
-            members: read_members(alloc, order, bytes, list, count)?,
+            members: read_rows(alloc, order, bytes, list, THREE_WORDS, count)?,
             enum64_fallback: None,
         }),
         BtfKind::Enum => Ok(BtfType::Enum {
             name_offset,
             size,
             kind_flag,
-            variants: read_variants(alloc, order, bytes, list, count)?,
+            variants: read_rows(alloc, order, bytes, list, TWO_WORDS, count)?,
         }),
         BtfKind::Enum64 => Ok(BtfType::Enum64 {
             name_offset,
             size,
             kind_flag,
-            variants: read_variants64(alloc, order, bytes, list, count)?,
+            variants: read_rows(alloc, order, bytes, list, THREE_WORDS, count)?,
         }),
         BtfKind::FuncProto => Ok(BtfType::FuncProto {
             name_offset,
             btf_type: size,
-            params: read_params(alloc, order, bytes, list, count)?,
+            params: read_rows(alloc, order, bytes, list, TWO_WORDS, count)?,
         }),
         BtfKind::DataSec => Ok(BtfType::DataSec {
             name_offset,
             size,
-            entries: read_entries(alloc, order, bytes, list, count)?,
+            entries: read_rows(alloc, order, bytes, list, THREE_WORDS, count)?,
         }),
         _ => Ok(read_plain(order, bytes, place, kind)),
     }

@@ -1,15 +1,16 @@
 //! Texts in the strings.
 
-ghost use Rattle.std.specs.Prelude.{◌≡◌, ◌==◌, IfOk, IfErr, Ok, Err};
+ghost use Rattle.std.specs.Prelude.{◌≡◌, ◌==◌, take, IfOk, IfErr, Ok, Err};
 ghost use Rattle.std.specs.List.{position};
 ghost use Rattle.std.specs.Option.{option_copied};
 ghost use Rattle.std.specs.Cow.{cow_str_bytes};
 ghost use Rattle.std.specs.Str.Lossy.{utf8_lossy};
 ghost use Rattle.ebpf_base.specs.Faults.{Refuses, fault_of};
 ghost use Rattle.ebpf_btf.specs.Memory.{is_memory};
-ghost use Rattle.ebpf_btf.specs.Strings.{before_zero, text_at};
+ghost use Rattle.ebpf_btf.specs.Strings.{before_zero, is_text, text_at};
 
 use crate::error::BtfError;
+use crate::lossy::reads_as;
 use std::alloc::{AllocError, Global};
 use std::borrow::CowStr;
 
@@ -54,6 +55,32 @@ pub fn read_bytes(strings: &[u8], offset: u32) -> Result<&[u8], BtfError>
     match before_zero(&strings[place..]) {
         Some(bytes) => Ok(bytes),
         None => Err(BtfError::InvalidStringOffset { offset: place }),
+    }
+}
+
+/// The first bytes, so many where there are.
+fn first_bytes(bytes: &[u8], count: usize) -> &[u8]
+    ensures { result.now ≡ take count bytes.now }
+{
+    if bytes.len() <= count {
+        return bytes;
+    }
+    &bytes[..count]
+}
+
+/// Whether the text at an offset of the strings is this one; one that can't be read is none. One byte more than the
+/// text has is looked at, and no other.
+#[tactic(auto, unfolding(crate::specs::Strings::text_at))]
+pub fn is_text_at(strings: &[u8], offset: u32, text: &str) -> bool
+    ensures { result ≡ is_text text.now (text_at strings.now offset) }
+{
+    let place = offset as usize;
+    if place > strings.len() {
+        return false;
+    }
+    match before_zero(first_bytes(&strings[place..], text.len() + 1)) {
+        Some(bytes) => reads_as(bytes, text.as_bytes()),
+        None => false,
     }
 }
 

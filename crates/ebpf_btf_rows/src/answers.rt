@@ -1,52 +1,30 @@
-//! What type information answers, as texts.
+//! What types answer.
 
-use ebpf_btf::{Btf, BtfError, BtfKind, BtfMember, BtfType, Endianness};
+use crate::kinds::kind_of;
+use crate::parsed::{fault, types};
+use ebpf_btf::{Btf, BtfError, BtfMember, BtfType};
+use ebpf_cases::{Action, Files, no_action};
 use std::alloc::{AllocError, Global};
-
-/// A question to type information.
-#[derive(Clone, Copy, Debug)]
-pub enum Ask<'a> {
-    /// How many types there are.
-    Count,
-    /// The type with an id, whole.
-    Type(u32),
-    /// What the accessors of the type with an id give.
-    Accessors(u32),
-    /// The text at an offset.
-    Text(u32),
-    /// The name of the type with an id.
-    Name(u32),
-    /// The same name, for an error.
-    ErrorName(u32),
-    /// The id that an id stands for.
-    Resolved(u32),
-    /// The size of the type with an id.
-    Size(u32),
-    /// The id of a name and kind.
-    Id(&'a str, BtfKind),
-}
-
-/// A question, and what is to be answered.
-pub type Row<'a> = (Ask<'a>, &'a str);
 
 fn number(alloc: Global, answer: Result<u32, BtfError>) -> Result<String, AllocError> {
     match answer {
         Ok(number) => format!(in alloc; "{number}"),
-        Err(error) => format!(in alloc; "{error:?}"),
+        Err(error) => fault(alloc, &error),
     }
 }
 
-fn text(alloc: Global, btf: &Btf, offset: u32) -> Result<String, AllocError> {
+/// The text at an offset, or why there is none.
+pub fn text_at(alloc: Global, btf: &Btf, offset: u32) -> Result<String, AllocError> {
     match btf.string_at(offset) {
         Ok(text) => String::from_str(alloc, text.as_str()),
-        Err(error) => format!(in alloc; "{error:?}"),
+        Err(error) => fault(alloc, &error),
     }
 }
 
 fn name(alloc: Global, btf: &Btf, ty: &BtfType) -> Result<String, AllocError> {
     match btf.type_name(ty) {
         Ok(text) => String::from_str(alloc, text.as_str()),
-        Err(error) => format!(in alloc; "{error:?}"),
+        Err(error) => fault(alloc, &error),
     }
 }
 
@@ -87,52 +65,72 @@ fn accessors(alloc: Global, ty: &BtfType) -> Result<String, AllocError> {
 }
 
 /// An answer about the type with an id.
-fn of_type(alloc: Global, btf: &Btf, ask: Ask, id: u32) -> Result<String, AllocError> {
+fn of_type(alloc: Global, btf: &Btf, question: &str, id: u32) -> Result<String, AllocError> {
     let ty = match btf.type_by_id(id) {
         Ok(ty) => ty,
-        Err(error) => return format!(in alloc; "{error:?}"),
+        Err(error) => return fault(alloc, &error),
     };
-    match ask {
-        Ask::Accessors(_) => accessors(alloc, ty),
-        Ask::Name(_) => name(alloc, btf, ty),
-        Ask::ErrorName(_) => error_name(alloc, btf, ty),
+    match question {
+        "accessors" => accessors(alloc, ty),
+        "name" => name(alloc, btf, ty),
+        "error_name" => error_name(alloc, btf, ty),
         _ => format!(in alloc; "{ty:?}"),
     }
 }
 
-/// The answer.
-pub fn answer(alloc: Global, btf: &Btf, ask: Ask) -> Result<String, AllocError> {
-    match ask {
-        Ask::Count => {
-            let count = btf.types().len();
-            format!(in alloc; "{count}")
-        }
-        Ask::Text(offset) => text(alloc, btf, offset),
-        Ask::Resolved(id) => number(alloc, btf.resolve_type(id)),
-        Ask::Size(id) => number(alloc, btf.type_size(id)),
-        Ask::Id(name, kind) => number(alloc, btf.id_by_type_name_kind(name, kind)),
-        Ask::Type(id) | Ask::Accessors(id) | Ask::Name(id) | Ask::ErrorName(id) => {
-            of_type(alloc, btf, ask, id)
-        }
+/// The id of a kind and a name.
+fn id(alloc: Global, btf: &Btf, action: &Action<'_>) -> Result<String, AllocError> {
+    match kind_of(action.word(0)) {
+        Some(kind) => number(alloc, btf.id_by_type_name_kind(action.word(1), kind)),
+        None => no_action(alloc),
     }
 }
 
-/// What is wrong with the first row that is answered otherwise; the empty text where each is right.
-pub fn wrong(alloc: Global, btf: &Btf, rows: &[Row]) -> Result<String, AllocError> {
-    for (ask, expected) in rows {
-        let found = answer(alloc, btf, *ask)?;
-        if found.as_str() != *expected {
-            let found = found.as_str();
-            return format!(in alloc; "{ask:?} gives {found} and not {expected}");
-        }
+/// The answer to a question.
+fn answer(alloc: Global, btf: &Btf, action: &Action<'_>) -> Result<String, AllocError> {
+    if action.name == "count" {
+        let count = btf.types().len();
+        return format!(in alloc; "{count}");
     }
-    Ok(String::new(alloc))
+    if action.name == "id" {
+        return id(alloc, btf, action);
+    }
+    let Some(asked) = action.small_number(0) else {
+        return no_action(alloc);
+    };
+    match action.name {
+        "text" => text_at(alloc, btf, asked),
+        "resolved" => number(alloc, btf.resolve_type(asked)),
+        "size" => number(alloc, btf.type_size(asked)),
+        "type" | "accessors" | "name" | "error_name" => of_type(alloc, btf, action.name, asked),
+        _ => no_action(alloc),
+    }
 }
 
-/// How many types the bytes have, or why they can't be read.
-pub fn outcome(alloc: Global, bytes: &[u8], order: Endianness) -> Result<String, AllocError> {
-    match Btf::parse(alloc, bytes, order) {
-        Ok(btf) => answer(alloc, &btf, Ask::Count),
-        Err(error) => format!(in alloc; "{error:?}"),
+/// The answer of a copy.
+fn answer_of_copy(alloc: Global, btf: &Btf, action: &Action<'_>) -> Result<String, AllocError> {
+    let copy = btf.clone()?;
+    answer(alloc, &copy, action)
+}
+
+/// An answer, and that of a copy where it is another one.
+fn both_answers(alloc: Global, btf: &Btf, action: &Action<'_>) -> Result<String, AllocError> {
+    let mut answered = answer(alloc, btf, action)?;
+    let of_copy = answer_of_copy(alloc, btf, action)?;
+    if answered.as_str() != of_copy.as_str() {
+        write!(answered, "\ncopy: {of_copy}")?;
+    }
+    Ok(answered)
+}
+
+/// The answer of the types of a case, and that of a copy of them where it is another one.
+pub fn answer_twice(
+    alloc: Global,
+    files: &Files,
+    action: &Action<'_>,
+) -> Result<String, AllocError> {
+    match types(alloc, files) {
+        Ok(btf) => both_answers(alloc, &btf, action),
+        Err(error) => fault(alloc, &error),
     }
 }

@@ -1,79 +1,81 @@
-//! What is said of two types, as texts.
+//! What is said of two types: of their fields, or of the types themselves.
 
-use crate::bytes::btf_bytes;
-use ebpf_btf::{Btf, BtfError, Endianness, fields_are_compatible, types_are_compatible};
+use crate::parsed::{fault, target, types};
+use ebpf_btf::{Btf, fields_are_compatible, types_are_compatible};
+use ebpf_cases::{Action, Files, no_action};
 use std::alloc::{AllocError, Global};
 
-/// Types by their words, with these strings.
-pub fn parsed(alloc: Global, words: &[u32], strings: &[u8]) -> Result<Btf, BtfError> {
-    let bytes = btf_bytes(alloc, Endianness::Little, words, strings)?;
-    Btf::parse(alloc, &bytes, Endianness::Little)
-}
-
-fn said(alloc: Global, found: Result<bool, BtfError>) -> Result<String, AllocError> {
+/// Whether two types fit, or why that can't be said.
+fn said(
+    alloc: Global,
+    of_fields: bool,
+    local: (&Btf, u32),
+    target: (&Btf, u32),
+) -> Result<String, AllocError> {
+    let found = if of_fields {
+        fields_are_compatible(local.0, local.1, target.0, target.1)
+    } else {
+        types_are_compatible(local.0, local.1, target.0, target.1)
+    };
     match found {
         Ok(fits) => format!(in alloc; "{fits}"),
-        Err(error) => format!(in alloc; "{error:?}"),
+        Err(error) => fault(alloc, &error),
     }
 }
 
-/// Whether fields of two types fit, or why that can't be said.
-pub fn fields(
+/// What is said of a local type and each target type, beside each other.
+fn with_each(
     alloc: Global,
-    local: &Btf,
-    local_id: u32,
+    of_fields: bool,
+    local: (&Btf, u32),
     target: &Btf,
-    target_id: u32,
 ) -> Result<String, AllocError> {
-    let found = fields_are_compatible(local, local_id, target, target_id);
-    said(alloc, found)
-}
-
-/// Whether two types fit, or why that can't be said.
-pub fn types(
-    alloc: Global,
-    local: &Btf,
-    local_id: u32,
-    target: &Btf,
-    target_id: u32,
-) -> Result<String, AllocError> {
-    let found = types_are_compatible(local, local_id, target, target_id);
-    said(alloc, found)
-}
-
-/// A local id, a target id, and what is to be said.
-pub type Row<'a> = (u32, u32, &'a str);
-
-/// What is wrong with the first row of fields of which another thing is said.
-pub fn wrong_fields(
-    alloc: Global,
-    local: &Btf,
-    target: &Btf,
-    rows: &[Row],
-) -> Result<String, AllocError> {
-    for (one, other, expected) in rows {
-        let found = fields(alloc, local, *one, target, *other)?;
-        if found.as_str() != *expected {
-            let found = found.as_str();
-            return format!(in alloc; "{one} {other} give {found} and not {expected}");
-        }
+    let mut text = String::new(alloc);
+    write!(text, "with each:")?;
+    for (other, _ty) in target.types().iter().enumerate() {
+        let found = said(alloc, of_fields, local, (target, other as u32))?;
+        write!(text, " {found}")?;
     }
-    Ok(String::new(alloc))
+    Ok(text)
 }
 
-/// What is wrong with the first row of types of which another thing is said.
-pub fn wrong_types(
+/// What an action asks of both type information.
+fn of_both(
     alloc: Global,
     local: &Btf,
     target: &Btf,
-    rows: &[Row],
+    action: &Action<'_>,
 ) -> Result<String, AllocError> {
-    for (one, other, expected) in rows {
-        let found = types(alloc, local, *one, target, *other)?;
-        if found.as_str() != *expected {
-            let found = found.as_str();
-            return format!(in alloc; "{one} {other} give {found} and not {expected}");
-        }
+    let Some(one) = action.small_number(0) else {
+        return no_action(alloc);
+    };
+    let of_fields = matches!(action.name, "fields" | "all_fields");
+    if matches!(action.name, "all_fields" | "all_types") {
+        return with_each(alloc, of_fields, (local, one), target);
     }
-    Ok(String::new(alloc))
+    match action.small_number(1) {
+        Some(other) => said(alloc, of_fields, (local, one), (target, other)),
+        None => no_action(alloc),
+    }
+}
+
+/// What an action asks of type information and the target of its case.
+fn with_target(
+    alloc: Global,
+    files: &Files,
+    local: &Btf,
+    action: &Action<'_>,
+) -> Result<String, AllocError> {
+    match target(alloc, files) {
+        Ok(target) => of_both(alloc, local, &target, action),
+        Err(error) => fault(alloc, &error),
+    }
+}
+
+/// What is said of a local type and one or each target type.
+pub fn fits(alloc: Global, files: &Files, action: &Action<'_>) -> Result<String, AllocError> {
+    match types(alloc, files) {
+        Ok(local) => with_target(alloc, files, &local, action),
+        Err(error) => fault(alloc, &error),
+    }
 }

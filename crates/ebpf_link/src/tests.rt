@@ -1,7 +1,8 @@
 //! What the program prints, and its statuses.
 
 use crate::arguments::{WordsError, read_words};
-use crate::link::{cannot_read, run_link};
+use crate::failure::cannot_read;
+use crate::link::run_link;
 use crate::test_runs::{run, texts};
 use ebpf_samples::{EXIT, SampleFile, call_object};
 use std::alloc::{AllocError, Global};

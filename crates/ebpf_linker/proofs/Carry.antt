@@ -12,9 +12,9 @@ use Rattle.ebpf_linker.specs.Order.{KeyPath}
 use Rattle.ebpf_linker.specs.Faults.{same, has_some, agree, checked, linking, content_fault, append_fault, Base, StandsAt, Faultless, LeastFault, first_line}
 use Rattle.ebpf_linker.specs.Records.{func_moved, line_moved, func_records, line_records, linked_func_info, linked_line_info, has_lines, count_if}
 use Rattle.ebpf_linker.specs.Result.{IsProgram, IsLinking}
-use Rattle.ebpf_linker.specs.Renaming.{renamed, Numbers, answer_named}
+use Rattle.ebpf_linker.specs.Renaming.{answer_named}
+use Rattle.ebpf_linker.proofs.Numbering.{renamed, Numbers}
 use Rattle.ebpf_linker.proofs.Bases.{total_le}
-use Rattle.ebpf_linker.proofs.Visits.{same_visits}
 use Rattle.ebpf_linker.proofs.Renamed.{SameReferences, AllNumbers, number_at, all_numbers, among_to, among_from, last_to, last_number, numbers_of, distinct_from, faulty_from, distinct_to, walk_numbers, reached_number, walk_to, walk_from, simple_to, simple_from, end_from, key_path_to, key_path_from, key_path_number, in_order_to}
 
 some_map : {D E : Type 0} → (D → E) → Option D → Option E
@@ -174,7 +174,12 @@ module _ {M D K E : Type 0} (G : Functions M D) (F : Functions K E) (IsNumber : 
     faultless_to h path x e s = let (d, t) = stands_from path x e s in h path x d t
 
     least_to : (d : D) → LeastFault G R p d → LeastFault F S (key p) (name d)
-    least_to d (path, x, s, least) = (path, x, stands_to path x d s, λ other y e t b. let (f, u) = stands_from other y e t in least other y f u b)
+    least_to d h = record {
+      path = h.path;
+      slot = h.slot;
+      stands = stands_to h.path h.slot d h.stands;
+      none_before = λ other y e t b. let (f, u) = stands_from other y e t in h.none_before other y f u b;
+    }
 
   -- the linked program
 
@@ -270,7 +275,6 @@ module _ {M D K E : Type 0} (G : Functions M D) (F : Functions K E) (IsNumber : 
       record {
         linked = linked;
         order = in_order_to G.reference F.reference IsNumber key name references_same p ms is all h.order;
-        visits = λ refer on. same_visits F (key p) (map key ms) l.slots linked refer on;
         func_info = h.func_info ∙ sym (func_info_to p ms is all);
         line_info = h.line_info ∙ sym (line_info_to p ms is all);
         func_count = h.func_count ∙ ap (λ (b : Bool). count_if b l.func_info) (sym (has_some_to ms));

@@ -15,7 +15,8 @@ use Rattle.ebpf_linker.specs.Order.{Before, KeyPath}
 use Rattle.ebpf_linker.specs.Faults.{Base, CopyFault, StandsAt, Faultless, LeastFault, append_fault}
 use Rattle.ebpf_linker.specs.Answer.{IsOrder, IsFound}
 use Rattle.ebpf_linker.specs.Numbered.{of_target}
-use Rattle.ebpf_linker.specs.Steps.{refs, Sought, rising, Search, opened, StepTo, target_of}
+use Rattle.ebpf_linker.specs.Steps.{Search, opened, StepTo, target_of}
+use Rattle.ebpf_linker.proofs.Following.{refs, Sought, rising}
 use Rattle.ebpf_linker.proofs.Paths.{before_cases, distinct_more, last_of_last, walk_more, walk_same}
 use Rattle.ebpf_linker.proofs.Held.{Found, at_index}
 use Rattle.ebpf_linker.proofs.Cursor.{Apart, path_of, keys_of, walk_of, keys_found, keys_distinct, not_nil}
@@ -158,13 +159,23 @@ module _ (F : Functions ℕ Fault) (N : ℕ) (C : ℕ → List Call) (p : ℕ) w
   refused_append sound s t top d r k h n at to flag None fit a = cc (a.1)
   refused_append sound s t top d r k h n at to flag (Some e) bad a =
       let same : e ≡ d = cc in
-      (path_of C p (top ∷ reverse s.pending), r.slot, inr (past_now sound s.order s.found s.pending top r k s.used d h n at to flag (bad ∙ ap Some same)), λ other y g q v. none_before sound s.order s.found s.pending top r s.used h n at other y g q v)
+      record {
+        path = path_of C p (top ∷ reverse s.pending);
+        slot = r.slot;
+        stands = inr (past_now sound s.order s.found s.pending top r k s.used d h n at to flag (bad ∙ ap Some same));
+        none_before = λ other y g q v. none_before sound s.order s.found s.pending top r s.used h n at other y g q v;
+      }
 
   refused_at : Sought N C → (s t : Search) (top : Open) (d : Fault) → State N C p s.order s.found (s.pending ++ top ∷ []) → Counted F s.order s.used → (r : Call) → slice_get (C top.function) top.next ≡ Some r → (g : Target) → r.target ≡ g → StepTo F top s t (Some d) (Some g) → LeastFault F (refs C) p d
   refused_at sound s t top d h n r at (Nowhere g) to a =
       let same : g ≡ d = cc in
       let held = held_top N C p s.order s.pending top h.held in
-      (path_of C p (top ∷ reverse s.pending), r.slot, inl (fault_here N C p sound s.order top (reverse s.pending) r d h.start h.apart held at (to ∙ ap Nowhere same)), λ other y e q v. none_before sound s.order s.found s.pending top r s.used h n at other y e q v)
+      record {
+        path = path_of C p (top ∷ reverse s.pending);
+        slot = r.slot;
+        stands = inl (fault_here N C p sound s.order top (reverse s.pending) r d h.start h.apart held at (to ∙ ap Nowhere same));
+        none_before = λ other y e q v. none_before sound s.order s.found s.pending top r s.used h n at other y e q v;
+      }
   refused_at sound s t top d h n r at (Function k) to a =
       elim (cases_Bool (slice_index_or s.found k false)) [
         | inl e ↦ let b = rw e at a in cc (b.1)

@@ -11,7 +11,8 @@ use Rattle.ebpf_linker.specs.declared.search.Open.{Open}
 use Rattle.ebpf_linker.specs.Functions.{Functions}
 use Rattle.ebpf_linker.specs.Faults.{append_fault}
 use Rattle.ebpf_linker.specs.Numbered.{IsIn}
-use Rattle.ebpf_linker.specs.Steps.{Sought, Search, passed, opened, StepTo, target_of, Advanced}
+use Rattle.ebpf_linker.specs.Steps.{Search, passed, opened, StepTo, target_of, Advanced}
+use Rattle.ebpf_linker.proofs.Following.{Sought}
 
 -- what is left to follow in the open functions
 abbrev pub left_in : (ℕ → List Call) → List Open → ℕ

@@ -1,3 +1,6 @@
+pub mod Following
+pub mod Numbering
+pub mod OneResult
 pub mod Paths
 pub mod Visits
 pub mod Bases

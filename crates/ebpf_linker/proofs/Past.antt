@@ -6,7 +6,7 @@ use Rattle.ebpf_linker.specs.declared.reference.Call.{Call}
 use Rattle.ebpf_linker.specs.Functions.{Functions, Among, total}
 use Rattle.ebpf_linker.specs.Order.{Before, KeyPath, InOrder}
 use Rattle.ebpf_linker.specs.Faults.{CopyFault, append_fault}
-use Rattle.ebpf_linker.specs.Steps.{refs}
+use Rattle.ebpf_linker.proofs.Following.{refs}
 use Rattle.ebpf_linker.proofs.Cursor.{Apart}
 use Rattle.ebpf_linker.proofs.Searched.{First, distinct_places, among_place, place_among, key_path, in_order}
 use Rattle.ebpf_linker.proofs.Bases.{one_base, one_key_path, base_at}

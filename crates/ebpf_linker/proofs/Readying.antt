@@ -22,7 +22,6 @@ use Rattle.ebpf_linker.proofs.Held.{at_index, indexed}
 use Rattle.ebpf_linker.proofs.Plain.{plain}
 use Rattle.ebpf_linker.proofs.Seen.{all_at}
 use Rattle.ebpf_linker.proofs.Bases.{total_le}
-use Rattle.ebpf_linker.proofs.Visits.{same_visits}
 use Rattle.ebpf_linker.proofs.Whole.{is_linked, size_same}
 
 target_within : (n : ℕ) (t : Target) (k : ℕ) → IsIn n t → of_target t ≡ Names k → k < n
@@ -121,7 +120,6 @@ module _ (B : List Body) (C : List (Vec Call Global)) (p : ℕ) where
       record {
         linked = linked;
         order = order.order;
-        visits = λ refer on. same_visits F p ks l.slots linked refer on;
         func_info = funcs;
         line_info = lines;
         func_count = func_count;

@@ -3,7 +3,7 @@ use Rattle.std.proofs.Common.{◌≡◌, ◌≢◌, ℕ, zero, suc, List, [], �
 use Rattle.std.specs.Prelude.{slice_get}
 use Rattle.ebpf_linker.specs.Functions.{Reference, Nothing, Faulty, Names, References, Among, Distinct, Walk, last_of, Reached}
 use Rattle.ebpf_linker.specs.Order.{Simple, KeyPath, InOrder}
-use Rattle.ebpf_linker.specs.Renaming.{renamed}
+use Rattle.ebpf_linker.proofs.Numbering.{renamed}
 
 -- the same references, by numbers and by the keys that they stand for
 pub record SameReferences {M D K E : Type 0} (R : References M D) (S : References K E) (IsNumber : M → Type 0) (key : M → K) (name : D → E) : Type 0 where

@@ -11,7 +11,7 @@ use Rattle.ebpf_linker.specs.declared.search.Open.{Open}
 use Rattle.ebpf_linker.specs.Functions.{Reference, Nothing, Faulty, Names, Among, Distinct, Walk, last_of, Reached}
 use Rattle.ebpf_linker.specs.Order.{Before, Simple, KeyPath, HasFault}
 use Rattle.ebpf_linker.specs.Numbered.{of_target}
-use Rattle.ebpf_linker.specs.Steps.{refs, Sought, rising}
+use Rattle.ebpf_linker.proofs.Following.{refs, Sought, rising}
 use Rattle.ebpf_linker.proofs.Paths.{before_trans, before_cases, distinct_front, distinct_more, last_of_last, walk_more, walk_same, walk_last}
 use Rattle.ebpf_linker.proofs.Held.{get_more, get_back, get_end, at_index, indexed, rises_index, Found, found_up, found_more, Settled, Held, held_entry}
 use Rattle.std.specs.Bool.{MatchBool}

@@ -15,7 +15,8 @@ use Rattle.ebpf_linker.specs.Functions.{References, or_empty}
 use Rattle.ebpf_linker.specs.Faults.{linking, checked, agree}
 use Rattle.ebpf_linker.specs.Numbered.{of_target, referred, calls_at, functions, content_of, content_in, option_content, Rises, IsIn, Sound}
 use Rattle.ebpf_linker.specs.Answer.{Finds}
-use Rattle.ebpf_linker.specs.Steps.{target_seen, call_seen, seen, refs, Sought}
+use Rattle.ebpf_linker.specs.Steps.{target_seen, call_seen, seen}
+use Rattle.ebpf_linker.proofs.Following.{refs, Sought}
 
 module _ (B : List Body) (p : ℕ) where
   target_within : (n : ℕ) (t : Target) → IsIn n t → IsIn n (target_seen B p t)

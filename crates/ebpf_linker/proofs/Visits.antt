@@ -1,13 +1,13 @@
 -- The linked program visits the slots that the separate functions visit.
 use Rattle.std.proofs.Common.{◌≡◌, ◌≢◌, ℕ, zero, suc, ◌+◌, ◌-◌, ◌<◌, ◌≤◌, ◌⊎◌, Bool, true, false, cond, List, [], ◌∷◌, map, length, Option, Some, None, refl, sym, ap, ◌∙◌, subst, inl, inr, arith}
-use Rattle.std.specs.Prelude.{ℤ, pos, negsuc, ◌+ℤ◌, ◌==◌}
+use Rattle.std.specs.Prelude.{ℤ, pos, negsuc, ◌+ℤ◌, ◌==◌, slice_get}
 use Rattle.std.proofs.lemmas.Int.{ints}
 use Rattle.std.proofs.lemmas.Bool.{lt-ltb, le-ltb}
 use Rattle.std.proofs.lemmas.Option.{slice_get_within}
 use Rattle.ebpf_parts.specs.declared.insn.bpf_insn.{bpf_insn}
 use Rattle.ebpf_linker.specs.Slots.{Flow, Return, Enter, Wide, Jump, Branch, Next, flow, slot_at, is_pseudo_call, is_branch, relinked}
 use Rattle.ebpf_linker.specs.Functions.{Reference, Nothing, Faulty, Names, Functions, body, Among, BeginsAt, Becomes, Linked}
-use Rattle.ebpf_linker.specs.Machine.{State, Turn, Goes, Ends, Waits, Leaves, Left, Run, pops, enters, decides, follow, turn_at, after, run, begin, key_of, reference_at, start_of, separate, flat, named, name, SameVisits, CallsRefer, OnCallsOrLoads}
+use Rattle.ebpf_linker.specs.Machine.{State, Turn, Goes, Ends, Waits, Leaves, Left, Run, pops, enters, decides, follow, turn_at, after, run, begin, referred_key, reference_at, start_of, separate, flat, name_from, name, SameVisits, OnCallsOrLoads}
 
 -- a call stays a call
 still_calls : (s : bpf_insn) (d : ℤ) → is_pseudo_call s ≡ true → is_pseudo_call (relinked s d) ≡ true
@@ -33,6 +33,10 @@ flow_calls : (s : bpf_insn) → flow s ≡ Enter → is_pseudo_call s ≡ true
 unfolding flow
 flow_calls s e = enter_from (s.code == 0x95) (is_pseudo_call s) (s.code == 0x18) (s.code == 0x05) (s.code == 0x06) (is_branch s.code) s.off s.imm s.off e
 
+-- each pseudo call is a reference
+abbrev pub CallsRefer : {K E : Type 0} → Functions K E → Type 0
+CallsRefer {K = K} F = (k : K) (i : ℕ) (s : bpf_insn) → slice_get (body F k) i ≡ Some s → is_pseudo_call s ≡ true → F.reference k i ≢ Nothing
+
 module _ {K E : Type 0} (F : Functions K E) where
   pub begins_among : (ks : List K) (k : K) (b : ℕ) → BeginsAt F ks k b → Among ks k
   begins_among [] k b h = absurd h
@@ -40,7 +44,7 @@ module _ {K E : Type 0} (F : Functions K E) where
   begins_among (m ∷ ks) k b (inr h) = inr (begins_among ks k h.0 h.2)
 
   -- the name of a place inside a copy
-  named_at : (ks : List K) (k : K) (b i : ℕ) → BeginsAt F ks k b → i < length (body F k) → named F ks (b + i) ≡ Some (k, pos i)
+  named_at : (ks : List K) (k : K) (b i : ℕ) → BeginsAt F ks k b → i < length (body F k) → name_from F ks (b + i) ≡ Some (k, pos i)
   named_at [] k b i h lt = absurd h
   named_at (m ∷ ks) k b i (inl h) lt =
       let same : b + i ≡ i = omega (arith, h.1) in
@@ -103,7 +107,7 @@ module _ {K E : Type 0} (F : Functions K E) (p : K) (ks : List K) (out : List bp
   -- what is known of a slot and of the slot that it became, at a place
   record Fits (x : K × ℤ) (y : ℤ) (s t : bpf_insn) : Type 0 where
     flow_is : flow t ≡ flow s
-    enters_at : flow s ≡ Enter → (m : K) × (c : ℕ) × (start_of (key_of (reference_at F x.0 x.1)) ≡ Some (m, pos 0)) × BeginsAt F (p ∷ ks) m c × ((y +ℤ pos 1) +ℤ t.imm ≡ pos c)
+    enters_at : flow s ≡ Enter → (m : K) × (c : ℕ) × (start_of (referred_key (reference_at F x.0 x.1)) ≡ Some (m, pos 0)) × BeginsAt F (p ∷ ks) m c × ((y +ℤ pos 1) +ℤ t.imm ≡ pos c)
 
   enters_alike : (x x' : K × ℤ) (y y' : ℤ) (o : Option (K × ℤ)) (xs : List (K × ℤ)) (ys : List ℤ) (ds es : List Bool) → es ≡ ds → Stands x y → AllStand xs ys → o ≡ Some x' → Stands x' y' → TurnsAlike (enters x xs ds o) (enters y ys es (Some y'))
   enters_alike x x' y y' o xs ys ds es e h all is h' =
@@ -128,7 +132,7 @@ module _ {K E : Type 0} (F : Functions K E) (p : K) (ks : List K) (out : List bp
   becomes_fits linked k b i s t (Names m) e (c, begins, is) on refer =
       record {
         flow_is = ap flow is ∙ same_flow s _ (on (λ x. cc));
-        enters_at = λ f. (m, length (body F p) + c, ap (λ (r : Reference K E). start_of (key_of r)) e, inr (c, refl, begins), ap (λ (u : bpf_insn). pos (b + i + 1) +ℤ u.imm) is ∙ omega (arith, ints));
+        enters_at = λ f. (m, length (body F p) + c, ap (λ (r : Reference K E). start_of (referred_key r)) e, inr (c, refl, begins), ap (λ (u : bpf_insn). pos (b + i + 1) +ℤ u.imm) is ∙ omega (arith, ints));
       }
 
   fits_at : Linked F p ks out → CallsRefer F → OnCallsOrLoads F (p ∷ ks) → (x : K × ℤ) (y : ℤ) (s : bpf_insn) → Stands x y → slot_at (body F x.0) x.1 ≡ Some s → (t : bpf_insn) × (slot_at out y ≡ Some t) × Fits x y s t × (name F (p ∷ ks) y ≡ Some x)

@@ -72,15 +72,13 @@ module _ {K E : Type 0} where
   abbrev pub StandsAt : Functions K E → References K E → K → List ℕ → ℕ → E → Type 0
   StandsAt F R p path x e = HasFault R p path x e ⊎ CopyFault F R p (path ++ x ∷ []) e
 
-  abbrev pub FaultAt : Functions K E → K → List ℕ → ℕ → E → Type 0
-  FaultAt F p = StandsAt F (linking F p) p
-
   -- no fault stands
   abbrev pub Faultless : Functions K E → References K E → K → Type 0
   Faultless F R p = (path : List ℕ) (x : ℕ) (e : E) → StandsAt F R p path x e → ⊥
 
   -- e stands at a place before which no fault stands
-  abbrev pub LeastFault : Functions K E → References K E → K → E → Type 0
-  LeastFault F R p e =
-      (path : List ℕ) × (x : ℕ) × StandsAt F R p path x e
-      × ((other : List ℕ) (y : ℕ) (d : E) → StandsAt F R p other y d → Before (other ++ y ∷ []) (path ++ x ∷ []) → ⊥)
+  pub record LeastFault (F : Functions K E) (R : References K E) (p : K) (e : E) : Type 0 where
+    pub path : List ℕ
+    pub slot : ℕ
+    pub stands : StandsAt F R p path slot e
+    pub none_before : (other : List ℕ) (y : ℕ) (d : E) → StandsAt F R p other y d → Before (other ++ y ∷ []) (path ++ slot ∷ []) → ⊥

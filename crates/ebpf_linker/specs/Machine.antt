@@ -77,10 +77,11 @@ module _ {K : Type 0} where
   start_of (Some k) = Some (k, pos 0)
 
 module _ {K E : Type 0} where
-  abbrev pub key_of : Reference K E → Option K
-  key_of Nothing = None
-  key_of (Faulty e) = None
-  key_of (Names k) = Some k
+  -- the key that a slot refers to
+  abbrev pub referred_key : Reference K E → Option K
+  referred_key Nothing = None
+  referred_key (Faulty e) = None
+  referred_key (Names k) = Some k
 
   abbrev pub reference_at : Functions K E → K → ℤ → Reference K E
   reference_at F k (pos n) = F.reference k n
@@ -91,16 +92,16 @@ module _ {K E : Type 0} where
   separate F = record {
     fetch = λ x. slot_at (body F x.0) x.1;
     moved = λ x d. (x.0, x.1 +ℤ d);
-    entry = λ x i. start_of (key_of (reference_at F x.0 x.1));
+    entry = λ x i. start_of (referred_key (reference_at F x.0 x.1));
   }
 
   -- the name of a place in these functions, laid out one after the other
-  abbrev pub named : Functions K E → List K → ℕ → Option (K × ℤ)
-  named F [] x = None
-  named F (k ∷ ks) x = if nat_lt x (length (body F k)) then Some (k, pos x) else named F ks (x - length (body F k))
+  abbrev pub name_from : Functions K E → List K → ℕ → Option (K × ℤ)
+  name_from F [] x = None
+  name_from F (k ∷ ks) x = if nat_lt x (length (body F k)) then Some (k, pos x) else name_from F ks (x - length (body F k))
 
   abbrev pub name : Functions K E → List K → ℤ → Option (K × ℤ)
-  name F ks (pos x) = named F ks x
+  name F ks (pos x) = name_from F ks x
   name F ks (negsuc x) = None
 
 -- one list of slots
@@ -119,10 +120,6 @@ module _ {K E : Type 0} where
       → (run (separate F) n (begin (p, pos 0) ds)).stop ≢ Left
       → (map (name F (p ∷ ks)) (run (flat out) n (begin (pos 0) ds)).visited ≡ map Some (run (separate F) n (begin (p, pos 0) ds)).visited)
       × ((run (flat out) n (begin (pos 0) ds)).stop ≡ (run (separate F) n (begin (p, pos 0) ds)).stop)
-
-  -- each pseudo call is a reference
-  abbrev pub CallsRefer : Functions K E → Type 0
-  CallsRefer F = (k : K) (i : ℕ) (s : bpf_insn) → slice_get (body F k) i ≡ Some s → is_pseudo_call s ≡ true → F.reference k i ≢ Nothing
 
   -- each reference of these functions stands on a pseudo call or a wide load
   abbrev pub OnCallsOrLoads : Functions K E → List K → Type 0

@@ -4,16 +4,13 @@ use Rattle.ebpf_linker.specs.declared.body.LinkedProgram.{LinkedProgram}
 use Rattle.ebpf_linker.specs.Functions.{Functions, Content, Linked, Among, body, total}
 use Rattle.ebpf_linker.specs.Faults.{linking, Faultless, LeastFault, has_some}
 use Rattle.ebpf_linker.specs.Order.{InOrder}
-use Rattle.ebpf_linker.specs.Machine.{SameVisits, CallsRefer, OnCallsOrLoads}
 use Rattle.ebpf_linker.specs.Records.{linked_func_info, linked_line_info, has_lines, count_if}
 
--- l is the program and each function that its references reach, in the order of their key paths; it visits what the
--- separate functions visit, has their records, and is no longer than the program and all functions together; no
--- fault stands
+-- l is the program and each function that its references reach, in the order of their key paths; it has their
+-- records, and is no longer than the program and all functions together; no fault stands
 pub record IsProgram {K E : Type 0} (F : Functions K E) (p : K) (ks : List K) (l : LinkedProgram) : Type 0 where
   pub linked : Linked F p ks l.slots
   pub order : InOrder F.reference p ks
-  pub visits : CallsRefer F → OnCallsOrLoads F (p ∷ ks) → SameVisits F p ks l.slots
   pub func_info : l.func_info ≡ linked_func_info F p ks
   pub line_info : l.line_info ≡ linked_line_info F p ks
   pub func_count : l.func_count ≡ count_if (has_some ks) l.func_info

@@ -9,9 +9,9 @@ use Rattle.ebpf_linker.specs.declared.reference.Target.{Target}
 use Rattle.ebpf_linker.specs.declared.reference.Target.TheVariants.{Function, Nowhere}
 use Rattle.ebpf_linker.specs.declared.reference.Call.{Call}
 use Rattle.ebpf_linker.specs.declared.search.Open.{Open}
-use Rattle.ebpf_linker.specs.Functions.{References, Functions, body}
+use Rattle.ebpf_linker.specs.Functions.{Functions, body}
 use Rattle.ebpf_linker.specs.Faults.{same, has_some, append_fault}
-use Rattle.ebpf_linker.specs.Numbered.{referred, calls_at, content_in, Rises, IsIn}
+use Rattle.ebpf_linker.specs.Numbered.{calls_at, content_in}
 
 -- where a reference leads, where the program p is linked
 abbrev pub target_seen : List Body → ℕ → Target → Target
@@ -25,22 +25,6 @@ call_seen B p c = record { slot = c.slot; target = target_seen B p c.target }
 -- the references of function k, where the program p is linked
 abbrev pub seen : List Body → List (Vec Call Global) → ℕ → ℕ → List Call
 seen B C p k = map (call_seen B p) (calls_at C k)
-
--- what slots refer to, by the references of each function
-abbrev pub refs : (ℕ → List Call) → References ℕ Fault
-refs C k x = referred (C k) x
-
--- the references of each function rise
-pub record Rising (C : ℕ → List Call) : Type 0 where
-  pub rises : (k : ℕ) → Rises 0 (C k)
-
--- .. and lead to one of N functions
-pub record Sought (N : ℕ) (C : ℕ → List Call) : Type 0 where
-  pub rises : (k : ℕ) → Rises 0 (C k)
-  pub within : (k i : ℕ) (c : Call) → slice_get (C k) i ≡ Some c → IsIn N c.target
-
-abbrev pub rising : {N : ℕ} {C : ℕ → List Call} → Sought N C → Rising C
-rising sound = record { rises = sound.rises }
 
 -- the search: the functions in their order, which of all were found, those that are open, and the slots so far
 pub record Search : Type 0 where

@@ -1,7 +1,17 @@
 -- The programs of names, one after the other.
-use Rattle.std.proofs.Common.{◌≡◌, ℕ, ◌+◌, ◌<◌, List, ◌++◌, length, drop, Bor, sym, ap, ◌∙◌}
+use Rattle.std.proofs.Common.{◌≡◌, ℕ, ◌+◌, ◌<◌, true, false, cond, List, [], ◌∷◌, ◌++◌, map, length, drop, Some, Bor, refl, sym, ap, ◌∙◌}
 use Rattle.std.specs.Prelude.{slice_index_or}
-use Rattle.std.specs.List.{flat_map}
+use Rattle.std.specs.Cmp.{eq_by_cmp_equiv}
+use Rattle.std.specs.FinMap.{FinMap, entries, find, get-entries}
+use Rattle.std.specs.List.{flat_map, IsDistinct, AllByRecursion}
+use Rattle.std.specs.Map.{keys_of}
+use Rattle.std.specs.Ordering.{eq_by_cmp}
+use Rattle.std.proofs.lemmas.Map.Keys.{IsDistinct-from_sorted}
+use Rattle.ebpf_base.proofs.Lists.{flat_map-same}
+use Rattle.ebpf_base.proofs.Sorted.{entries_rise}
+use Rattle.ebpf_base.specs.Keys.{text_cmp, text_total}
+use Rattle.ebpf_object.specs.Joined.{with_name, program_if, program_with, programs_in_order}
+use Rattle.ebpf_object.specs.declared.program.Program.{Program}
 use Rattle.std.proofs.lemmas.List.{append_assoc}
 use Rattle.ebpf_base.specs.Keys.{lent_bytes}
 use Rattle.ebpf_parts.proofs.Walks.{rest_more}
@@ -12,3 +22,26 @@ pub one_name : (f : List ℕ → List ProgramValue) (before : List ProgramValue)
     → before ++ flat_map f (lent_bytes (drop i names)) ≡ (before ++ f name.now) ++ flat_map f (lent_bytes (drop (i + 1) names))
 one_name f before names i name below here =
     ap (λ rest. before ++ flat_map f (lent_bytes rest)) (rest_more names i name below here) ∙ sym (append_assoc before (f name.now) (flat_map f (lent_bytes (drop (i + 1) names))))
+
+-- the programs with the names of all, in their order
+module _ (programs : FinMap text_cmp Program) where
+  abbrev found_in : List (List ℕ × Program) → List ℕ → List ProgramValue
+  found_in es name = program_if name (find text_cmp name es)
+
+  later_names : (e : List ℕ × Program) (es : List (List ℕ × Program)) (names : List (List ℕ)) → AllByRecursion (λ y. eq_by_cmp text_cmp e.0 y ≡ false) names → flat_map (found_in (e ∷ es)) names ≡ flat_map (found_in es) names
+  later_names e es [] h = refl
+  later_names e es (name ∷ names) h =
+      let other : eq_by_cmp text_cmp name e.0 ≡ false = (eq_by_cmp_equiv text_total).symm name e.0 ∙ h.0 in
+      λ i. program_if name (cond (other i) (Some e.1) (find text_cmp name es)) ++ later_names e es names h.1 i
+
+  by_names : (es : List (List ℕ × Program)) → IsDistinct (eq_by_cmp text_cmp) (keys_of es) → flat_map (found_in es) (keys_of es) ≡ map (λ e. with_name e.0 e.1) es
+  unfolding IsDistinct
+  by_names [] apart = refl
+  by_names (e ∷ es) apart =
+      let here : eq_by_cmp text_cmp e.0 e.0 ≡ true = (eq_by_cmp_equiv text_total).refl e.0 in
+      λ i. program_if e.0 (cond (here i) (Some e.1) (find text_cmp e.0 es)) ++ (later_names e es (keys_of es) apart.0 ∙ by_names es apart.1) i
+
+  pub all_names : flat_map (program_with programs) (keys_of (entries programs)) ≡ programs_in_order programs
+  all_names =
+      flat_map-same (program_with programs) (found_in (entries programs)) (keys_of (entries programs)) (λ name. ap (program_if name) (get-entries programs name))
+      ∙ by_names (entries programs) (IsDistinct-from_sorted text_cmp _ (entries_rise programs))

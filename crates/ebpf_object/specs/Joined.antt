@@ -1,12 +1,11 @@
 -- Joining the programs of an object with the functions that they reach.
-use Rattle.std.specs.Prelude.{◌≡◌, ℕ, Bool, List, [], ◌∷◌, Option, Some, None, MatchBool}
+use Rattle.std.specs.Prelude.{◌≡◌, ℕ, Bool, List, [], ◌∷◌, map, Option, Some, None, MatchBool}
 use Rattle.std.specs.FinMap.{FinMap, get, entries}
-use Rattle.std.specs.List.{flat_map, list_any}
-use Rattle.std.specs.Map.{keys_of}
+use Rattle.std.specs.List.{list_any}
 use Rattle.std.specs.Ordering.{eq_by_cmp}
 use Rattle.ebpf_base.specs.Keys.{text_cmp, key_cmp}
 use Rattle.ebpf_object.specs.declared.object.Object.{Object}
-use Rattle.ebpf_object.specs.declared.program.Program.{Program}
+use Rattle.ebpf_parsing.specs.declared.program.Program.{Program}
 use Rattle.ebpf_reloc.specs.Linking.{ProgramValue, key_of, IsLinked}
 use Rattle.ebpf_reloc.specs.Places.{LinkableValue, TextSections}
 use Rattle.ebpf_reloc.specs.References.{Key}
@@ -21,13 +20,21 @@ linkable_of o text_sections = record {
   text_sections = text_sections;
 }
 
-abbrev pub named : List ℕ → Option Program → List ProgramValue
-named name None = []
-named name (Some p) = record { name = name; section_index = p.section_index; address = p.address } ∷ []
+-- a program with its name
+abbrev pub with_name : List ℕ → Program → ProgramValue
+with_name name p = record { name = name; section_index = p.section_index; address = p.address }
 
 -- the programs, in byte order of their names
 abbrev pub programs_in_order : FinMap text_cmp Program → List ProgramValue
-programs_in_order programs = flat_map (λ name. named name (get programs name)) (keys_of (entries programs))
+programs_in_order programs = map (λ e. with_name e.0 e.1) (entries programs)
+
+abbrev pub program_if : List ℕ → Option Program → List ProgramValue
+program_if name None = []
+program_if name (Some p) = with_name name p ∷ []
+
+-- the program with a name, where there is one
+abbrev pub program_with : FinMap text_cmp Program → List ℕ → List ProgramValue
+program_with programs name = program_if name (get programs name)
 
 -- what stands at a key where a function takes the place of the one there
 abbrev pub replaced : Option Function → Option Function → Option Function
@@ -45,3 +52,8 @@ AreJoined parts programs after =
     (key : Key) → MatchBool (is_program_key programs key)
     ((g : Function) × (get after key ≡ Some g) × IsLinked parts key g)
     (get after key ≡ get parts.functions key)
+
+-- joining the programs leaves one map of functions
+abbrev pub OneJoining : Type 0
+OneJoining = (parts : LinkableValue) (programs : List ProgramValue) (after other : FinMap key_cmp Function)
+    → AreJoined parts programs after → AreJoined parts programs other → after ≡ other

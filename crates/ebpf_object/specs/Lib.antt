@@ -1,19 +1,3 @@
-pub mod Symbols
-pub mod FileSymbols
-pub mod Groups
-pub mod Relocations
-pub mod Programs
-pub mod Terms
-pub mod Records
-pub mod Texts
-pub mod Tiling
-pub mod DataMaps
-pub mod LegacyMaps
-pub mod SymbolNames
-pub mod DeclaredMaps
-pub mod Parts
-pub mod FileTypes
-pub mod FileExterns
 pub mod Objects
 pub mod Joined
 pub mod OlderHelpers
@@ -21,4 +5,5 @@ pub mod Patches
 pub mod PatchValues
 pub mod TypedExterns
 pub mod PatchedBytes
-pub mod TiledSections
+pub mod TextSections
+pub mod WrittenSlots

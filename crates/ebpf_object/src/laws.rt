@@ -1,34 +1,12 @@
-//! What holds of the tables of each parsed object.
+//! What holds of each parsed object.
 
-ghost use Rattle.std.specs.Ordering.{nat_cmp};
-ghost use Rattle.ebpf_base.specs.Keyed.{LaterStands};
-ghost use Rattle.ebpf_base.specs.Keys.{text_cmp, key_cmp};
-ghost use Rattle.ebpf_elf.specs.declared.entries.ElfRelocation.{ElfRelocation};
-ghost use Rattle.ebpf_elf.specs.declared.entries.SectionIndex.{SectionIndex};
 ghost use Rattle.ebpf_object.specs.PatchedBytes.{GreatestNameStands, OtherBytesStay, LengthsStay, MapsStay, PatchesAreValues, ValuesArePatches};
-ghost use Rattle.ebpf_object.specs.TiledSections.{AtEachAddress, InOrder, SectionsTile};
-ghost use Rattle.ebpf_object.specs.Tiling.{FunctionsTile};
-ghost use Rattle.ebpf_object.specs.declared.program.Program.{Program};
-ghost use Rattle.ebpf_parts.specs.declared.maps.either.Map.{Map};
-ghost use Rattle.ebpf_reloc.specs.declared.extern_desc.ExternDesc.{ExternDesc};
-ghost use Rattle.ebpf_reloc.specs.declared.function.Function.{Function};
-ghost use Rattle.ebpf_reloc.specs.declared.symbol.Symbol.{Symbol};
 
-/// In each table of an object the last of the entries with one key stands.
-pub fn later_entries_stand()
-    ensures programs { LaterStands text_cmp Program }
-    ensures functions { LaterStands key_cmp Function }
-    ensures maps { LaterStands text_cmp Map }
-    ensures externs { LaterStands text_cmp ExternDesc }
-    ensures symbols { LaterStands nat_cmp Symbol }
-    ensures relocations { LaterStands nat_cmp ElfRelocation }
-    ensures section_infos { LaterStands text_cmp SectionIndex }
-{}
-
-/// The functions of a Text section in order of their offset, joined, are the slots of the section's data.
-pub fn functions_tile()
-    ensures { FunctionsTile }
-{}
+pub use ebpf_parsing::laws::{
+    externs_are_unresolved, functions_stand_at_their_keys, functions_tile, later_entries_stand,
+    programs_have_functions, relocations_stand_at_their_offsets, sections_tile,
+    symbols_stand_at_their_numbers,
+};
 
 /// What `Object::patch_map_data` makes of the maps' data, byte by byte: of the variables whose value has a byte for a
 /// place, the one whose name is the greatest in byte order gives it, and each other byte is as before.
@@ -39,13 +17,4 @@ pub fn greatest_name_stands()
     ensures maps_stay { MapsStay }
     ensures patches_are_values { PatchesAreValues }
     ensures values_are_patches { ValuesArePatches }
-{}
-
-/// In the table of functions of an object a Text section's number and an address have the function that begins there.
-/// Where the section's addresses stay below 2^64, the table's functions of the section in order of their addresses are
-/// those that its symbols give in order of their offset; joined they are the slots of the section's data.
-pub fn sections_tile()
-    ensures at_each_address { AtEachAddress }
-    ensures in_order { InOrder }
-    ensures tiled { SectionsTile }
 {}

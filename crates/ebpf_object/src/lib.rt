@@ -1,36 +1,23 @@
 //! eBPF objects: what an ELF file with eBPF programs holds.
 #![tactic(auto)]
 
-mod data_maps;
-mod declared_maps;
-mod externs;
-mod file_types;
+pub mod elf;
+pub mod extern_types;
 mod globals;
-mod groups;
 pub mod laws;
-mod legacy_maps;
-mod license;
+pub mod obj;
 mod object;
-mod parts;
 mod patch;
 mod patch_data;
 mod patch_plan;
-mod program;
-mod program_functions;
 mod queries;
-mod records;
-mod records_by_name;
 mod relocate_calls;
-mod relocations;
+mod relocate_externs;
+mod relocate_maps;
+pub mod relocation;
 pub mod sanitize;
-mod shared;
-mod slot_places;
-mod symbol_names;
-mod symbols;
-mod terms;
-mod text;
-mod text_symbols;
-mod version;
+mod text_sections;
 
+pub use ebpf_parsing::Program;
+pub use ebpf_parts::{insn, maps, programs};
 pub use object::Object;
-pub use program::Program;

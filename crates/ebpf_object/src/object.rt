@@ -2,24 +2,14 @@
 
 ghost use Rattle.std.specs.Prelude.{◌≡◌, IfOk};
 ghost use Rattle.ebpf_base.specs.Faults.{Refuses};
-ghost use Rattle.ebpf_elf.specs.File.{order_of};
-ghost use Rattle.ebpf_object.specs.FileSymbols.{file_symbols, symbol_table};
-ghost use Rattle.ebpf_object.specs.FileExterns.{types_of, externs_of, externs_fault_of};
-ghost use Rattle.ebpf_object.specs.FileTypes.{ext_of, has_relocations};
-ghost use Rattle.ebpf_object.specs.Objects.{maps, programs, functions, kept, section_infos, parse_fault};
-ghost use Rattle.ebpf_object.specs.Terms.{license_of, kernel_version_of};
+ghost use Rattle.ebpf_object.specs.Objects.{object_of, parse_fault};
+ghost use Rattle.ebpf_parsing.specs.FileTypes.{has_relocations};
 ghost use Rattle.ebpf_parts.specs.Memory.{is_memory};
 
-use crate::externs::FileExterns;
-use crate::file_types::FileTypes;
-use crate::parts::read_sections;
-use crate::program::Program;
-use crate::shared::Shared;
-use crate::symbols::read_symbols;
-use crate::terms::Terms;
 use ebpf_base::{ByIndex, ByKey, ByName, ByOffset, BySection, Items};
 use ebpf_btf::{Btf, BtfExt, Endianness};
-use ebpf_elf::{ElfFile, SectionIndex};
+use ebpf_elf::SectionIndex;
+use ebpf_parsing::{Contents, Program};
 use ebpf_parts::maps::Map;
 use ebpf_parts::{ParseError, Relocation};
 use ebpf_reloc::{ExternDesc, Function, Symbol};
@@ -76,49 +66,24 @@ impl Object {
     /// `InvalidMapDefinition` where it has fewer than 20 bytes or another pinning than 0 and 1; of a section as
     /// `.maps` `NoBTF`, `NoSymbolsForSection`, and the first fault of its maps. `OutOfMemory` only where memory was
     /// refused.
-    #[tactic(auto, unfolding(crate::specs::FileExterns::types_of, crate::specs::FileExterns::externs_of, crate::specs::FileExterns::externs_fault_of))]
     pub fn parse(alloc: Global, bytes: &[u8]) -> Result<Object, ParseError>
-        ensures endianness { IfOk result (λ o. o.endianness ≡ order_of bytes.now) }
-        ensures license { IfOk result (λ o. o.license ≡ license_of bytes.now) }
-        ensures kernel_version { IfOk result (λ o. o.kernel_version ≡ kernel_version_of bytes.now) }
-        ensures btf { IfOk result (λ o. o.btf ≡ types_of bytes.now) }
-        ensures btf_ext { IfOk result (λ o. o.btf_ext ≡ ext_of bytes.now) }
-        ensures externs { IfOk result (λ o. o.externs ≡ externs_of bytes.now) }
-        ensures maps { IfOk result (λ o. o.maps ≡ maps bytes.now) }
-        ensures programs { IfOk result (λ o. o.programs ≡ programs bytes.now) }
-        ensures functions { IfOk result (λ o. o.functions ≡ functions bytes.now) }
-        ensures symbol_table { IfOk result (λ o. o.symbol_table ≡ symbol_table (file_symbols bytes.now)) }
-        ensures relocations { IfOk result (λ o. o.relocations ≡ kept bytes.now) }
-        ensures section_infos { IfOk result (λ o. o.section_infos ≡ section_infos bytes.now) }
+        ensures object { IfOk result (λ o. o ≡ object_of bytes.now) }
         ensures fault { Refuses is_memory result (parse_fault bytes.now) }
     {
-        let file = match ElfFile::parse(bytes) {
-            Ok(file) => file,
-            Err(error) => return Err(ParseError::ElfError(error)),
-        };
-        let terms = Terms::read(alloc, &file)?;
-        let symbols = read_symbols(alloc, &file)?;
-        let types = FileTypes::read(alloc, &file)?;
-        let declared = FileExterns::read(alloc, &file, types.btf)?;
-        let shared = Shared {
-            terms,
-            btf: declared.btf,
-            btf_ext: types.btf_ext,
-        };
-        let parts = read_sections(alloc, &shared, types.section_infos, &file, &symbols.groups)?;
+        let contents = Contents::read(alloc, bytes)?;
         Ok(Object {
-            endianness: file.endianness(),
-            license: shared.terms.license,
-            kernel_version: shared.terms.kernel_version,
-            btf: shared.btf,
-            btf_ext: shared.btf_ext,
-            externs: declared.externs,
-            maps: parts.maps,
-            programs: parts.programs,
-            functions: parts.functions,
-            symbol_table: symbols.table,
-            relocations: parts.relocations,
-            section_infos: parts.section_infos,
+            endianness: contents.endianness,
+            license: contents.license,
+            kernel_version: contents.kernel_version,
+            btf: contents.btf,
+            btf_ext: contents.btf_ext,
+            externs: contents.externs,
+            maps: contents.maps,
+            programs: contents.programs,
+            functions: contents.functions,
+            symbol_table: contents.symbol_table,
+            relocations: contents.relocations,
+            section_infos: contents.section_infos,
         })
     }
 

@@ -5,13 +5,14 @@ ghost use Rattle.std.specs.FinMap as map;
 ghost use Rattle.std.specs.List.{flat_map};
 ghost use Rattle.std.specs.Ordering.{eq_by_cmp};
 ghost use Rattle.ebpf_base.specs.Keys.{key_cmp, lent_bytes};
-ghost use Rattle.ebpf_object.specs.Joined.{linkable_of, named, programs_in_order, replaced, AreJoined};
+ghost use Rattle.ebpf_object.specs.Joined.{linkable_of, program_with, programs_in_order, replaced, AreJoined, OneJoining};
 ghost use Rattle.ebpf_reloc.specs.Linking.{AreLinked, IsFirstFault};
-ghost use Rattle.ebpf_reloc.specs.Memory.{is_memory_at};
+ghost use Rattle.ebpf_reloc.specs.Places.{sections_in};
+ghost use Rattle.ebpf_reloc.specs.Memory.{is_memory_at, NamesNoneForMemory};
 
 use crate::object::Object;
-use crate::program::Program;
 use ebpf_base::{ByKey, ByName};
+use ebpf_parsing::Program;
 use ebpf_reloc::{EbpfRelocationError, Function, Linkable, ProgramKey, relocate_calls};
 use std::alloc::{AllocError, Global};
 use std::collections::HashSet;
@@ -22,7 +23,7 @@ fn add_named<'a>(
     programs: &'a ByName<Program>,
     name: &'a str,
 ) -> Result<(), AllocError>
-    ensures { OnOk result (keys.new.items ≡ keys.old.items ++ named name.now (map.get programs.now name.now)) }
+    ensures { OnOk result (keys.new.items ≡ keys.old.items ++ program_with programs.now name.now) }
 {
     let Some(program) = programs.get(name) else {
         return Ok(());
@@ -42,7 +43,7 @@ fn programs_named<'a>(
     programs: &'a ByName<Program>,
     names: &[&'a str],
 ) -> Result<Vec<ProgramKey<'a>>, AllocError>
-    ensures { IfOk result (λ keys. keys.items ≡ flat_map (λ name. named name (map.get programs.now name)) (lent_bytes names.now)) }
+    ensures { IfOk result (λ keys. keys.items ≡ flat_map (program_with programs.now) (lent_bytes names.now)) }
 {
     let mut keys = Vec::with_capacity(alloc, names.len())?;
     for name in names {
@@ -84,8 +85,9 @@ impl Object {
         &self,
         text_sections: &HashSet<usize>,
     ) -> Result<ByKey<Function>, EbpfRelocationError>
-        ensures linked { IfOk result (λ linked. AreLinked (linkable_of self.now text_sections.now) (programs_in_order self.now.programs) linked) }
-        ensures fault { IfErr result (λ e. MatchBool (is_memory_at e) ⊤ (IsFirstFault (linkable_of self.now text_sections.now) (programs_in_order self.now.programs) e)) }
+        ensures linked { IfOk result (λ linked. AreLinked (linkable_of self.now (sections_in text_sections.now)) (programs_in_order self.now.programs) linked) }
+        ensures fault { IfErr result (λ e. MatchBool (is_memory_at e) ⊤ (IsFirstFault (linkable_of self.now (sections_in text_sections.now)) (programs_in_order self.now.programs) e)) }
+        ensures memory { IfErr result NamesNoneForMemory }
     {
         let alloc = *self.license.as_vec().allocator();
         let Ok(programs) = programs_in_order(alloc, &self.programs) else {
@@ -110,14 +112,15 @@ impl Object {
     ///
     /// The least fault of the first program by name that has one, with that name: `UnknownProgram` where it has no
     /// function; else at the first slot in the order of the copies `UnsupportedTextSymbol`, `UnknownFunction`,
-    /// `FunctionInfoMismatch`, `ProgramTooLong` past 2,147,483,647 slots, `InvalidLineInfo`. `OutOfMemory` only
-    /// where memory was refused. After a refusal the object is as it was.
+    /// `FunctionInfoMismatch`, `ProgramTooLong` past 2,147,483,647 slots, `InvalidLineInfo`. `OutOfMemory`, with the
+    /// empty name, only where memory was refused. After a refusal the object is as it was.
     pub fn relocate_calls(
         &mut self,
         text_sections: &HashSet<usize>,
     ) -> Result<(), EbpfRelocationError>
-        ensures functions { OnOk result (AreJoined (linkable_of self.old text_sections.now) (programs_in_order self.old.programs) self.new.functions) }
-        ensures fault { IfErr result (λ e. MatchBool (is_memory_at e) ⊤ (IsFirstFault (linkable_of self.old text_sections.now) (programs_in_order self.old.programs) e)) }
+        ensures functions { OnOk result (AreJoined (linkable_of self.old (sections_in text_sections.now)) (programs_in_order self.old.programs) self.new.functions) }
+        ensures fault { IfErr result (λ e. MatchBool (is_memory_at e) ⊤ (IsFirstFault (linkable_of self.old (sections_in text_sections.now)) (programs_in_order self.old.programs) e)) }
+        ensures memory { IfErr result NamesNoneForMemory }
         ensures others_stay { self.new ≡ record self.old { functions = self.new.functions } }
         ensures unchanged { OnErr result (self.new ≡ self.old) }
     {
@@ -130,3 +133,9 @@ impl Object {
         }
     }
 }
+
+/// What `Object::relocate_calls` promises of the functions leaves one map of them: it follows from the functions,
+/// symbols, relocations and programs as values, and from which sections are named.
+pub fn joining_has_one_result()
+    ensures { OneJoining }
+{}

@@ -1,3 +1,4 @@
 pub mod SlotLists
 pub mod Tables
 pub mod Walks
+pub mod SlotWords

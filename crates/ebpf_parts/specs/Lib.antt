@@ -9,3 +9,4 @@ pub mod ProgramTypes
 pub mod SectionKinds
 pub mod Sections
 pub mod Slots
+pub mod SlotBytes

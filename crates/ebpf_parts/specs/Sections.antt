@@ -26,17 +26,21 @@ pub record SectionValue : Type 0 where
 abbrev pub name_or_empty : SectionOf → List ℕ
 name_or_empty s = unwrap_or (section_name s) []
 
--- the section of a file
-unfoldable pub section_of : SectionOf → SectionValue
-section_of s = record {
+-- a section of a file, with these relocations
+unfoldable pub section_with : List ElfRelocation → SectionOf → SectionValue
+section_with list s = record {
   index = record { 0 = s.index };
   kind = kind_of (name_or_empty s) (header s);
   address = (header s).address;
   name = name_or_empty s;
   bytes = data_of s;
   size = (header s).size;
-  relocations = relocations s;
+  relocations = list;
 }
+
+-- with its own
+unfoldable pub section_of : SectionOf → SectionValue
+section_of s = section_with (relocations s) s
 
 -- a name that can't be read
 abbrev pub name_fault : SectionOf → Option ParseError
@@ -51,5 +55,8 @@ abbrev pub target_fault : List ElfRelocation → Option ParseError
 target_fault list = if list_any (λ r. r.symbol_index == 0) list then Some UnsupportedRelocationTarget else None
 
 -- why a section can't be read, in this order
+unfoldable pub section_fault_with : List ElfRelocation → SectionOf → Option ParseError
+section_fault_with list s = or_else (name_fault s) (or_else (data_fault s) (target_fault list))
+
 unfoldable pub section_fault : SectionOf → Option ParseError
-section_fault s = or_else (name_fault s) (or_else (data_fault s) (target_fault (relocations s)))
+section_fault s = section_fault_with (relocations s) s

@@ -4,6 +4,7 @@
 mod binding;
 mod error;
 pub mod insn;
+pub mod laws;
 pub mod maps;
 mod program_section;
 pub mod programs;

@@ -1,12 +1,12 @@
 //! A section, as it is parsed.
 
-ghost use Rattle.std.specs.Prelude.{◌≡◌, ◌==◌, ◌∷◌, ◌++◌, [], ℕ, IfOk, OnOk, Some, None, filter};
+ghost use Rattle.std.specs.Prelude.{◌≡◌, ◌∷◌, ◌++◌, [], ℕ, IfOk, OnOk, Some, None};
 ghost use Rattle.std.specs.List.{flat_map};
 ghost use Rattle.ebpf_base.specs.Faults.{Refuses, or_else, fault_of};
-ghost use Rattle.ebpf_elf.specs.Relocations.{relocations, relocation_sections, target_of, entries_of};
+ghost use Rattle.ebpf_elf.specs.Relocations.{relocations, entries_of};
 ghost use Rattle.ebpf_elf.specs.Sections.{header, data_of, section_name};
 ghost use Rattle.ebpf_parts.specs.Memory.{is_memory};
-ghost use Rattle.ebpf_parts.specs.Sections.{SectionValue, section_of, section_fault, target_fault, data_fault, name_fault};
+ghost use Rattle.ebpf_parts.specs.Sections.{SectionValue, section_of, section_with, section_fault, section_fault_with, target_fault, data_fault, name_fault};
 
 use crate::error::ParseError;
 use crate::section_kind::EbpfSectionKind;
@@ -128,7 +128,7 @@ impl<'a> Section<'a> {
     /// `SectionError` with `BadStringTable` where the name can't be read, then with `BadSectionRange`
     /// where the data is outside the file; then `UnsupportedRelocationTarget` where a relocation names
     /// symbol 0.
-    #[tactic(auto, unfolding(crate::specs::Sections::section_of, crate::specs::Sections::section_fault))]
+    #[tactic(auto, unfolding(crate::specs::Sections::section_of, crate::specs::Sections::section_with, crate::specs::Sections::section_fault, crate::specs::Sections::section_fault_with))]
     pub fn from_elf(alloc: Global, section: &ElfSection<'a>) -> Result<Section<'a>, ParseError>
         ensures section { IfOk result (λ s. s ≡ section_of section.now) }
         ensures fault { Refuses is_memory result (section_fault section.now) }
@@ -147,21 +147,20 @@ impl<'a> Section<'a> {
         })
     }
 
-    /// The same from the file's relocation sections whose target it is, for a caller that has
-    /// gathered them.
+    /// The same with the relocations of these relocation sections, one after the other, in place of its own, for a
+    /// caller that has gathered those whose target it is.
     ///
     /// # Errors
     ///
     /// Those of `from_elf`.
-    #[tactic(auto, unfolding(crate::specs::Sections::section_of, crate::specs::Sections::section_fault))]
+    #[tactic(auto, unfolding(crate::specs::Sections::section_with, crate::specs::Sections::section_fault_with))]
     pub fn with_relocations(
         alloc: Global,
         section: &ElfSection<'a>,
         tables: &[ElfRelocationSection<'_>],
     ) -> Result<Section<'a>, ParseError>
-        requires { tables.now ≡ filter (λ r. target_of r == section.now.index) (relocation_sections section.now.file) }
-        ensures section { IfOk result (λ s. s ≡ section_of section.now) }
-        ensures fault { Refuses is_memory result (section_fault section.now) }
+        ensures section { IfOk result (λ s. s ≡ section_with (flat_map entries_of tables.now) section.now) }
+        ensures fault { Refuses is_memory result (section_fault_with (flat_map entries_of tables.now) section.now) }
     {
         let name = name_of(section)?;
         let bytes = data_of(section)?;

@@ -4,7 +4,7 @@ use Rattle.std.specs.Prelude.{ℤ, slice_get, option_map, unwrap_or, if◌then�
 use Rattle.std.specs.FinMap.{get, contains_key}
 use Rattle.ebpf_elf.specs.declared.entries.ElfRelocation.{ElfRelocation}
 use Rattle.ebpf_linker.specs.Functions.{Reference, Nothing, Faulty, Names, or_empty}
-use Rattle.ebpf_linker.specs.Machine.{CallsRefer}
+use Rattle.ebpf_linker.proofs.Visits.{CallsRefer}
 use Rattle.ebpf_linker.specs.Slots.{is_pseudo_call}
 use Rattle.ebpf_parts.specs.declared.insn.bpf_insn.{bpf_insn}
 use Rattle.ebpf_reloc.specs.declared.error.RelocationError.{RelocationError}

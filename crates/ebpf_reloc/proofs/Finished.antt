@@ -7,6 +7,7 @@ use Rattle.std.proofs.lemmas.Option.{slice_get_cases}
 use Rattle.ebpf_linker.specs.declared.body.LinkedProgram.{LinkedProgram}
 use Rattle.ebpf_linker.specs.Faults.{LeastFault, linking}
 use Rattle.ebpf_linker.specs.Result.{IsLinking}
+use Rattle.ebpf_linker.proofs.Visits.{same_visits}
 use Rattle.ebpf_reloc.proofs.CallsRefer.{calls_refer}
 use Rattle.ebpf_reloc.proofs.Keys.{count_keys, function_at, has_number}
 use Rattle.ebpf_reloc.specs.declared.error.EbpfRelocationError.{EbpfRelocationError}
@@ -40,7 +41,7 @@ module _ (parts : LinkableValue) where
     is = e;
     order = h.0;
     program = h.1;
-    visits = λ on. h.1.visits (calls_refer parts) on;
+    visits = λ on. same_visits (functions_of parts) (key_in keys number) h.0 l.slots h.1.linked (calls_refer parts) on;
   }
 
   fault_where : (key : Key) (e : RelocationError) (o : Option Function) → (o ≡ None → ⊥) → LeastFault (functions_of parts) (linking (functions_of parts) key) key e

@@ -16,7 +16,8 @@ use Rattle.ebpf_linker.specs.declared.reference.Target.TheVariants.{Function as 
 use Rattle.ebpf_linker.specs.Functions.{Names}
 use Rattle.ebpf_linker.specs.Numbered.{of_target, referred, items_of, calls_at, content_of as body_content, option_content, functions, Rises, IsIn, Sound}
 use Rattle.ebpf_linker.specs.declared.body.LinkedProgram.{LinkedProgram}
-use Rattle.ebpf_linker.specs.Renaming.{renamed, Numbers, answer_named}
+use Rattle.ebpf_linker.specs.Renaming.{answer_named}
+use Rattle.ebpf_linker.proofs.Numbering.{renamed, Numbers}
 use Rattle.ebpf_linker.specs.Result.{IsLinking}
 use Rattle.ebpf_parts.specs.declared.insn.bpf_insn.{bpf_insn}
 use Rattle.ebpf_linker.proofs.Carry.{carried}

@@ -2,6 +2,9 @@ pub mod Memory
 pub mod Symbols
 pub mod Places
 pub mod Walks
+pub mod KeptRelocations
+pub mod Shapes
 pub mod References
 pub mod Numbers
 pub mod Linking
+pub mod Laws

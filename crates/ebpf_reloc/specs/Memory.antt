@@ -1,5 +1,5 @@
 -- The one answer of relocation that no definition states: want of memory.
-use Rattle.std.specs.Prelude.{Bool, true, false}
+use Rattle.std.specs.Prelude.{◌≡◌, Bool, true, false, [], IsTrue}
 use Rattle.ebpf_reloc.specs.declared.error.EbpfRelocationError.{EbpfRelocationError}
 use Rattle.ebpf_reloc.specs.declared.error.RelocationError.{RelocationError}
 use Rattle.ebpf_reloc.specs.declared.error.RelocationError.TheVariants.{OutOfMemory}
@@ -11,3 +11,7 @@ is_memory _ = false
 -- the same of an error that names a function
 abbrev pub is_memory_at : EbpfRelocationError → Bool
 is_memory_at e = is_memory e.error
+
+-- want of memory names no function
+abbrev pub NamesNoneForMemory : EbpfRelocationError → Type 0
+NamesNoneForMemory e = IsTrue (is_memory_at e) → e.function ≡ []

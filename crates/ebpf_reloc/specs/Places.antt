@@ -19,9 +19,13 @@ use Rattle.ebpf_reloc.specs.declared.place.Place.TheVariants.{Absent, Unsupporte
 use Rattle.ebpf_reloc.specs.declared.symbol.Symbol.{Symbol}
 use Rattle.ebpf_reloc.specs.Symbols.{is_extern}
 
--- the numbers of the sections that hold functions
+-- which sections hold functions, by their numbers
 abbrev pub TextSections : Type 0
-TextSections = HashSet ℕ (BuildHasherDefault FoldHasher)
+TextSections = ℕ → Bool
+
+-- those that a set has
+abbrev pub sections_in : HashSet ℕ (BuildHasherDefault FoldHasher) → TextSections
+sections_in numbers section = contains nat_eq numbers section
 
 -- what is read of an object to tell where its slots point
 pub record LinkableValue : Type 0 where
@@ -35,7 +39,7 @@ read l = record {
   functions = l.functions.now;
   symbols = l.symbols.now;
   relocations = l.relocations.now;
-  text_sections = l.text_sections.now;
+  text_sections = sections_in l.text_sections.now;
 }
 
 -- a whole number modulo 2 ^ 64
@@ -48,7 +52,7 @@ names_function _ = false
 
 abbrev pub is_in : TextSections → Option ℕ → Bool
 is_in text_sections None = false
-is_in text_sections (Some section) = contains nat_eq text_sections section
+is_in text_sections (Some section) = text_sections section
 
 -- a symbol that says where a slot points: a function's, or one in a section of functions, but no extern
 abbrev pub is_usable : TextSections → Symbol → Bool

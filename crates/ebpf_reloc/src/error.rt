@@ -1,6 +1,7 @@
 //! Why an object's slots could not be relocated.
 
-ghost use Rattle.std.specs.Prelude.{◌≡◌, []};
+ghost use Rattle.std.specs.Prelude.{◌≡◌, [], ⊤, MatchBool};
+ghost use Rattle.ebpf_reloc.specs.Memory.{is_memory, is_memory_at, NamesNoneForMemory};
 ghost use Rattle.ebpf_reloc.specs.declared.error.RelocationError.TheVariants.{OutOfMemory};
 
 use ebpf_base::Text;
@@ -100,6 +101,28 @@ impl EbpfRelocationError {
             error: RelocationError::OutOfMemory,
         }
     }
+
+    /// An error of a function or a program with this name. Want of memory, also where it is the name that finds
+    /// none, has the empty text for the name.
+    pub fn named(alloc: Global, name: &str, error: RelocationError) -> EbpfRelocationError
+        ensures named { MatchBool (is_memory_at result) ⊤ (result ≡ record { function = name.now; error = error }) }
+        ensures memory { NamesNoneForMemory result }
+    {
+        if is_memory(&error) {
+            return EbpfRelocationError::memory(alloc);
+        }
+        match Text::from_str(alloc, name) {
+            Ok(function) => EbpfRelocationError { function, error },
+            Err(_) => EbpfRelocationError::memory(alloc),
+        }
+    }
+}
+
+/// Whether an error is want of memory.
+fn is_memory(error: &RelocationError) -> bool
+    ensures { result ≡ is_memory error.now }
+{
+    matches!(error, RelocationError::OutOfMemory)
 }
 
 impl From<AllocError> for RelocationError {

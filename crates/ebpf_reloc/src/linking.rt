@@ -5,7 +5,7 @@ ghost use Rattle.std.specs.FinMap as map;
 ghost use Rattle.ebpf_linker.specs.Renaming.{answer_named};
 ghost use Rattle.ebpf_linker.specs.Result.{IsLinking};
 ghost use Rattle.ebpf_reloc.specs.Linking.{ProgramValue, key_of, with_linked, IsLinked, IsFault, IsRefused, AreLinked, IsFirstFault};
-ghost use Rattle.ebpf_reloc.specs.Memory.{is_memory, is_memory_at};
+ghost use Rattle.ebpf_reloc.specs.Memory.{is_memory, is_memory_at, NamesNoneForMemory};
 ghost use Rattle.ebpf_reloc.specs.Numbers.{function_keys, function_list, key_in, told};
 ghost use Rattle.ebpf_reloc.specs.Places.{read};
 ghost use Rattle.ebpf_reloc.specs.References.{functions_of};
@@ -15,7 +15,7 @@ use crate::function::Function;
 use crate::linkable::Linkable;
 use crate::numbered::{NumberedFunctions, told};
 use crate::numbers::number_in;
-use ebpf_base::{ByKey, Text};
+use ebpf_base::ByKey;
 use ebpf_btf::{FuncSecInfo, LineSecInfo};
 use ebpf_linker::{Fault, LinkedProgram};
 use std::alloc::{AllocError, Global};
@@ -124,16 +124,6 @@ impl<'a> NumberedFunctions<'a> {
     }
 }
 
-/// A refusal, with the name of the program.
-fn refused(alloc: Global, name: &str, error: RelocationError) -> EbpfRelocationError
-    ensures { MatchBool (is_memory_at result) ⊤ (result ≡ record { function = name.now; error = error }) }
-{
-    match Text::from_str(alloc, name) {
-        Ok(function) => EbpfRelocationError { function, error },
-        Err(_) => EbpfRelocationError::memory(alloc),
-    }
-}
-
 impl NumberedFunctions<'_> {
     /// A program's function, linked.
     #[tactic(auto, using(crate::proofs::Finished::with_name))]
@@ -144,10 +134,11 @@ impl NumberedFunctions<'_> {
     ) -> Result<Function, EbpfRelocationError>
         ensures linked { IfOk result (λ f. IsLinked (read self.now.parts) (key_of program.now) f) }
         ensures fault { IfErr result (λ e. MatchBool (is_memory_at e) ⊤ (IsRefused (read self.now.parts) program.now e)) }
+        ensures memory { IfErr result NamesNoneForMemory }
     {
         match self.linked_at(alloc, program.section_index, program.address) {
             Ok(function) => Ok(function),
-            Err(error) => Err(refused(alloc, program.name, error)),
+            Err(error) => Err(EbpfRelocationError::named(alloc, program.name, error)),
         }
     }
 }
@@ -159,6 +150,7 @@ fn numbered<'a>(
 ) -> Result<NumberedFunctions<'a>, EbpfRelocationError>
     ensures parts { IfOk result (λ n. read n.parts ≡ read parts.now) }
     ensures memory { IfErr result (λ e. is_memory_at e ≡ true) }
+    ensures unnamed { IfErr result NamesNoneForMemory }
 {
     match NumberedFunctions::new(alloc, parts) {
         Ok(functions) => Ok(functions),
@@ -175,6 +167,7 @@ fn put(
 ) -> Result<(), EbpfRelocationError>
     ensures ok { OnOk result (functions.new ≡ map.insert functions.old key function) }
     ensures memory { IfErr result (λ e. is_memory_at e ≡ true) }
+    ensures unnamed { IfErr result NamesNoneForMemory }
 {
     match functions.insert(key, function) {
         Ok(_) => Ok(()),
@@ -192,7 +185,7 @@ fn put(
 /// where the slot's symbol names no function, `UnknownFunction` where none stands at the address,
 /// `FunctionInfoMismatch` where only one of it and the program has records on functions, `ProgramTooLong`
 /// where with it there are more than 2,147,483,647 slots, `InvalidLineInfo` where its records on lines can't
-/// be moved. `OutOfMemory` only where memory was refused.
+/// be moved. `OutOfMemory`, with the empty name, only where memory was refused.
 pub fn relocate_calls(
     alloc: Global,
     programs: &[ProgramKey<'_>],
@@ -200,6 +193,7 @@ pub fn relocate_calls(
 ) -> Result<ByKey<Function>, EbpfRelocationError>
     ensures linked { IfOk result (λ linked. AreLinked (read parts.now) programs.now linked) }
     ensures fault { IfErr result (λ e. MatchBool (is_memory_at e) ⊤ (IsFirstFault (read parts.now) programs.now e)) }
+    ensures memory { IfErr result NamesNoneForMemory }
 {
     let functions = numbered(alloc, parts)?;
     let mut linked = ByKey::new(alloc);

@@ -2,7 +2,7 @@
 
 ghost use Rattle.std.specs.Prelude.{◌≡◌, ◌+◌, ◌*◌, ◌%◌, ◌^◌, pos, ◌+ℤ◌, ◌*ℤ◌};
 ghost use Rattle.std.specs.Option.{option_copied};
-ghost use Rattle.ebpf_reloc.specs.Places.{modulo, is_usable, address_of, symbol_place, relocated_place, own_place, read};
+ghost use Rattle.ebpf_reloc.specs.Places.{modulo, is_usable, sections_in, address_of, symbol_place, relocated_place, own_place, read};
 
 use crate::function::Function;
 use crate::linkable::Linkable;
@@ -42,7 +42,7 @@ fn distance(imm: i32) -> i64
 /// Whether a relocation to a symbol says where a slot points: it names a function, or it is in a
 /// section of functions. An extern is neither.
 fn is_usable(symbol: &Symbol, text_sections: &HashSet<usize>) -> bool
-    ensures { result ≡ is_usable text_sections.now symbol.now }
+    ensures { result ≡ is_usable (sections_in text_sections.now) symbol.now }
 {
     if matches!(symbol.kind, SymbolKind::Text) {
         return true;

@@ -1,7 +1,7 @@
-//! What types declare of an object, as a text.
+//! What types declare of an object, line by line.
 
 use ebpf_object::Object;
-use ebpf_parts::maps::{BtfMapDef, Map};
+use ebpf_parts::maps::{BtfMap, BtfMapDef, Map};
 use std::alloc::{AllocError, Global};
 
 /// What is said of a map, as words: each size beside the id of its type.
@@ -17,25 +17,39 @@ fn put_definition(text: &mut String, def: &BtfMapDef) -> Result<(), AllocError> 
     )
 }
 
-/// A line for a map that types declare, and one for the maps that it holds.
-fn put_map(text: &mut String, name: &str, map: &Map) -> Result<(), AllocError> {
-    if let Map::Btf(map) = map {
-        let (section, symbol) = (map.section_index, map.symbol_index);
-        write!(text, "map {name} in {section} symbol {symbol} ")?;
-        put_definition(text, &map.def)?;
-        writeln!(text)?;
-    }
-    if let Some(Map::Btf(inner)) = map.inner()? {
-        let (section, symbol) = (inner.section_index, inner.symbol_index);
-        write!(text, "inner in {section} symbol {symbol} ")?;
-        put_definition(text, &inner.def)?;
-        writeln!(text)?;
+/// The rest of a line for a map.
+fn put_btf_map(text: &mut String, map: &BtfMap) -> Result<(), AllocError> {
+    let (section, symbol) = (map.section_index, map.symbol_index);
+    write!(text, "in {section} symbol {symbol} ")?;
+    put_definition(text, &map.def)?;
+    writeln!(text)
+}
+
+/// A line for the maps that a map holds.
+fn put_inner(text: &mut String, inner: &Option<Map>) -> Result<(), AllocError> {
+    if let Some(Map::Btf(inner)) = inner {
+        write!(text, "inner ")?;
+        put_btf_map(text, inner)?;
     }
     Ok(())
 }
 
+/// A line for a map that types declare, and one for the maps that it holds.
+fn put_map(text: &mut String, name: &str, map: &Map) -> Result<(), AllocError> {
+    if let Map::Btf(map) = map {
+        write!(text, "map {name} ")?;
+        put_btf_map(text, map)?;
+    }
+    let inner = map.inner()?;
+    put_inner(text, &inner)
+}
+
 /// A line for each map that types declare, in byte order of their names.
-fn put_maps(alloc: Global, text: &mut String, object: &Object) -> Result<(), AllocError> {
+pub fn put_declared_maps(
+    alloc: Global,
+    text: &mut String,
+    object: &Object,
+) -> Result<(), AllocError> {
     for name in object.maps.names(alloc)? {
         if let Some(map) = object.maps.get(name) {
             put_map(text, name, map)?;
@@ -45,7 +59,7 @@ fn put_maps(alloc: Global, text: &mut String, object: &Object) -> Result<(), All
 }
 
 /// A line for each extern, in byte order of their names.
-fn put_externs(alloc: Global, text: &mut String, object: &Object) -> Result<(), AllocError> {
+pub fn put_externs(alloc: Global, text: &mut String, object: &Object) -> Result<(), AllocError> {
     for name in object.externs.names(alloc)? {
         if let Some(found) = object.externs.get(name) {
             let id = found.btf_id;
@@ -61,7 +75,7 @@ fn put_externs(alloc: Global, text: &mut String, object: &Object) -> Result<(), 
 }
 
 /// A line for each type from an id on.
-fn put_types(text: &mut String, object: &Object, from: usize) -> Result<(), AllocError> {
+pub fn put_types(text: &mut String, object: &Object, from: usize) -> Result<(), AllocError> {
     let Some(btf) = &object.btf else {
         return Ok(());
     };
@@ -74,29 +88,4 @@ fn put_types(text: &mut String, object: &Object, from: usize) -> Result<(), Allo
         id = id.saturating_add(1);
     }
     Ok(())
-}
-
-/// The maps that types declare in the object that the bytes are, or the error.
-pub fn declared_maps_outcome(alloc: Global, bytes: &[u8]) -> Result<String, AllocError> {
-    match Object::parse(alloc, bytes) {
-        Ok(object) => {
-            let mut text = String::new(alloc);
-            put_maps(alloc, &mut text, &object)?;
-            Ok(text)
-        }
-        Err(error) => format!(in alloc; "{error:?}"),
-    }
-}
-
-/// The externs of the object that the bytes are, and its types from an id on, or the error.
-pub fn externs_outcome(alloc: Global, bytes: &[u8], from: usize) -> Result<String, AllocError> {
-    match Object::parse(alloc, bytes) {
-        Ok(object) => {
-            let mut text = String::new(alloc);
-            put_externs(alloc, &mut text, &object)?;
-            put_types(&mut text, &object, from)?;
-            Ok(text)
-        }
-        Err(error) => format!(in alloc; "{error:?}"),
-    }
 }

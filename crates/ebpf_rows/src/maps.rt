@@ -1,122 +1,105 @@
-//! Rows on the maps of data sections and of map structs.
+//! Maps, line by line.
 
-use crate::outcome::maps_outcome;
-use ebpf_samples::SampleFile;
+use ebpf_cases::{Action, no_action};
+use ebpf_object::Object;
+use ebpf_parts::maps::{Map, PinningType, bpf_map_info, parse_map_info};
 use std::alloc::{AllocError, Global};
-use std::test::Fail;
 
-const PROGBITS: u32 = 1;
-
-const NOBITS: u32 = 8;
-
-/// What a file gives with a section of this name and kind, number 3, that states a size.
-fn data_outcome(alloc: Global, name: &str, kind: u32, size: u64) -> Result<String, AllocError> {
-    let mut file = SampleFile::new(alloc)?;
-    file.section(name, kind, 3, &[1, 2, 3])?;
-    if let Some(row) = file.last() {
-        row.size = size;
-    }
-    let bytes = file.finish()?;
-    maps_outcome(alloc, bytes.as_slice())
-}
-
-const DATA: [(&str, u32, u64, &str); 5] = [
-    (
-        ".bss",
-        NOBITS,
-        4,
-        "map .bss type 2 key 4 value 4 entries 1 flags 0 None symbol None data [0, 0, 0, 0]\n",
-    ),
-    (
-        ".rodata",
-        PROGBITS,
-        3,
-        "map .rodata type 2 key 4 value 3 entries 1 flags 128 None symbol None data [1, 2, 3]\n",
-    ),
-    (
-        ".data.x",
-        PROGBITS,
-        3,
-        "map .data.x type 2 key 4 value 3 entries 1 flags 0 None symbol None data [1, 2, 3]\n",
-    ),
-    (
-        ".data",
-        NOBITS,
-        3,
-        "map .data type 2 key 4 value 3 entries 1 flags 0 None symbol None data []\n",
-    ),
-    (
-        ".bss",
-        NOBITS,
-        4294967296,
-        "InvalidMapDefinition { name: Text { text: \".bss\" } }",
-    ),
-];
-
-#[test]
-fn data_sections_are_maps(rt: HostRuntime) -> Result<(), Fail> {
-    for (name, kind, size, expected) in DATA {
-        let text = data_outcome(rt.alloc(), name, kind, size)?;
-        assert_eq!(rt; text.as_str(), expected);
+/// A line for each map, in byte order of their names.
+pub fn put_maps(alloc: Global, text: &mut String, object: &Object) -> Result<(), AllocError> {
+    for name in object.maps.names(alloc)? {
+        if let Some(map) = object.maps.get(name) {
+            let kind = map.map_type();
+            let (key, value) = (map.key_size(), map.value_size());
+            let (entries, flags) = (map.max_entries(), map.map_flags());
+            let symbol = map.symbol_index();
+            let pinning = map.pinning();
+            let data = map.data();
+            writeln!(
+                text,
+                "map {name} type {kind} key {key} value {value} entries {entries} flags {flags} {pinning:?} symbol {symbol:?} data {data:?}"
+            )?;
+        }
     }
     Ok(())
 }
 
-/// The words 1 to 5, an id and a number of pinning.
-const STRUCT: [u8; 28] = [
-    1, 0, 0, 0, 2, 0, 0, 0, 3, 0, 0, 0, 4, 0, 0, 0, 5, 0, 0, 0, 6, 7, 8, 0, 2, 0, 0, 0,
-];
-
-/// What a file gives with a section `maps` of this struct and a symbol of it with an address and a size.
-fn struct_outcome(alloc: Global, address: u64, size: u64) -> Result<String, AllocError> {
-    let mut file = SampleFile::new(alloc)?;
-    file.section("maps", 1, 3, &STRUCT)?;
-    file.symbol("m", 0x11, 3, address, size)?;
-    let bytes = file.finish()?;
-    maps_outcome(alloc, bytes.as_slice())
+/// What may be read of a map.
+fn described(alloc: Global, map: &Map) -> Result<String, AllocError> {
+    let kind = map.map_type();
+    let key = map.key_size();
+    let value = map.value_size();
+    let entries = map.max_entries();
+    let flags = map.map_flags();
+    let extra = map.map_extra();
+    let pinning = map.pinning();
+    let section = map.section_index();
+    let section_kind = map.section_kind();
+    let symbol = map.symbol_index();
+    let bytes = map.data();
+    format!(in alloc;
+        "type {kind} key {key} value {value} entries {entries} flags {flags} extra {extra} pinning {pinning:?} section {section} {section_kind:?} symbol {symbol:?} data {bytes:?}"
+    )
 }
 
-const STRUCTS: [(u64, u64, &str); 7] = [
-    (
-        0,
-        20,
-        "map m type 1 key 2 value 3 entries 4 flags 5 None symbol Some(1) data []\n",
-    ),
-    (
-        0,
-        23,
-        "map m type 1 key 2 value 3 entries 4 flags 5 None symbol Some(1) data []\n",
-    ),
-    (0, 19, "InvalidMapDefinition { name: Text { text: \"m\" } }"),
-    (0, 28, "InvalidMapDefinition { name: Text { text: \"m\" } }"),
-    (28, 0, "InvalidMapDefinition { name: Text { text: \"m\" } }"),
-    (
-        29,
-        0,
-        "InvalidSymbol { index: 1, name: Some(Text { text: \"m\" }) }",
-    ),
-    (
-        8,
-        21,
-        "InvalidSymbol { index: 1, name: Some(Text { text: \"m\" }) }",
-    ),
-];
-
-#[test]
-fn structs_are_maps(rt: HostRuntime) -> Result<(), Fail> {
-    for (address, size, expected) in STRUCTS {
-        let text = struct_outcome(rt.alloc(), address, size)?;
-        assert_eq!(rt; text.as_str(), expected);
+/// What may be read of a map, and the id that a legacy map keeps.
+fn described_with_id(alloc: Global, map: &Map) -> Result<String, AllocError> {
+    let mut text = described(alloc, map)?;
+    if let Map::Legacy(legacy) = map {
+        let id = legacy.def.id;
+        write!(text, " id {id}")?;
     }
+    Ok(text)
+}
+
+/// What is made of a Bloom filter that a kernel describes with an id and a value type.
+pub fn map_info(alloc: Global, action: &Action<'_>) -> Result<String, AllocError> {
+    let (Some(id), Some(value_type)) = (action.small_number(0), action.small_number(1)) else {
+        return no_action(alloc);
+    };
+    let pinning = if action.word(2) == "ByName" {
+        PinningType::ByName
+    } else {
+        PinningType::None
+    };
+    let info = bpf_map_info {
+        type_: 30,
+        id,
+        value_size: 4,
+        max_entries: 64,
+        map_extra: 3,
+        btf_value_type_id: value_type,
+        ..Default::default()
+    };
+    let map = parse_map_info(alloc, info, pinning);
+    described_with_id(alloc, &map)
+}
+
+/// Changes a map.
+fn change(map: &mut Map) -> Result<(), AllocError> {
+    map.set_value_size(9);
+    map.set_max_entries(17);
+    map.data_mut().push(5)?;
     Ok(())
 }
 
-#[test]
-fn struct_sections_have_symbols(rt: HostRuntime) -> Result<(), Fail> {
-    let text = data_outcome(rt.alloc(), "maps", PROGBITS, 3)?;
-    assert_eq!(rt;
-        text.as_str(),
-        "NoSymbolsForSection { section_name: Text { text: \"maps\" } }"
-    );
-    Ok(())
+/// What may be read of a map, and whether it holds others.
+fn described_with_inner(alloc: Global, map: &Map) -> Result<String, AllocError> {
+    let mut text = described(alloc, map)?;
+    let holds = map.inner()?.is_some();
+    write!(text, " holds a map {holds}")?;
+    Ok(text)
+}
+
+/// What is made of a map that is changed and then copied.
+fn changed_copy(alloc: Global, map: &mut Map) -> Result<String, AllocError> {
+    change(map)?;
+    let copy = map.clone()?;
+    described_with_inner(alloc, &copy)
+}
+
+/// What is made of a map by its parameters that is changed and then copied.
+pub fn map_copy(alloc: Global) -> Result<String, AllocError> {
+    let mut map = Map::new_from_params(alloc, 1, 4, 8, 16, 32);
+    changed_copy(alloc, &mut map)
 }

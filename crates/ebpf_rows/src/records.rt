@@ -1,74 +1,66 @@
-//! Rows on type information, and on what it says of functions.
+//! What type information says of instructions, line by line.
 
-use crate::outcome::{outcome, records_outcome};
-use ebpf_samples::{SampleFile, put_words, section_names};
+use ebpf_btf::{Btf, Relocation};
+use ebpf_object::Object;
 use std::alloc::{AllocError, Global};
-use std::test::Fail;
 
-const FUNCTION: u8 = 0x12;
-
-/// Records on functions and on lines of both sections; the places are in bytes.
-fn said(alloc: Global) -> Result<Vec<u8>, AllocError> {
-    let mut bytes = Vec::new(alloc);
-    put_words(&mut bytes, &[0x1eb9f, 24, 0, 44, 44, 116])?;
-    put_words(&mut bytes, &[8, 1, 1, 8, 5])?;
-    put_words(&mut bytes, &[10, 2, 0, 6, 8, 7])?;
-    put_words(
-        &mut bytes,
-        &[16, 1, 3, 8, 0, 0, 21, 16, 0, 0, 22, 0, 0, 0, 23],
-    )?;
-    put_words(&mut bytes, &[10, 3, 8, 0, 0, 31, 0, 0, 0, 32, 12, 0, 0, 33])?;
-    Ok(bytes)
-}
-
-/// A program of two slots at 8 of its section, and two functions of one slot in `.text`.
-fn with_records(alloc: Global) -> Result<SampleFile, AllocError> {
-    let mut file = SampleFile::new(alloc)?;
-    file.code("kprobe/p", &[0; 24])?;
-    file.code(".text", &[0; 16])?;
-    file.symbol("p", FUNCTION, 3, 8, 16)?;
-    file.symbol("f", FUNCTION, 4, 0, 8)?;
-    file.symbol("g", FUNCTION, 4, 8, 8)?;
-    Ok(file)
-}
-
-#[test]
-fn functions_have_their_records(rt: HostRuntime) -> Result<(), Fail> {
-    let mut file = with_records(rt.alloc())?;
-    let types = section_names(rt.alloc())?;
-    let said = said(rt.alloc())?;
-    file.section(".BTF", 1, 0, types.as_slice())?;
-    file.section(".BTF.ext", 1, 0, said.as_slice())?;
-    file.section(".BTF", 1, 0, &[])?;
-    let bytes = file.finish()?;
-    let text = records_outcome(rt.alloc(), bytes.as_slice())?;
-    assert_eq!(rt;
-        text.as_str(),
-        "records p of 8 and 16 bytes: 0 of 1, 0/21 1/22 of 3\nrecords f of 8 and 16 bytes: 0 of 2, 0/32 of 3\nrecords g of 8 and 16 bytes: 1 of 2, 1/31 1/33 of 3\nsection 5 .BTF\nsection 6 .BTF.ext\nsection 2 .strtab\nsection 1 .symtab\nsection 4 .text\nsection 3 kprobe/p\n"
-    );
+/// A line for the records of each function, by its key.
+pub fn put_records(text: &mut String, object: &Object) -> Result<(), AllocError> {
+    for (_, function) in object.functions.iter() {
+        let name = function.name.as_str();
+        let funcs = &function.func_info;
+        let lines = &function.line_info;
+        let (func_count, line_count) = (funcs.num_info, lines.num_info);
+        let (func_size, line_size) = (function.func_info_rec_size, function.line_info_rec_size);
+        write!(text, "records {name} of {func_size} and {line_size} bytes:")?;
+        for row in funcs.func_info.as_slice() {
+            let slot = row.insn_off;
+            write!(text, " {slot}")?;
+        }
+        write!(text, " of {func_count},")?;
+        for row in lines.line_info.as_slice() {
+            let (slot, line) = (row.insn_off, row.line_col);
+            write!(text, " {slot}/{line}")?;
+        }
+        writeln!(text, " of {line_count}")?;
+    }
     Ok(())
 }
 
-#[test]
-fn nothing_is_said_without_types(rt: HostRuntime) -> Result<(), Fail> {
-    let mut file = with_records(rt.alloc())?;
-    file.section(".BTF.ext", 1, 0, &[1])?;
-    let bytes = file.finish()?;
-    let text = records_outcome(rt.alloc(), bytes.as_slice())?;
-    assert_eq!(rt;
-        text.as_str(),
-        "records p of 0 and 0 bytes: of 0, of 0\nrecords f of 0 and 0 bytes: of 0, of 0\nrecords g of 0 and 0 bytes: of 0, of 0\nsection 2 .strtab\nsection 1 .symtab\nsection 4 .text\nsection 3 kprobe/p\n"
-    );
-    Ok(())
+/// The text at an offset, or why there is none.
+fn said(alloc: Global, btf: &Btf, offset: u32) -> Result<String, AllocError> {
+    let found = btf.string_at(offset);
+    format!(in alloc; "{found:?}")
 }
 
-#[test]
-fn types_come_before_sections(rt: HostRuntime) -> Result<(), Fail> {
-    let mut file = SampleFile::new(rt.alloc())?;
-    file.code("nothing", &[0; 8])?;
-    file.section(".BTF", 1, 0, &[0; 23])?;
-    let bytes = file.finish()?;
-    let text = outcome(rt.alloc(), bytes.as_slice())?;
-    assert_eq!(rt; text.as_str(), "BtfError(InvalidHeader)");
+/// A line for a relocation of types, with its access string.
+fn put_relocation(
+    alloc: Global,
+    text: &mut String,
+    btf: &Btf,
+    relocation: &Relocation,
+) -> Result<(), AllocError> {
+    let (at, held) = (relocation.insn_off, relocation.type_id);
+    let (kind, number) = (relocation.kind, relocation.number);
+    let path = said(alloc, btf, relocation.access_str_off)?;
+    writeln!(text, "{number} at {at} type {held} {path} {kind:?}")
+}
+
+/// A line for each section with relocations of types, and for each of these.
+pub fn put_type_relocations(
+    alloc: Global,
+    text: &mut String,
+    object: &Object,
+) -> Result<(), AllocError> {
+    let (Some(btf), Some(ext)) = (&object.btf, &object.btf_ext) else {
+        return Ok(());
+    };
+    for (section, relocations) in ext.relocations() {
+        let name = said(alloc, btf, *section)?;
+        writeln!(text, "in {name}")?;
+        for relocation in relocations.as_slice() {
+            put_relocation(alloc, text, btf, relocation)?;
+        }
+    }
     Ok(())
 }

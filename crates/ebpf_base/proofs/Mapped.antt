@@ -1,0 +1,167 @@
+-- Maps of which each value is made anew: their entries, what they answer, and the laws of `map`.
+use Rattle.std.proofs.Common.{◌≡◌, ◌&&◌, T, Bool, cond, true, false, suc, List, [], ◌∷◌, map, length, Option, Some, None, refl, sym, ap, subst, ◌∙◌}
+use Rattle.std.specs.declared.cmp.Ordering.{Ordering}
+use Rattle.std.specs.declared.cmp.Ordering.TheVariants.{Less, Equal, Greater}
+use Rattle.std.specs.List.{IsDistinct, AllByRecursion}
+use Rattle.std.specs.Option.{option_map, option_or, is_some}
+use Rattle.std.specs.Ordering.{is_lt, is_eq, eq_by_cmp}
+use Rattle.std.specs.Cmp.{IsTotalOrder}
+use Rattle.std.specs.Map.{keys_of}
+use Rattle.std.specs.FinMap.{FinMap, IsAntisymmetric, from_entries, from_sorted, empty, entries, entries_sorted, entries-from_sorted, get, get-entries, find, len, len-entries, is_sorted, same_map, same_entries_map, get-from_entries, insert, get-insert, get-empty}
+use Rattle.std.specs.FinMap.Entries.{below_all}
+use Rattle.std.proofs.lemmas.Map.Keys.{IsDistinct-from_sorted}
+use Rattle.ebpf_base.specs.Keyed.{put_all, last_at}
+use Rattle.ebpf_base.specs.Mapped.{map_entries, map_values}
+use Rattle.ebpf_base.proofs.Keyed.{later_stands}
+use Rattle.ebpf_base.proofs.Sorted.{entries_rise}
+
+module _ {K V W : Type 0} (R : K → K → Ordering) (f : V → W) where
+  below_all-map_entries : (k : K) (es : List (K × V)) → below_all R k (map_entries f es) ≡ below_all R k es
+  below_all-map_entries k [] = refl
+  below_all-map_entries k (e ∷ es) = ap (λ b. is_lt (R k e.0) && b) (below_all-map_entries k es)
+
+  is_sorted-map_entries : (es : List (K × V)) → is_sorted R (map_entries f es) ≡ is_sorted R es
+  is_sorted-map_entries [] = refl
+  is_sorted-map_entries (e ∷ es) = λ i. below_all-map_entries e.0 es i && is_sorted-map_entries es i
+
+  find-map_entries : (q : K) (es : List (K × V)) → find R q (map_entries f es) ≡ option_map f (find R q es)
+  find-map_entries q [] = refl
+  find-map_entries q (e ∷ es) =
+      elim (eq_by_cmp R q e.0) as (λ b. cond b (Some (f e.1)) (find R q (map_entries f es)) ≡ option_map f (cond b (Some e.1) (find R q es))) [
+        | true ↦ refl
+        | false ↦ find-map_entries q es
+      ]
+
+module _ {K V W : Type 0} where
+  pub keys_of-map_entries : (f : V → W) (es : List (K × V)) → keys_of (map_entries f es) ≡ keys_of es
+  keys_of-map_entries f [] = refl
+  keys_of-map_entries f (e ∷ es) = ap (λ ks. e.0 ∷ ks) (keys_of-map_entries f es)
+
+  pub map_entries-same : (f g : V → W) → ((v : V) → f v ≡ g v) → (es : List (K × V)) → map_entries f es ≡ map_entries g es
+  map_entries-same f g h [] = refl
+  map_entries-same f g h (e ∷ es) = λ i. (e.0, h e.1 i) ∷ map_entries-same f g h es i
+
+module _ {V W : Type 0} (f : V → W) where
+  is_some-option_map : (o : Option V) → is_some (option_map f o) ≡ is_some o
+  is_some-option_map None = refl
+  is_some-option_map (Some v) = refl
+
+module _ {K V W : Type 0} (f : V → W) where
+  length-map_entries : (es : List (K × V)) → length (map_entries f es) ≡ length es
+  length-map_entries [] = refl
+  length-map_entries (e ∷ es) = ap suc (length-map_entries es)
+
+module _ {K V W : Type 0} {R : K → K → Ordering} (f : V → W) where
+  -- the same keys in the same order, each with its value made anew
+  pub entries-map_values : (m : FinMap R V) → entries (map_values f m) ≡ map_entries f (entries m)
+  unfolding map_values
+  entries-map_values m = entries-from_sorted R _ (subst T (sym (is_sorted-map_entries R f (entries m))) (entries_sorted m))
+
+  pub get-map_values : (m : FinMap R V) (q : K) → get (map_values f m) q ≡ option_map f (get m q)
+  get-map_values m q =
+      get-entries (map_values f m) q
+      ∙ ap (find R q) (entries-map_values m)
+      ∙ find-map_entries R f q (entries m)
+      ∙ ap (option_map f) (sym (get-entries m q))
+
+  pub keys-map_values : (m : FinMap R V) → keys_of (entries (map_values f m)) ≡ keys_of (entries m)
+  keys-map_values m = ap keys_of (entries-map_values m) ∙ keys_of-map_entries f (entries m)
+
+  pub has-map_values : (m : FinMap R V) (q : K) → is_some (get (map_values f m) q) ≡ is_some (get m q)
+  has-map_values m q = ap is_some (get-map_values m q) ∙ is_some-option_map f (get m q)
+
+  pub len-map_values : (m : FinMap R V) → len (map_values f m) ≡ len m
+  len-map_values m = len-entries (map_values f m) ∙ ap length (entries-map_values m) ∙ length-map_entries f (entries m) ∙ sym (len-entries m)
+
+  -- it is the one map with these entries
+  pub map_values-from_entries : (m : FinMap R V) (n : FinMap R W) → entries n ≡ map_entries f (entries m) → n ≡ map_values f m
+  map_values-from_entries m n h = same_entries_map n (map_values f m) (h ∙ sym (entries-map_values m))
+
+  module _ (o : IsTotalOrder R) (exact : IsAntisymmetric R) where
+    -- it is the one map that answers so
+    pub map_values-from_get : (m : FinMap R V) (n : FinMap R W) → ((q : K) → get n q ≡ option_map f (get m q)) → n ≡ map_values f m
+    map_values-from_get m n h = same_map o exact n (map_values f m) (λ q. h q ∙ sym (get-map_values m q))
+
+    -- the map of entries made anew
+    pub map_values-view : (es : List (K × V)) → from_entries {R = R} (map_entries f es) ≡ map_values f (from_entries es)
+    map_values-view es = map_values-from_get (from_entries es) _ (λ q.
+        get-from_entries o (map_entries f es) q ∙ find-map_entries R f q es ∙ ap (option_map f) (sym (get-from_entries o es q)))
+
+    option_map-cond : (b : Bool) (v : V) (x : Option V) → cond b (Some (f v)) (option_map f x) ≡ option_map f (cond b (Some v) x)
+    option_map-cond true v x = refl
+    option_map-cond false v x = refl
+
+    pub map_values-insert : (m : FinMap R V) (k : K) (v : V) → map_values f (insert m k v) ≡ insert (map_values f m) k (f v)
+    map_values-insert m k v = sym (map_values-from_get (insert m k v) _ (λ q.
+        get-insert o (map_values f m) k (f v) q
+        ∙ ap (cond (eq_by_cmp R q k) (Some (f v))) (get-map_values m q)
+        ∙ option_map-cond (eq_by_cmp R q k) v (get m q)
+        ∙ ap (option_map f) (sym (get-insert o m k v q))))
+
+module _ {K V W : Type 0} {R : K → K → Ordering} where
+  -- equal values make equal maps
+  pub map_values-same : (f g : V → W) → ((v : V) → f v ≡ g v) → (m : FinMap R V) → map_values f m ≡ map_values g m
+  map_values-same f g h m = map_values-from_entries g m (map_values f m) (entries-map_values f m ∙ map_entries-same f g h (entries m))
+
+  -- also where only the values that the map has are equal
+  pub map_values-same_at : (f g : V → W) (m : FinMap R V) → map_entries f (entries m) ≡ map_entries g (entries m) → map_values f m ≡ map_values g m
+  map_values-same_at f g m h = map_values-from_entries g m (map_values f m) (entries-map_values f m ∙ h)
+
+map_entries-map_entries : {K U V W : Type 0} (g : V → W) (f : U → V) (es : List (K × U)) → map_entries g (map_entries f es) ≡ map_entries (λ v. g (f v)) es
+map_entries-map_entries g f [] = refl
+map_entries-map_entries g f (e ∷ es) = ap (λ fs. (e.0, g (f e.1)) ∷ fs) (map_entries-map_entries g f es)
+
+-- one after the other, in one
+pub map_values-map_values : {K U V W : Type 0} {R : K → K → Ordering} (g : V → W) (f : U → V) (m : FinMap R U) → map_values g (map_values f m) ≡ map_values (λ v. g (f v)) m
+map_values-map_values g f m = map_values-from_entries (λ v. g (f v)) m _ (entries-map_values g (map_values f m) ∙ ap (map_entries g) (entries-map_values f m) ∙ map_entries-map_entries g f (entries m))
+
+module _ {K V : Type 0} where
+  map_entries-identity : (es : List (K × V)) → map_entries (λ v. v) es ≡ es
+  map_entries-identity [] = refl
+  map_entries-identity (e ∷ es) = ap (λ fs. e ∷ fs) (map_entries-identity es)
+
+module _ {K V : Type 0} {R : K → K → Ordering} where
+  -- values that stay make the map that is there
+  pub map_values-identity : (m : FinMap R V) → map_values (λ v. v) m ≡ m
+  map_values-identity m = same_entries_map _ m (entries-map_values (λ v. v) m ∙ map_entries-identity (entries m))
+
+  pub map_values-stay : (f : V → V) → ((v : V) → f v ≡ v) → (m : FinMap R V) → map_values f m ≡ m
+  map_values-stay f h m = map_values-same f (λ v. v) h m ∙ map_values-identity m
+
+is_equal : (r : Ordering) → is_eq r ≡ true → r ≡ Equal
+is_equal Less h = cc
+is_equal Equal h = refl
+is_equal Greater h = cc
+
+-- entries of which no two have one key, put into a map
+module _ {K X : Type 0} {R : K → K → Ordering} (o : IsTotalOrder R) (exact : IsAntisymmetric R) where
+  find-apart : (q k : K) → eq_by_cmp R q k ≡ true → (es : List (K × X)) → AllByRecursion (λ y. eq_by_cmp R k y ≡ false) (keys_of es) → find R q es ≡ None
+  find-apart q k at [] h = refl
+  find-apart q k at (e ∷ es) h =
+      let is : q ≡ k = exact q k (is_equal (R q k) at) in
+      let other : eq_by_cmp R q e.0 ≡ false = ap (λ r. eq_by_cmp R r e.0) is ∙ h.0 in
+      rw other (find-apart q k at es h.1)
+
+  last_found : (q : K) (es : List (K × X)) → IsDistinct (eq_by_cmp R) (keys_of es) → (before : Option X) → last_at R q before es ≡ option_or (find R q es) before
+  unfolding IsDistinct
+  last_found q [] apart before = refl
+  last_found q (e ∷ es) apart before =
+      last_found q es apart.1 (cond (eq_by_cmp R q e.0) (Some e.1) before) ∙ step (eq_by_cmp R q e.0) refl
+    where
+      step : (b : Bool) → eq_by_cmp R q e.0 ≡ b → option_or (find R q es) (cond b (Some e.1) before) ≡ option_or (cond b (Some e.1) (find R q es)) before
+      step true at = rw (find-apart q e.0 at es apart.0) refl
+      step false at = refl
+
+or_none : {X : Type 0} (x : Option X) → option_or x None ≡ x
+or_none None = refl
+or_none (Some v) = refl
+
+-- the entries of a map, each made anew and put into a map one after the other
+pub put_all-map_values : {K V W : Type 0} {R : K → K → Ordering} → IsTotalOrder R → IsAntisymmetric R → (f : V → W) (m : FinMap R V) → put_all empty (map_entries f (entries m)) ≡ map_values f m
+put_all-map_values {R = R} o exact f m = map_values-from_get f o exact m _ (λ q.
+    later_stands o empty (map_entries f (entries m)) q
+    ∙ last_found o exact q (map_entries f (entries m)) (subst (λ ks. IsDistinct (eq_by_cmp R) ks) (sym (keys_of-map_entries f (entries m))) (IsDistinct-from_sorted R _ (entries_rise m))) (get empty q)
+    ∙ ap (option_or (find R q (map_entries f (entries m)))) (get-empty R q)
+    ∙ or_none _
+    ∙ find-map_entries R f q (entries m)
+    ∙ ap (option_map f) (sym (get-entries m q)))

@@ -1,0 +1,79 @@
+//! What type information answers.
+
+use crate::error::BenchError;
+use ebpf_btf::{Btf, BtfError, BtfType, TypeIndex};
+use std::alloc::{AllocError, Global};
+
+/// How many candidates the names of each seventh type have together.
+fn count_candidates(btf: &Btf, index: &TypeIndex) -> u64 {
+    let mut count = 0u64;
+    for ty in btf.types().iter().step_by(7) {
+        let Ok(name) = btf.type_name(ty) else {
+            continue;
+        };
+        if let Ok(ids) = index.candidates(ty.kind(), name.as_str()) {
+            count = count.wrapping_add(ids.len() as u64);
+        }
+    }
+    count
+}
+
+/// How many types have a size.
+fn count_sized(btf: &Btf) -> u64 {
+    let mut count = 0u64;
+    for (id, _ty) in btf.types().iter().enumerate() {
+        if btf.type_size(id as u32).is_ok() {
+            count = count.wrapping_add(1);
+        }
+    }
+    count
+}
+
+/// Prints how many types there are, how many candidates each seventh's name has, and how many types have a size.
+pub fn print_counts(rt: &HostRuntime, btf: &Btf, index: &TypeIndex) -> Result<(), BenchError> {
+    let types = btf.types().len();
+    let candidates = count_candidates(btf, index);
+    let sized = count_sized(btf);
+    println!(rt; "types {types}, candidates of each seventh {candidates}, with a size {sized}")?;
+    Ok(())
+}
+
+/// A number, or why there is none.
+fn number(alloc: Global, answer: Result<u32, BtfError>) -> Result<String, AllocError> {
+    match answer {
+        Ok(number) => format!(in alloc; "{number}"),
+        Err(error) => format!(in alloc; "{error:?}"),
+    }
+}
+
+/// A line on a type: its id, its name, the size, the id that it stands for, the lowest id of its kind and name, how
+/// many candidates there are and whether they are in order, and the type itself.
+fn described(
+    alloc: Global,
+    btf: &Btf,
+    index: &TypeIndex,
+    id: u32,
+    ty: &BtfType,
+) -> Result<String, BtfError> {
+    let name = btf.type_name(ty)?;
+    let name = name.as_str();
+    let size = number(alloc, btf.type_size(id))?;
+    let resolved = number(alloc, btf.resolve_type(id))?;
+    let first = number(alloc, btf.id_by_type_name_kind(name, ty.kind()))?;
+    let candidates = index.candidates(ty.kind(), name)?;
+    let (count, sorted) = (candidates.len(), candidates.is_sorted());
+    let text = format!(in alloc;
+        "{id} {name}: size {size}, stands for {resolved}, first {first}, candidates {count} in order {sorted}, {ty:?}"
+    )?;
+    Ok(text)
+}
+
+/// Prints the last ten types.
+pub fn print_last(rt: &HostRuntime, btf: &Btf, index: &TypeIndex) -> Result<(), BenchError> {
+    let from = btf.types().len().saturating_sub(10);
+    for (id, ty) in btf.types().iter().enumerate().skip(from) {
+        let text = described(rt.alloc(), btf, index, id as u32, ty)?;
+        println!(rt; "{text}")?;
+    }
+    Ok(())
+}

@@ -1,0 +1,103 @@
+-- The tables of kinds and of their numbers, row by row.
+use Rattle.std.proofs.Common.{◌≡◌, ◌<◌, ◌==◌, ℕ, Bool, true, false, cond, Option, Some, None, refl, sym, ap, ◌∙◌, arith}
+use Rattle.std.proofs.lemmas.Bool.Decides.{nat_tests}
+use Rattle.ebpf_btf.specs.declared.kind.BtfKind.{BtfKind}
+use Rattle.ebpf_btf.specs.declared.kind.BtfKind.TheVariants as kinds
+use Rattle.ebpf_btf.specs.declared.relocation.RelocationKind.{RelocationKind}
+use Rattle.ebpf_btf.specs.declared.relocation.RelocationKind.TheVariants as asked
+use Rattle.ebpf_btf.specs.Format.{kind_in, kind_number_in}
+use Rattle.ebpf_btf.specs.KindTables.{KindsByNumber, NumbersOfKinds, NumbersOfRelocationKinds, RelocationKindsByNumber}
+use Rattle.ebpf_btf.specs.RelocationKinds.{relocation_kind, relocation_kind_number}
+use Rattle.ebpf_btf.specs.Types.{kind_number}
+
+-- a row of a table, and what is known of the rows after it
+in_table : {K : Type 0} (n row : ℕ) (there : K) (rest : Option K) (number : K → ℕ) (kind : K) → number there ≡ row
+    → (rest ≡ Some kind → number kind ≡ n) → cond (n == row) (Some there) rest ≡ Some kind → number kind ≡ n
+in_table {K} n row there rest number kind has others is = by_test (n == row) refl is
+  where
+    by_test : (b : Bool) → (n == row) ≡ b → cond b (Some there) rest ≡ Some kind → number kind ≡ n
+    by_test true e same =
+        let found : there ≡ kind = cc in
+        let at : n ≡ row = grind (arith, nat_tests) in
+        ap number (sym found) ∙ has ∙ sym at
+    by_test false e same = others same
+
+pub kinds_by_number : KindsByNumber
+unfolding kind_in kind_number
+kinds_by_number info kind is =
+    let n = kind_number_in info in
+    (in_table n 1 kinds.Int _ kind_number kind refl
+    (in_table n 2 kinds.Ptr _ kind_number kind refl
+    (in_table n 3 kinds.Array _ kind_number kind refl
+    (in_table n 4 kinds.Struct _ kind_number kind refl
+    (in_table n 5 kinds.Union _ kind_number kind refl
+    (in_table n 6 kinds.Enum _ kind_number kind refl
+    (in_table n 7 kinds.Fwd _ kind_number kind refl
+    (in_table n 8 kinds.Typedef _ kind_number kind refl
+    (in_table n 9 kinds.Volatile _ kind_number kind refl
+    (in_table n 10 kinds.Const _ kind_number kind refl
+    (in_table n 11 kinds.Restrict _ kind_number kind refl
+    (in_table n 12 kinds.Func _ kind_number kind refl
+    (in_table n 13 kinds.FuncProto _ kind_number kind refl
+    (in_table n 14 kinds.Var _ kind_number kind refl
+    (in_table n 15 kinds.DataSec _ kind_number kind refl
+    (in_table n 16 kinds.Float _ kind_number kind refl
+    (in_table n 17 kinds.DeclTag _ kind_number kind refl
+    (in_table n 18 kinds.TypeTag _ kind_number kind refl
+    (in_table n 19 kinds.Enum64 _ kind_number kind refl
+    (λ (none : None ≡ Some kind). cc)))))))))))))))))))) is
+
+pub numbers_of_kinds : NumbersOfKinds
+unfolding kind_in kind_number
+numbers_of_kinds info kinds.Unknown some is = absurd (omega arith)
+numbers_of_kinds info kinds.Int some is = rw is refl
+numbers_of_kinds info kinds.Ptr some is = rw is refl
+numbers_of_kinds info kinds.Array some is = rw is refl
+numbers_of_kinds info kinds.Struct some is = rw is refl
+numbers_of_kinds info kinds.Union some is = rw is refl
+numbers_of_kinds info kinds.Enum some is = rw is refl
+numbers_of_kinds info kinds.Fwd some is = rw is refl
+numbers_of_kinds info kinds.Typedef some is = rw is refl
+numbers_of_kinds info kinds.Volatile some is = rw is refl
+numbers_of_kinds info kinds.Const some is = rw is refl
+numbers_of_kinds info kinds.Restrict some is = rw is refl
+numbers_of_kinds info kinds.Func some is = rw is refl
+numbers_of_kinds info kinds.FuncProto some is = rw is refl
+numbers_of_kinds info kinds.Var some is = rw is refl
+numbers_of_kinds info kinds.DataSec some is = rw is refl
+numbers_of_kinds info kinds.Float some is = rw is refl
+numbers_of_kinds info kinds.DeclTag some is = rw is refl
+numbers_of_kinds info kinds.TypeTag some is = rw is refl
+numbers_of_kinds info kinds.Enum64 some is = rw is refl
+
+pub relocation_kinds_by_number : RelocationKindsByNumber
+unfolding relocation_kind relocation_kind_number
+relocation_kinds_by_number n kind is =
+    (in_table n 0 asked.FieldByteOffset _ relocation_kind_number kind refl
+    (in_table n 1 asked.FieldByteSize _ relocation_kind_number kind refl
+    (in_table n 2 asked.FieldExists _ relocation_kind_number kind refl
+    (in_table n 3 asked.FieldSigned _ relocation_kind_number kind refl
+    (in_table n 4 asked.FieldLShift64 _ relocation_kind_number kind refl
+    (in_table n 5 asked.FieldRShift64 _ relocation_kind_number kind refl
+    (in_table n 6 asked.TypeIdLocal _ relocation_kind_number kind refl
+    (in_table n 7 asked.TypeIdTarget _ relocation_kind_number kind refl
+    (in_table n 8 asked.TypeExists _ relocation_kind_number kind refl
+    (in_table n 9 asked.TypeSize _ relocation_kind_number kind refl
+    (in_table n 10 asked.EnumVariantExists _ relocation_kind_number kind refl
+    (in_table n 11 asked.EnumVariantValue _ relocation_kind_number kind refl
+    (λ (none : None ≡ Some kind). cc))))))))))))) is
+
+pub numbers_of_relocation_kinds : NumbersOfRelocationKinds
+unfolding relocation_kind relocation_kind_number
+numbers_of_relocation_kinds asked.FieldByteOffset = refl
+numbers_of_relocation_kinds asked.FieldByteSize = refl
+numbers_of_relocation_kinds asked.FieldExists = refl
+numbers_of_relocation_kinds asked.FieldSigned = refl
+numbers_of_relocation_kinds asked.FieldLShift64 = refl
+numbers_of_relocation_kinds asked.FieldRShift64 = refl
+numbers_of_relocation_kinds asked.TypeIdLocal = refl
+numbers_of_relocation_kinds asked.TypeIdTarget = refl
+numbers_of_relocation_kinds asked.TypeExists = refl
+numbers_of_relocation_kinds asked.TypeSize = refl
+numbers_of_relocation_kinds asked.EnumVariantExists = refl
+numbers_of_relocation_kinds asked.EnumVariantValue = refl

@@ -1,0 +1,48 @@
+//! What is to be done with the files of a case.
+
+use std::alloc::{AllocError, Global};
+
+/// An action: its name, and the words behind it.
+#[derive(Debug, Drop)]
+pub struct Action<'a> {
+    pub name: &'a str,
+    pub words: Vec<&'a str>,
+}
+
+impl<'a> Action<'a> {
+    /// The action of a text; between words stands one space.
+    pub fn read(alloc: Global, text: &'a str) -> Result<Action<'a>, AllocError> {
+        let mut name = text;
+        let mut words = Vec::new(alloc);
+        if let Some((first, rest)) = text.split_once(' ') {
+            name = first;
+            for word in rest.split(' ') {
+                words.push(word)?;
+            }
+        }
+        Ok(Action { name, words })
+    }
+
+    /// The word of a number, from 0 on; the empty one where there are not so many.
+    pub fn word(&self, at: usize) -> &'a str {
+        match self.words.get(at) {
+            Some(word) => word,
+            None => "",
+        }
+    }
+
+    /// The number that a word is in decimal digits.
+    pub fn number(&self, at: usize) -> Option<u64> {
+        self.word(at).parse::<u64>().ok()
+    }
+
+    /// The number that a word is, if it has 32 bits.
+    pub fn small_number(&self, at: usize) -> Option<u32> {
+        self.word(at).parse::<u32>().ok()
+    }
+}
+
+/// The outcome of what is no action.
+pub fn no_action(alloc: Global) -> Result<String, AllocError> {
+    String::from_str(alloc, "no such action")
+}

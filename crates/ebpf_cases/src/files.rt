@@ -1,0 +1,90 @@
+//! The files of a case.
+
+use crate::hex::put_hex;
+use std::alloc::{AllocError, Global};
+
+/// A file and its name.
+#[derive(Debug, Drop)]
+struct NamedFile {
+    name: String,
+    bytes: Vec<u8>,
+}
+
+/// How many times bytes stand, and how a little endian number among them grows from one time to the next: its place,
+/// and by how much.
+#[derive(Clone, Copy, Debug)]
+pub struct Rise {
+    pub times: u64,
+    pub place: usize,
+    pub step: u64,
+}
+
+/// Adds to the number of eight bytes at a place, modulo 2^64.
+fn add_at(bytes: &mut [u8], place: usize, step: u64) {
+    let mut carry = step;
+    for byte in bytes.iter_mut().skip(place).take(8) {
+        let sum = (carry & 0xff).wrapping_add(u64::from(*byte));
+        *byte = (sum & 0xff) as u8;
+        carry = (carry >> 8).wrapping_add(sum >> 8);
+    }
+}
+
+/// The files of a case, by name.
+#[derive(Debug, Drop)]
+pub struct Files {
+    alloc: Global,
+    files: Vec<NamedFile>,
+}
+
+impl Files {
+    /// No file.
+    pub fn new(alloc: Global) -> Files {
+        Files {
+            alloc,
+            files: Vec::new(alloc),
+        }
+    }
+
+    /// Lets go of each file.
+    pub fn clear(&mut self) {
+        self.files.clear();
+    }
+
+    /// Adds a file without bytes.
+    pub fn start(&mut self, name: &str) -> Result<(), AllocError> {
+        let file = NamedFile {
+            name: String::from_str(self.alloc, name)?,
+            bytes: Vec::new(self.alloc),
+        };
+        self.files.push(file)?;
+        Ok(())
+    }
+
+    /// Appends the bytes that hexadecimal digits say to the last file, so many times. From one time to the next the
+    /// number of eight bytes at a place among them grows. `false` where no file was begun or where these are no such
+    /// digits.
+    pub fn append(&mut self, digits: &str, rise: Rise) -> Result<bool, AllocError> {
+        let mut bytes = Vec::new(self.alloc);
+        if !put_hex(&mut bytes, digits)? {
+            return Ok(false);
+        }
+        let Some(file) = self.files.last_mut() else {
+            return Ok(false);
+        };
+        for _ in 0..rise.times {
+            file.bytes.extend_from_slice(bytes.as_slice())?;
+            add_at(bytes.as_mut_slice(), rise.place, rise.step);
+        }
+        Ok(true)
+    }
+
+    /// The bytes of the file of a name; none where there is no such file.
+    pub fn get(&self, name: &str) -> &[u8] {
+        for file in &self.files {
+            if file.name.as_str() == name {
+                return file.bytes.as_slice();
+            }
+        }
+        &[]
+    }
+}

@@ -1,0 +1,43 @@
+//! How many times each outcome was met.
+
+use std::alloc::{AllocError, Global};
+
+/// Outcomes, and how many times each was met, in the order in which they were met first.
+#[derive(Debug, Drop)]
+pub struct Tally {
+    alloc: Global,
+    counts: Vec<(String, u64)>,
+}
+
+impl Tally {
+    /// No outcome.
+    pub fn new(alloc: Global) -> Tally {
+        Tally {
+            alloc,
+            counts: Vec::new(alloc),
+        }
+    }
+
+    /// Counts an outcome.
+    pub fn count(&mut self, outcome: &str) -> Result<(), AllocError> {
+        for (text, count) in self.counts.iter_mut() {
+            if text.as_str() == outcome {
+                *count = count.saturating_add(1);
+                return Ok(());
+            }
+        }
+        let text = String::from_str(self.alloc, outcome)?;
+        self.counts.push((text, 1))?;
+        Ok(())
+    }
+
+    /// A line for each outcome.
+    pub fn text(&self) -> Result<String, AllocError> {
+        let mut text = String::new(self.alloc);
+        for (outcome, count) in &self.counts {
+            let outcome = outcome.as_str();
+            writeln!(text, "{count}: {outcome}")?;
+        }
+        Ok(text)
+    }
+}

@@ -1,0 +1,88 @@
+-- The lowest ids of a name, type by type.
+use Rattle.std.proofs.Common.{◌≡◌, ℕ, ◌+◌, Bool, true, false, cond, ◌&&◌, List, [], ◌∷◌, Option, Some, None, refl, ap, sym, ◌∙◌}
+use Rattle.std.specs.Prelude.{option_map}
+use Rattle.std.specs.List.{position_from}
+use Rattle.ebpf_base.specs.Faults.{or_else}
+use Rattle.ebpf_base.proofs.Faults.{or_else-None}
+use Rattle.ebpf_btf.specs.Strings.{is_named, is_text, type_name}
+use Rattle.ebpf_btf.specs.TypeInfo.{TypeInfo}
+use Rattle.ebpf_btf.specs.Types.{is_kind, kind_number, kind_of}
+use Rattle.ebpf_btf.specs.declared.kind.BtfKind.{BtfKind}
+use Rattle.ebpf_btf.specs.declared.kind.BtfKind.TheVariants as kinds
+use Rattle.ebpf_btf.specs.declared.types.BtfType.{BtfType}
+use Rattle.ebpf_btf.specs.declared.types.BtfType.TheVariants.{Unknown, Fwd, Const, Volatile, Restrict, Ptr, Typedef, Func, Int, Float, Enum, Array, Struct, Union, FuncProto, Var, DataSec, DeclTag, TypeTag, Enum64}
+use Rattle.ebpf_ksyms.specs.declared.ids.Ids.{Ids}
+use Rattle.ebpf_ksyms.specs.declared.sought.Sort.{Sort}
+use Rattle.ebpf_ksyms.specs.declared.sought.Sort.TheVariants.{Function, Variable}
+use Rattle.ebpf_ksyms.specs.Ids.{finished, ids_in, sort_of, with_sort, with_type}
+use Rattle.ebpf_ksyms.specs.Named.{is_among, only_at}
+
+is_function : Option Sort → Bool
+is_function (Some Function) = true
+is_function _ = false
+
+is_variable : Option Sort → Bool
+is_variable (Some Variable) = true
+is_variable _ = false
+
+kind_Func : (t : BtfType) → is_kind kinds.Func t ≡ is_function (sort_of t)
+unfolding kind_of kind_number sort_of is_function
+kind_Func (Func _ _) = refl
+kind_Func (Var _ _ _) = refl
+kind_Func _ = refl
+
+kind_Var : (t : BtfType) → is_kind kinds.Var t ≡ is_variable (sort_of t)
+unfolding kind_of kind_number sort_of is_variable
+kind_Var (Func _ _) = refl
+kind_Var (Var _ _ _) = refl
+kind_Var _ = refl
+
+-- one id, then those after it
+chosen : (b : Bool) (o : Option ℕ) (id : ℕ) (rest : Option ℕ) → or_else o (cond b (Some id) rest) ≡ or_else (cond b (or_else o (Some id)) o) rest
+chosen true None id rest = refl
+chosen true (Some x) id rest = refl
+chosen false o id rest = refl
+
+one_more : (s : Option Sort) (b : Bool) (ids : Ids) (id : ℕ) (fs vs : Option ℕ) → ◌≡◌ {A = Ids}
+    (record { function = or_else ids.function (cond (is_function s && b) (Some id) fs); variable = or_else ids.variable (cond (is_variable s && b) (Some id) vs) })
+    (record { function = or_else (cond b (with_sort ids id s) ids).function fs; variable = or_else (cond b (with_sort ids id s) ids).variable vs })
+unfolding is_function is_variable
+one_more None b ids id fs vs = elim b as (λ b. ◌≡◌ {A = Ids} (record { function = or_else ids.function fs; variable = or_else ids.variable vs }) (record { function = or_else (cond b ids ids).function fs; variable = or_else (cond b ids ids).variable vs })) [ true ↦ refl | false ↦ refl ]
+one_more (Some Function) true ids id fs vs = λ i. record { function = chosen true ids.function id fs i; variable = or_else ids.variable vs }
+one_more (Some Function) false ids id fs vs = refl
+one_more (Some Variable) true ids id fs vs = λ i. record { function = or_else ids.function fs; variable = chosen true ids.variable id vs i }
+one_more (Some Variable) false ids id fs vs = refl
+
+-- one type, then those after it
+pub finished-cons : (kernel : TypeInfo) (name : List ℕ) (id : ℕ) (t : BtfType) (types : List BtfType) (ids : Ids) → finished kernel name id (t ∷ types) ids ≡ finished kernel name (id + 1) types (with_type kernel name id t ids)
+finished-cons kernel name id t types ids =
+    rw (kind_Func t, kind_Var t) (
+    one_more (sort_of t) (is_text name (type_name kernel t)) ids id (position_from (is_named kernel name kinds.Func) (id + 1) types) (position_from (is_named kernel name kinds.Var) (id + 1) types))
+
+-- no type more
+pub finished-nil : (kernel : TypeInfo) (name : List ℕ) (id : ℕ) (ids : Ids) → finished kernel name id [] ids ≡ ids
+finished-nil kernel name id ids = λ i. record { function = or_else-None ids.function i; variable = or_else-None ids.variable i }
+
+option-step : {A B C : Type 0} (f : B → C) (g : A → B) (h : A → C) (o : Option A) → ((x : A) → h x ≡ f (g x)) → option_map h o ≡ option_map f (option_map g o)
+option-step f g h None e = refl
+option-step f g h (Some x) e = ap Some (e x)
+
+option-same : {A : Type 0} (f : A → A) (o : Option A) → ((x : A) → f x ≡ x) → option_map f o ≡ o
+option-same f None e = refl
+option-same f (Some x) e = ap Some (e x)
+
+-- a pass with one more type
+pub more-types : (kernel : TypeInfo) (name : List ℕ) (id : ℕ) (t : BtfType) (types : List BtfType) (before after : Option Ids) → after ≡ option_map (with_type kernel name id t) before → option_map (finished kernel name id (t ∷ types)) before ≡ option_map (finished kernel name (id + 1) types) after
+more-types kernel name id t types before after e =
+    option-step (finished kernel name (id + 1) types) (with_type kernel name id t) (finished kernel name id (t ∷ types)) before (finished-cons kernel name id t types)
+    ∙ ap (option_map (finished kernel name (id + 1) types)) (sym e)
+
+-- a pass at its end
+pub no-types : (kernel : TypeInfo) (name : List ℕ) (id : ℕ) (ids : Option Ids) → option_map (finished kernel name id []) ids ≡ ids
+no-types kernel name id ids = option-same (finished kernel name id []) ids (finished-nil kernel name id)
+
+-- a pass at its start
+pub all-types : (kernel : TypeInfo) (names : List (List ℕ)) (name : List ℕ) (known : Option Ids) → known ≡ only_at names (λ _. record { function = None; variable = None }) name → option_map (finished kernel name 0 kernel.types) known ≡ only_at names (ids_in kernel) name
+all-types kernel names name known e =
+    ap (option_map (finished kernel name 0 kernel.types)) e
+    ∙ elim (is_among names name) as (λ b. option_map (finished kernel name 0 kernel.types) (cond b (Some (record { function = None; variable = None })) None) ≡ cond b (Some (ids_in kernel name)) None) [ true ↦ refl | false ↦ refl ]

@@ -1,0 +1,10 @@
+pub mod Cuts
+pub mod Flavors
+pub mod Identities
+pub mod Listed
+pub mod Numbers
+pub mod Outcomes
+pub mod Pieces
+pub mod Reading
+pub mod Resolving
+pub mod Values

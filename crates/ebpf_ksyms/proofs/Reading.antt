@@ -1,0 +1,133 @@
+-- Lines one after the other: their faults, and the addresses that they give.
+use Rattle.std.proofs.Common.{◌≡◌, ℕ, Bool, true, false, cond, List, [], ◌∷◌, ◌++◌, map, length, Option, Some, None, Result, Ok, Err, refl, ap, sym, subst, ◌∙◌, append-nil, append_assoc, ◌+◌, eqb, add-one, arith}
+use Rattle.std.specs.Prelude.{⊤, MatchBool, option_map, nat_lt, slice_get}
+use Rattle.std.specs.Iterator.{Drains, Yields}
+use Rattle.std.specs.List.{cons_option, filter_map}
+use Rattle.std.proofs.lemmas.Bool.Decides.{nat_tests}
+use Rattle.std.proofs.lemmas.List.{map-append}
+use Rattle.std.proofs.lemmas.List.Elements.{filter_map-append}
+use denote.Ref.{Bor}
+use Rattle.ebpf_base.specs.Faults.{first_some, or_else}
+use Rattle.ebpf_base.specs.Keys.{lent_bytes}
+use Rattle.ebpf_base.proofs.Faults.{first_some-push, or_else-None}
+use Rattle.ebpf_ksyms.specs.declared.error.KsymsError.{KsymsError}
+use Rattle.ebpf_ksyms.specs.Addresses.{Item, Line, address_of, addresses, given_by, line_fault, line_of, lines_fault, said_fault, said_of, stated_fault, with_before}
+use Rattle.ebpf_ksyms.specs.Counted.{Counts}
+use Rattle.ebpf_ksyms.specs.Lines.{said_in, stated_address}
+use Rattle.ebpf_ksyms.specs.Named.{is_among, only_at}
+use Rattle.ebpf_ksyms.specs.Noted.{AreRead, Known, StopsAt, noted_line, noted_line_fault, said_noted}
+
+-- ---- one more line at the end
+
+with_before-push : (before lines : List Line) (line : Line) → with_before before (lines ++ line ∷ []) ≡ with_before before lines ++ (before ++ lines, line) ∷ []
+with_before-push before [] line = ap (λ b. (b, line) ∷ []) (sym (append-nil before))
+with_before-push before (l ∷ lines) line =
+    ap (λ es. (before, l) ∷ es) (
+    with_before-push (before ++ l ∷ []) lines line
+    ∙ ap (λ b. with_before (before ++ l ∷ []) lines ++ (b, line) ∷ []) (append_assoc before (l ∷ []) lines))
+
+pub lines_fault-push : (wanted : List ℕ → Bool) (lines : List Line) (line : Line) → lines_fault wanted (lines ++ line ∷ []) ≡ or_else (lines_fault wanted lines) (line_fault wanted lines line)
+unfolding lines_fault
+lines_fault-push wanted lines line =
+    ap (first_some (λ e. line_fault wanted e.0 e.1)) (with_before-push [] lines line)
+    ∙ first_some-push (λ e. line_fault wanted e.0 e.1) (with_before [] lines) (lines, line)
+
+head-append : {A : Type 0} (xs ys : List A) → slice_get (xs ++ ys) 0 ≡ or_else (slice_get xs 0) (slice_get ys 0)
+head-append [] ys = refl
+head-append (x ∷ xs) ys = refl
+
+head-cons_option : {A : Type 0} (o : Option A) → slice_get (cons_option o []) 0 ≡ o
+head-cons_option None = refl
+head-cons_option (Some x) = refl
+
+address_of-push : (name : List ℕ) (lines : List Line) (line : Line) → address_of name (lines ++ line ∷ []) ≡ or_else (address_of name lines) (given_by name line)
+unfolding address_of addresses
+address_of-push name lines line =
+    ap (λ xs. slice_get xs 0) (filter_map-append (given_by name) lines (line ∷ []))
+    ∙ head-append (filter_map (given_by name) lines) (cons_option (given_by name line) [])
+    ∙ ap (or_else (slice_get (filter_map (given_by name) lines) 0)) (head-cons_option (given_by name line))
+
+pub address_of-none : (name : List ℕ) → address_of name [] ≡ None
+unfolding address_of addresses
+address_of-none name = refl
+
+pub lines_fault-none : (wanted : List ℕ → Bool) → lines_fault wanted [] ≡ None
+unfolding lines_fault
+lines_fault-none wanted = refl
+
+-- ---- what is known
+
+module _ (names : List (List ℕ)) (lines : List Line) (known : Known) (tells : (q : List ℕ) → known q ≡ only_at names (λ name. address_of name lines) q) where
+  said-known : (said : Option (List ℕ × List ℕ)) → said_noted known said ≡ said_fault (is_among names) lines said
+  said-known None = refl
+  said-known (Some said) =
+      rw (tells said.1) (
+      elim (is_among names said.1) as (λ b. known_by said (cond b (Some (address_of said.1 lines)) None) ≡ cond b (stated_fault said.1 (address_of said.1 lines) said.0 (stated_address said.0)) None) [ true ↦ refl | false ↦ refl ])
+    where
+      known_by : List ℕ × List ℕ → Option (Option ℕ) → Option KsymsError
+      known_by said None = None
+      known_by said (Some before) = stated_fault said.1 before said.0 (stated_address said.0)
+
+  fault-known : (line : Line) → noted_line_fault known line ≡ line_fault (is_among names) lines line
+  unfolding line_fault
+  fault-known (Err e) = refl
+  fault-known (Ok line) = said-known (said_in line)
+
+  known-more : (line : Line) (q : List ℕ) → noted_line known line q ≡ only_at names (λ name. address_of name (lines ++ line ∷ [])) q
+  known-more (Err e) q =
+      tells q ∙ ap (λ a. cond (is_among names q) (Some a) None) (sym (address_of-push q lines (Err e) ∙ or_else-None (address_of q lines)))
+  known-more (Ok line) q =
+      ap (option_map (λ before. or_else before (said_of q (said_in line)))) (tells q)
+      ∙ inside (is_among names q)
+      ∙ ap (λ a. cond (is_among names q) (Some a) None) (sym (address_of-push q lines (Ok line)))
+    where
+      inside : (b : Bool) → option_map (λ before. or_else before (said_of q (said_in line))) (cond b (Some (address_of q lines)) None) ≡ cond b (Some (or_else (address_of q lines) (said_of q (said_in line)))) None
+      inside true = refl
+      inside false = refl
+
+-- ---- items of an iterator
+
+lines-push : (items : List Item) (item : Item) → map line_of (items ++ item ∷ []) ≡ map line_of items ++ line_of item ∷ []
+lines-push items item = map-append line_of items (item ∷ [])
+
+module _ (names : List (List ℕ)) (items : List Item) (item : Item) (known : Known) (read : lines_fault (is_among names) (map line_of items) ≡ None) (tells : (q : List ℕ) → known q ≡ only_at names (λ name. address_of name (map line_of items)) q) where
+  fault_after : lines_fault (is_among names) (map line_of (items ++ item ∷ [])) ≡ noted_line_fault known (line_of item)
+  fault_after =
+      ap (lines_fault (is_among names)) (lines-push items item)
+      ∙ lines_fault-push (is_among names) (map line_of items) (line_of item)
+      ∙ ap (λ o. or_else o (line_fault (is_among names) (map line_of items) (line_of item))) read
+      ∙ sym (fault-known names (map line_of items) known tells (line_of item))
+
+  pub read-more : noted_line_fault known (line_of item) ≡ None → lines_fault (is_among names) (map line_of (items ++ item ∷ [])) ≡ None
+  read-more h = fault_after ∙ h
+
+  pub refused-here : (e : KsymsError) → noted_line_fault known (line_of item) ≡ Some e → lines_fault (is_among names) (map line_of (items ++ item ∷ [])) ≡ Some e
+  refused-here e h = fault_after ∙ h
+
+  pub tells-more : (after : Known) → ((q : List ℕ) → after q ≡ noted_line known (line_of item) q) → (q : List ℕ) → after q ≡ only_at names (λ name. address_of name (map line_of (items ++ item ∷ []))) q
+  tells-more after h q =
+      h q
+      ∙ known-more names (map line_of items) known tells (line_of item) q
+      ∙ ap (λ ls. only_at names (λ name. address_of name ls) q) (sym (lines-push items item))
+
+-- one more item
+pub yields-push : {S A : Type 0} (steps : S → Option A → S → Type 0) (s t u : S) (xs : List A) (x : A) → Yields steps s xs t → steps t (Some x) u → Yields steps s (xs ++ x ∷ []) u
+yields-push steps s t u [] x y step = (u, subst (λ r. steps r (Some x) u) (sym y) step, refl)
+yields-push steps s t u (z ∷ xs) x y step = (y.0, y.1, yields-push steps y.0 t u xs x y.2 step)
+
+-- ---- all lines, or none
+
+never_zero : (n : ℕ) → eqb (n + 1) 0 ≡ true → ⊥
+never_zero n h = grind (arith, nat_tests)
+
+pub no_lines : {S : Type 0} (steps : S → Option Item → S → Type 0) (lines : S) (names : List (Bor (List ℕ))) (known : Known) → eqb (length names) 0 ≡ true → ((q : List ℕ) → known q ≡ only_at (lent_bytes names) (λ _. None) q) → AreRead steps lines (lent_bytes names) known
+no_lines steps lines [] known none tells = record { items = []; counted = refl; read = lines_fault-none _; addresses = tells }
+no_lines steps lines (n ∷ names) known none tells = absurd (never_zero (length names) (rw add-one none))
+
+pub first_known : (names : List (List ℕ)) (known : Known) → ((q : List ℕ) → known q ≡ only_at names (λ _. None) q) → (q : List ℕ) → known q ≡ only_at names (λ name. address_of name (map line_of [])) q
+first_known names known tells q = tells q ∙ ap (λ a. cond (is_among names q) (Some a) None) (sym (address_of-none q))
+
+-- a refusal of which something follows, want of memory aside
+pub match_then : {P Q : Type 0} (b : Bool) → (P → Q) → MatchBool b ⊤ P → MatchBool b ⊤ Q
+match_then true f h = tt
+match_then false f h = f h

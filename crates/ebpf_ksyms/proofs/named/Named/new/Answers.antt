@@ -1,0 +1,13 @@
+use Rattle.std.proofs.Common.{◌∙◌}
+use Rattle.ebpf_ksyms.specs.Named.{value_at}
+use Rattle.ebpf_ksyms.proofs.Values.{named-step, named-end}
+use Rattle.ebpf_ksyms.proofs.named.Named.new.Goals as goal
+
+pub loop-name-preserved : goal.loop-name-preserved
+loop-name-preserved g c = λ q.
+    named-step c.args.names.now c.loop-name.name-index _ c.args.value c.loop-name.values c.insert.new.self c.loop-name-test.true c.in_ok-insert.ensures.updates q
+    ∙ c.loop-name.invariant q
+
+pub returns : goal.returns
+unfolding value_at
+returns g c = λ q. named-end c.args.names.now c.loop-name.name-index c.args.value c.loop-name.values c.loop-name-test.false q ∙ c.loop-name.invariant q

@@ -1,0 +1,14 @@
+pub mod Addresses
+pub mod Counted
+pub mod Entries
+pub mod Externs
+pub mod Faults
+pub mod Ids
+pub mod Lines
+pub mod Named
+pub mod Noted
+pub mod Readers
+pub mod Settled
+pub mod Sought
+pub mod SoughtValue
+pub mod Typed

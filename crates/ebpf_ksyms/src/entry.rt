@@ -1,0 +1,109 @@
+//! Externs with their names, in the order of the names.
+
+ghost use Rattle.std.specs.Prelude.{◌≡◌, IfOk};
+ghost use Rattle.std.specs.FinMap.{entries, get};
+ghost use Rattle.std.specs.List.{flat_map};
+ghost use Rattle.ebpf_base.specs.Keys.{lent_bytes};
+ghost use Rattle.ebpf_ksyms.specs.Entries.{entry_named, map_of};
+ghost use Rattle.ebpf_ksyms.specs.Externs.{is_typed, is_typeless, wanted_names};
+
+use ebpf_base::ByName;
+use ebpf_reloc::ExternDesc;
+use std::alloc::{AllocError, Global};
+use std::marker::Model;
+
+/// An extern and its name.
+#[derive(Drop)]
+pub struct Entry<'a> {
+    /// The name.
+    pub name: &'a str,
+    /// The extern.
+    pub desc: ExternDesc,
+}
+
+impl<'a> Model for Entry<'a> {
+    ghost use Rattle.std.specs.Prelude.{ℕ, List};
+    ghost use Rattle.ebpf_reloc.specs.declared.extern_desc.ExternDesc.{ExternDesc};
+
+    ghost Value = { List ℕ × ExternDesc };
+
+    ghost view = { λ e. (e.name.now, e.desc) };
+}
+
+impl<'a> Entry<'a> {
+    /// Whether it is unresolved and has a type.
+    pub fn is_typed(&self) -> bool
+        ensures { result ≡ is_typed self.now.1 }
+    {
+        !self.desc.is_resolved && self.desc.is_typed
+    }
+
+    /// Whether it is unresolved and has no type.
+    pub fn is_typeless(&self) -> bool
+        ensures { result ≡ is_typeless self.now.1 }
+    {
+        !self.desc.is_resolved && !self.desc.is_typed
+    }
+
+    /// The same name with another extern.
+    pub fn with(&self, desc: ExternDesc) -> Entry<'a>
+        ensures { result ≡ (self.now.0, desc) }
+    {
+        Entry {
+            name: self.name,
+            desc,
+        }
+    }
+}
+
+/// The externs of some names, in their order.
+fn entries_named<'a>(
+    alloc: Global,
+    externs: &ByName<ExternDesc>,
+    names: &[&'a str],
+) -> Result<Vec<Entry<'a>>, AllocError>
+    ensures { IfOk result (λ all. all.items ≡ flat_map (λ name. entry_named name (get externs.now name)) (lent_bytes names.now)) }
+{
+    let mut all = Vec::with_capacity(alloc, names.len())?;
+    for name in names {
+        let Some(desc) = externs.get(name) else {
+            continue;
+        };
+        all.push(Entry { name, desc: *desc })?;
+    }
+    Ok(all)
+}
+
+/// The externs in the order of the bytes of their names.
+pub fn entries_of(alloc: Global, externs: &ByName<ExternDesc>) -> Result<Vec<Entry<'_>>, AllocError>
+    ensures { IfOk result (λ all. all.items ≡ entries externs.now) }
+{
+    let names = externs.names(alloc)?;
+    let all = entries_named(alloc, externs, &names)?;
+    Ok(all)
+}
+
+/// The names that lines are read for.
+pub fn wanted_names<'a>(alloc: Global, all: &[Entry<'a>]) -> Result<Vec<&'a str>, AllocError>
+    ensures { IfOk result (λ names. lent_bytes names.items ≡ wanted_names all.now) }
+{
+    let mut names = Vec::new(alloc);
+    for entry in all {
+        if !entry.is_typeless() {
+            continue;
+        }
+        names.push(entry.name)?;
+    }
+    Ok(names)
+}
+
+/// Externs as a map.
+pub fn map_of(alloc: Global, all: &[Entry<'_>]) -> Result<ByName<ExternDesc>, AllocError>
+    ensures { IfOk result (λ externs. externs ≡ map_of all.now) }
+{
+    let mut externs = ByName::new(alloc);
+    for entry in all {
+        externs.insert(String::from_str(alloc, entry.name)?, entry.desc)?;
+    }
+    Ok(externs)
+}

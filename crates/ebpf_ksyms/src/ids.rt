@@ -1,0 +1,112 @@
+//! The ids of a kernel's functions and variables, by name.
+
+ghost use Rattle.std.specs.Prelude.{◌≡◌, ℕ, List, IfOk, IfErr, OnOk, option_map};
+ghost use Rattle.ebpf_base.specs.Keys.{lent_bytes};
+ghost use Rattle.ebpf_ksyms.specs.Ids.{ids_in, id_at, sort_of, with_id, with_type};
+ghost use Rattle.ebpf_ksyms.specs.Named.{value_at, only_at};
+ghost use Rattle.ebpf_ksyms.specs.declared.error.KsymsError.TheVariants.{OutOfMemory};
+
+use crate::error::KsymsError;
+use crate::named::Named;
+use crate::sought::Sort;
+use ebpf_btf::{Btf, BtfError, BtfKind, BtfType};
+use std::alloc::Global;
+
+/// The lowest ids that have a name.
+#[derive(Clone, Copy)]
+pub struct Ids {
+    /// That of a FUNC.
+    pub function: Option<u32>,
+    /// That of a VAR.
+    pub variable: Option<u32>,
+}
+
+impl Ids {
+    /// No id.
+    pub const NONE: Ids = Ids {
+        function: None,
+        variable: None,
+    };
+}
+
+/// The id of a sort at a name.
+pub fn id_at(ids: &Named<'_, Ids>, sort: Sort, name: &str) -> Option<u32>
+    ensures { result ≡ id_at (value_at ids.now) sort name.now }
+{
+    let found = ids.get(name)?;
+    match sort {
+        Sort::Function => found.function,
+        Sort::Variable => found.variable,
+    }
+}
+
+/// What is sought that a type is.
+#[tactic(auto, unfolding(crate::specs::Ids::sort_of))]
+fn sort_of(ty: &BtfType) -> Option<Sort>
+    ensures { result ≡ sort_of ty.now }
+{
+    match ty {
+        BtfType::Func { .. } => Some(Sort::Function),
+        BtfType::Var { .. } => Some(Sort::Variable),
+        _ => None,
+    }
+}
+
+/// The ids with one more, which does not count where a lower one is there.
+fn with_id(ids: Ids, sort: Sort, id: u32) -> Ids
+    ensures { result ≡ with_id ids sort id }
+{
+    match sort {
+        Sort::Function => Ids {
+            function: ids.function.or(Some(id)),
+            variable: ids.variable,
+        },
+        Sort::Variable => Ids {
+            function: ids.function,
+            variable: ids.variable.or(Some(id)),
+        },
+    }
+}
+
+/// Takes one more type of the kernel into account, whose id is above those before.
+fn note_type(
+    kernel: &Btf,
+    ids: &mut Named<'_, Ids>,
+    id: u32,
+    ty: &BtfType,
+) -> Result<(), KsymsError>
+    ensures ok { OnOk result ((q : List ℕ) → value_at ids.new q ≡ option_map (with_type kernel.now q id ty.now) (value_at ids.old q)) }
+    ensures memory { IfErr result (λ e. e ≡ OutOfMemory) }
+{
+    let Some(sort) = sort_of(ty) else {
+        return Ok(());
+    };
+    let name = match kernel.type_name(ty) {
+        Ok(name) => name,
+        Err(BtfError::OutOfMemory) => return Err(KsymsError::OutOfMemory),
+        Err(_) => return Ok(()),
+    };
+    if let Some(found) = ids.get(name.as_str()) {
+        ids.replace(name.as_str(), with_id(found, sort, id));
+    }
+    Ok(())
+}
+
+/// The lowest ids of some names, by one pass over the kernel's types.
+pub fn ids_in<'a>(
+    alloc: Global,
+    kernel: &Btf,
+    names: &[&'a str],
+) -> Result<Named<'a, Ids>, KsymsError>
+    ensures ok { IfOk result (λ ids. (q : List ℕ) → value_at ids q ≡ only_at (lent_bytes names.now) (ids_in kernel.now) q) }
+    ensures memory { IfErr result (λ e. e ≡ OutOfMemory) }
+{
+    let mut ids = Named::new(alloc, names, Ids::NONE)?;
+    if names.is_empty() {
+        return Ok(ids);
+    }
+    for (id, ty) in kernel.types().iter().enumerate() {
+        note_type(kernel, &mut ids, id as u32, ty)?;
+    }
+    Ok(ids)
+}

@@ -1,0 +1,16 @@
+//! The externs of an eBPF object, found in a kernel: by its types, and by the addresses that it tells.
+#![tactic(auto)]
+
+mod entry;
+mod error;
+mod ids;
+mod lines;
+mod named;
+mod resolve;
+mod settled;
+mod sought;
+mod typed;
+mod words;
+
+pub use error::KsymsError;
+pub use resolve::{resolve_externs, resolve_lines};

@@ -1,5 +1,0 @@
-use Rattle.ebpf_object.proofs.Tiles as tiles
-use Rattle.ebpf_object.proofs.laws.functions_tile.Goals as goal
-
-pub returns : goal.returns
-returns c = tiles.functions_tile

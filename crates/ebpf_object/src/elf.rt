@@ -1,0 +1,6 @@
+//! ELF64 files.
+
+pub use ebpf_elf::{
+    ElfFile, ElfReadError, ElfRelocation, ElfRelocationSection, ElfSection, ElfSymbol,
+    SectionIndex, SymbolKind,
+};

@@ -1,0 +1,3 @@
+//! Externs: the kernel's functions and variables that an object names.
+
+pub use ebpf_reloc::ExternDesc;

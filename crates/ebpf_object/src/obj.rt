@@ -1,0 +1,8 @@
+//! Objects, what they hold, and why one can't be parsed.
+
+pub use crate::object::Object;
+pub use ebpf_base::{ByIndex, ByKey, ByName, ByOffset, BySection, Items, Text};
+pub use ebpf_btf::{Btf, BtfError, BtfExt, Endianness};
+pub use ebpf_parsing::Program;
+pub use ebpf_parts::{EbpfSectionKind, ParseError, ProgramSection, Relocation, Section};
+pub use ebpf_reloc::{ExternDesc, Function, Symbol};

@@ -1,0 +1,17 @@
+pub mod AddedLemmas
+pub mod FirstNames
+pub mod FromFile
+pub mod Grouped
+pub mod Offsets
+pub mod Rebuilt
+pub mod TextLemmas
+pub mod Places
+pub mod Tiles
+pub mod TypeErrors
+pub mod Words
+pub mod LastEntries
+pub mod OffsetOrder
+pub mod TextKeys
+pub mod SectionTables
+pub mod EntriesStand
+pub mod Standing

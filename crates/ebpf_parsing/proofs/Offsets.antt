@@ -1,0 +1,64 @@
+-- One step of the walk over the functions of a Text section.
+use Rattle.std.proofs.Common.{append_assoc, append-nil, length-append, ◌≡◌, ℕ, suc, zero, ◌+◌, ◌-◌, ◌<◌, ◌≤◌, true, false, List, [], ◌∷◌, ◌++◌, length, None, refl, sym, ap, ◌∙◌, arith, nat_lt}
+use Rattle.std.specs.Prelude.{if◌then◌else◌}
+use Rattle.std.specs.List.{flat_map}
+use Rattle.std.proofs.lemmas.Bool.Decides.{nat_tests}
+use Rattle.ebpf_base.specs.Faults.{or_else}
+use Rattle.ebpf_reloc.specs.declared.function.Function.{Function}
+use Rattle.ebpf_base.specs.Faults.{first_some}
+use Rattle.ebpf_parsing.specs.Records.{Said}
+use Rattle.ebpf_parsing.specs.Symbols.{SymbolValue}
+use Rattle.ebpf_parts.specs.Sections.{SectionValue}
+use Rattle.ebpf_parsing.specs.Texts.{offsets_from, function_at, fault_at, size_at}
+
+-- an offset inside the data is the first, and the walk goes on behind its function
+pub offsets_more : (s : SectionValue) (ys : List SymbolValue) (n k offset : ℕ) → k < n → offset < length s.bytes
+    → offsets_from (n - k) s ys offset ≡ offset ∷ offsets_from (n - (k + 1)) s ys (offset + size_at s ys offset)
+unfolding offsets_from
+offsets_more s ys n k offset left inside =
+    let e : n - k ≡ suc (n - (k + 1)) = omega arith in
+    let test : nat_lt offset (length s.bytes) ≡ true = grind (arith, nat_tests) in
+    ap (λ m. offsets_from m s ys offset) e ∙ ap (λ b. if b then offset ∷ offsets_from (n - (k + 1)) s ys (offset + size_at s ys offset) else []) test
+
+-- at the end there is none
+pub none_left : (s : SectionValue) (ys : List SymbolValue) (n offset : ℕ) → length s.bytes ≤ offset → offsets_from n s ys offset ≡ []
+unfolding offsets_from
+none_left s ys zero offset past = refl
+none_left s ys (suc n) offset past =
+    let test : nat_lt offset (length s.bytes) ≡ false = grind (arith, nat_tests) in
+    ap (λ b. if b then offset ∷ offsets_from n s ys (offset + size_at s ys offset) else []) test
+
+pub functions_more : (said : Said) (s : SectionValue) (ys : List SymbolValue) (n k offset : ℕ) → k < n → offset < length s.bytes
+    → flat_map (function_at said s ys) (offsets_from (n - k) s ys offset) ≡ function_at said s ys offset ++ flat_map (function_at said s ys) (offsets_from (n - (k + 1)) s ys (offset + size_at s ys offset))
+functions_more said s ys n k offset left inside = ap (flat_map (function_at said s ys)) (offsets_more s ys n k offset left inside)
+
+pub fault_more : (s : SectionValue) (ys : List SymbolValue) (n k offset : ℕ) → k < n → offset < length s.bytes
+    → first_some (fault_at s ys) (offsets_from (n - k) s ys offset) ≡ or_else (fault_at s ys offset) (first_some (fault_at s ys) (offsets_from (n - (k + 1)) s ys (offset + size_at s ys offset)))
+fault_more s ys n k offset left inside = ap (first_some (fault_at s ys)) (offsets_more s ys n k offset left inside)
+
+-- one more function, and one fewer to come
+pub functions_step : (said : Said) (s : SectionValue) (ys : List SymbolValue) (fs : List Function) (f : Function) (o e : ℕ) (all : List Function)
+    → length fs < length s.bytes → o < length s.bytes → function_at said s ys o ≡ f ∷ [] → e ≡ o + size_at s ys o
+    → fs ++ flat_map (function_at said s ys) (offsets_from (length s.bytes - length fs) s ys o) ≡ all
+    → (fs ++ f ∷ []) ++ flat_map (function_at said s ys) (offsets_from (length s.bytes - length (fs ++ f ∷ [])) s ys e) ≡ all
+functions_step said s ys fs f o e all few inside here next before =
+    let more : length (fs ++ f ∷ []) ≡ length fs + 1 = length-append fs (f ∷ []) in
+    let rest : flat_map (function_at said s ys) (offsets_from (length s.bytes - length fs) s ys o) ≡ f ∷ flat_map (function_at said s ys) (offsets_from (length s.bytes - (length fs + 1)) s ys (o + size_at s ys o))
+    = functions_more said s ys (length s.bytes) (length fs) o few inside ∙ ap (λ xs. xs ++ flat_map (function_at said s ys) (offsets_from (length s.bytes - (length fs + 1)) s ys (o + size_at s ys o))) here in
+    ap (λ n. (fs ++ f ∷ []) ++ flat_map (function_at said s ys) (offsets_from (length s.bytes - n) s ys e)) more
+    ∙ ap (λ p. (fs ++ f ∷ []) ++ flat_map (function_at said s ys) (offsets_from (length s.bytes - (length fs + 1)) s ys p)) next
+    ∙ append_assoc fs (f ∷ []) _
+    ∙ ap (λ xs. fs ++ xs) (sym rest) ∙ before
+
+pub fault_step : (s : SectionValue) (ys : List SymbolValue) (k m : ℕ) (o e : ℕ)
+    → k < length s.bytes → o < length s.bytes → fault_at s ys o ≡ None → e ≡ o + size_at s ys o → m ≡ k + 1
+    → first_some (fault_at s ys) (offsets_from (length s.bytes - m) s ys e) ≡ first_some (fault_at s ys) (offsets_from (length s.bytes - k) s ys o)
+fault_step s ys k m o e few inside none next more =
+    ap (λ n. first_some (fault_at s ys) (offsets_from (length s.bytes - n) s ys e)) more
+    ∙ ap (λ p. first_some (fault_at s ys) (offsets_from (length s.bytes - (k + 1)) s ys p)) next
+    ∙ sym (fault_more s ys (length s.bytes) k o few inside ∙ ap (λ x. or_else x (first_some (fault_at s ys) (offsets_from (length s.bytes - (k + 1)) s ys (o + size_at s ys o)))) none)
+
+pub functions_end : (said : Said) (s : SectionValue) (ys : List SymbolValue) (fs all : List Function) (n o : ℕ) → length s.bytes ≤ o
+    → fs ++ flat_map (function_at said s ys) (offsets_from n s ys o) ≡ all → fs ≡ all
+functions_end said s ys fs all n o past before =
+    sym (append-nil fs) ∙ sym (ap (λ os. fs ++ flat_map (function_at said s ys) os) (none_left s ys n o past)) ∙ before

@@ -1,0 +1,169 @@
+-- The functions of a Text section tile it.
+use Rattle.std.proofs.Common.{◌≡◌, ℕ, suc, zero, ◌+◌, ◌-◌, ◌*◌, ◌/◌, ◌%◌, ◌<◌, ◌≤◌, true, false, List, [], ◌∷◌, ◌++◌, map, length, take, drop, Option, Some, None, refl, sym, ap, ◌∙◌, arith, nat_lt, get_or}
+use Rattle.std.specs.Prelude.{if◌then◌else◌, slice_range, slice_index}
+use Rattle.std.specs.Int.{w16, w32, cast_signed}
+use Rattle.std.specs.List.{flat_map, range_with_len}
+use Rattle.byteorder.specs.Endian.{little_from}
+use Rattle.ebpf_btf.specs.Numbers.{number_at}
+use Rattle.std.proofs.lemmas.List.{get_or-take, get_or-drop, length-take, length-drop}
+use Rattle.std.proofs.lemmas.Bool.Decides.{nat_tests}
+use Rattle.ebpf_base.specs.Faults.{or_else, first_some}
+use Rattle.ebpf_parts.specs.declared.insn.bpf_insn.{bpf_insn}
+use Rattle.ebpf_reloc.specs.declared.function.Function.{Function}
+use Rattle.ebpf_parts.specs.Sections.{SectionValue}
+use Rattle.ebpf_parts.specs.Slots.{slot_at, slots_of, code_faults}
+use Rattle.ebpf_parsing.specs.Records.{Said}
+use Rattle.ebpf_parsing.specs.Symbols.{SymbolValue}
+use Rattle.ebpf_parsing.specs.Texts.{offsets_from, function_at, fault_at, size_at, symbol_at_offset, text_function_of, text_fault_of, size_of, text_function, conflict_fault, text_fault}
+use Rattle.ebpf_parsing.specs.Tiling.{FunctionsTile}
+use Rattle.ebpf_parsing.proofs.Offsets.{none_left}
+
+-- m slots from the slot w on
+slots_in : List ℕ → ℕ → ℕ → List bpf_insn
+slots_in bytes w m = map (λ k. slot_at bytes (8 * k)) (range_with_len w m)
+
+slots_join : (bytes : List ℕ) (w m n : ℕ) → slots_in bytes w (m + n) ≡ slots_in bytes w m ++ slots_in bytes (w + m) n
+unfolding slots_in
+slots_join bytes w zero n =
+    let e : 0 + n ≡ n = omega arith in
+    let g : w ≡ w + 0 = omega arith in
+    ap (slots_in bytes w) e ∙ ap (λ v. slots_in bytes v n) g
+slots_join bytes w (suc m) n =
+    let e : suc m + n ≡ suc (m + n) = omega arith in
+    let g : w + 1 + m ≡ w + suc m = omega arith in
+    ap (slots_in bytes w) e ∙ ap (λ l. slot_at bytes (8 * w) ∷ l) (slots_join bytes (w + 1) m n ∙ ap (λ v. slots_in bytes (w + 1) m ++ slots_in bytes v n) g)
+
+module _ (bytes : List ℕ) (o n : ℕ) where
+  at_place : (j p : ℕ) → j < n → p ≡ o + j → slice_index (slice_range bytes o (o + n)) j ≡ slice_index bytes p
+  at_place j p below place =
+      let e : o + n - o ≡ n = omega arith in
+      ap (λ k. get_or (take k (drop o bytes)) j 0) e ∙ get_or-take n (drop o bytes) j 0 below ∙ get_or-drop o bytes j 0 ∙ ap (λ k. get_or bytes k 0) (sym place)
+
+  -- a number in the bytes from a place on
+  number_at_place : (i m at p : ℕ) → at + i + m ≤ n → p ≡ o + at → little_from i m (drop at (slice_range bytes o (o + n))) ≡ little_from i m (drop p bytes)
+  number_at_place i zero at p fits place = refl
+  number_at_place i (suc m) at p fits place =
+      let here : get_or (drop at (slice_range bytes o (o + n))) i 0 ≡ get_or (drop p bytes) i 0 =
+      get_or-drop at (slice_range bytes o (o + n)) i 0 ∙ at_place (at + i) (p + i) (omega arith) (omega arith) ∙ sym (get_or-drop p bytes i 0) in
+      λ k. here k + 256 * number_at_place (suc i) m at p (omega arith) place k
+
+  slot_shift : (at p : ℕ) → at + 8 ≤ n → p ≡ o + at → slot_at (slice_range bytes o (o + n)) at ≡ slot_at bytes p
+  unfolding slot_at number_at
+  slot_shift at p fits place = λ i. record {
+    code = at_place at p (omega arith) place i;
+    regs = at_place (at + 1) (p + 1) (omega arith) (omega arith) i;
+    off = cast_signed w16 (number_at_place 0 2 (at + 2) (p + 2) (omega arith) (omega arith) i);
+    imm = cast_signed w32 (number_at_place 0 4 (at + 4) (p + 4) (omega arith) (omega arith) i);
+  }
+
+slots_shift : (bytes : List ℕ) (w m : ℕ) (a c : ℕ) → a + c ≤ m
+    → map (λ k. slot_at (slice_range bytes (8 * w) (8 * w + 8 * m)) (8 * k)) (range_with_len a c) ≡ slots_in bytes (w + a) c
+unfolding slots_in
+slots_shift bytes w m a zero fits = refl
+slots_shift bytes w m a (suc c) fits =
+    let e : w + (a + 1) ≡ w + a + 1 = omega arith in
+    let here : slot_at (slice_range bytes (8 * w) (8 * w + 8 * m)) (8 * a) ≡ slot_at bytes (8 * (w + a)) = slot_shift bytes (8 * w) (8 * m) (8 * a) (8 * (w + a)) (omega arith) (omega arith) in
+    λ i. here i ∷ (slots_shift bytes w m (a + 1) c (omega arith) ∙ ap (λ v. slots_in bytes v c) e) i
+
+-- the slots of a range
+slots_of_range : (bytes : List ℕ) (w m : ℕ) → 8 * w + 8 * m ≤ length bytes → slots_of (slice_range bytes (8 * w) (8 * w + 8 * m)) ≡ slots_in bytes w m
+unfolding slots_of
+slots_of_range bytes w m inside =
+    let long : length (slice_range bytes (8 * w) (8 * w + 8 * m)) ≡ 8 * m = simp (length-take, length-drop) (omega arith) in
+    let count : length (slice_range bytes (8 * w) (8 * w + 8 * m)) / 8 ≡ m = omega (arith, long) in
+    let e : w + 0 ≡ w = omega arith in
+    ap (λ c. map (λ k. slot_at (slice_range bytes (8 * w) (8 * w + 8 * m)) (8 * k)) (range_with_len 0 c)) count
+    ∙ slots_shift bytes w m 0 m (omega arith) ∙ ap (λ v. slots_in bytes v m) e
+
+-- what is known of the symbol where nothing stops
+pub record Stands (s : SectionValue) (o : ℕ) (z : Option SymbolValue) : Type 0 where
+  pub y : SymbolValue
+  pub found : z ≡ Some y
+  pub some : 0 < y.size
+  pub inside : o + y.size ≤ length s.bytes
+  pub whole : y.size % 8 ≡ 0
+
+size_known : (s : SectionValue) (o : ℕ) (y : SymbolValue) → text_fault_of s o (Some y) ≡ None → (0 < y.size) × (o + y.size ≤ length s.bytes)
+size_known s o y e = grind (arith, nat_tests)
+
+whole_known : (s : SectionValue) (o : ℕ) (y : SymbolValue) → text_fault_of s o (Some y) ≡ None → length (slice_range s.bytes o (o + y.size)) % 8 ≡ 0
+unfolding code_faults
+whole_known s o y e = grind (arith, nat_tests)
+
+pub stands : (s : SectionValue) (o : ℕ) (z : Option SymbolValue) → text_fault_of s o z ≡ None → Stands s o z
+stands s o None e = absurd (let wrong : ⊥ = cc in wrong)
+stands s o (Some y) e =
+    let known : (0 < y.size) × (o + y.size ≤ length s.bytes) = size_known s o y e in
+    let long : length (slice_range s.bytes o (o + y.size)) ≡ y.size = simp (length-take, length-drop) (omega (arith, known.1)) in
+    record { y = y; found = refl; some = known.0; inside = known.1; whole = ap (λ n. n % 8) (sym long) ∙ whole_known s o y e }
+
+or_none : {E : Type 0} (a b : Option E) → or_else a b ≡ None → (a ≡ None) × (b ≡ None)
+or_none None b e = (refl, e)
+or_none (Some x) b e = absurd (let wrong : ⊥ = cc in wrong)
+
+instructions_of : List Function → List bpf_insn
+instructions_of fs = flat_map (λ f. f.instructions) fs
+
+module _ (said : Said) (s : SectionValue) (ys : List SymbolValue) where
+  here : (n o : ℕ) → o < length s.bytes → offsets_from (suc n) s ys o ≡ o ∷ offsets_from n s ys (o + size_at s ys o)
+  unfolding offsets_from
+  here n o inside =
+      let test : nat_lt o (length s.bytes) ≡ true = grind (arith, nat_tests) in
+      ap (λ b. if b then o ∷ offsets_from n s ys (o + size_at s ys o) else []) test
+
+  at_end : (n w : ℕ) → 8 * w ≡ length s.bytes → instructions_of (flat_map (function_at said s ys) (offsets_from n s ys (8 * w))) ≡ slots_in s.bytes w ((length s.bytes - 8 * w) / 8)
+  unfolding instructions_of slots_in
+  at_end n w e =
+      let none : (length s.bytes - 8 * w) / 8 ≡ 0 = omega arith in
+      ap (λ os. instructions_of (flat_map (function_at said s ys) os)) (none_left s ys n (8 * w) (omega arith)) ∙ ap (slots_in s.bytes w) (sym none)
+
+  lt_of : (w : ℕ) → nat_lt (8 * w) (length s.bytes) ≡ true → 8 * w < length s.bytes
+  lt_of w e = grind (arith, nat_tests)
+
+  le_of : (w : ℕ) → 8 * w ≤ length s.bytes → nat_lt (8 * w) (length s.bytes) ≡ false → 8 * w ≡ length s.bytes
+  le_of w below e = grind (arith, nat_tests)
+
+  abbrev TilesFrom : ℕ → ℕ → Type 0
+  TilesFrom n w = 8 * w ≤ length s.bytes → length s.bytes - 8 * w ≤ n → first_some (fault_at s ys) (offsets_from n s ys (8 * w)) ≡ None
+      → instructions_of (flat_map (function_at said s ys) (offsets_from n s ys (8 * w))) ≡ slots_in s.bytes w ((length s.bytes - 8 * w) / 8)
+
+  -- one more function, and the others
+  one_more : (n w : ℕ) → ((v : ℕ) → TilesFrom n v) → 8 * w < length s.bytes → TilesFrom (suc n) w
+  unfolding instructions_of function_at fault_at size_at text_function
+  one_more n w again inside below few clear =
+      let step : offsets_from (suc n) s ys (8 * w) ≡ 8 * w ∷ offsets_from n s ys (8 * w + size_at s ys (8 * w)) = here n (8 * w) inside in
+      let both : (fault_at s ys (8 * w) ≡ None) × (first_some (fault_at s ys) (offsets_from n s ys (8 * w + size_at s ys (8 * w))) ≡ None)
+      = or_none _ _ (sym (ap (first_some (fault_at s ys)) step) ∙ clear) in
+      let known : Stands s (8 * w) (symbol_at_offset s ys (8 * w)) = stands s (8 * w) (symbol_at_offset s ys (8 * w)) both.0 in
+      let m : ℕ = known.y.size / 8 in
+      let size : known.y.size ≡ 8 * m = omega (arith, known.whole) in
+      let long : size_at s ys (8 * w) ≡ known.y.size = ap size_of known.found in
+      let next : 8 * w + size_at s ys (8 * w) ≡ 8 * (w + m) = omega (arith, long, size) in
+      let fits : 8 * w + 8 * m ≤ length s.bytes = omega (arith, known.inside, size) in
+      let one : function_at said s ys (8 * w) ≡ text_function said s (8 * w) known.y ∷ [] = ap (text_function_of said s (8 * w)) known.found in
+      let rest : instructions_of (flat_map (function_at said s ys) (offsets_from n s ys (8 * (w + m)))) ≡ slots_in s.bytes (w + m) ((length s.bytes - 8 * (w + m)) / 8)
+      = again (w + m) (omega (arith, fits)) (omega (arith, fits, size, known.some, few)) (sym (ap (λ o. first_some (fault_at s ys) (offsets_from n s ys o)) next) ∙ both.1) in
+      let slots : slots_of (slice_range s.bytes (8 * w) (8 * w + known.y.size)) ≡ slots_in s.bytes w m
+      = ap (λ k. slots_of (slice_range s.bytes (8 * w) (8 * w + k))) size ∙ slots_of_range s.bytes w m fits in
+      let count : m + (length s.bytes - 8 * (w + m)) / 8 ≡ (length s.bytes - 8 * w) / 8 = omega (arith, fits) in
+      ap (λ os. instructions_of (flat_map (function_at said s ys) os)) step
+      ∙ ap (λ fs. instructions_of (fs ++ flat_map (function_at said s ys) (offsets_from n s ys (8 * w + size_at s ys (8 * w))))) one
+      ∙ ap (λ o. slots_of (slice_range s.bytes (8 * w) (8 * w + known.y.size)) ++ instructions_of (flat_map (function_at said s ys) (offsets_from n s ys o))) next
+      ∙ ap (λ l. l ++ instructions_of (flat_map (function_at said s ys) (offsets_from n s ys (8 * (w + m))))) slots
+      ∙ ap (λ l. slots_in s.bytes w m ++ l) rest
+      ∙ sym (slots_join s.bytes w m ((length s.bytes - 8 * (w + m)) / 8))
+      ∙ ap (slots_in s.bytes w) count
+
+  tile : (n w : ℕ) → TilesFrom n w
+  tile zero w below few clear = at_end zero w (omega arith)
+  tile (suc n) w below few clear = elim (nat_lt (8 * w) (length s.bytes)) as (λ b. nat_lt (8 * w) (length s.bytes) ≡ b → instructions_of (flat_map (function_at said s ys) (offsets_from (suc n) s ys (8 * w))) ≡ slots_in s.bytes w ((length s.bytes - 8 * w) / 8)) [
+    | true ↦ λ e. one_more n w (tile n) (lt_of w e) below few clear
+    | false ↦ λ e. at_end (suc n) w (le_of w below e)
+  ] refl
+
+pub functions_tile : FunctionsTile
+unfolding instructions_of slots_of slots_in text_fault
+functions_tile said s ys e =
+    let clear : first_some (fault_at s ys) (offsets_from (length s.bytes) s ys (8 * 0)) ≡ None = (or_none (conflict_fault s.index.0 ys) _ e).1 in
+    let all : length s.bytes - 0 ≡ length s.bytes = omega arith in
+    tile said s ys (length s.bytes) 0 (omega arith) (omega arith) clear ∙ ap (λ n. slots_in s.bytes 0 (n / 8)) all

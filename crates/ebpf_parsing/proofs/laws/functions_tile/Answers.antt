@@ -1,0 +1,5 @@
+use Rattle.ebpf_parsing.proofs.Tiles as tiles
+use Rattle.ebpf_parsing.proofs.laws.functions_tile.Goals as goal
+
+pub returns : goal.returns
+returns c = tiles.functions_tile

@@ -1,0 +1,7 @@
+use Rattle.std.proofs.Common.{◌≡◌, take, map}
+use Rattle.ebpf_parsing.specs.Records.{line_from, line_at}
+use Rattle.ebpf_parsing.proofs.records.lines_from.Given as goal
+
+-- what is kept so far
+abbrev pub invariant-loop-place : goal.invariant-loop-place
+invariant-loop-place l = l.kept ≡ map (λ i. line_from l.base (line_at l.rows i)) (take l.place-index l.places)

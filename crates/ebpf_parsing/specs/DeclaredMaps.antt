@@ -1,0 +1,23 @@
+-- The maps that types declare in a section as `.maps` (libbpf's names).
+use Rattle.std.specs.Prelude.{ℕ, List, [], ◌∷◌, length, Option, Some, None, ◌==◌}
+use Rattle.std.specs.FinMap.{get}
+use Rattle.ebpf_base.specs.Faults.{or_else, first_of}
+use Rattle.ebpf_btf.specs.TypeInfo.{TypeInfo}
+use Rattle.ebpf_declarations.specs.Maps.{btf_maps, btf_maps_fault}
+use Rattle.ebpf_parsing.specs.Symbols.{SymbolValue}
+use Rattle.ebpf_parsing.specs.SymbolNames.{numbers_by_name}
+use Rattle.ebpf_parts.specs.Sections.{SectionValue}
+use Rattle.ebpf_parts.specs.declared.error.ParseError.{ParseError}
+use Rattle.ebpf_parts.specs.declared.error.ParseError.TheVariants.{NoBTF, NoSymbolsForSection}
+use Rattle.ebpf_parts.specs.declared.maps.either.Map.{Map}
+
+-- by name; without types there are none
+unfoldable pub declared_maps : Option TypeInfo → SectionValue → List SymbolValue → List (List ℕ × Map)
+declared_maps None s symbols = []
+declared_maps (Some types) s symbols = btf_maps types (get (numbers_by_name symbols)) s.index.0 s.name
+
+-- no types, no symbol, then the faults of the maps
+unfoldable pub declared_maps_fault : Option TypeInfo → SectionValue → List SymbolValue → Option ParseError
+declared_maps_fault None s symbols = Some NoBTF
+declared_maps_fault (Some types) s symbols =
+    or_else (first_of ((length symbols == 0, NoSymbolsForSection s.name) ∷ [])) (btf_maps_fault types (get (numbers_by_name symbols)) s.index.0 s.name)

@@ -1,0 +1,86 @@
+-- What one section gives to an object.
+use Rattle.std.specs.Prelude.{ℕ, List, [], ◌∷◌, map, length, Option, None, ◌==◌}
+use Rattle.std.specs.FinMap.{FinMap}
+use Rattle.std.specs.Ordering.{nat_cmp}
+use Rattle.ebpf_base.specs.Faults.{or_else, first_of}
+use Rattle.ebpf_btf.specs.ExtReading.{ExtInfo}
+use Rattle.ebpf_btf.specs.TypeInfo.{TypeInfo}
+use Rattle.ebpf_elf.specs.declared.entries.ElfRelocation.{ElfRelocation}
+use Rattle.ebpf_elf.specs.declared.entries.SectionIndex.{SectionIndex}
+use Rattle.ebpf_parsing.specs.DeclaredMaps.{declared_maps, declared_maps_fault}
+use Rattle.ebpf_parsing.specs.DataMaps.{data_maps, data_map_fault}
+use Rattle.ebpf_parsing.specs.LegacyMaps.{legacy_maps, legacy_maps_fault}
+use Rattle.ebpf_parsing.specs.Programs.{placed, programs_of, program_functions, programs_fault}
+use Rattle.ebpf_parsing.specs.Records.{Said, said_of}
+use Rattle.ebpf_parsing.specs.Relocations.{kept_at}
+use Rattle.ebpf_parsing.specs.Symbols.{SymbolValue}
+use Rattle.ebpf_parsing.specs.Texts.{text_functions, text_fault}
+use Rattle.ebpf_parsing.specs.declared.program.Program.{Program}
+use Rattle.ebpf_parts.specs.ProgramSections.{program_section, program_section_fault as name_fault}
+use Rattle.ebpf_parts.specs.Sections.{SectionValue}
+use Rattle.ebpf_parts.specs.declared.error.ParseError.{ParseError}
+use Rattle.ebpf_parts.specs.declared.error.ParseError.TheVariants.{NoSymbolsForSection}
+use Rattle.ebpf_parts.specs.declared.maps.either.Map.{Map}
+use Rattle.ebpf_parts.specs.declared.section_kind.EbpfSectionKind.{EbpfSectionKind}
+use Rattle.ebpf_parts.specs.declared.section_kind.EbpfSectionKind.TheVariants.{Maps, BtfMaps, Data, Rodata, Bss, Text, Program as Programs}
+use Rattle.ebpf_reloc.specs.declared.function.Function.{Function}
+
+-- the maps, by name
+abbrev pub maps_by : EbpfSectionKind → Option TypeInfo → SectionValue → List SymbolValue → List (List ℕ × Map)
+maps_by Data types s symbols = data_maps s
+maps_by Rodata types s symbols = data_maps s
+maps_by Bss types s symbols = data_maps s
+maps_by Maps types s symbols = legacy_maps s symbols
+maps_by BtfMaps types s symbols = declared_maps types s symbols
+maps_by _ types s symbols = []
+
+unfoldable pub maps_in : Option TypeInfo → SectionValue → List SymbolValue → List (List ℕ × Map)
+maps_in types s symbols = maps_by s.kind types s symbols
+
+-- the programs, by name, each with the object's license and kernel version
+abbrev pub programs_by : EbpfSectionKind → List ℕ → Option ℕ → SectionValue → List SymbolValue → List (List ℕ × Program)
+programs_by Programs license version s symbols = programs_of license version s symbols (program_section s.name)
+programs_by _ license version s symbols = []
+
+unfoldable pub programs_in : List ℕ → Option ℕ → SectionValue → List SymbolValue → List (List ℕ × Program)
+programs_in license version s symbols = programs_by s.kind license version s symbols
+
+-- the functions, by section and address, each with what `.BTF.ext` says of it
+abbrev pub functions_by : EbpfSectionKind → Said → SectionValue → List SymbolValue → List Function
+functions_by Programs said s symbols = program_functions said s symbols
+functions_by Text said s symbols = text_functions said s symbols
+functions_by _ said s symbols = []
+
+unfoldable pub functions_in : Option ExtInfo → SectionValue → List SymbolValue → List ((ℕ × ℕ) × Function)
+functions_in ext s symbols = map placed (functions_by s.kind (said_of ext s.name) s symbols)
+
+-- the relocations, by section and offset
+abbrev pub relocations_by : EbpfSectionKind → SectionValue → List (ℕ × FinMap nat_cmp ElfRelocation)
+relocations_by Programs s = kept_at s.index.0 s.relocations
+relocations_by Text s = kept_at s.index.0 s.relocations
+relocations_by _ s = []
+
+unfoldable pub relocations_in : SectionValue → List (ℕ × FinMap nat_cmp ElfRelocation)
+relocations_in s = relocations_by s.kind s
+
+-- the section's number, by its name
+abbrev pub name_in : SectionValue → List (List ℕ × SectionIndex)
+name_in s = (s.name, s.index) ∷ []
+
+-- the faults of a Program section: its name, no symbol, then the programs by symbol
+unfoldable pub program_section_fault : SectionValue → List SymbolValue → Option ParseError
+program_section_fault s symbols =
+    or_else (name_fault s.name) (or_else (first_of ((length symbols == 0, NoSymbolsForSection s.name) ∷ [])) (programs_fault s symbols))
+
+abbrev pub fault_by : EbpfSectionKind → Option TypeInfo → SectionValue → List SymbolValue → Option ParseError
+fault_by Programs types s symbols = program_section_fault s symbols
+fault_by Text types s symbols = text_fault s symbols
+fault_by Data types s symbols = data_map_fault s
+fault_by Rodata types s symbols = data_map_fault s
+fault_by Bss types s symbols = data_map_fault s
+fault_by Maps types s symbols = legacy_maps_fault s symbols
+fault_by BtfMaps types s symbols = declared_maps_fault types s symbols
+fault_by _ types s symbols = None
+
+unfoldable pub fault_in : Option TypeInfo → SectionValue → List SymbolValue → Option ParseError
+fault_in types s symbols = fault_by s.kind types s symbols

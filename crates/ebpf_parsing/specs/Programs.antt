@@ -1,0 +1,65 @@
+-- The programs of a Program section, and their functions.
+use Rattle.std.specs.Prelude.{ℕ, ◌+◌, ◌-◌, Bool, not, ◌&&◌, ◌||◌, List, [], ◌∷◌, length, map, filter, Option, Some, None, ◌==◌, nat_lt, slice_range}
+use Rattle.ebpf_base.specs.Faults.{first_in, first_some}
+use Rattle.ebpf_parsing.specs.Records.{Said, slot_of, funcs_at, lines_in}
+use Rattle.ebpf_parsing.specs.Symbols.{SymbolValue, is_text}
+use Rattle.ebpf_parsing.specs.declared.program.Program.{Program}
+use Rattle.ebpf_parts.specs.declared.error.ParseError.{ParseError}
+use Rattle.ebpf_parts.specs.declared.error.ParseError.TheVariants.{InvalidSymbol}
+use Rattle.ebpf_parts.specs.declared.program_section.ProgramSection.{ProgramSection}
+use Rattle.ebpf_parts.specs.Sections.{SectionValue}
+use Rattle.ebpf_parts.specs.Slots.{slots_of, code_faults}
+use Rattle.ebpf_reloc.specs.declared.function.Function.{Function}
+
+-- a symbol that names a program: Text, and with a name
+abbrev pub is_program_symbol : SymbolValue → Bool
+is_program_symbol y = is_text y.kind && not (length y.name == 0)
+
+-- the bytes of the section from the symbol's address on, as many as its size
+abbrev pub program_bytes : SectionValue → SymbolValue → List ℕ
+program_bytes s y = slice_range s.bytes y.address (y.address + y.size)
+
+-- where it begins in the section, in bytes
+abbrev pub program_offset : SectionValue → SymbolValue → ℕ
+program_offset s y = y.address - s.address
+
+-- the function; its records count slots from its first one
+unfoldable pub program_function : Said → SectionValue → SymbolValue → Function
+program_function said s y = record {
+  address = y.address;
+  name = y.name;
+  section_index = s.index;
+  section_offset = y.address;
+  instructions = slots_of (program_bytes s y);
+  func_info = funcs_at said.funcs (slot_of (program_offset s y)) (slot_of (program_offset s y));
+  line_info = lines_in said.lines (slot_of (program_offset s y)) (slot_of y.size) (slot_of (program_offset s y));
+  func_info_rec_size = said.func_size;
+  line_info_rec_size = said.line_size;
+}
+
+-- why a symbol's program can't be read
+unfoldable pub program_fault : SectionValue → SymbolValue → Option ParseError
+program_fault s y = first_in (
+    ((nat_lt y.address s.address || nat_lt (length s.bytes) (y.address + y.size), InvalidSymbol y.index (Some y.name)) ∷ [])
+    ∷ code_faults (program_bytes s y)
+    ∷ [])
+
+-- the functions of a section's programs, by symbol, and the first fault among them
+abbrev pub program_functions : Said → SectionValue → List SymbolValue → List Function
+program_functions said s symbols = map (program_function said s) (filter is_program_symbol symbols)
+
+abbrev pub programs_fault : SectionValue → List SymbolValue → Option ParseError
+programs_fault s symbols = first_some (program_fault s) (filter is_program_symbol symbols)
+
+-- a function, by section and address
+abbrev pub placed : Function → (ℕ × ℕ) × Function
+placed f = ((f.section_index.0, f.address), f)
+
+-- a program, by name, with the license and the kernel version of its object
+abbrev pub program_of : List ℕ → Option ℕ → SectionValue → ProgramSection → SymbolValue → List ℕ × Program
+program_of license version s kind y = (y.name, record { license = license; kernel_version = version; section = kind; section_index = s.index.0; address = y.address })
+
+-- the programs of a section whose name says a kind
+abbrev pub programs_of : List ℕ → Option ℕ → SectionValue → List SymbolValue → Option ProgramSection → List (List ℕ × Program)
+programs_of license version s symbols None = []
+programs_of license version s symbols (Some kind) = map (program_of license version s kind) (filter is_program_symbol symbols)

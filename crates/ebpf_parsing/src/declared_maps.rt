@@ -1,0 +1,40 @@
+//! The maps that types declare.
+
+ghost use Rattle.std.specs.Prelude.{◌≡◌, OnOk};
+ghost use Rattle.ebpf_base.specs.Faults.{Refuses};
+ghost use Rattle.ebpf_base.specs.Keyed.{put_all};
+ghost use Rattle.ebpf_parsing.specs.DeclaredMaps.{declared_maps, declared_maps_fault};
+ghost use Rattle.ebpf_parts.specs.Memory.{is_memory};
+
+use crate::symbol_names::numbers_by_name;
+use crate::symbols::NamedSymbol;
+use ebpf_base::{ByName, Text};
+use ebpf_btf::Btf;
+use ebpf_declarations::put_btf_maps;
+use ebpf_parts::maps::Map;
+use ebpf_parts::{ParseError, Section};
+use std::alloc::Global;
+
+/// Puts the maps that types declare in a section by name.
+#[tactic(auto, unfolding(crate::specs::DeclaredMaps::declared_maps, crate::specs::DeclaredMaps::declared_maps_fault))]
+pub fn put_declared_maps(
+    alloc: Global,
+    maps: &mut ByName<Map>,
+    types: &Option<Btf>,
+    section: &Section<'_>,
+    symbols: &[NamedSymbol<'_>],
+) -> Result<(), ParseError>
+    ensures put { OnOk result (maps.new ≡ put_all maps.old (declared_maps types.now section.now symbols.now)) }
+    ensures fault { Refuses is_memory result (declared_maps_fault types.now section.now symbols.now) }
+{
+    let Some(types) = types else {
+        return Err(ParseError::NoBTF);
+    };
+    if symbols.is_empty() {
+        return Err(ParseError::NoSymbolsForSection {
+            section_name: Text::from_str(alloc, section.name)?,
+        });
+    }
+    let numbers = numbers_by_name(alloc, symbols)?;
+    put_btf_maps(alloc, maps, types, section, &numbers)
+}

@@ -1,0 +1,147 @@
+//! The type information of a file, and what it says of instructions.
+
+ghost use Rattle.std.specs.Prelude.{◌≡◌, IfOk, OnOk, IfErr, true, Some, option_map};
+ghost use Rattle.std.specs.Result.{result_ok};
+ghost use Rattle.ebpf_base.specs.Faults.{Refuses, fault_of};
+ghost use Rattle.ebpf_base.specs.Keyed.{put_all};
+ghost use Rattle.ebpf_btf.specs.ExtReading.{read_ext};
+ghost use Rattle.ebpf_btf.specs.Reading.{type_info_of};
+ghost use Rattle.ebpf_elf.specs.File.{order_of};
+ghost use Rattle.ebpf_parsing.specs.FileTypes.{btf_of, btf_fault, ext_of, ext_fault, ext_beside, ext_fault_beside, ext_names_beside, said_in, said_fault_in, said_section, names_in, type_names, names_met, file_types_fault};
+ghost use Rattle.ebpf_parsing.specs.OfSection.{name_in};
+ghost use Rattle.ebpf_parts.specs.Memory.{is_memory};
+ghost use Rattle.ebpf_parts.specs.declared.error.ParseError.TheVariants.{BtfError as TypeFault};
+
+use ebpf_base::ByName;
+use ebpf_btf::{Btf, BtfExt, Endianness};
+use ebpf_declarations::parse_error;
+use ebpf_elf::{ElfFile, SectionIndex};
+use ebpf_parts::{ParseError, Section};
+use std::alloc::Global;
+
+/// The types that some bytes are.
+#[tactic(auto, using(crate::proofs::TypeErrors::refused))]
+fn types_in(alloc: Global, order: Endianness, bytes: &[u8]) -> Result<Btf, ParseError>
+    ensures types { IfOk result (λ types. result_ok (type_info_of order bytes.now) ≡ Some types) }
+    ensures fault { Refuses is_memory result (option_map TypeFault (fault_of (type_info_of order bytes.now))) }
+{
+    match Btf::parse(alloc, bytes, order) {
+        Ok(types) => Ok(types),
+        Err(error) => Err(parse_error(error)),
+    }
+}
+
+/// What some bytes say of instructions.
+#[tactic(auto, using(crate::proofs::TypeErrors::refused))]
+fn said_in(
+    alloc: Global,
+    order: Endianness,
+    bytes: &[u8],
+    types: &Btf,
+) -> Result<BtfExt, ParseError>
+    ensures said { IfOk result (λ said. result_ok (read_ext order bytes.now types.now.strings) ≡ Some said) }
+    ensures fault { Refuses is_memory result (option_map TypeFault (fault_of (read_ext order bytes.now types.now.strings))) }
+{
+    match BtfExt::parse(alloc, bytes, order, types) {
+        Ok(said) => Ok(said),
+        Err(error) => Err(parse_error(error)),
+    }
+}
+
+/// Remembers the number of a section by its name.
+pub fn remember(
+    alloc: Global,
+    section_infos: &mut ByName<SectionIndex>,
+    section: &Section<'_>,
+) -> Result<(), ParseError>
+    ensures put { OnOk result (section_infos.new ≡ put_all section_infos.old (name_in section.now)) }
+    ensures memory { IfErr result (λ e. is_memory e ≡ true) }
+{
+    section_infos.insert(String::from_str(alloc, section.name)?, section.index)?;
+    Ok(())
+}
+
+/// The types of a file, where it has a section `.BTF`, whose name is remembered.
+#[tactic(auto, unfolding(crate::specs::FileTypes::btf_of, crate::specs::FileTypes::btf_fault, crate::specs::FileTypes::type_names))]
+fn read_types(
+    alloc: Global,
+    file: &ElfFile<'_>,
+    section_infos: &mut ByName<SectionIndex>,
+) -> Result<Option<Btf>, ParseError>
+    ensures types { IfOk result (λ types. types ≡ btf_of file.now) }
+    ensures names { OnOk result (section_infos.new ≡ put_all section_infos.old (type_names file.now)) }
+    ensures fault { Refuses is_memory result (btf_fault file.now) }
+{
+    let Some(section) = file.section_by_name(".BTF") else {
+        return Ok(None);
+    };
+    let section = Section::from_elf(alloc, &section)?;
+    let types = types_in(alloc, file.endianness(), section.bytes)?;
+    remember(alloc, section_infos, &section)?;
+    Ok(Some(types))
+}
+
+/// What a file says of instructions, where it has a section `.BTF.ext`, whose name is remembered.
+fn read_said(
+    alloc: Global,
+    file: &ElfFile<'_>,
+    types: &Btf,
+    section_infos: &mut ByName<SectionIndex>,
+) -> Result<Option<BtfExt>, ParseError>
+    ensures said { IfOk result (λ said. said ≡ said_in (order_of file.now) types.now (said_section file.now)) }
+    ensures names { OnOk result (section_infos.new ≡ put_all section_infos.old (names_in (said_section file.now))) }
+    ensures fault { Refuses is_memory result (said_fault_in (order_of file.now) types.now (said_section file.now)) }
+{
+    let Some(section) = file.section_by_name(".BTF.ext") else {
+        return Ok(None);
+    };
+    let section = Section::from_elf(alloc, &section)?;
+    let said = said_in(alloc, file.endianness(), section.bytes, types)?;
+    remember(alloc, section_infos, &section)?;
+    Ok(Some(said))
+}
+
+/// The same, only beside types.
+fn read_said_beside(
+    alloc: Global,
+    file: &ElfFile<'_>,
+    types: &Option<Btf>,
+    section_infos: &mut ByName<SectionIndex>,
+) -> Result<Option<BtfExt>, ParseError>
+    ensures said { IfOk result (λ said. said ≡ ext_beside file.now types.now) }
+    ensures names { OnOk result (section_infos.new ≡ put_all section_infos.old (ext_names_beside file.now types.now)) }
+    ensures fault { Refuses is_memory result (ext_fault_beside file.now types.now) }
+{
+    let Some(types) = types else {
+        return Ok(None);
+    };
+    read_said(alloc, file, types, section_infos)
+}
+
+/// The type information of a file, what it says of instructions, and the names of their sections.
+#[derive(Drop)]
+pub struct FileTypes {
+    pub btf: Option<Btf>,
+    pub btf_ext: Option<BtfExt>,
+    pub section_infos: ByName<SectionIndex>,
+}
+
+impl FileTypes {
+    /// That of a file.
+    #[tactic(auto, unfolding(crate::specs::FileTypes::ext_of, crate::specs::FileTypes::ext_fault, crate::specs::FileTypes::ext_names, crate::specs::FileTypes::names_met, crate::specs::FileTypes::file_types_fault))]
+    pub fn read(alloc: Global, file: &ElfFile<'_>) -> Result<FileTypes, ParseError>
+        ensures btf { IfOk result (λ types. types.btf ≡ btf_of file.now) }
+        ensures btf_ext { IfOk result (λ types. types.btf_ext ≡ ext_of file.now) }
+        ensures section_infos { IfOk result (λ types. types.section_infos ≡ names_met file.now) }
+        ensures fault { Refuses is_memory result (file_types_fault file.now) }
+    {
+        let mut section_infos = ByName::new(alloc);
+        let btf = read_types(alloc, file, &mut section_infos)?;
+        let btf_ext = read_said_beside(alloc, file, &btf, &mut section_infos)?;
+        Ok(FileTypes {
+            btf,
+            btf_ext,
+            section_infos,
+        })
+    }
+}

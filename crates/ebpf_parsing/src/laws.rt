@@ -1,0 +1,65 @@
+//! What holds of the tables that each file gives.
+
+ghost use Rattle.std.specs.Ordering.{nat_cmp};
+ghost use Rattle.ebpf_base.specs.Keyed.{LaterStands};
+ghost use Rattle.ebpf_base.specs.Keys.{text_cmp, key_cmp};
+ghost use Rattle.ebpf_elf.specs.declared.entries.ElfRelocation.{ElfRelocation};
+ghost use Rattle.ebpf_elf.specs.declared.entries.SectionIndex.{SectionIndex};
+ghost use Rattle.ebpf_parsing.specs.Standing.{FunctionsAtTheirKeys, SymbolsAtTheirNumbers, RelocationsAtTheirOffsets, ProgramsHaveFunctions, ExternsAreUnresolved};
+ghost use Rattle.ebpf_parsing.specs.TiledSections.{AtEachAddress, InOrder, SectionsTile};
+ghost use Rattle.ebpf_parsing.specs.Tiling.{FunctionsTile};
+ghost use Rattle.ebpf_parsing.specs.declared.program.Program.{Program};
+ghost use Rattle.ebpf_parts.specs.declared.maps.either.Map.{Map};
+ghost use Rattle.ebpf_reloc.specs.declared.extern_desc.ExternDesc.{ExternDesc};
+ghost use Rattle.ebpf_reloc.specs.declared.function.Function.{Function};
+ghost use Rattle.ebpf_reloc.specs.declared.symbol.Symbol.{Symbol};
+
+/// In each table of an object the last of the entries with one key stands.
+pub fn later_entries_stand()
+    ensures programs { LaterStands text_cmp Program }
+    ensures functions { LaterStands key_cmp Function }
+    ensures maps { LaterStands text_cmp Map }
+    ensures externs { LaterStands text_cmp ExternDesc }
+    ensures symbols { LaterStands nat_cmp Symbol }
+    ensures relocations { LaterStands nat_cmp ElfRelocation }
+    ensures section_infos { LaterStands text_cmp SectionIndex }
+{}
+
+/// The functions of a Text section in order of their offset, joined, are the slots of the section's data.
+pub fn functions_tile()
+    ensures { FunctionsTile }
+{}
+
+/// In the table of functions of an object a Text section's number and an address have the function that begins there.
+/// The table's functions of the section in order of their offset are those that its symbols give; joined they are the
+/// slots of the section's data, wherever its addresses lie.
+pub fn sections_tile()
+    ensures at_each_address { AtEachAddress }
+    ensures in_order { InOrder }
+    ensures tiled { SectionsTile }
+{}
+
+/// At a section and an address stands a function of this section, at this address.
+pub fn functions_stand_at_their_keys()
+    ensures { FunctionsAtTheirKeys }
+{}
+
+/// At a number stands the symbol with this number of the file's symbol table, with a name.
+pub fn symbols_stand_at_their_numbers()
+    ensures { SymbolsAtTheirNumbers }
+{}
+
+/// At an offset of a section stands a relocation with this offset; no table of a section is empty.
+pub fn relocations_stand_at_their_offsets()
+    ensures { RelocationsAtTheirOffsets }
+{}
+
+/// The key of each program is that of a function.
+pub fn programs_have_functions()
+    ensures { ProgramsHaveFunctions }
+{}
+
+/// No extern has an id or an address of the kernel, or is resolved.
+pub fn externs_are_unresolved()
+    ensures { ExternsAreUnresolved }
+{}

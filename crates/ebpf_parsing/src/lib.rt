@@ -1,0 +1,28 @@
+//! What an ELF file with eBPF programs holds, read from its bytes.
+#![tactic(auto)]
+
+mod contents;
+mod data_maps;
+mod declared_maps;
+mod externs;
+mod file_types;
+mod groups;
+pub mod laws;
+mod legacy_maps;
+mod license;
+mod parts;
+mod program;
+mod program_functions;
+mod records;
+mod records_by_name;
+mod relocations;
+mod shared;
+mod slot_places;
+mod symbol_names;
+mod symbols;
+mod text;
+mod text_symbols;
+mod version;
+
+pub use contents::Contents;
+pub use program::Program;

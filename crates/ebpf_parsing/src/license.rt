@@ -1,0 +1,55 @@
+//! The license of a file.
+
+ghost use Rattle.std.specs.Prelude.{◌≡◌, IfOk};
+ghost use Rattle.ebpf_base.specs.Faults.{Refuses};
+ghost use Rattle.ebpf_parsing.specs.Terms.{has_zero, front_of, license_text_fault, license_of, license_fault};
+ghost use Rattle.ebpf_parts.specs.Memory.{is_memory};
+
+use ebpf_base::Items;
+use ebpf_elf::ElfFile;
+use ebpf_parts::{ParseError, Section};
+use std::alloc::Global;
+
+fn has_zero(bytes: &[u8]) -> bool
+    ensures { result ≡ has_zero bytes.now }
+{
+    bytes.iter().any(|byte| *byte == 0)
+}
+
+/// The license that a section's bytes are, without the zero byte at its end.
+#[tactic(auto, unfolding(crate::specs::Terms::license_text_fault))]
+fn license_in(alloc: Global, bytes: &[u8]) -> Result<Items<u8>, ParseError>
+    ensures license { IfOk result (λ license. license ≡ front_of bytes.now) }
+    ensures fault { Refuses is_memory result (license_text_fault bytes.now) }
+{
+    if bytes.len() < 2 {
+        return Err(ParseError::InvalidLicense {
+            bytes: Items::from_vec(Vec::from_slice(alloc, bytes)?),
+        });
+    }
+    if !has_zero(bytes) {
+        return Err(ParseError::MissingLicenseNullTerminator {
+            bytes: Items::from_vec(Vec::from_slice(alloc, bytes)?),
+        });
+    }
+    let front = &bytes[..bytes.len() - 1];
+    if has_zero(front) {
+        return Err(ParseError::InvalidLicense {
+            bytes: Items::from_vec(Vec::from_slice(alloc, bytes)?),
+        });
+    }
+    Ok(Items::from_vec(Vec::from_slice(alloc, front)?))
+}
+
+/// The license of a file, `GPL` where it has no section `license`.
+#[tactic(auto, unfolding(crate::specs::Terms::license_of, crate::specs::Terms::license_fault))]
+pub fn read_license(alloc: Global, file: &ElfFile<'_>) -> Result<Items<u8>, ParseError>
+    ensures license { IfOk result (λ license. license ≡ license_of file.now) }
+    ensures fault { Refuses is_memory result (license_fault file.now) }
+{
+    let Some(section) = file.section_by_name("license") else {
+        return Ok(Items::from_vec(Vec::from_slice(alloc, b"GPL")?));
+    };
+    let section = Section::from_elf(alloc, &section)?;
+    license_in(alloc, section.bytes)
+}

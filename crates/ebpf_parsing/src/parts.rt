@@ -1,0 +1,230 @@
+//! What the sections of a file give to an object.
+
+ghost use Rattle.std.specs.Prelude.{◌≡◌, ◌==◌, ◌∷◌, [], ℕ, filter, map, length, IfOk, OnOk, IfErr, Some, None, true};
+ghost use Rattle.std.specs.FinMap as finite;
+ghost use Rattle.ebpf_base.specs.Faults.{Refuses, or_else};
+ghost use Rattle.ebpf_base.specs.Keyed.{put_all};
+ghost use Rattle.ebpf_elf.specs.Relocations.{relocation_sections, target_of, relocations, entries_of};
+ghost use Rattle.ebpf_parsing.specs.DataMaps.{data_maps, data_map_fault};
+ghost use Rattle.ebpf_parsing.specs.FileSymbols.{file_symbols};
+ghost use Rattle.ebpf_parsing.specs.Groups.{group_at};
+ghost use Rattle.ebpf_parsing.specs.LegacyMaps.{legacy_maps, legacy_maps_fault};
+ghost use Rattle.ebpf_parsing.specs.Contents.{is_type_information, read_fault, sections_fault};
+ghost use Rattle.ebpf_parsing.specs.OfSection.{fault_in, program_section_fault};
+ghost use Rattle.ebpf_parsing.specs.Parts.{added, parts_of, parts_from};
+ghost use Rattle.ebpf_parsing.specs.Programs.{programs_of, placed, program_functions};
+ghost use Rattle.ebpf_parsing.specs.Records.{said_of};
+ghost use Rattle.ebpf_parsing.specs.Relocations.{kept_at};
+ghost use Rattle.ebpf_parsing.specs.Symbols.{symbols_of};
+ghost use Rattle.ebpf_parsing.specs.Texts.{text_functions, text_fault};
+ghost use Rattle.ebpf_parts.specs.Memory.{is_memory};
+ghost use Rattle.ebpf_parts.specs.ProgramSections.{program_section};
+ghost use Rattle.ebpf_parts.specs.Sections.{section_of, section_fault};
+
+use crate::data_maps::put_data_map;
+use crate::declared_maps::put_declared_maps;
+use crate::file_types::remember;
+use crate::groups::Groups;
+use crate::legacy_maps::put_legacy_maps;
+use crate::program::Program;
+use crate::program_functions::{put_functions, put_programs};
+use crate::records_by_name::{Context, RecordsByName};
+use crate::relocations::{by_offset, read_relocation_sections};
+use crate::shared::Shared;
+use crate::symbols::NamedSymbol;
+use crate::text::{put_texts, text_functions};
+use ebpf_base::{ByKey, ByName, ByOffset, BySection, Text};
+use ebpf_elf::{ElfFile, ElfRelocationSection, ElfSection, SectionIndex};
+use ebpf_parts::maps::Map;
+use ebpf_parts::{EbpfSectionKind, ParseError, ProgramSection, Relocation, Section};
+use ebpf_reloc::Function;
+use std::alloc::Global;
+
+/// What the sections of a file give to an object.
+#[derive(Drop)]
+pub struct Parts {
+    pub maps: ByName<Map>,
+    pub programs: ByName<Program>,
+    pub functions: ByKey<Function>,
+    pub relocations: BySection<ByOffset<Relocation>>,
+    pub section_infos: ByName<SectionIndex>,
+}
+
+/// Whether a section holds type information, which is read by name and not with the others.
+fn is_type_information(section: &ElfSection<'_>) -> bool
+    ensures { result ≡ is_type_information section.now }
+{
+    match section.name() {
+        Ok(name) => name == ".BTF" || name == ".BTF.ext",
+        Err(_) => false,
+    }
+}
+
+/// Puts the relocations of a section that has some.
+fn put_relocations(
+    alloc: Global,
+    relocations: &mut BySection<ByOffset<Relocation>>,
+    section: &Section<'_>,
+) -> Result<(), ParseError>
+    ensures put { OnOk result (relocations.new ≡ put_all relocations.old (kept_at section.now.index.0 section.now.relocations)) }
+    ensures memory { IfErr result (λ e. is_memory e ≡ true) }
+{
+    if section.relocations.is_empty() {
+        return Ok(());
+    }
+    relocations.insert(section.index.0, by_offset(alloc, section)?)?;
+    Ok(())
+}
+
+/// A section of a file, of which these are the relocation sections.
+#[tactic(auto, unfolding(ebpf_parts::specs::Sections::section_of, ebpf_parts::specs::Sections::section_fault))]
+fn read_section<'a>(
+    alloc: Global,
+    section: &ElfSection<'a>,
+    tables: &[ElfRelocationSection<'_>],
+) -> Result<Section<'a>, ParseError>
+    requires { tables.now ≡ filter (λ r. target_of r == section.now.index) (relocation_sections section.now.file) }
+    ensures section { IfOk result (λ s. s ≡ section_of section.now) }
+    ensures fault { Refuses is_memory result (section_fault section.now) }
+{
+    Section::with_relocations(alloc, section, tables)
+}
+
+impl Parts {
+    /// None but the names that were met before.
+    fn new(alloc: Global, section_infos: ByName<SectionIndex>) -> Parts
+        ensures { result ≡ parts_from section_infos }
+    {
+        Parts {
+            maps: ByName::new(alloc),
+            programs: ByName::new(alloc),
+            functions: ByKey::new(alloc),
+            relocations: BySection::new(alloc),
+            section_infos,
+        }
+    }
+
+    /// Adds the programs of a Program section.
+    #[tactic(auto, unfolding(crate::specs::OfSection::program_section_fault))]
+    fn add_programs(
+        &mut self,
+        alloc: Global,
+        context: &Context<'_>,
+        section: &Section<'_>,
+        symbols: &[NamedSymbol<'_>],
+    ) -> Result<(), ParseError>
+        ensures put { OnOk result (self.new ≡ record self.old { programs = put_all self.old.programs (programs_of context.now.license context.now.kernel_version section.now symbols.now (program_section section.now.name)); functions = put_all self.old.functions (map placed (program_functions (said_of context.now.btf_ext section.now.name) section.now symbols.now)); relocations = put_all self.old.relocations (kept_at section.now.index.0 section.now.relocations) }) }
+        ensures fault { Refuses is_memory result (program_section_fault section.now symbols.now) }
+    {
+        let kind = ProgramSection::from_str(alloc, section.name)?;
+        if symbols.len() == 0 {
+            return Err(ParseError::NoSymbolsForSection {
+                section_name: Text::from_str(alloc, section.name)?,
+            });
+        }
+        let records = context.records.of(section.name);
+        put_functions(alloc, &mut self.functions, &records, section, symbols)?;
+        put_programs(
+            alloc,
+            &mut self.programs,
+            context.shared,
+            kind,
+            section,
+            symbols,
+        )?;
+        put_relocations(alloc, &mut self.relocations, section)
+    }
+
+    /// Adds the functions of a Text section.
+    fn add_texts(
+        &mut self,
+        alloc: Global,
+        context: &Context<'_>,
+        section: &Section<'_>,
+        symbols: &[NamedSymbol<'_>],
+    ) -> Result<(), ParseError>
+        ensures put { OnOk result (self.new ≡ record self.old { functions = put_all self.old.functions (map placed (text_functions (said_of context.now.btf_ext section.now.name) section.now symbols.now)); relocations = put_all self.old.relocations (kept_at section.now.index.0 section.now.relocations) }) }
+        ensures fault { Refuses is_memory result (text_fault section.now symbols.now) }
+    {
+        let records = context.records.of(section.name);
+        let functions = text_functions(alloc, &records, section, symbols)?;
+        put_texts(&mut self.functions, functions)?;
+        put_relocations(alloc, &mut self.relocations, section)
+    }
+
+    /// Adds a section by its kind.
+    #[tactic(auto, unfolding(crate::specs::Parts::added, crate::specs::OfSection::fault_in, crate::specs::OfSection::maps_in, crate::specs::OfSection::programs_in, crate::specs::OfSection::functions_in, crate::specs::OfSection::relocations_in))]
+    fn add_kind(
+        &mut self,
+        alloc: Global,
+        context: &Context<'_>,
+        section: &Section<'_>,
+        symbols: &[NamedSymbol<'_>],
+    ) -> Result<(), ParseError>
+        ensures put { OnOk result (record self.new { section_infos = put_all self.new.section_infos ((section.now.name, section.now.index) ∷ []) } ≡ added context.now self.old section.now symbols.now) }
+        ensures fault { Refuses is_memory result (fault_in context.now.btf section.now symbols.now) }
+    {
+        match section.kind {
+            EbpfSectionKind::Program => self.add_programs(alloc, context, section, symbols),
+            EbpfSectionKind::Data | EbpfSectionKind::Rodata | EbpfSectionKind::Bss => {
+                put_data_map(alloc, &mut self.maps, section)
+            }
+            EbpfSectionKind::Maps => put_legacy_maps(alloc, &mut self.maps, section, symbols),
+            EbpfSectionKind::BtfMaps => {
+                put_declared_maps(alloc, &mut self.maps, &context.shared.btf, section, symbols)
+            }
+            EbpfSectionKind::Text => self.add_texts(alloc, context, section, symbols),
+            _ => Ok(()),
+        }
+    }
+
+    /// Adds a section of a file.
+    fn add_section(
+        &mut self,
+        alloc: Global,
+        context: &Context<'_>,
+        section: &ElfSection<'_>,
+        tables: &[ElfRelocationSection<'_>],
+        symbols: &[NamedSymbol<'_>],
+    ) -> Result<(), ParseError>
+        requires { tables.now ≡ filter (λ r. target_of r == section.now.index) (relocation_sections section.now.file) }
+        ensures put { OnOk result (self.new ≡ added context.now self.old (section_of section.now) symbols.now) }
+        ensures fault { Refuses is_memory result (or_else (section_fault section.now) (fault_in context.now.btf (section_of section.now) symbols.now)) }
+    {
+        let section = read_section(alloc, section, tables)?;
+        self.add_kind(alloc, context, &section, symbols)?;
+        remember(alloc, &mut self.section_infos, &section)
+    }
+}
+
+/// What the sections of a file give, each with its relocations and its symbols.
+pub fn read_sections(
+    alloc: Global,
+    shared: &Shared,
+    section_infos: ByName<SectionIndex>,
+    file: &ElfFile<'_>,
+    symbols: &Groups<NamedSymbol<'_>>,
+) -> Result<Parts, ParseError>
+    requires grouped { (q : ℕ) → group_at symbols.now.groups q ≡ symbols_of (file_symbols file.now) q }
+    ensures parts { IfOk result (λ p. p ≡ parts_of shared.now section_infos file.now) }
+    ensures fault { Refuses is_memory result (sections_fault shared.now.btf file.now) }
+{
+    let tables = read_relocation_sections(alloc, file)?;
+    let records = RecordsByName::gather(alloc, &shared.btf_ext)?;
+    let context = Context { shared, records };
+    let mut parts = Parts::new(alloc, section_infos);
+    for section in file.sections() {
+        if is_type_information(&section) {
+            continue;
+        }
+        let index = section.index().0;
+        parts.add_section(
+            alloc,
+            &context,
+            &section,
+            tables.of(index),
+            symbols.of(index),
+        )?;
+    }
+    Ok(parts)
+}

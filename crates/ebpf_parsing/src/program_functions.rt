@@ -1,0 +1,116 @@
+//! The programs of a Program section, and their functions.
+
+ghost use Rattle.std.specs.Prelude.{◌≡◌, ◌∷◌, ◌++◌, [], IfOk, OnOk, IfErr, true, Some, map};
+ghost use Rattle.ebpf_base.specs.Faults.{Refuses};
+ghost use Rattle.ebpf_base.specs.Keyed.{put_all};
+ghost use Rattle.ebpf_parsing.specs.Programs.{is_program_symbol, program_function, program_fault, program_functions, programs_fault, programs_of, placed};
+ghost use Rattle.ebpf_parts.specs.Memory.{is_memory};
+
+use crate::program::Program;
+use crate::records::{SLOT, SectionRecords};
+use crate::shared::Shared;
+use crate::symbols::NamedSymbol;
+use ebpf_base::{ByKey, ByName, Items, Text};
+use ebpf_elf::SymbolKind;
+use ebpf_parts::insn::copy_instructions;
+use ebpf_parts::{ParseError, ProgramSection, Section};
+use ebpf_reloc::Function;
+use std::alloc::Global;
+
+impl NamedSymbol<'_> {
+    /// Whether it names a program of its section: a Text symbol with a name.
+    fn is_program(&self) -> bool
+        ensures { result ≡ is_program_symbol self.now }
+    {
+        matches!(self.kind, SymbolKind::Text) && self.name.len() != 0
+    }
+}
+
+/// The function of a program's symbol.
+#[tactic(auto, unfolding(crate::specs::Programs::program_function, crate::specs::Programs::program_fault))]
+fn function_of(
+    alloc: Global,
+    records: &SectionRecords<'_, '_>,
+    section: &Section<'_>,
+    symbol: &NamedSymbol<'_>,
+) -> Result<Function, ParseError>
+    ensures function { IfOk result (λ f. f ≡ program_function records.now section.now symbol.now) }
+    ensures fault { Refuses is_memory result (program_fault section.now symbol.now) }
+{
+    let len = section.bytes.len() as u64;
+    if symbol.address < section.address || symbol.size > len || symbol.address > len - symbol.size {
+        return Err(ParseError::InvalidSymbol {
+            index: symbol.index,
+            name: Some(Text::from_str(alloc, symbol.name)?),
+        });
+    }
+    let first = (symbol.address - section.address) as usize / SLOT;
+    let start = symbol.address as usize;
+    let end = start + symbol.size as usize;
+    let instructions = copy_instructions(alloc, &section.bytes[start..end])?;
+    Ok(Function {
+        address: symbol.address,
+        name: Text::from_str(alloc, symbol.name)?,
+        section_index: section.index,
+        section_offset: start,
+        instructions: Items::from_vec(instructions),
+        func_info: records.funcs.at(alloc, first, first)?,
+        line_info: records
+            .lines
+            .within(alloc, first, symbol.size as usize / SLOT, first)?,
+        func_info_rec_size: records.func_size,
+        line_info_rec_size: records.line_size,
+    })
+}
+
+/// Puts the functions of a section's programs by section and address.
+#[tactic(auto, using(ebpf_parts::proofs::Walks::kept_more, ebpf_parts::proofs::Walks::passed_more, ebpf_parts::proofs::Walks::fault_here, ebpf_parts::proofs::Walks::rest_none))]
+pub fn put_functions(
+    alloc: Global,
+    functions: &mut ByKey<Function>,
+    records: &SectionRecords<'_, '_>,
+    section: &Section<'_>,
+    symbols: &[NamedSymbol<'_>],
+) -> Result<(), ParseError>
+    ensures put { OnOk result (functions.new ≡ put_all functions.old (map placed (program_functions records.now section.now symbols.now))) }
+    ensures fault { Refuses is_memory result (programs_fault section.now symbols.now) }
+{
+    for symbol in symbols {
+        if !symbol.is_program() {
+            continue;
+        }
+        let function = function_of(alloc, records, section, symbol)?;
+        functions.insert((function.section_index.0, function.address), function)?;
+    }
+    Ok(())
+}
+
+/// Puts the programs of a section by name.
+#[tactic(auto, using(ebpf_parts::proofs::Walks::kept_more, ebpf_parts::proofs::Walks::passed_more, ebpf_parts::proofs::Walks::rest_none))]
+pub fn put_programs(
+    alloc: Global,
+    programs: &mut ByName<Program>,
+    shared: &Shared,
+    kind: ProgramSection,
+    section: &Section<'_>,
+    symbols: &[NamedSymbol<'_>],
+) -> Result<(), ParseError>
+    ensures put { OnOk result (programs.new ≡ put_all programs.old (programs_of shared.now.license shared.now.kernel_version section.now symbols.now (Some kind))) }
+    ensures memory { IfErr result (λ e. is_memory e ≡ true) }
+{
+    for symbol in symbols {
+        if !symbol.is_program() {
+            continue;
+        }
+        let name = String::from_str(alloc, symbol.name)?;
+        let program = Program {
+            license: Items::from_vec(Vec::from_slice(alloc, shared.license.as_slice())?),
+            kernel_version: shared.kernel_version,
+            section: kind,
+            section_index: section.index.0,
+            address: symbol.address,
+        };
+        programs.insert(name, program)?;
+    }
+    Ok(())
+}

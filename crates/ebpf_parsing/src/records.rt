@@ -1,0 +1,286 @@
+//! What `.BTF.ext` says of the functions of a section.
+
+ghost use Rattle.std.specs.Prelude.{◌≡◌, ◌==◌, ◌+◌, ◌<◌, ◌^◌, ℕ, [], IfOk, IfErr, true, map, filter, length};
+ghost use Rattle.ebpf_btf.specs.ExtInfos.{func_info_at, line_info_at, no_func_info, no_line_info};
+ghost use Rattle.std.specs.List.{All, range_with_len};
+ghost use Rattle.ebpf_parsing.specs.Groups.{group_at};
+ghost use Rattle.ebpf_parsing.specs.Records.{Said, is_func_at, is_line_in, func_from, line_from, line_at, line_slot, funcs_at, lines_in};
+ghost use Rattle.ebpf_parts.specs.Memory.{is_memory};
+
+use crate::groups::Groups;
+use crate::slot_places::{funcs_by_slot, lines_by_slot, places_of};
+use ebpf_base::Items;
+use ebpf_btf::{FuncInfo, FuncSecInfo, LineInfo, LineSecInfo, bpf_func_info, bpf_line_info};
+use ebpf_parts::ParseError;
+use std::alloc::Global;
+use std::marker::Model;
+
+/// The length of a slot in bytes.
+pub const SLOT: usize = 8;
+
+/// What is said of the functions of a section, lent.
+#[derive(Drop)]
+pub struct FuncRecords<'e> {
+    name_offset: u32,
+    count: u32,
+    records: &'e [bpf_func_info],
+    groups: Groups<bpf_func_info>,
+    ghost grouped: { (q : ℕ) → group_at groups.groups q ≡ filter (is_func_at q) records.now },
+}
+
+impl<'e> Model for FuncRecords<'e> {
+    ghost use Rattle.ebpf_btf.specs.declared.ext_infos.FuncSecInfo.{FuncSecInfo};
+
+    ghost Value = { FuncSecInfo };
+
+    ghost view = { λ r. record { sec_name_offset = r.name_offset; num_info = r.count; func_info = r.records.now } };
+}
+
+/// What is said of the lines of a section, lent.
+#[derive(Drop)]
+pub struct LineRecords<'e> {
+    name_offset: u32,
+    count: u32,
+    records: &'e [bpf_line_info],
+    groups: Groups<usize>,
+    ghost grouped: { (q : ℕ) → group_at groups.groups q ≡ filter (λ i. line_slot records.now i == q) (range_with_len 0 (length records.now)) },
+}
+
+impl<'e> Model for LineRecords<'e> {
+    ghost use Rattle.ebpf_btf.specs.declared.ext_infos.LineSecInfo.{LineSecInfo};
+
+    ghost Value = { LineSecInfo };
+
+    ghost view = { λ r. record { sec_name_offset = r.name_offset; num_info = r.count; line_info = r.records.now } };
+}
+
+impl<'e> FuncRecords<'e> {
+    fn new(
+        alloc: Global,
+        name_offset: u32,
+        count: u32,
+        records: &'e [bpf_func_info],
+    ) -> Result<FuncRecords<'e>, ParseError>
+        ensures info { IfOk result (λ r. r ≡ record { sec_name_offset = name_offset; num_info = count; func_info = records.now }) }
+        ensures memory { IfErr result (λ e. is_memory e ≡ true) }
+    {
+        let groups = funcs_by_slot(alloc, records)?;
+        Ok(FuncRecords {
+            name_offset,
+            count,
+            records,
+            groups,
+        })
+    }
+
+    /// None.
+    pub fn none(alloc: Global) -> Result<FuncRecords<'e>, ParseError>
+        ensures info { IfOk result (λ r. r ≡ no_func_info) }
+        ensures memory { IfErr result (λ e. is_memory e ≡ true) }
+    {
+        FuncRecords::new(alloc, 0, 0, &[])
+    }
+
+    /// Those of the section with a name.
+    pub fn named(
+        alloc: Global,
+        info: &'e FuncInfo,
+        name: &str,
+    ) -> Result<FuncRecords<'e>, ParseError>
+        ensures info { IfOk result (λ r. r ≡ func_info_at info.now.sections name.now) }
+        ensures memory { IfErr result (λ e. is_memory e ≡ true) }
+    {
+        match info.sections.get(name) {
+            Some(said) => FuncRecords::new(
+                alloc,
+                said.sec_name_offset,
+                said.num_info,
+                said.func_info.as_slice(),
+            ),
+            None => FuncRecords::none(alloc),
+        }
+    }
+
+    /// The records on the function that begins at a slot, their slots counted from another one.
+    fn records_at(
+        &self,
+        alloc: Global,
+        first: usize,
+        base: usize,
+    ) -> Result<Items<bpf_func_info>, ParseError>
+        ensures records { IfOk result (λ kept. kept ≡ map (func_from base) (filter (is_func_at first) self.now.func_info)) }
+        ensures memory { IfErr result (λ e. is_memory e ≡ true) }
+    {
+        funcs_from(alloc, self.groups.of(first), base)
+    }
+
+    /// The same with the section's counts.
+    #[tactic(auto, unfolding(crate::specs::Records::funcs_at))]
+    pub fn at(&self, alloc: Global, first: usize, base: usize) -> Result<FuncSecInfo, ParseError>
+        ensures info { IfOk result (λ info. info ≡ funcs_at self.now first base) }
+        ensures memory { IfErr result (λ e. is_memory e ≡ true) }
+    {
+        Ok(FuncSecInfo {
+            sec_name_offset: self.name_offset,
+            num_info: self.count,
+            func_info: self.records_at(alloc, first, base)?,
+        })
+    }
+}
+
+/// A record, its slot counted from another one.
+fn func_from(base: usize, row: &bpf_func_info) -> bpf_func_info
+    ensures { result ≡ func_from base row.now }
+{
+    bpf_func_info {
+        insn_off: (row.insn_off as usize).saturating_sub(base) as u32,
+        type_id: row.type_id,
+    }
+}
+
+/// Records, their slots counted from another one.
+fn funcs_from(
+    alloc: Global,
+    rows: &[bpf_func_info],
+    base: usize,
+) -> Result<Items<bpf_func_info>, ParseError>
+    ensures records { IfOk result (λ kept. kept ≡ map (func_from base) rows.now) }
+    ensures memory { IfErr result (λ e. is_memory e ≡ true) }
+{
+    let mut kept = Items::new(alloc);
+    for row in rows {
+        kept.push(func_from(base, row))?;
+    }
+    Ok(kept)
+}
+
+/// A record, its slot counted from another one.
+fn line_from(base: usize, row: &bpf_line_info) -> bpf_line_info
+    ensures { result ≡ line_from base row.now }
+{
+    bpf_line_info {
+        insn_off: (row.insn_off as usize).saturating_sub(base) as u32,
+        file_name_off: row.file_name_off,
+        line_off: row.line_off,
+        line_col: row.line_col,
+    }
+}
+
+/// The records at some places, their slots counted from another one.
+fn lines_from(
+    alloc: Global,
+    rows: &[bpf_line_info],
+    places: &[usize],
+    base: usize,
+) -> Result<Items<bpf_line_info>, ParseError>
+    requires { All (λ i. i < length rows.now) places.now }
+    ensures records { IfOk result (λ kept. kept ≡ map (λ i. line_from base (line_at rows.now i)) places.now) }
+    ensures memory { IfErr result (λ e. is_memory e ≡ true) }
+{
+    let mut kept = Items::new(alloc);
+    for place in places {
+        kept.push(line_from(base, &rows[*place]))?;
+    }
+    Ok(kept)
+}
+
+impl<'e> LineRecords<'e> {
+    fn new(
+        alloc: Global,
+        name_offset: u32,
+        count: u32,
+        records: &'e [bpf_line_info],
+    ) -> Result<LineRecords<'e>, ParseError>
+        ensures info { IfOk result (λ r. r ≡ record { sec_name_offset = name_offset; num_info = count; line_info = records.now }) }
+        ensures memory { IfErr result (λ e. is_memory e ≡ true) }
+    {
+        let groups = lines_by_slot(alloc, records)?;
+        Ok(LineRecords {
+            name_offset,
+            count,
+            records,
+            groups,
+        })
+    }
+
+    /// None.
+    pub fn none(alloc: Global) -> Result<LineRecords<'e>, ParseError>
+        ensures info { IfOk result (λ r. r ≡ no_line_info) }
+        ensures memory { IfErr result (λ e. is_memory e ≡ true) }
+    {
+        LineRecords::new(alloc, 0, 0, &[])
+    }
+
+    /// Those of the section with a name.
+    pub fn named(
+        alloc: Global,
+        info: &'e LineInfo,
+        name: &str,
+    ) -> Result<LineRecords<'e>, ParseError>
+        ensures info { IfOk result (λ r. r ≡ line_info_at info.now.sections name.now) }
+        ensures memory { IfErr result (λ e. is_memory e ≡ true) }
+    {
+        match info.sections.get(name) {
+            Some(said) => LineRecords::new(
+                alloc,
+                said.sec_name_offset,
+                said.num_info,
+                said.line_info.as_slice(),
+            ),
+            None => LineRecords::none(alloc),
+        }
+    }
+
+    /// The records on the lines of so many slots from a slot on, their slots counted from another one.
+    #[tactic(auto, using(crate::proofs::Places::lines_found, crate::proofs::Places::lines_inside))]
+    fn records_in(
+        &self,
+        alloc: Global,
+        first: usize,
+        count: usize,
+        base: usize,
+    ) -> Result<Items<bpf_line_info>, ParseError>
+        requires { first + count < 2 ^ 64 }
+        ensures records { IfOk result (λ kept. kept ≡ map (line_from base) (filter (is_line_in first count) self.now.line_info)) }
+        ensures memory { IfErr result (λ e. is_memory e ≡ true) }
+    {
+        let places = places_of(alloc, &self.groups, first, count)?;
+        let kept = lines_from(alloc, self.records, &places, base)?;
+        Ok(kept)
+    }
+
+    /// The same with the section's counts.
+    #[tactic(auto, unfolding(crate::specs::Records::lines_in))]
+    pub fn within(
+        &self,
+        alloc: Global,
+        first: usize,
+        count: usize,
+        base: usize,
+    ) -> Result<LineSecInfo, ParseError>
+        requires { first + count < 2 ^ 64 }
+        ensures info { IfOk result (λ info. info ≡ lines_in self.now first count base) }
+        ensures memory { IfErr result (λ e. is_memory e ≡ true) }
+    {
+        Ok(LineSecInfo {
+            sec_name_offset: self.name_offset,
+            num_info: self.count,
+            line_info: self.records_in(alloc, first, count, base)?,
+        })
+    }
+}
+
+/// What is said of a section, lent.
+#[derive(Drop)]
+pub struct SectionRecords<'r, 'e> {
+    pub funcs: &'r FuncRecords<'e>,
+    pub lines: &'r LineRecords<'e>,
+    pub func_size: u32,
+    pub line_size: u32,
+}
+
+impl<'r, 'e> Model for SectionRecords<'r, 'e> {
+    ghost Value = { Said };
+
+    ghost view = { λ r. record { funcs = r.funcs.now; lines = r.lines.now; func_size = r.func_size; line_size = r.line_size } };
+}

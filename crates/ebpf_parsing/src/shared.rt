@@ -1,0 +1,13 @@
+//! What programs and functions carry of their object.
+
+use ebpf_base::Items;
+use ebpf_btf::{Btf, BtfExt};
+
+/// What programs and functions carry of their object.
+#[derive(Drop)]
+pub struct Shared {
+    pub license: Items<u8>,
+    pub kernel_version: Option<u32>,
+    pub btf: Option<Btf>,
+    pub btf_ext: Option<BtfExt>,
+}

@@ -1,0 +1,128 @@
+//! The symbols of a file.
+
+ghost use Rattle.std.specs.Prelude.{◌≡◌, ◌∷◌, ◌++◌, [], ℕ, true, IfOk, OnOk, IfErr, Some, None};
+ghost use Rattle.std.specs.FinMap as map;
+ghost use Rattle.ebpf_base.specs.Faults.{Refuses, fault_of};
+ghost use Rattle.ebpf_elf.specs.Symbols.{symbol_name};
+ghost use Rattle.ebpf_parsing.specs.FileSymbols.{symbol_of, symbol_fault, symbols_fault, file_symbols, symbol_table, kept_of};
+ghost use Rattle.ebpf_parsing.specs.Groups.{group_at};
+ghost use Rattle.ebpf_parsing.specs.Symbols.{SymbolValue, symbols_of};
+ghost use Rattle.ebpf_parts.specs.Memory.{is_memory};
+
+use crate::groups::Groups;
+use ebpf_base::{ByIndex, Text};
+use ebpf_btf::BtfError;
+use ebpf_elf::{ElfFile, ElfSymbol, SymbolKind};
+use ebpf_parts::ParseError;
+use ebpf_reloc::Symbol;
+use std::alloc::Global;
+use std::marker::Model;
+
+/// A symbol with its name, which is borrowed from the file.
+#[derive(Debug, Drop)]
+pub struct NamedSymbol<'a> {
+    pub index: usize,
+    pub section_index: Option<usize>,
+    pub name: &'a str,
+    pub address: u64,
+    pub size: u64,
+    pub kind: SymbolKind,
+    pub is_definition: bool,
+    pub is_weak: bool,
+}
+
+impl<'a> Model for NamedSymbol<'a> {
+    ghost Value = { SymbolValue };
+
+    ghost view = { λ y. record { index = y.index; section_index = y.section_index; name = y.name.now; address = y.address; size = y.size; kind = y.kind; is_definition = y.is_definition; is_weak = y.is_weak } };
+}
+
+/// The name of a symbol.
+fn name_of<'a>(symbol: &ElfSymbol<'a>) -> Result<&'a str, ParseError>
+    ensures name { IfOk result (λ name. symbol_name symbol.now ≡ Some name.now) }
+    ensures fault { fault_of result ≡ symbol_fault symbol.now }
+{
+    match symbol.name() {
+        Ok(name) => Ok(name),
+        Err(_) => Err(ParseError::BtfError(BtfError::InvalidSymbolName)),
+    }
+}
+
+impl<'a> NamedSymbol<'a> {
+    /// A symbol of a file, with its name.
+    #[tactic(auto, unfolding(crate::specs::FileSymbols::symbol_of))]
+    pub fn from_elf(symbol: &ElfSymbol<'a>) -> Result<NamedSymbol<'a>, ParseError>
+        ensures symbol { IfOk result (λ y. y ≡ symbol_of symbol.now) }
+        ensures fault { fault_of result ≡ symbol_fault symbol.now }
+    {
+        let name = name_of(symbol)?;
+        Ok(NamedSymbol {
+            index: symbol.index(),
+            section_index: symbol.section_index(),
+            name,
+            address: symbol.address(),
+            size: symbol.size(),
+            kind: symbol.kind(),
+            is_definition: symbol.is_definition(),
+            is_weak: symbol.is_weak(),
+        })
+    }
+
+    /// What an object keeps of it.
+    fn kept(&self, alloc: Global) -> Result<Symbol, ParseError>
+        ensures symbol { IfOk result (λ kept. kept ≡ (kept_of self.now).1) }
+        ensures memory { IfErr result (λ e. is_memory e ≡ true) }
+    {
+        Ok(Symbol {
+            index: self.index,
+            section_index: self.section_index,
+            name: Some(Text::from_str(alloc, self.name)?),
+            address: self.address,
+            size: self.size,
+            kind: self.kind,
+            is_definition: self.is_definition,
+            is_weak: self.is_weak,
+        })
+    }
+}
+
+/// The symbols of a file, as an object keeps them and by their section.
+#[derive(Drop)]
+pub struct FileSymbols<'a> {
+    pub table: ByIndex<Symbol>,
+    pub groups: Groups<NamedSymbol<'a>>,
+}
+
+impl<'a> FileSymbols<'a> {
+    /// Takes one more symbol.
+    #[tactic(auto, unfolding(crate::specs::Symbols::symbols_of))]
+    fn add(&mut self, alloc: Global, symbol: NamedSymbol<'a>) -> Result<(), ParseError>
+        ensures table { OnOk result (self.new.table ≡ map.insert self.old.table (kept_of symbol.entry).0 (kept_of symbol.entry).1) }
+        ensures groups { OnOk result ((q : ℕ) → group_at self.new.groups.groups q ≡ group_at self.old.groups.groups q ++ symbols_of (symbol.entry ∷ []) q) }
+        ensures memory { IfErr result (λ e. is_memory e ≡ true) }
+    {
+        self.table.insert(symbol.index, symbol.kept(alloc)?)?;
+        match symbol.section_index {
+            None => Ok(()),
+            Some(section) => self.groups.add(alloc, section, symbol),
+        }
+    }
+}
+
+/// The symbols of a file.
+#[tactic(auto, using(crate::proofs::Grouped::group_more, crate::proofs::Grouped::group_all))]
+pub fn read_symbols<'a>(alloc: Global, file: &ElfFile<'a>) -> Result<FileSymbols<'a>, ParseError>
+    ensures table { IfOk result (λ s. s.table ≡ symbol_table (file_symbols file.now)) }
+    ensures groups { IfOk result (λ s. (q : ℕ) → group_at s.groups.groups q ≡ symbols_of (file_symbols file.now) q) }
+    ensures fault { Refuses is_memory result (symbols_fault file.now) }
+{
+    let mut symbols = FileSymbols {
+        table: ByIndex::new(alloc),
+        groups: Groups::new(alloc),
+    };
+    for symbol in file.symbols() {
+        let symbol = NamedSymbol::from_elf(&symbol)?;
+        symbols.add(alloc, symbol)?;
+    }
+    Ok(symbols)
+}

@@ -1,0 +1,131 @@
+//! The functions of a Text section.
+
+ghost use Rattle.std.specs.Prelude.{◌≡◌, ◌+◌, ◌<◌, ◌≤◌, ◌∷◌, [], Some, IfOk, OnOk, IfErr, true, length, map};
+ghost use Rattle.ebpf_base.specs.Faults.{Refuses};
+ghost use Rattle.ebpf_base.specs.Keyed.{put_all};
+ghost use Rattle.ebpf_parsing.specs.Programs.{placed};
+ghost use Rattle.ebpf_parsing.specs.Texts.{function_at, fault_at, size_at, text_function, text_fault_of, text_functions, walk_fault, text_fault};
+ghost use Rattle.ebpf_parts.specs.Memory.{is_memory};
+
+use crate::records::{SLOT, SectionRecords};
+use crate::symbols::NamedSymbol;
+use crate::text_symbols::TextSymbols;
+use ebpf_base::{ByKey, Items, Text};
+use ebpf_parts::insn::copy_instructions;
+use ebpf_parts::{ParseError, Section};
+use ebpf_reloc::Function;
+use std::alloc::Global;
+
+/// The function that a symbol begins at an offset, and where it ends.
+#[tactic(auto, unfolding(crate::specs::Texts::text_function))]
+fn function_of(
+    alloc: Global,
+    records: &SectionRecords<'_, '_>,
+    section: &Section<'_>,
+    symbol: &NamedSymbol<'_>,
+    offset: usize,
+) -> Result<(Function, usize), ParseError>
+    requires { offset < length section.now.bytes }
+    ensures function { IfOk result (λ r. r.0 ≡ text_function records.now section.now offset symbol.now) }
+    ensures end { IfOk result (λ r. r.1 ≡ offset + symbol.now.size) }
+    ensures further { IfOk result (λ r. offset < r.1) }
+    ensures inside { IfOk result (λ r. r.1 ≤ length section.now.bytes) }
+    ensures fault { Refuses is_memory result (text_fault_of section.now offset (Some symbol.now)) }
+{
+    let left = section.bytes.len() - offset;
+    if symbol.size == 0 || symbol.size > left as u64 {
+        return Err(ParseError::InvalidSymbol {
+            index: symbol.index,
+            name: Some(Text::from_str(alloc, symbol.name)?),
+        });
+    }
+    let end = offset + symbol.size as usize;
+    let instructions = copy_instructions(alloc, &section.bytes[offset..end])?;
+    let function = Function {
+        address: symbol.address,
+        name: Text::from_str(alloc, symbol.name)?,
+        section_index: section.index,
+        section_offset: offset,
+        instructions: Items::from_vec(instructions),
+        func_info: records.funcs.at(alloc, offset / SLOT, 0)?,
+        line_info: records
+            .lines
+            .within(alloc, offset / SLOT, symbol.size as usize / SLOT, 0)?,
+        func_info_rec_size: records.func_size,
+        line_info_rec_size: records.line_size,
+    };
+    Ok((function, end))
+}
+
+/// The function at an offset, and where it ends.
+#[tactic(auto, unfolding(crate::specs::Texts::function_at, crate::specs::Texts::fault_at, crate::specs::Texts::size_at, crate::specs::Texts::symbol_at_offset))]
+fn function_at(
+    alloc: Global,
+    records: &SectionRecords<'_, '_>,
+    section: &Section<'_>,
+    symbols: &TextSymbols<'_, '_>,
+    offset: usize,
+) -> Result<(Function, usize), ParseError>
+    requires { offset < length section.now.bytes }
+    ensures function { IfOk result (λ r. function_at records.now section.now symbols.now.symbols.now offset ≡ r.0 ∷ []) }
+    ensures end { IfOk result (λ r. r.1 ≡ offset + size_at section.now symbols.now.symbols.now offset) }
+    ensures further { IfOk result (λ r. offset < r.1) }
+    ensures inside { IfOk result (λ r. r.1 ≤ length section.now.bytes) }
+    ensures fault { Refuses is_memory result (fault_at section.now symbols.now.symbols.now offset) }
+{
+    let address = section.address.wrapping_add(offset as u64);
+    match symbols.at(address) {
+        None => Err(ParseError::UnknownSymbol {
+            section_index: section.index.0,
+            address,
+        }),
+        Some(symbol) => function_of(alloc, records, section, symbol, offset),
+    }
+}
+
+/// The functions from offset 0 up.
+#[tactic(auto, using(crate::proofs::Offsets::functions_more, crate::proofs::Offsets::fault_more, crate::proofs::Offsets::none_left))]
+fn walk(
+    alloc: Global,
+    records: &SectionRecords<'_, '_>,
+    section: &Section<'_>,
+    symbols: &TextSymbols<'_, '_>,
+) -> Result<Items<Function>, ParseError>
+    ensures functions { IfOk result (λ fs. fs ≡ text_functions records.now section.now symbols.now.symbols.now) }
+    ensures fault { Refuses is_memory result (walk_fault section.now symbols.now.symbols.now) }
+{
+    let mut functions = Items::new(alloc);
+    let mut offset = 0;
+    while offset < section.bytes.len() {
+        let (function, end) = function_at(alloc, records, section, symbols, offset)?;
+        functions.push(function)?;
+        offset = end;
+    }
+    Ok(functions)
+}
+
+/// The functions of a Text section with these symbols.
+#[tactic(auto, unfolding(crate::specs::Texts::text_fault))]
+pub fn text_functions(
+    alloc: Global,
+    records: &SectionRecords<'_, '_>,
+    section: &Section<'_>,
+    symbols: &[NamedSymbol<'_>],
+) -> Result<Items<Function>, ParseError>
+    ensures functions { IfOk result (λ fs. fs ≡ text_functions records.now section.now symbols.now) }
+    ensures fault { Refuses is_memory result (text_fault section.now symbols.now) }
+{
+    let symbols = TextSymbols::new(alloc, section.index.0, symbols)?;
+    walk(alloc, records, section, &symbols)
+}
+
+/// Puts functions by section and address.
+pub fn put_texts(functions: &mut ByKey<Function>, list: Items<Function>) -> Result<(), ParseError>
+    ensures put { OnOk result (functions.new ≡ put_all functions.old (map placed list)) }
+    ensures memory { IfErr result (λ e. is_memory e ≡ true) }
+{
+    for function in list.into_vec() {
+        functions.insert((function.section_index.0, function.address), function)?;
+    }
+    Ok(())
+}

@@ -1,0 +1,47 @@
+//! The kernel version of a file.
+
+ghost use Rattle.std.specs.Prelude.{◌≡◌, IfOk};
+ghost use Rattle.ebpf_base.specs.Faults.{Refuses};
+ghost use Rattle.ebpf_parsing.specs.Terms.{version_number_fault, version_of, kernel_version_of, version_fault};
+ghost use Rattle.ebpf_parts.specs.Memory.{is_memory};
+
+use ebpf_base::Items;
+use ebpf_btf::Endianness;
+use ebpf_btf::numbers::read_u32;
+use ebpf_elf::ElfFile;
+use ebpf_parts::{ParseError, Section};
+use std::alloc::Global;
+
+/// The version that stands for all kernels.
+const ANY_KERNEL: u32 = 0xffff_fffe;
+
+/// The version that a section's bytes are.
+#[tactic(auto, unfolding(crate::specs::Terms::version_number_fault, crate::specs::Terms::version_of))]
+fn version_in(alloc: Global, order: Endianness, bytes: &[u8]) -> Result<Option<u32>, ParseError>
+    ensures version { IfOk result (λ version. version ≡ version_of order bytes.now) }
+    ensures fault { Refuses is_memory result (version_number_fault bytes.now) }
+{
+    if bytes.len() != 4 {
+        return Err(ParseError::InvalidKernelVersion {
+            bytes: Items::from_vec(Vec::from_slice(alloc, bytes)?),
+        });
+    }
+    let version = read_u32(order, bytes, 0);
+    if version == ANY_KERNEL {
+        return Ok(None);
+    }
+    Ok(Some(version))
+}
+
+/// The kernel version of a file, none where it has no section `version`.
+#[tactic(auto, unfolding(crate::specs::Terms::kernel_version_of, crate::specs::Terms::version_fault))]
+pub fn read_version(alloc: Global, file: &ElfFile<'_>) -> Result<Option<u32>, ParseError>
+    ensures version { IfOk result (λ version. version ≡ kernel_version_of file.now) }
+    ensures fault { Refuses is_memory result (version_fault file.now) }
+{
+    let Some(section) = file.section_by_name("version") else {
+        return Ok(None);
+    };
+    let section = Section::from_elf(alloc, &section)?;
+    version_in(alloc, file.endianness(), section.bytes)
+}

@@ -1,0 +1,8 @@
+use Rattle.ebpf_parts.proofs.SlotWords as words
+use Rattle.ebpf_parts.proofs.laws.slots_are_bytes.Goals as goal
+
+pub returns-clause-one : goal.returns-clause-one
+returns-clause-one c = words.slot_is_bytes
+
+pub returns-clause-joined : goal.returns-clause-joined
+returns-clause-joined c = words.slots_are_bytes

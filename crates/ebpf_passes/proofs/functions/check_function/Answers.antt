@@ -1,0 +1,11 @@
+use Rattle.std.proofs.Common.{rules, ◌≡◌, None}
+use Rattle.std.specs.FinMap.{get}
+use Rattle.ebpf_passes.specs.Rules.{says_of, symbols_of}
+use Rattle.ebpf_passes.proofs.Unmoved.{no_fault}
+use Rattle.ebpf_passes.proofs.functions.check_function.Goals as goal
+
+pub returns-in_default-clause-fault : goal.returns-in_default-clause-fault
+returns-in_default-clause-fault c =
+    let f = c.args.function.now in
+    let none : None ≡ get c.args.relocations.now f.section_index.0 = search rules in
+    no_fault (says_of c.args.rule.now) c.args.relocations.now f none (symbols_of c.args.rule.now)

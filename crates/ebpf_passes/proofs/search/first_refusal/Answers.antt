@@ -1,0 +1,29 @@
+use Rattle.std.proofs.Common.{rules, ◌≡◌, ◌∙◌, Some, None}
+use Rattle.std.specs.FinMap.{entries}
+use Rattle.ebpf_base.specs.Parts.{entries_from}
+use Rattle.ebpf_passes.specs.Relocated.{first_refusal}
+use Rattle.ebpf_passes.specs.Rules.{says_of}
+use Rattle.ebpf_passes.specs.Turns.{scan}
+use Rattle.ebpf_passes.proofs.Scans.{finds_first}
+use Rattle.ebpf_passes.proofs.search.first_refusal.Goals as goal
+
+pub returns-then-distance-slots : goal.returns-then-distance-slots
+unfolding first_refusal
+returns-then-distance-slots c =
+    let f = c.args.function.now in
+    let all : None ≡ scan (says_of c.args.rule.now) f.section_offset f.instructions None (entries_from f.section_offset (entries c.args.kept.now)) = search rules in
+    all ∙ finds_first (says_of c.args.rule.now) c.args.kept.now f.section_offset f.instructions
+
+pub returns-in-Err : goal.returns-in-Err
+unfolding first_refusal
+returns-in-Err c =
+    let f = c.args.function.now in
+    let all : Some (record { offset = c.in-Some.offset.now; relocation = c.in-Some.relocation.now; fault = c.in-Err.fault }) ≡ scan (says_of c.args.rule.now) f.section_offset f.instructions None (entries_from f.section_offset (entries c.args.kept.now)) = search rules in
+    all ∙ finds_first (says_of c.args.rule.now) c.args.kept.now f.section_offset f.instructions
+
+pub returns : goal.returns
+unfolding first_refusal
+returns c =
+    let f = c.args.function.now in
+    let all : None ≡ scan (says_of c.args.rule.now) f.section_offset f.instructions None (entries_from f.section_offset (entries c.args.kept.now)) = search rules in
+    all ∙ finds_first (says_of c.args.rule.now) c.args.kept.now f.section_offset f.instructions

@@ -1,0 +1,83 @@
+-- The kernel's ids and addresses in slots.
+use Rattle.std.specs.Prelude.{ℕ, pos, ◌+◌, ◌/◌, ◌%◌, ◌^◌, ◌==◌, Bool, if◌then◌else◌, [], Option, Some, None, unwrap_or, Result, Ok, Err}
+use Rattle.std.specs.FinMap.{FinMap, get}
+use Rattle.std.specs.Int.{w32, cast_signed}
+use Rattle.std.specs.Ordering.{nat_cmp}
+use Rattle.ebpf_base.specs.Keys.{text_cmp}
+use Rattle.ebpf_elf.specs.declared.entries.ElfRelocation.{ElfRelocation}
+use Rattle.ebpf_parts.specs.declared.insn.bpf_insn.{bpf_insn}
+use Rattle.ebpf_parts.specs.Slots.{dst_of, registers}
+use Rattle.ebpf_reloc.specs.Symbols.{is_extern}
+use Rattle.ebpf_reloc.specs.declared.extern_desc.ExternDesc.{ExternDesc}
+use Rattle.ebpf_reloc.specs.declared.symbol.Symbol.{Symbol}
+use Rattle.ebpf_passes.specs.declared.edit.Edit.{Edit}
+use Rattle.ebpf_passes.specs.declared.edit.Edit.TheVariants.{Stay, Slot, Pair}
+use Rattle.ebpf_passes.specs.declared.extern_rule.Load.{Load}
+use Rattle.ebpf_passes.specs.declared.extern_rule.Load.TheVariants.{Id, Address}
+use Rattle.ebpf_passes.specs.declared.refusal.Fault.{Fault}
+use Rattle.ebpf_passes.specs.declared.refusal.Fault.TheVariants.{UnknownSymbol, InvalidOffset, ExternNotFound, UnresolvableSymbol}
+use Rattle.ebpf_passes.specs.Maps.{pointed}
+
+-- what is read to write what is known of externs
+pub record ExternInputs : Type 0 where
+  pub symbols : FinMap nat_cmp Symbol
+  pub externs : FinMap text_cmp ExternDesc
+
+-- a call of a kernel function by its id: source 2 (the kernel's BPF_PSEUDO_KFUNC_CALL)
+abbrev pub kernel_call : bpf_insn → ℕ → bpf_insn
+kernel_call slot id = record slot { regs = registers 2 (dst_of slot); off = pos 0; imm = cast_signed w32 id }
+
+-- a call that a verifier refuses where it is reached, by a number that tells the symbol
+abbrev pub absent_call : bpf_insn → ℕ → bpf_insn
+absent_call slot symbol = record slot { regs = 0; off = pos 0; imm = cast_signed w32 ((2002000000 + symbol) % 2 ^ 32) }
+
+abbrev pub known_call : Option ℕ → bpf_insn → Result Edit Fault
+known_call None slot = Err UnresolvableSymbol
+known_call (Some id) slot = Ok (Slot (kernel_call slot id))
+
+-- a call: of a function with its id where it is resolved, of nothing where it is weak
+abbrev pub call_edit : ExternDesc → ℕ → bpf_insn → Result Edit Fault
+call_edit desc symbol slot =
+    if desc.is_resolved then known_call desc.kernel_btf_id slot
+    else (if desc.is_weak then Ok (Slot (absent_call slot symbol)) else Err UnresolvableSymbol)
+
+abbrev pub address_without_id : Option ℕ → Bool → Option Load
+address_without_id (Some address) weak = Some (Address address)
+address_without_id None weak = if weak then Some (Address 0) else None
+
+abbrev pub load_by : Option ℕ → Option ℕ → Bool → Option Load
+load_by (Some id) address weak = Some (Id id)
+load_by None address weak = address_without_id address weak
+
+-- what a load takes from an extern: its id, else its address, else 0 where it is weak
+abbrev pub load_of : ExternDesc → Option Load
+load_of desc = load_by desc.kernel_btf_id desc.ksym_addr desc.is_weak
+
+-- An id has source 3 (the kernel's BPF_PSEUDO_BTF_ID) and 0 in the slot after it; an address has source 0, its low
+-- half in the slot and its high half in the one after it.
+abbrev pub loaded : Load → bpf_insn → Edit
+loaded (Id id) slot = Pair (pointed slot 3 (cast_signed w32 id)) (pos 0)
+loaded (Address address) slot = Pair (pointed slot 0 (cast_signed w32 (address % 2 ^ 32))) (cast_signed w32 (address / 2 ^ 32))
+
+abbrev pub load_edit : Option Load → bpf_insn → Bool → Result Edit Fault
+load_edit None slot more = Err UnresolvableSymbol
+load_edit (Some load) slot more = if more then Ok (loaded load slot) else Err InvalidOffset
+
+-- a call has code 0x85, a load of 64 bits 0x18 (RFC 9669, sections 4.3 and 5.4)
+abbrev pub known_edit : Option ExternDesc → ℕ → bpf_insn → Bool → Result Edit Fault
+known_edit None symbol slot more = Err ExternNotFound
+known_edit (Some desc) symbol slot more =
+    if slot.code == 0x85 then call_edit desc symbol slot
+    else (if slot.code == 0x18 then load_edit (load_of desc) slot more else Err InvalidOffset)
+
+-- a symbol that is no extern is no matter of externs
+abbrev pub to_symbol : ExternInputs → Option Symbol → ElfRelocation → bpf_insn → Bool → Result Edit Fault
+to_symbol inputs None relocation slot more = Err UnknownSymbol
+to_symbol inputs (Some symbol) relocation slot more =
+    if is_extern symbol
+    then known_edit (get inputs.externs (unwrap_or symbol.name [])) relocation.symbol_index slot more
+    else Ok Stay
+
+-- what becomes of a slot with a relocation
+abbrev pub extern_edit : ExternInputs → ElfRelocation → bpf_insn → Bool → Result Edit Fault
+extern_edit inputs relocation slot more = to_symbol inputs (get inputs.symbols relocation.symbol_index) relocation slot more

@@ -1,0 +1,9 @@
+pub mod Edits
+pub mod Externs
+pub mod MapChains
+pub mod Maps
+pub mod Passes
+pub mod Relocated
+pub mod Rules
+pub mod Shapes
+pub mod Turns

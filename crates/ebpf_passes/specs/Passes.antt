@@ -1,0 +1,40 @@
+-- The passes over the functions of an object.
+use Rattle.std.specs.Prelude.{List, Option}
+use Rattle.std.specs.FinMap.{FinMap}
+use Rattle.std.specs.Iterator.{Drains}
+use Rattle.std.specs.Ordering.{nat_cmp}
+use Rattle.ebpf_base.specs.Keys.{key_cmp, text_cmp}
+use Rattle.ebpf_reloc.specs.Places.{TextSections}
+use Rattle.ebpf_reloc.specs.declared.error.EbpfRelocationError.{EbpfRelocationError}
+use Rattle.ebpf_reloc.specs.declared.extern_desc.ExternDesc.{ExternDesc}
+use Rattle.ebpf_reloc.specs.declared.function.Function.{Function}
+use Rattle.ebpf_reloc.specs.declared.symbol.Symbol.{Symbol}
+use Rattle.ebpf_passes.specs.Externs.{extern_edit}
+use Rattle.ebpf_passes.specs.Maps.{GivenMap, MapInputs, tables_of, map_edit}
+use Rattle.ebpf_passes.specs.Relocated.{Relocations, relocated, first_fault}
+
+-- what holds of the maps that an iterator gives until it ends
+abbrev pub Given : {I : Type 0} → (I → Option GivenMap → I → Type 0) → I → (List GivenMap → Type 0) → Type 0
+Given next_gives maps P = (given : List GivenMap) × Drains next_gives maps given × P given
+
+abbrev pub inputs_of : FinMap nat_cmp Symbol → TextSections → List GivenMap → MapInputs
+inputs_of symbols text_sections given = record { symbols = symbols; tables = tables_of given; text_sections = text_sections }
+
+-- a function with the descriptors of maps in its slots
+abbrev pub mapped : FinMap nat_cmp Symbol → TextSections → List GivenMap → Relocations → Function → Function
+mapped symbols text_sections given relocations f = relocated (map_edit (inputs_of symbols text_sections given)) relocations f
+
+-- the first relocation whose descriptor can't be written
+abbrev pub map_fault : FinMap nat_cmp Symbol → TextSections → List GivenMap → Relocations → FinMap key_cmp Function → Option EbpfRelocationError
+map_fault symbols text_sections given relocations functions =
+    first_fault (map_edit (inputs_of symbols text_sections given)) symbols relocations functions
+
+-- a function with the ids and addresses of externs in its slots
+abbrev pub externs_written : FinMap nat_cmp Symbol → FinMap text_cmp ExternDesc → Relocations → Function → Function
+externs_written symbols externs relocations f =
+    relocated (extern_edit (record { symbols = symbols; externs = externs })) relocations f
+
+-- the first relocation whose extern can't be written
+abbrev pub extern_fault : FinMap nat_cmp Symbol → FinMap text_cmp ExternDesc → Relocations → FinMap key_cmp Function → Option EbpfRelocationError
+extern_fault symbols externs relocations functions =
+    first_fault (extern_edit (record { symbols = symbols; externs = externs })) symbols relocations functions

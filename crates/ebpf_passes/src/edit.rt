@@ -1,0 +1,14 @@
+//! What relocations make of slots.
+
+use ebpf_parts::insn::bpf_insn;
+
+/// What a relocation makes of the slot at which it stands.
+#[derive(Clone, Copy, Debug, PartialEq, Eq)]
+pub enum Edit {
+    /// Both stay: the slot and the one after it.
+    Stay,
+    /// This is the slot; the one after it stays.
+    Slot(bpf_insn),
+    /// This is the slot, and this the immediate of the one after it.
+    Pair(bpf_insn, i32),
+}

@@ -1,0 +1,159 @@
+//! What relocations to externs make of slots.
+
+ghost use Rattle.std.specs.Prelude.{◌≡◌, ◌<◌, [], Some, unwrap_or};
+ghost use Rattle.ebpf_passes.specs.Externs.{kernel_call, absent_call, call_edit, load_of, loaded, load_edit, known_edit, extern_edit};
+ghost use Rattle.ebpf_passes.specs.Rules.{extern_inputs};
+
+use crate::edit::Edit;
+use crate::map_rule::pointed;
+use crate::refusal::Fault;
+use ebpf_base::{ByIndex, ByName};
+use ebpf_parts::Relocation;
+use ebpf_parts::insn::bpf_insn;
+use ebpf_reloc::{ExternDesc, Symbol};
+
+/// What is read to write the kernel's ids and addresses.
+#[derive(Clone, Copy)]
+pub struct ExternRule<'a> {
+    /// The symbols by their number.
+    pub symbols: &'a ByIndex<Symbol>,
+    /// The externs by name.
+    pub externs: &'a ByName<ExternDesc>,
+}
+
+/// What a load takes from an extern.
+#[derive(Clone, Copy, Debug, PartialEq, Eq)]
+pub enum Load {
+    /// The id of the kernel's type of it.
+    Id(u32),
+    /// Its address in the kernel.
+    Address(u64),
+}
+
+/// The numbers of 32 bits.
+const BITS: u64 = 0x1_0000_0000;
+
+/// A call of a kernel function by its id.
+fn kernel_call(slot: bpf_insn, id: u32) -> bpf_insn
+    ensures { result ≡ kernel_call slot id }
+{
+    bpf_insn {
+        regs: 2 * 16 + slot.dst_reg(),
+        off: 0,
+        imm: id.cast_signed(),
+        ..slot
+    }
+}
+
+/// A call of nothing, which tells its symbol.
+fn absent_call(slot: bpf_insn, symbol: usize) -> bpf_insn
+    ensures { result ≡ absent_call slot symbol }
+{
+    let low = symbol as u64 % BITS;
+    let number = (2_002_000_000 + low) % BITS;
+    bpf_insn {
+        regs: 0,
+        off: 0,
+        imm: (number as u32).cast_signed(),
+        ..slot
+    }
+}
+
+/// What a call of an extern becomes.
+fn call_edit(desc: &ExternDesc, symbol: usize, slot: bpf_insn) -> Result<Edit, Fault>
+    ensures { result ≡ call_edit desc.now symbol slot }
+{
+    if !desc.is_resolved {
+        if desc.is_weak {
+            return Ok(Edit::Slot(absent_call(slot, symbol)));
+        }
+        return Err(Fault::UnresolvableSymbol);
+    }
+    match desc.kernel_btf_id {
+        Some(id) => Ok(Edit::Slot(kernel_call(slot, id))),
+        None => Err(Fault::UnresolvableSymbol),
+    }
+}
+
+/// What a load takes from an extern.
+fn load_of(desc: &ExternDesc) -> Option<Load>
+    ensures { result ≡ load_of desc.now }
+{
+    if let Some(id) = desc.kernel_btf_id {
+        return Some(Load::Id(id));
+    }
+    match desc.ksym_addr {
+        Some(address) => Some(Load::Address(address)),
+        None if desc.is_weak => Some(Load::Address(0)),
+        None => None,
+    }
+}
+
+/// What a load of an id or an address becomes.
+fn loaded(load: Load, slot: bpf_insn) -> Edit
+    ensures { result ≡ loaded load slot }
+{
+    match load {
+        Load::Id(id) => Edit::Pair(pointed(slot, 3, id.cast_signed()), 0),
+        Load::Address(address) => {
+            let low = ((address % BITS) as u32).cast_signed();
+            let high = ((address / BITS) as u32).cast_signed();
+            Edit::Pair(pointed(slot, 0, low), high)
+        }
+    }
+}
+
+/// What a load of an extern becomes.
+fn load_edit(desc: &ExternDesc, slot: bpf_insn, more: bool) -> Result<Edit, Fault>
+    ensures { result ≡ load_edit (load_of desc.now) slot more }
+{
+    let Some(load) = load_of(desc) else {
+        return Err(Fault::UnresolvableSymbol);
+    };
+    if !more {
+        return Err(Fault::InvalidOffset);
+    }
+    Ok(loaded(load, slot))
+}
+
+/// What an extern makes of a slot that refers to it.
+fn known_edit(desc: &ExternDesc, symbol: usize, slot: bpf_insn, more: bool) -> Result<Edit, Fault>
+    ensures { result ≡ known_edit (Some desc.now) symbol slot more }
+{
+    match slot.code {
+        0x85 => call_edit(desc, symbol, slot),
+        0x18 => load_edit(desc, slot, more),
+        _ => Err(Fault::InvalidOffset),
+    }
+}
+
+/// A symbol's name, empty where it has none.
+fn name_of(symbol: &Symbol) -> &str
+    ensures { result.now ≡ unwrap_or symbol.now.name [] }
+{
+    match &symbol.name {
+        Some(name) => name.as_str(),
+        None => "",
+    }
+}
+
+/// What a relocation makes of a slot, by the externs.
+pub fn extern_edit(
+    rule: &ExternRule<'_>,
+    relocation: Relocation,
+    slot: bpf_insn,
+    more: bool,
+) -> Result<Edit, Fault>
+    ensures { result ≡ extern_edit (extern_inputs rule.now) relocation slot more }
+{
+    let Some(symbol) = rule.symbols.get(relocation.symbol_index) else {
+        return Err(Fault::UnknownSymbol);
+    };
+    if !symbol.is_extern() {
+        return Ok(Edit::Stay);
+    }
+    match rule.externs.get(name_of(symbol)) {
+        Some(desc) => known_edit(desc, relocation.symbol_index, slot, more),
+        None => Err(Fault::ExternNotFound),
+    }
+}

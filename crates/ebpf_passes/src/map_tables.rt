@@ -1,0 +1,72 @@
+//! Where the maps are that relocations refer to.
+
+ghost use Rattle.std.specs.Prelude.{◌≡◌, List, OnOk, IfOk};
+ghost use Rattle.std.specs.FinMap as map;
+ghost use Rattle.std.specs.Iterator.{IsFinite, Drains};
+ghost use Rattle.ebpf_passes.specs.Maps.{GivenMap, tables_of, has_data, with_map};
+ghost use Rattle.ebpf_parts.specs.Maps.{bytes_of};
+
+use ebpf_base::ByIndex;
+use ebpf_parts::maps::Map;
+use std::alloc::{AllocError, Global};
+
+/// What a slot takes from a map.
+#[derive(Clone, Copy, Debug, PartialEq, Eq)]
+pub struct MapTarget {
+    /// The map's descriptor.
+    pub descriptor: i32,
+    /// Whether the map begins with data.
+    pub has_data: bool,
+}
+
+/// The maps by the number of the symbol that names them, and by that of their section.
+#[derive(Debug, Drop)]
+pub struct MapTables {
+    /// The last map of each symbol.
+    pub by_symbol: ByIndex<MapTarget>,
+    /// The last map of each section.
+    pub by_section: ByIndex<MapTarget>,
+}
+
+/// What a slot takes from a map with this descriptor.
+fn target_of(descriptor: i32, map: &Map) -> MapTarget
+    ensures { result ≡ record { descriptor = descriptor; has_data = has_data (bytes_of map.now) } }
+{
+    MapTarget {
+        descriptor,
+        has_data: !map.data().is_empty(),
+    }
+}
+
+impl MapTables {
+    /// Puts a map over those of its symbol and its section.
+    fn put(&mut self, descriptor: i32, map: &Map) -> Result<(), AllocError>
+        ensures { OnOk result (self.new ≡ with_map self.old descriptor map.now) }
+    {
+        let target = target_of(descriptor, map);
+        if let Some(symbol) = map.symbol_index() {
+            self.by_symbol.insert(symbol, target)?;
+        }
+        self.by_section.insert(map.section_index(), target)?;
+        Ok(())
+    }
+
+    /// The maps that an iterator gives, the later over the earlier.
+    pub fn gather<'a, I: Iterator<Item = (&'a str, i32, &'a Map)> + Drop>(
+        alloc: Global,
+        maps: I,
+    ) -> Result<MapTables, AllocError>
+        requires can { I.can_next maps }
+        requires ends { IsFinite (I.remaining maps) }
+        ensures { IfOk result (λ tables. (given : List GivenMap) × Drains I.next_gives maps given × (tables ≡ tables_of given)) }
+    {
+        let mut tables = MapTables {
+            by_symbol: ByIndex::new(alloc),
+            by_section: ByIndex::new(alloc),
+        };
+        for (_, descriptor, map) in maps {
+            tables.put(descriptor, map)?;
+        }
+        Ok(tables)
+    }
+}

@@ -1,0 +1,44 @@
+//! What the passes say of relocations.
+
+ghost use Rattle.std.specs.Prelude.{◌≡◌};
+ghost use Rattle.ebpf_passes.specs.Rules.{says_of, symbols_of};
+
+use crate::edit::Edit;
+use crate::extern_rule::{ExternRule, extern_edit};
+use crate::map_rule::{MapRule, map_edit};
+use crate::refusal::Fault;
+use ebpf_base::ByIndex;
+use ebpf_parts::Relocation;
+use ebpf_parts::insn::bpf_insn;
+use ebpf_reloc::Symbol;
+
+/// What a pass says of relocations.
+#[derive(Clone, Copy)]
+pub enum Rule<'a> {
+    /// Descriptors of maps are written.
+    Maps(MapRule<'a>),
+    /// Ids and addresses of the kernel are written.
+    Externs(ExternRule<'a>),
+}
+
+impl<'a> Rule<'a> {
+    /// What becomes of a slot with a relocation.
+    pub fn edit(&self, relocation: Relocation, slot: bpf_insn, more: bool) -> Result<Edit, Fault>
+        ensures { result ≡ says_of self.now relocation slot more }
+    {
+        match self {
+            Rule::Maps(rule) => map_edit(rule, relocation, slot, more),
+            Rule::Externs(rule) => extern_edit(rule, relocation, slot, more),
+        }
+    }
+
+    /// The symbols that are read.
+    pub fn symbols(&self) -> &'a ByIndex<Symbol>
+        ensures { result.now ≡ symbols_of self.now }
+    {
+        match self {
+            Rule::Maps(rule) => rule.symbols,
+            Rule::Externs(rule) => rule.symbols,
+        }
+    }
+}

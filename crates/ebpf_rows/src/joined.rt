@@ -1,0 +1,109 @@
+//! What joining the programs of an object with what they reach gives.
+
+use crate::records::put_records;
+use crate::tables::put_functions;
+use ebpf_cases::{Action, Tally, no_action};
+use ebpf_object::Object;
+use ebpf_parts::insn::bpf_insn;
+use ebpf_reloc::{EbpfRelocationError, Function};
+use std::alloc::{AllocError, Global};
+use std::collections::HashSet;
+
+/// The numbers of the sections that functions stand in.
+fn text_sections(alloc: Global, object: &Object) -> Result<HashSet<usize>, AllocError> {
+    let mut sections = HashSet::new(alloc);
+    for (key, _) in object.functions.iter() {
+        sections.insert(key.0)?;
+    }
+    Ok(sections)
+}
+
+/// Why programs can't be joined, in a line.
+fn refusal(alloc: Global, error: &EbpfRelocationError) -> Result<String, AllocError> {
+    format!(in alloc; "{error:?}\n")
+}
+
+/// Joins the programs of an object with what they reach: no text, or the error in a line.
+fn join(
+    alloc: Global,
+    object: &mut Object,
+    sections: &HashSet<usize>,
+) -> Result<String, AllocError> {
+    match object.relocate_calls(sections) {
+        Ok(()) => Ok(String::new(alloc)),
+        Err(error) => refusal(alloc, &error),
+    }
+}
+
+/// The eight bytes of a slot.
+fn slot_text(alloc: Global, slot: &bpf_insn) -> Result<String, AllocError> {
+    let [a, b, c, d, e, f, g, h] = slot.to_bytes();
+    format!(in alloc; "{a:02x} {b:02x} {c:02x} {d:02x} {e:02x} {f:02x} {g:02x} {h:02x}")
+}
+
+/// A line for each slot of a function.
+fn put_each_slot(alloc: Global, text: &mut String, function: &Function) -> Result<(), AllocError> {
+    for slot in function.instructions.iter() {
+        let slot = slot_text(alloc, slot)?;
+        writeln!(text, "{slot}")?;
+    }
+    Ok(())
+}
+
+/// A line for each different slot of a function, with how many such it has.
+fn put_slot_counts(
+    alloc: Global,
+    text: &mut String,
+    function: &Function,
+) -> Result<(), AllocError> {
+    let mut tally = Tally::new(alloc);
+    for slot in function.instructions.iter() {
+        let slot = slot_text(alloc, slot)?;
+        tally.count(slot.as_str())?;
+    }
+    let counts = tally.text()?;
+    write!(text, "{counts}")
+}
+
+/// A line for each program, in byte order of their names, and lines for its slots.
+fn put_slots(
+    alloc: Global,
+    text: &mut String,
+    object: &Object,
+    counted: bool,
+) -> Result<(), AllocError> {
+    for name in object.programs.names(alloc)? {
+        let Some(program) = object.programs.get(name) else {
+            continue;
+        };
+        let Some(function) = object.functions.get(program.function_key()) else {
+            continue;
+        };
+        let slots = function.instructions.len();
+        writeln!(text, "program {name} slots {slots}")?;
+        if counted {
+            put_slot_counts(alloc, text, function)?;
+        } else {
+            put_each_slot(alloc, text, function)?;
+        }
+    }
+    Ok(())
+}
+
+/// What joining the programs of an object answers, and then its functions, records or slots.
+pub fn joined(
+    alloc: Global,
+    object: &mut Object,
+    action: &Action<'_>,
+) -> Result<String, AllocError> {
+    let sections = text_sections(alloc, object)?;
+    let mut text = join(alloc, object, &sections)?;
+    match action.word(0) {
+        "functions" => put_functions(&mut text, object)?,
+        "records" => put_records(&mut text, object)?,
+        "slots" => put_slots(alloc, &mut text, object, false)?,
+        "slot_counts" => put_slots(alloc, &mut text, object, true)?,
+        _ => return no_action(alloc),
+    }
+    Ok(text)
+}

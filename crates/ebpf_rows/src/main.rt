@@ -1,0 +1,22 @@
+//! Rows over all crates but the linking program: reads cases of files, and prints what each of their actions gives.
+#![tactic(auto)]
+
+mod changed;
+mod declared;
+mod joined;
+mod maps;
+mod names;
+mod objects;
+mod outcomes;
+mod patched;
+mod records;
+mod sanitized;
+mod tables;
+
+use crate::outcomes::ObjectOutcomes;
+use ebpf_cases::run_cases;
+use std::io;
+
+fn main(rt: HostRuntime) -> io::Result<()> {
+    run_cases(&rt, &ObjectOutcomes)
+}

@@ -1,0 +1,55 @@
+#!/usr/bin/env python3
+"""Writes the cases of the test programs and what each has to print of them: data/cases.txt and stdout of
+crates/ebpf_rows and crates/ebpf_btf_rows, and stdout of crates/ebpf_bench. usage: make_rows.py
+
+A new row: in the module of rows/ on its subject, or in a new one listed below, add to its cases() a
+    Case("its name", bytes or {"name of a file": bytes}, {"action and its words": "the lines that it has to give"})
+with files made by rows/elf.py and rows/btf.py. What has to be given is written by hand, from the definitions or from
+another reader, and never taken from what the program prints. A new action is a function that gives its text and an arm of
+the `match` in src/objects.rt of ebpf_rows (in src/outcomes.rt of ebpf_btf_rows): it borrows the object and doesn't hold it,
+or its proof takes minutes. Then run this script, and `rt ci` compares.
+"""
+from pathlib import Path
+
+from rows import (
+    btf_added,
+    btf_candidates,
+    btf_ext,
+    btf_ext_faults,
+    btf_fits,
+    btf_kinds,
+    btf_one_int,
+    compiled,
+    declared_maps,
+    externs,
+    joined,
+    many_types,
+    maps,
+    names,
+    order,
+    programs,
+    records,
+    small_object,
+    terms,
+    texts,
+    type_faults,
+    values,
+)
+from rows.case import write_cases
+
+CRATES = Path(__file__).parents[1] / "crates"
+
+OBJECTS = [small_object, programs, texts, terms, order, maps, declared_maps, externs, type_faults, records, joined]
+OBJECTS += [values, names, compiled]
+
+TYPES = [btf_one_int, btf_kinds, btf_added, btf_candidates, btf_fits, btf_ext, btf_ext_faults]
+
+
+def cases_of(modules):
+    return [case for module in modules for case in module.cases()]
+
+
+if __name__ == "__main__":
+    write_cases(CRATES / "ebpf_rows", cases_of(OBJECTS))
+    write_cases(CRATES / "ebpf_btf_rows", cases_of(TYPES))
+    (CRATES / "ebpf_bench/stdout").write_text("".join(line + "\n" for line in many_types.expected_lines()))
