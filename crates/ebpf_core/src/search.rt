@@ -14,6 +14,13 @@ use ebpf_btf::{Btf, BtfError, BtfKind, BtfType, Relocation, RelocationKind, Type
 use std::alloc::{AllocError, Global};
 use std::marker::Model;
 
+/// Whether the local id of a type is asked for, which is not searched.
+fn is_local(kind: RelocationKind) -> bool
+    ensures { result ≡ is_local kind }
+{
+    matches!(kind, RelocationKind::TypeIdLocal)
+}
+
 /// Whether a type is an enumeration of 64 bits that was made a UNION.
 #[tactic(auto, unfolding(ebpf_btf::specs::Types::kind_number))]
 fn was_enum64(ty: &BtfType) -> bool
@@ -120,6 +127,7 @@ impl<'a> CoreSearch<'a> {
     }
 
     /// What a record comes to.
+    #[tactic(auto, using(crate::proofs::Searching::path_refused, crate::proofs::Searching::local_itself, crate::proofs::Searching::ids_refused, crate::proofs::Searching::ids_looked_up, crate::proofs::Searching::ids_kept))]
     pub fn outcome(
         &mut self,
         alloc: Global,
@@ -129,7 +137,7 @@ impl<'a> CoreSearch<'a> {
         ensures stays { self.new ≡ self.old }
     {
         let path = local_path(alloc, self.local, relocation)?;
-        if relocation.kind == RelocationKind::TypeIdLocal {
+        if is_local(relocation.kind) {
             return Ok(Outcome {
                 value: Some(u64::from(relocation.type_id)),
                 local: None,
