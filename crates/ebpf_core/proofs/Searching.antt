@@ -1,5 +1,5 @@
 -- What a search answers, whose two sides are those of a record.
-use Rattle.std.proofs.Common.{◌≡◌, ℕ, Bool, true, false, List, Option, Some, None, Result, Ok, Err, refl, ap, subst}
+use Rattle.std.proofs.Common.{◌≡◌, ℕ, Bool, true, false, List, Option, Some, None, Result, Ok, Err, refl, sym, ap, subst, ◌∙◌}
 use Rattle.std.specs.Result.{IsErrAnd}
 use Rattle.ebpf_btf.specs.TypeInfo.{TypeInfo}
 use Rattle.ebpf_btf.specs.declared.error.BtfError.{BtfError}
@@ -47,10 +47,13 @@ module _ (local target : TypeInfo) (r : Relocation) where
     local_itself path is here = subst (λ (t : Sides). stated t ≡ Ok (itself r.type_id)) view (local_given path is here)
 
     pub ids_refused : (path : LocalPath) (e : RelocationError) (answer : Result Outcome RelocationError) → local_path local r ≡ Ok path → is_local r.kind ≡ false
-        → IsErrAnd answer (λ f. f ≡ e) → Tells {X = List ℕ} (Err e) (of_types (candidates_for local target r.type_id)) → Tells answer (stated s)
-    ids_refused path e answer is other err given =
+        → IsErrAnd answer (λ f. f ≡ e) → (a b : TypeInfo) → Tells {X = List ℕ} (Err e) (of_types (candidates_for a b r.type_id))
+        → record { local = a; target = b } ≡ s → Tells answer (stated s)
+    ids_refused path e answer is other err a b given same =
+        let here : Tells {X = List ℕ} (Err e) (of_types (candidates_for local target r.type_id)) =
+        subst (λ (t : Sides). Tells {X = List ℕ} (Err e) (of_types (candidates_for t.local t.target r.type_id))) (same ∙ sym view) given in
         subst (λ (t : Sides). Tells answer (stated t)) view
-        (refused_by e (of_types (candidates_for local target r.type_id)) answer (outcome_of local target r) err (ids_fault path (told e) is other) given)
+        (refused_by e (of_types (candidates_for local target r.type_id)) answer (outcome_of local target r) err (ids_fault path (told e) is other) here)
 
     pub ids_looked_up : (path : LocalPath) (ids : List ℕ) (answer : Result Outcome RelocationError) → local_path local r ≡ Ok path → is_local r.kind ≡ false
         → of_types (candidates_for local target r.type_id) ≡ Ok ids → Tells answer (outcome_among local target r path ids) → Tells answer (stated s)

@@ -127,7 +127,7 @@ impl<'a> CoreSearch<'a> {
     }
 
     /// What a record comes to.
-    #[tactic(auto, using(crate::proofs::Searching::path_refused, crate::proofs::Searching::local_itself, crate::proofs::Searching::ids_refused, crate::proofs::Searching::ids_looked_up, crate::proofs::Searching::ids_kept))]
+    #[tactic(auto, using(crate::proofs::Searching::ids_looked_up))]
     pub fn outcome(
         &mut self,
         alloc: Global,
