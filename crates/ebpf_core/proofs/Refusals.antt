@@ -1,0 +1,85 @@
+-- A refusal that a call hands on: want of memory, or what is stated.
+use Rattle.std.proofs.Common.{◌≡◌, ℕ, Bool, true, false, Option, Some, None, Result, Ok, Err, refl, ap}
+use Rattle.std.specs.Prelude.{MatchBool, ⊤}
+use Rattle.std.specs.Result.{IsErrAnd}
+use Rattle.ebpf_base.specs.Faults.{Gives}
+use Rattle.ebpf_btf.specs.Memory as types
+use Rattle.ebpf_btf.specs.declared.error.BtfError.{BtfError as TypeError}
+use Rattle.ebpf_core.specs.declared.error.RelocationError.{RelocationError}
+use Rattle.ebpf_core.specs.declared.error.RelocationError.TheVariants.{BtfError}
+use Rattle.ebpf_core.specs.Answers.{Tells, of_type_error, of_types, if_ok, told}
+use Rattle.ebpf_core.specs.Matches.{by_place}
+use Rattle.ebpf_core.specs.Memory.{is_memory}
+use Rattle.ebpf_core.specs.declared.matches.Found.{Found}
+use Rattle.ebpf_core.specs.declared.matches.Found.TheVariants as found
+use Rattle.ebpf_btf.specs.TypeInfo.{TypeInfo}
+use Rattle.ebpf_places.specs.declared.fault.PlaceFault.{PlaceFault}
+use Rattle.ebpf_places.specs.declared.fault.PlaceFault.TheVariants.{NestingLevel, Btf}
+use Rattle.ebpf_places.specs.declared.places.Place.{Place}
+
+-- what is stated of an error is stated of what follows it
+module _ {X Y : Type 0} (e : RelocationError) (one : Result X RelocationError) where
+  through : (b : Bool) (next : X → Result Y RelocationError) → MatchBool b ⊤ (one ≡ Err (told e)) → MatchBool b ⊤ (if_ok one next ≡ Err (told e))
+  through true next h = tt
+  through false next h = ap (λ r. if_ok r next) h
+
+  pub handed_on : (next : X → Result Y RelocationError) → Tells {X = X} (Err e) one → Tells {X = Y} (Err e) (if_ok one next)
+  handed_on next h = through (is_memory e) next h
+
+-- a fault of types is one of the record, and want of memory stays want of memory
+module _ {X Y : Type 0} (e : TypeError) (one : Result X TypeError) where
+  turned : (b : Bool) (next : X → Result Y RelocationError) → types.is_memory e ≡ b → MatchBool b ⊤ (one ≡ Err e)
+      → Tells {X = Y} (Err (of_type_error e)) (if_ok (of_types one) next)
+  turned true next is h = rw is tt
+  turned false next is h = rw (is, h) refl
+
+  pub types_refused : (next : X → Result Y RelocationError) → Gives types.is_memory (Err e) one
+      → Tells {X = Y} (Err (of_type_error e)) (if_ok (of_types one) next)
+  types_refused next h = turned (types.is_memory e) next refl h
+
+  pub exact_refused : (next : X → Result Y RelocationError) → one ≡ Err e → Tells {X = Y} (Err (of_type_error e)) (if_ok (of_types one) next)
+  exact_refused next is = types_refused next (given (types.is_memory e))
+    where
+      given : (b : Bool) → MatchBool b ⊤ (one ≡ Err e)
+      given true = tt
+      given false = is
+
+-- what is stated of an error in one place is stated of it in another, where the one's fault is the other's
+module _ {X Y : Type 0} (e : RelocationError) (one : Result X RelocationError) (other : Result Y RelocationError) where
+  led : (b : Bool) → (one ≡ Err (told e) → other ≡ Err (told e)) → MatchBool b ⊤ (one ≡ Err (told e)) → MatchBool b ⊤ (other ≡ Err (told e))
+  led true to h = tt
+  led false to h = to h
+
+  pub also : (one ≡ Err (told e) → other ≡ Err (told e)) → Tells {X = X} (Err e) one → Tells {X = Y} (Err e) other
+  also to h = led (is_memory e) to h
+
+-- the error that a call hands on
+handed : {X : Type 0} (r : Result X RelocationError) (e : RelocationError) → IsErrAnd r (λ f. f ≡ e) → r ≡ Err e
+handed (Ok x) e is = absurd is
+handed (Err f) e is = ap Err is
+
+pub refused_by : {X Y : Type 0} (e : RelocationError) (one : Result X RelocationError) (r other : Result Y RelocationError) → IsErrAnd r (λ f. f ≡ e)
+    → (one ≡ Err (told e) → other ≡ Err (told e)) → Tells {X = X} (Err e) one → Tells r other
+refused_by e one r other is to h = rw (handed r e is) (also e one other to h)
+
+-- ---- places
+
+module _ (target : TypeInfo) (id : ℕ) (stated : Result (Option Place) PlaceFault) where
+  pub place_found : (place : Place) → stated ≡ Ok (Some place) → by_place target id stated ≡ Ok (Some (found.Field place))
+  place_found place is = rw is refl
+
+  pub place_missing : stated ≡ Ok None → by_place target id stated ≡ Ok None
+  place_missing is = rw is refl
+
+  pub place_nested : (r : Result (Option Found) RelocationError) → stated ≡ Err NestingLevel → Tells r (by_place target id (Err NestingLevel))
+      → Tells r (by_place target id stated)
+  place_nested r is h = rw is h
+
+  turned_place : (e : TypeError) (b : Bool) → types.is_memory e ≡ b → MatchBool b ⊤ (stated ≡ Err (Btf e))
+      → Tells {X = Option Found} (Err (of_type_error e)) (by_place target id stated)
+  turned_place e true is h = rw is tt
+  turned_place e false is h = rw (is, h) refl
+
+  pub place_refused : (e : TypeError) → MatchBool (types.is_memory e) ⊤ (stated ≡ Err (Btf e))
+      → Tells {X = Option Found} (Err (of_type_error e)) (by_place target id stated)
+  place_refused e h = turned_place e (types.is_memory e) refl h

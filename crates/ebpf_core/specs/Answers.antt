@@ -1,0 +1,38 @@
+-- Answers, and how they are stated: an error without the texts in it that are for people to read.
+use Rattle.std.specs.Prelude.{◌≡◌, List, [], ◌∷◌, ⊤, MatchBool, Result, Ok, Err, if◌then◌else◌}
+use Rattle.ebpf_btf.specs.declared.error.BtfError.{BtfError}
+use Rattle.ebpf_btf.specs.Memory as types
+use Rattle.ebpf_core.specs.declared.error.RelocationError.{RelocationError}
+use Rattle.ebpf_core.specs.declared.error.RelocationError.TheVariants as errors
+use Rattle.ebpf_core.specs.Memory.{is_memory}
+
+-- an error with such texts empty
+abbrev pub told : RelocationError → RelocationError
+told (errors.InvalidAccessIndex path spec index len error) = errors.InvalidAccessIndex [] spec index len []
+told (errors.InvalidRelocationKindForType number kind type_kind error) = errors.InvalidRelocationKindForType number [] [] []
+told (errors.InvalidInstruction number index error) = errors.InvalidInstruction number index []
+told e = e
+
+-- The call answers as stated, such texts aside, or with a want of memory.
+abbrev pub Tells : {X : Type 0} → Result X RelocationError → Result X RelocationError → Type 0
+Tells (Ok x) stated = stated ≡ Ok x
+Tells (Err e) stated = MatchBool (is_memory e) ⊤ (stated ≡ Err (told e))
+
+-- a fault of types as a fault of a record
+abbrev pub of_type_error : BtfError → RelocationError
+of_type_error e = if types.is_memory e then errors.OutOfMemory else errors.BtfError e
+
+-- an answer about types as an answer about a record
+abbrev pub of_types : {X : Type 0} → Result X BtfError → Result X RelocationError
+of_types (Ok x) = Ok x
+of_types (Err e) = Err (errors.BtfError e)
+
+-- what follows an answer that is no fault
+abbrev pub if_ok : {A X E : Type 0} → Result A E → (A → Result X E) → Result X E
+if_ok (Ok x) next = next x
+if_ok (Err e) next = Err e
+
+-- the answers for all members of a list, or the first fault among them
+abbrev pub each : {A X E : Type 0} → (A → Result X E) → List A → Result (List X) E
+each f [] = Ok []
+each f (x ∷ xs) = if_ok (f x) (λ y. if_ok (each f xs) (λ ys. Ok (y ∷ ys)))

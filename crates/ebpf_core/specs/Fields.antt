@@ -1,0 +1,103 @@
+-- What a record learns of a field (the kernel's tools/lib/bpf/relo_core.c, bpf_core_calc_field_relo, and
+-- include/uapi/linux/bpf.h, enum bpf_core_relo_kind).
+use Rattle.std.specs.Prelude.{ℕ, ◌+◌, ◌-◌, ◌*◌, ◌/◌, ◌==◌, nat_le, Bool, Option, Some, None, Result, Ok, Err, slice_get, option_and_then, if◌then◌else◌}
+use Rattle.ebpf_btf.specs.declared.error.BtfError.{BtfError}
+use Rattle.ebpf_btf.specs.declared.error.BtfError.TheVariants.{InvalidTypeInfo}
+use Rattle.ebpf_btf.specs.declared.members.BtfMember.{BtfMember}
+use Rattle.ebpf_btf.specs.declared.relocation.RelocationKind.{RelocationKind}
+use Rattle.ebpf_btf.specs.declared.relocation.RelocationKind.TheVariants.{FieldByteOffset, FieldByteSize, FieldExists, FieldSigned, FieldLShift64, FieldRShift64}
+use Rattle.ebpf_btf.specs.declared.types.BtfType.{BtfType}
+use Rattle.ebpf_btf.specs.declared.types.BtfType.TheVariants.{Ptr, Int}
+use Rattle.ebpf_btf.specs.Next.{if_some}
+use Rattle.ebpf_btf.specs.Steps.{resolved, resolved_type, size_of, type_at}
+use Rattle.ebpf_btf.specs.TypeInfo.{TypeInfo}
+use Rattle.ebpf_btf.specs.Types.{bit_field_size, is_signed, members_of, size_word}
+use Rattle.ebpf_core.specs.declared.extent.Extent.{Extent}
+use Rattle.ebpf_core.specs.declared.field.FieldClass.{FieldClass}
+use Rattle.ebpf_core.specs.declared.field.FieldClass.TheVariants.{Pointer, UnsignedInt, Other}
+use Rattle.ebpf_core.specs.declared.field.FieldFault.{FieldFault}
+use Rattle.ebpf_core.specs.declared.field.FieldFault.TheVariants.{OfElement, Types}
+use Rattle.ebpf_core.specs.declared.field.FieldValue.{FieldValue}
+use Rattle.ebpf_core.specs.declared.field.LoadedField.{LoadedField}
+use Rattle.ebpf_places.specs.declared.places.Place.{Place}
+use Rattle.ebpf_places.specs.declared.places.PlaceEnd.{PlaceEnd}
+use Rattle.ebpf_places.specs.declared.places.PlaceEnd.TheVariants.{Element, Member}
+use Rattle.ebpf_core.specs.Answers.{if_ok}
+use Rattle.ebpf_core.specs.Containers.{bit_field_extent, plain_extent}
+
+-- what a load goes by: whether the field's type is a pointer, or an integer without a sign
+unfoldable pub class_of : BtfType → FieldClass
+class_of (Ptr name id) = Pointer
+class_of (Int name size bits) = if is_signed (Int name size bits) then Other else UnsignedInt
+class_of _ = Other
+
+abbrev pub loaded_as : BtfType → ℕ → LoadedField
+loaded_as t size = record { size = size; class = class_of t }
+
+-- by how much a number of so many bits is shifted, so that 64 remain
+abbrev pub shift : ℕ → Result ℕ BtfError
+shift bits = if nat_le bits 64 then Ok (64 - bits) else Err InvalidTypeInfo
+
+-- an answer about types as one about a field
+abbrev pub by_types : {X : Type 0} → Result X BtfError → Result X FieldFault
+by_types (Ok x) = Ok x
+by_types (Err e) = Err (Types e)
+
+-- ---- a member
+
+-- the extent of a member, and what is loaded where it is no bit field
+abbrev pub laid : BtfType → BtfMember → ℕ → BtfType → Result ℕ BtfError → Result (Extent × Option LoadedField) BtfError
+laid parent member bits t size =
+    if bit_field_size parent member == 0
+    then if_ok size (λ bytes. Ok (plain_extent bits bytes, Some (loaded_as t bytes)))
+    else if_ok (bit_field_extent bits (bit_field_size parent member) (size_word t)) (λ extent. Ok (extent, None))
+
+-- what a kind asks of a member: of the first byte, the loaded bytes, the sign, or by how much the loaded bytes are
+-- shifted left and then right in 64 bits
+abbrev pub asked : RelocationKind → Bool → ℕ → Extent → Result ℕ BtfError
+asked FieldByteOffset signed bits extent = Ok extent.start
+asked FieldByteSize signed bits extent = Ok extent.size
+asked FieldSigned signed bits extent = Ok (if signed then 1 else 0)
+asked FieldLShift64 signed bits extent = shift (bits - extent.start * 8 + extent.width)
+asked FieldRShift64 signed bits extent = shift extent.width
+asked _ signed bits extent = Ok 1
+
+-- what is loaded matters where the offset is asked
+abbrev pub value_with : RelocationKind → ℕ → Option LoadedField → FieldValue
+value_with FieldByteOffset number loaded = record { number = number; loaded = loaded }
+value_with _ number loaded = record { number = number; loaded = None }
+
+-- of a member of a type at a bit
+unfoldable pub member_value : TypeInfo → RelocationKind → ℕ → BtfType → BtfMember → Result FieldValue BtfError
+member_value info kind bits parent member =
+    if_ok (resolved info.types member.btf_type) (λ id.
+    if_ok (type_at info.types id) (λ t.
+    if_ok (laid parent member bits t (size_of info.types id)) (λ place.
+    if_ok (asked kind (is_signed t) bits place.0) (λ number. Ok (value_with kind number place.1)))))
+
+-- ---- an element
+
+-- of an element only the first byte and the size are asked
+abbrev pub element_value : TypeInfo → RelocationKind → ℕ → ℕ → Result FieldValue FieldFault
+element_value info FieldByteOffset bits id =
+    by_types (if_ok (size_of info.types id) (λ size. if_ok (resolved_type info.types id) (λ t. Ok (value_with FieldByteOffset (bits / 8) (Some (loaded_as t size))))))
+element_value info FieldByteSize bits id = by_types (if_ok (size_of info.types id) (λ size. Ok (value_with FieldByteSize size None)))
+element_value info _ bits id = Err OfElement
+
+-- ---- a place
+
+abbrev pub member_at : BtfType → ℕ → Option BtfMember
+member_at t index = option_and_then (λ members. slice_get members index) (members_of t)
+
+abbrev pub value_of_member : TypeInfo → RelocationKind → ℕ → ℕ → ℕ → Result FieldValue BtfError
+value_of_member info kind bits parent index =
+    if_ok (type_at info.types parent) (λ t. if_some (member_at t index) (member_value info kind bits t) (Err InvalidTypeInfo))
+
+abbrev pub value_at : TypeInfo → RelocationKind → ℕ → PlaceEnd → Result FieldValue FieldFault
+value_at info kind bits (Element id) = element_value info kind bits id
+value_at info kind bits (Member parent index) = by_types (value_of_member info kind bits parent index)
+
+-- what a kind asks of the field at a place; that it is there is a 1
+unfoldable pub field_value : TypeInfo → RelocationKind → Place → Result FieldValue FieldFault
+field_value info FieldExists place = Ok (value_with FieldExists 1 None)
+field_value info kind place = value_at info kind place.bits place.end

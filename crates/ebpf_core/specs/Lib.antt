@@ -1,0 +1,11 @@
+pub mod AccessStrings
+pub mod Answers
+pub mod Containers
+pub mod Fields
+pub mod LocalPaths
+pub mod Matches
+pub mod Memory
+pub mod Outcomes
+pub mod Searches
+pub mod Sides
+pub mod Subjects

@@ -1,0 +1,55 @@
+-- The types of a kernel that a local type may stand for, and what a record comes to over them (the kernel's
+-- tools/lib/bpf/libbpf.c, bpf_core_find_cands, and relo_core.c, bpf_core_calc_relo_insn).
+use Rattle.std.specs.Prelude.{ℕ, ◌&&◌, Bool, true, false, List, Option, Some, None, is_some, Result, Ok, Err, if◌then◌else◌}
+use Rattle.ebpf_btf.specs.Candidates.{candidates, candidates_fault, candidates_of_both, candidates_of_both_fault}
+use Rattle.ebpf_btf.specs.declared.error.BtfError.{BtfError}
+use Rattle.ebpf_btf.specs.declared.kind.BtfKind.TheVariants as kinds
+use Rattle.ebpf_btf.specs.declared.relocation.Relocation.{Relocation}
+use Rattle.ebpf_btf.specs.declared.relocation.RelocationKind.{RelocationKind}
+use Rattle.ebpf_btf.specs.declared.relocation.RelocationKind.TheVariants.{TypeIdLocal}
+use Rattle.ebpf_btf.specs.declared.types.BtfType.{BtfType}
+use Rattle.ebpf_btf.specs.Steps.{type_at}
+use Rattle.ebpf_btf.specs.Strings.{type_name}
+use Rattle.ebpf_btf.specs.TypeInfo.{TypeInfo}
+use Rattle.ebpf_btf.specs.Types.{is_kind, kind_of}
+use Rattle.ebpf_btf.specs.Variants.{variants_of}
+use Rattle.ebpf_core.specs.declared.error.RelocationError.{RelocationError}
+use Rattle.ebpf_core.specs.declared.outcome.Outcome.{Outcome}
+use Rattle.ebpf_core.specs.Answers.{if_ok, of_types}
+use Rattle.ebpf_core.specs.LocalPaths.{local_path}
+use Rattle.ebpf_core.specs.Outcomes.{outcome_among}
+
+-- a list, where nothing keeps it from being known
+abbrev pub unless : Option BtfError → List ℕ → Result (List ℕ) BtfError
+unless None ids = Ok ids
+unless (Some e) ids = Err e
+
+-- an enumeration of 64 bits that was made a UNION
+abbrev pub was_enum64 : BtfType → Bool
+was_enum64 t = is_kind kinds.Union t && is_some (variants_of t)
+
+-- The target types of the kind and name of a local type, flavors aside. An enumeration of 64 bits that was made a UNION
+-- may stand for an ENUM64 too.
+unfoldable pub candidates_named : TypeInfo → BtfType → List ℕ → Result (List ℕ) BtfError
+candidates_named target t name =
+    if was_enum64 t then unless (candidates_of_both_fault target kinds.Union kinds.Enum64) (candidates_of_both target kinds.Union kinds.Enum64 name)
+    else unless (candidates_fault target (kind_of t)) (candidates target (kind_of t) name)
+
+-- the candidates of the local type with an id, which is taken as it stands
+abbrev pub candidates_for : TypeInfo → TypeInfo → ℕ → Result (List ℕ) BtfError
+candidates_for local target id = if_ok (type_at local.types id) (λ t. if_ok (type_name local t) (λ name. candidates_named target t name))
+
+-- the local id itself, for which nothing is searched
+abbrev pub itself : ℕ → Outcome
+itself id = record { value = Some id; local = None; target = None }
+
+abbrev pub is_local : RelocationKind → Bool
+is_local TypeIdLocal = true
+is_local _ = false
+
+-- What a record comes to: first its local side is read, then its candidates are looked up.
+unfoldable pub outcome_of : TypeInfo → TypeInfo → Relocation → Result Outcome RelocationError
+outcome_of local target r =
+    if_ok (local_path local r) (λ path.
+    if is_local r.kind then Ok (itself r.type_id)
+    else if_ok (of_types (candidates_for local target r.type_id)) (λ ids. outcome_among local target r path ids))

@@ -1,0 +1,230 @@
+//! What a record learns of a field.
+
+ghost use Rattle.std.specs.Prelude.{◌≡◌, ◌*◌, ◌<◌, ◌≤◌, ◌^◌, IfOk};
+ghost use Rattle.std.specs.Option.{option_copied};
+ghost use Rattle.ebpf_btf.specs.Steps.{size_of};
+ghost use Rattle.ebpf_core.specs.Fields.{asked, class_of, element_value, field_value, laid, loaded_as, member_at, member_value, shift, value_at, value_of_member, value_with};
+
+use crate::extent::{Extent, bit_field_extent, plain_extent};
+use ebpf_btf::{Btf, BtfError, BtfMember, BtfType, RelocationKind};
+use ebpf_places::{Place, PlaceEnd};
+
+/// What a load of a field of another size goes by.
+#[derive(Clone, Copy, Debug, PartialEq, Eq)]
+pub enum FieldClass {
+    /// A pointer.
+    Pointer,
+    /// An integer without a sign.
+    UnsignedInt,
+    /// Anything else.
+    Other,
+}
+
+/// What is loaded of a field that is no bit field.
+#[derive(Clone, Copy, Debug, PartialEq, Eq)]
+pub struct LoadedField {
+    /// The number of bytes.
+    pub size: u32,
+    /// The class of the field's type.
+    pub class: FieldClass,
+}
+
+/// What a record learns of a field.
+#[derive(Clone, Copy, Debug, PartialEq, Eq)]
+pub struct FieldValue {
+    /// The number that the record asks for.
+    pub number: u64,
+    /// What is loaded there, where the record asks for the place of a field that is no bit field.
+    pub loaded: Option<LoadedField>,
+}
+
+/// Why a record learns nothing of a field.
+#[derive(Debug, Drop)]
+pub enum FieldFault {
+    /// Of an element it can't be asked.
+    OfElement,
+    /// A type or size can't be read, or there is no container or no shift.
+    Types(BtfError),
+}
+
+impl From<BtfError> for FieldFault {
+    ghost use Rattle.ebpf_core.specs.declared.field.FieldFault.TheVariants.{Types};
+
+    ghost from_gives = { λ error fault. fault ≡ Types error };
+
+    fn from(error: BtfError) -> FieldFault {
+        FieldFault::Types(error)
+    }
+}
+
+/// The class of a type.
+#[tactic(auto, unfolding(crate::specs::Fields::class_of))]
+fn class_of(ty: &BtfType) -> FieldClass
+    ensures { result ≡ class_of ty.now }
+{
+    match ty {
+        BtfType::Ptr { .. } => FieldClass::Pointer,
+        BtfType::Int { .. } if !ty.is_signed() => FieldClass::UnsignedInt,
+        _ => FieldClass::Other,
+    }
+}
+
+/// What is loaded of a field of a type and size.
+fn loaded_as(ty: &BtfType, size: u32) -> LoadedField
+    ensures { result ≡ loaded_as ty.now size }
+{
+    LoadedField {
+        size,
+        class: class_of(ty),
+    }
+}
+
+/// By how much a number of so many bits is shifted in 64. `InvalidTypeInfo` where it has more.
+fn shift(bits: u64) -> Result<u64, BtfError>
+    ensures { result ≡ shift bits }
+{
+    64u64.checked_sub(bits).ok_or(BtfError::InvalidTypeInfo)
+}
+
+/// Where a member lies whose resolved type has the id `type_id`, and what is loaded where it is no bit field.
+fn laid(
+    btf: &Btf,
+    parent: &BtfType,
+    member: &BtfMember,
+    bits: u32,
+    type_id: u32,
+    ty: &BtfType,
+) -> Result<(Extent, Option<LoadedField>), BtfError>
+    ensures value { result ≡ laid parent.now member.now bits ty.now (size_of btf.now.types type_id) }
+    ensures low { IfOk result (λ place. place.0.start * 8 ≤ bits) }
+    ensures narrow { IfOk result (λ place. place.0.width < 2 ^ 36) }
+{
+    let width = parent.member_bit_field_size(member);
+    if width == 0 {
+        let size = btf.type_size(type_id)?;
+        return Ok((plain_extent(bits, size), Some(loaded_as(ty, size))));
+    }
+    let extent = bit_field_extent(bits, width, ty.size())?;
+    Ok((extent, None))
+}
+
+/// What a kind asks of a member.
+fn asked(kind: RelocationKind, is_signed: bool, bits: u32, extent: Extent) -> Result<u64, BtfError>
+    requires low { extent.start * 8 ≤ bits }
+    requires narrow { extent.width < 2 ^ 36 }
+    ensures { result ≡ asked kind is_signed bits extent }
+{
+    match kind {
+        RelocationKind::FieldByteOffset => Ok(extent.start),
+        RelocationKind::FieldByteSize => Ok(extent.size),
+        RelocationKind::FieldSigned => Ok(u64::from(is_signed)),
+        RelocationKind::FieldLShift64 => {
+            shift(u64::from(bits) - extent.start * 8 + extent.width)
+        }
+        RelocationKind::FieldRShift64 => shift(extent.width),
+        _ => Ok(1),
+    }
+}
+
+/// A number with what is loaded, which matters where the offset is asked.
+fn value_with(kind: RelocationKind, number: u64, loaded: Option<LoadedField>) -> FieldValue
+    ensures { result ≡ value_with kind number loaded }
+{
+    match kind {
+        RelocationKind::FieldByteOffset => FieldValue { number, loaded },
+        _ => FieldValue {
+            number,
+            loaded: None,
+        },
+    }
+}
+
+/// What a kind asks of a member of a type at a bit.
+#[tactic(auto, unfolding(crate::specs::Fields::member_value))]
+fn member_value(
+    btf: &Btf,
+    kind: RelocationKind,
+    bits: u32,
+    parent: &BtfType,
+    member: &BtfMember,
+) -> Result<FieldValue, BtfError>
+    ensures { result ≡ member_value btf.now kind bits parent.now member.now }
+{
+    let type_id = btf.resolve_type(member.btf_type)?;
+    let ty = btf.type_by_id(type_id)?;
+    let (extent, loaded) = laid(btf, parent, member, bits, type_id, ty)?;
+    let number = asked(kind, ty.is_signed(), bits, extent)?;
+    Ok(value_with(kind, number, loaded))
+}
+
+/// What a kind asks of an element at a bit.
+fn element_value(
+    btf: &Btf,
+    kind: RelocationKind,
+    bits: u32,
+    type_id: u32,
+) -> Result<FieldValue, FieldFault>
+    ensures { result ≡ element_value btf.now kind bits type_id }
+{
+    match kind {
+        RelocationKind::FieldByteOffset => {
+            let size = btf.type_size(type_id)?;
+            let ty = btf.resolved_type(type_id)?;
+            Ok(value_with(kind, u64::from(bits / 8), Some(loaded_as(ty, size))))
+        }
+        RelocationKind::FieldByteSize => {
+            let size = btf.type_size(type_id)?;
+            Ok(value_with(kind, u64::from(size), None))
+        }
+        _ => Err(FieldFault::OfElement),
+    }
+}
+
+/// The member of a type with a number.
+fn member_at(ty: &BtfType, index: usize) -> Option<&BtfMember>
+    ensures { option_copied result ≡ member_at ty.now index }
+{
+    ty.members()?.get(index)
+}
+
+/// What a kind asks of a member with a number of a type.
+fn value_of_member(
+    btf: &Btf,
+    kind: RelocationKind,
+    bits: u32,
+    parent: u32,
+    index: usize,
+) -> Result<FieldValue, BtfError>
+    ensures { result ≡ value_of_member btf.now kind bits parent index }
+{
+    let ty = btf.type_by_id(parent)?;
+    match member_at(ty, index) {
+        Some(member) => member_value(btf, kind, bits, ty, member),
+        None => Err(BtfError::InvalidTypeInfo),
+    }
+}
+
+/// What a kind asks of the field at a place: the first byte or the number of the bytes that are loaded, whether its
+/// type is signed (1 or 0), by how much the loaded bytes are shifted left and then right in 64 bits, or that it is
+/// there, a 1.
+///
+/// A bit field is loaded by the smallest aligned container that holds it: the size of its type, doubled while it is
+/// below 8.
+///
+/// `OfElement` where the place is an element and its offset, size or existence isn't what is asked. `UnknownBtfType`,
+/// `MaximumTypeDepth` and `UnexpectedBtfType` where the field's type can't be resolved or has no size;
+/// `InvalidTypeInfo` where a bit field has no container, or a shift is negative.
+#[tactic(auto, unfolding(crate::specs::Fields::field_value))]
+pub fn field_value(btf: &Btf, kind: RelocationKind, place: Place) -> Result<FieldValue, FieldFault>
+    ensures { result ≡ field_value btf.now kind place }
+{
+    if kind == RelocationKind::FieldExists {
+        return Ok(value_with(kind, 1, None));
+    }
+    match place.end {
+        PlaceEnd::Element { type_id } => element_value(btf, kind, place.bits, type_id),
+        PlaceEnd::Member { parent, index } => {
+            Ok(value_of_member(btf, kind, place.bits, parent, index)?)
+        }
+    }
+}

@@ -1,0 +1,25 @@
+//! What one CO-RE record asks of a kernel's types, and what they answer.
+//!
+//! A record names a type of the object and, by an access string, a field or a variant of it. It is looked for in each
+//! type of the kernel that has the same kind and name, and all that are found have to agree.
+#![tactic(auto)]
+
+mod access;
+mod error;
+mod extent;
+mod faults;
+mod field;
+mod local_walk;
+mod matches;
+mod outcome;
+mod paths;
+mod search;
+mod subject;
+mod values;
+mod wording;
+
+pub use error::RelocationError;
+pub use field::{FieldClass, LoadedField};
+pub use outcome::{Outcome, outcome_among};
+pub use paths::{LocalPath, NamedPath, local_path};
+pub use search::CoreSearch;

@@ -1,0 +1,264 @@
+//! The way to a field of a local type.
+
+ghost use Rattle.std.specs.Prelude.{◌≡◌, ◌∷◌, ◌++◌, [], IfOk, Ok};
+ghost use Rattle.std.specs.Option.{option_copied};
+ghost use Rattle.ebpf_core.specs.Answers.{Tells};
+ghost use Rattle.ebpf_core.specs.LocalPaths.{ends_struct, field_path, into_array, into_members, is_element, is_last_member, part_step, reached, to_element, to_member, type_of_step, walked};
+
+use crate::error::RelocationError;
+use crate::faults::{invalid_access_index, invalid_access_string, invalid_kind};
+use crate::paths::NamedPath;
+use crate::wording::{Request, kind_words, path_words};
+use ebpf_base::{Items, Text};
+use ebpf_btf::{Btf, BtfArray, BtfError, BtfMember, BtfType};
+use ebpf_places::{Place, PlaceEnd, Step};
+use std::alloc::Global;
+
+/// How far a path has come.
+#[derive(Debug, Drop)]
+pub struct LocalSpot {
+    /// The steps: the root index, names and indices. A member without a name is none.
+    pub steps: Items<Step>,
+    /// The bits from the start of the root type, and the last step.
+    pub place: Place,
+    /// The number of the last step: that of the element, or of the member.
+    pub index: usize,
+    /// The type there.
+    pub type_id: u32,
+}
+
+/// A path that has come so far. `InvalidTypeInfo` where that is past 32 bits.
+fn reached(
+    steps: Items<Step>,
+    bits: u128,
+    end: PlaceEnd,
+    index: usize,
+    type_id: u32,
+) -> Result<LocalSpot, RelocationError>
+    ensures { Tells result (reached steps bits end index type_id) }
+{
+    if bits >= 0x1_0000_0000 {
+        return Err(RelocationError::BtfError(BtfError::InvalidTypeInfo));
+    }
+    let place = Place {
+        bits: bits as u32,
+        end,
+    };
+    Ok(LocalSpot {
+        steps,
+        place,
+        index,
+        type_id,
+    })
+}
+
+/// A path that goes on to an element of a type, of which the first is at a bit.
+fn to_element(
+    local: &Btf,
+    mut steps: Items<Step>,
+    bits: u32,
+    type_id: u32,
+    index: usize,
+) -> Result<LocalSpot, RelocationError>
+    ensures { Tells result (to_element local.now steps bits type_id index) }
+{
+    let size = local.type_size(type_id)?;
+    steps.push(Step::Index { index })?;
+    let bits = u128::from(bits) + index as u128 * u128::from(size) * 8;
+    reached(steps, bits, PlaceEnd::Element { type_id }, index, type_id)
+}
+
+/// Whether a number is that of the last member of a STRUCT.
+#[tactic(auto, unfolding(crate::specs::LocalPaths::is_last_member))]
+fn is_last_member(index: usize, ty: &BtfType) -> bool
+    ensures { result ≡ is_last_member index ty.now }
+{
+    match ty {
+        BtfType::Struct { members, .. } => index < members.len() && index + 1 == members.len(),
+        _ => false,
+    }
+}
+
+/// The type of a step: the type of an element, or the one that a member stands in.
+fn type_of_step(local: &Btf, end: PlaceEnd) -> Option<&BtfType>
+    ensures { option_copied result ≡ type_of_step local.now.types end }
+{
+    match end {
+        PlaceEnd::Element { type_id } => local.resolved_type(type_id).ok(),
+        PlaceEnd::Member { parent, .. } => local.type_by_id(parent).ok(),
+    }
+}
+
+/// Whether the last step led to the last member of a STRUCT.
+fn ends_struct(local: &Btf, from: &LocalSpot) -> bool
+    ensures { result ≡ ends_struct local.now.types from.now }
+{
+    match type_of_step(local, from.place.end) {
+        Some(ty) => is_last_member(from.index, ty),
+        None => false,
+    }
+}
+
+/// Whether an index is that of an element: it is below their number, or there are none and the ARRAY ends a STRUCT.
+fn is_element(local: &Btf, from: &LocalSpot, count: u32, index: usize) -> bool
+    ensures { result ≡ is_element local.now.types from.now count index }
+{
+    index < count as usize || (count == 0 && ends_struct(local, from))
+}
+
+/// A path that goes on into an ARRAY.
+fn into_array(
+    alloc: Global,
+    local: &Btf,
+    request: Request<'_>,
+    from: LocalSpot,
+    array: BtfArray,
+    index: usize,
+) -> Result<LocalSpot, RelocationError>
+    ensures { Tells result (into_array local.now request.entry.access.now from array index) }
+{
+    if !is_element(local, &from, array.len, index) {
+        let place = path_words(alloc, request.type_name, from.steps.as_slice())?;
+        let len = array.len as usize;
+        return invalid_access_index(alloc, request.access, place, index, len, "elements");
+    }
+    to_element(
+        local,
+        from.steps,
+        from.place.bits,
+        array.element_type,
+        index,
+    )
+}
+
+/// A path that goes on to a member of a type. A member without a name adds its bits and no step.
+fn to_member(
+    alloc: Global,
+    local: &Btf,
+    from: LocalSpot,
+    parent: u32,
+    ty: &BtfType,
+    index: usize,
+    member: &BtfMember,
+) -> Result<LocalSpot, RelocationError>
+    ensures { Tells result (to_member local.now from parent ty.now index member.now) }
+{
+    let bits = u128::from(from.place.bits) + u128::from(ty.member_bit_offset(member));
+    if member.name_offset == 0 {
+        return reached(
+            from.steps,
+            bits,
+            from.place.end,
+            from.index,
+            member.btf_type,
+        );
+    }
+    let name = local.string_at(member.name_offset)?;
+    let name = Text::from_str(alloc, name.as_str())?;
+    let mut steps = from.steps;
+    steps.push(Step::Name {
+        name,
+        local_type: member.btf_type,
+    })?;
+    reached(
+        steps,
+        bits,
+        PlaceEnd::Member { parent, index },
+        index,
+        member.btf_type,
+    )
+}
+
+/// A path that goes on into the members of a type.
+fn into_members(
+    alloc: Global,
+    local: &Btf,
+    request: Request<'_>,
+    from: LocalSpot,
+    parent: u32,
+    ty: &BtfType,
+    members: &[BtfMember],
+    index: usize,
+) -> Result<LocalSpot, RelocationError>
+    ensures { Tells result (into_members local.now request.entry.access.now from parent ty.now members.now index) }
+{
+    match members.get(index) {
+        Some(member) => to_member(alloc, local, from, parent, ty, index, member),
+        None => {
+            let place = path_words(alloc, request.type_name, from.steps.as_slice())?;
+            let len = members.len();
+            invalid_access_index(alloc, request.access, place, index, len, "members")
+        }
+    }
+}
+
+/// Where a part leads: to a member of a STRUCT or UNION, or to an element of an ARRAY.
+#[tactic(auto, unfolding(crate::specs::LocalPaths::part_step))]
+fn part_step(
+    alloc: Global,
+    local: &Btf,
+    request: Request<'_>,
+    from: LocalSpot,
+    part: usize,
+) -> Result<LocalSpot, RelocationError>
+    ensures { Tells result (part_step local.now request.entry.number request.entry.access.now from part) }
+{
+    let type_id = local.resolve_type(from.type_id)?;
+    let ty = local.type_by_id(type_id)?;
+    if let Some(members) = ty.members() {
+        return into_members(alloc, local, request, from, type_id, ty, members, part);
+    }
+    if let Some(array) = ty.array() {
+        return into_array(alloc, local, request, from, array, part);
+    }
+    let place = path_words(alloc, request.type_name, from.steps.as_slice())?;
+    invalid_kind(
+        alloc,
+        request.number,
+        request.kind,
+        place,
+        kind_words(ty.kind()),
+    )
+}
+
+/// Where parts lead, one after the other.
+#[tactic(auto, using(crate::proofs::WalkSteps::parts_over))]
+fn walk(
+    alloc: Global,
+    local: &Btf,
+    request: Request<'_>,
+    start: LocalSpot,
+    parts: &[usize],
+) -> Result<LocalSpot, RelocationError>
+    ensures { Tells result (walked local.now request.entry.number request.entry.access.now parts.now start) }
+{
+    let mut from = start;
+    for part in parts {
+        let next = part_step(alloc, local, request, from, *part)?;
+        from = next;
+    }
+    Ok(from)
+}
+
+/// The steps that the parts of an access string mean in the resolved type `type_id`, and where they lead. The first
+/// part counts in the type itself.
+#[tactic(auto, unfolding(crate::specs::LocalPaths::field_path))]
+pub fn field_path(
+    alloc: Global,
+    local: &Btf,
+    request: Request<'_>,
+    type_id: u32,
+    parts: &[usize],
+) -> Result<NamedPath, RelocationError>
+    ensures { Tells result (field_path local.now request.entry.number request.entry.access.now type_id parts.now) }
+{
+    let Some((root, parts)) = parts.split_first() else {
+        return invalid_access_string(alloc, request.access);
+    };
+    let start = to_element(local, Items::new(alloc), 0, type_id, *root)?;
+    let end = walk(alloc, local, request, start, parts)?;
+    Ok(NamedPath::Field {
+        steps: end.steps,
+        place: end.place,
+    })
+}

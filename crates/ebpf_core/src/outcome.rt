@@ -1,0 +1,191 @@
+//! What a record comes to.
+
+ghost use Rattle.std.specs.Prelude.{◌≡◌, not, filter, IfOk};
+ghost use Rattle.ebpf_core.specs.Answers.{Tells, each, of_types};
+ghost use Rattle.ebpf_core.specs.Fields.{field_value};
+ghost use Rattle.ebpf_core.specs.Outcomes.{agree, concluded, differing_names, loaded_by, local_loaded, outcome_among, settled, without_match};
+
+use crate::error::RelocationError;
+use crate::faults::invalid_kind;
+use crate::field::{FieldFault, LoadedField, field_value};
+use crate::matches::{matches_among, name_at};
+use crate::paths::{LocalPath, NamedPath};
+use crate::values::{MatchValue, match_values};
+use crate::wording::path_words;
+use ebpf_base::{Items, Text};
+use ebpf_btf::{Btf, Relocation, RelocationKind};
+use ebpf_places::{Place, Step};
+use std::alloc::Global;
+
+/// What a record comes to.
+#[derive(Clone, Copy, Debug, PartialEq, Eq)]
+pub struct Outcome {
+    /// The number that the instruction is to carry. None: there is none, and the instruction is to fail where it is
+    /// reached.
+    pub value: Option<u64>,
+    /// What is loaded of the local field, where its place is asked for and it is no bit field.
+    pub local: Option<LoadedField>,
+    /// The same of the field that was found.
+    pub target: Option<LoadedField>,
+}
+
+/// What stands where nothing matches: 0 where it is asked whether something is there, else no value.
+fn without_match(kind: RelocationKind) -> Option<u64>
+    ensures { result ≡ without_match kind }
+{
+    match kind {
+        RelocationKind::FieldExists
+        | RelocationKind::TypeExists
+        | RelocationKind::EnumVariantExists => Some(0),
+        _ => None,
+    }
+}
+
+/// What is loaded of the local field at a place.
+fn field_loaded(
+    alloc: Global,
+    local: &Btf,
+    relocation: &Relocation,
+    type_name: &str,
+    steps: &[Step],
+    place: Place,
+) -> Result<Option<LoadedField>, RelocationError>
+    ensures { Tells result (loaded_by relocation.now.number (field_value local.now relocation.now.kind place)) }
+{
+    match field_value(local, relocation.kind, place) {
+        Ok(value) => Ok(value.loaded),
+        Err(FieldFault::Types(error)) => Err(RelocationError::from(error)),
+        Err(FieldFault::OfElement) => {
+            let place = path_words(alloc, type_name, steps)?;
+            invalid_kind(
+                alloc,
+                relocation.number,
+                relocation.kind,
+                place,
+                "an element",
+            )
+        }
+    }
+}
+
+/// What is loaded of the local field. `InvalidRelocationKindForType` where the record's kind can't be asked of it,
+/// `BtfError` where its size or container is missing or a shift is negative.
+#[tactic(auto, unfolding(crate::specs::Outcomes::local_loaded))]
+fn local_loaded(
+    alloc: Global,
+    local: &Btf,
+    relocation: &Relocation,
+    path: &LocalPath,
+) -> Result<Option<LoadedField>, RelocationError>
+    ensures { Tells result (local_loaded local.now relocation.now path.now.path) }
+{
+    match &path.path {
+        NamedPath::Field { steps, place } => {
+            let type_name = path.type_name.as_str();
+            field_loaded(
+                alloc,
+                local,
+                relocation,
+                type_name,
+                steps.as_slice(),
+                *place,
+            )
+        }
+        _ => Ok(None),
+    }
+}
+
+/// The names of the types whose matches differ from the first.
+#[tactic(auto, using(crate::proofs::WalkSteps::agreeing, crate::proofs::WalkSteps::differing, crate::proofs::WalkSteps::nameless, crate::proofs::WalkSteps::others_over, crate::proofs::Refusals::also))]
+fn differing_names(
+    alloc: Global,
+    target: &Btf,
+    first: MatchValue,
+    others: &[MatchValue],
+) -> Result<Items<Text>, RelocationError>
+    ensures { Tells result (differing_names target.now first others.now) }
+{
+    let mut names = Items::new(alloc);
+    for other in others {
+        if first.agrees(*other) {
+            continue;
+        }
+        names.push(name_at(alloc, target, other.candidate)?)?;
+    }
+    Ok(names)
+}
+
+/// What matches come to: the first's value, where all others agree with it.
+#[tactic(auto, unfolding(crate::specs::Outcomes::concluded))]
+fn conclude(
+    alloc: Global,
+    target: &Btf,
+    type_name: &str,
+    kind: RelocationKind,
+    local: Option<LoadedField>,
+    values: &[MatchValue],
+) -> Result<Outcome, RelocationError>
+    ensures { Tells result (concluded target.now type_name.now kind local values.now) }
+{
+    let Some((first, others)) = values.split_first() else {
+        return Ok(Outcome {
+            value: without_match(kind),
+            local,
+            target: None,
+        });
+    };
+    let candidates = differing_names(alloc, target, *first, others)?;
+    if candidates.is_empty() {
+        return Ok(Outcome {
+            value: first.number,
+            local,
+            target: first.loaded,
+        });
+    }
+    let type_name = Text::from_str(alloc, type_name)?;
+    Err(RelocationError::ConflictingCandidates {
+        type_name,
+        candidates,
+    })
+}
+
+/// What a record comes to over its candidates, the target types that its local type may stand for, in the order of
+/// their ids.
+///
+/// Faults in this order: of matching, candidate by candidate: `BtfError` of a type, name or size that is needed, and
+/// `MaximumNestingLevelReached` with the candidate's name; of the local field, also where nothing matches:
+/// `InvalidRelocationKindForType` where the kind can't be asked of it, `BtfError` where its size or container is
+/// missing or a shift is negative; `BtfError` of a match without a size where that is asked; `ConflictingCandidates`
+/// where a later match lies at other bits than the first or has another value. `OutOfMemory` only where memory was
+/// refused.
+#[tactic(auto, unfolding(crate::specs::Outcomes::outcome_among))]
+pub fn outcome_among(
+    alloc: Global,
+    local: &Btf,
+    target: &Btf,
+    relocation: &Relocation,
+    path: &LocalPath,
+    candidates: &[u32],
+) -> Result<Outcome, RelocationError>
+    ensures { Tells result (outcome_among local.now target.now relocation.now path.now candidates.now) }
+{
+    let matches = matches_among(
+        alloc,
+        local,
+        target,
+        relocation.type_id,
+        &path.path,
+        candidates,
+    )?;
+    let loaded = local_loaded(alloc, local, relocation, path)?;
+    let values = match_values(alloc, target, relocation.kind, matches.as_slice())?;
+    let type_name = path.type_name.as_str();
+    conclude(
+        alloc,
+        target,
+        type_name,
+        relocation.kind,
+        loaded,
+        values.as_slice(),
+    )
+}

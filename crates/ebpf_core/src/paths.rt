@@ -1,0 +1,159 @@
+//! What a record says of its local type.
+
+ghost use Rattle.std.specs.Prelude.{◌≡◌};
+ghost use Rattle.ebpf_core.specs.Answers.{Tells};
+ghost use Rattle.ebpf_core.specs.LocalPaths.{local_path, lone, named_variant, path_for, type_path, variant_path};
+ghost use Rattle.ebpf_core.specs.Subjects.{subject_of};
+
+use crate::access::access_parts;
+use crate::error::RelocationError;
+use crate::faults::{invalid_access_index, invalid_access_string, invalid_kind};
+use crate::local_walk::field_path;
+use crate::subject::{Subject, subject_of};
+use crate::wording::{Request, kind_words};
+use ebpf_base::{Items, Text};
+use ebpf_btf::{Btf, BtfType, BtfVariant, Relocation};
+use ebpf_places::{Place, Step};
+use std::alloc::Global;
+
+/// What a record asks about, by the names that its local type has.
+#[derive(Debug, Drop)]
+pub enum NamedPath {
+    /// The type as a whole.
+    WholeType,
+    /// The variant of an enumeration with a name.
+    Variant { name: Text },
+    /// The field that the steps lead to, which lies at `place` in the local type.
+    Field { steps: Items<Step>, place: Place },
+}
+
+/// The local side of a record.
+#[derive(Debug, Drop)]
+pub struct LocalPath {
+    /// The name of the local type.
+    pub type_name: Text,
+    /// What is asked about in it.
+    pub path: NamedPath,
+}
+
+/// The only part.
+fn lone(parts: &[usize]) -> Option<usize>
+    ensures { result ≡ lone parts.now }
+{
+    match parts {
+        [part] => Some(*part),
+        _ => None,
+    }
+}
+
+/// The path of a record on a type, whose string is one 0.
+fn type_path(alloc: Global, access: &str, parts: &[usize]) -> Result<NamedPath, RelocationError>
+    ensures { Tells result (type_path access.now parts.now) }
+{
+    if lone(parts) == Some(0) {
+        return Ok(NamedPath::WholeType);
+    }
+    invalid_access_string(alloc, access)
+}
+
+/// The path of a record on a variant.
+fn named_variant(
+    alloc: Global,
+    local: &Btf,
+    variant: BtfVariant,
+) -> Result<NamedPath, RelocationError>
+    ensures { Tells result (named_variant local.now variant) }
+{
+    let name = local.string_at(variant.name_offset)?;
+    Ok(NamedPath::Variant {
+        name: Text::from_str(alloc, name.as_str())?,
+    })
+}
+
+/// The path of a record on a variant of a type, by the variant's number.
+#[tactic(auto, unfolding(crate::specs::LocalPaths::variant_path))]
+fn variant_path(
+    alloc: Global,
+    local: &Btf,
+    request: Request<'_>,
+    ty: &BtfType,
+    parts: &[usize],
+) -> Result<NamedPath, RelocationError>
+    ensures { Tells result (variant_path local.now request.entry.number request.entry.access.now ty.now parts.now) }
+{
+    let Some(count) = ty.variant_count() else {
+        let place = Text::from_str(alloc, request.type_name)?;
+        return invalid_kind(
+            alloc,
+            request.number,
+            request.kind,
+            place,
+            kind_words(ty.kind()),
+        );
+    };
+    let Some(part) = lone(parts) else {
+        return invalid_access_string(alloc, request.access);
+    };
+    match ty.variant(part) {
+        Some(variant) => named_variant(alloc, local, variant),
+        None => {
+            let place = Text::from_str(alloc, request.type_name)?;
+            invalid_access_index(alloc, request.access, place, part, count, "variants")
+        }
+    }
+}
+
+/// The path of a record in its resolved local type.
+fn path_for(
+    alloc: Global,
+    local: &Btf,
+    request: Request<'_>,
+    type_id: u32,
+    parts: &[usize],
+) -> Result<NamedPath, RelocationError>
+    ensures { Tells result (path_for local.now request.entry.number request.entry.access.now type_id parts.now (subject_of request.entry.kind)) }
+{
+    match subject_of(request.kind) {
+        Subject::WholeType => type_path(alloc, request.access, parts),
+        Subject::Variant => {
+            let ty = local.type_by_id(type_id)?;
+            variant_path(alloc, local, request, ty, parts)
+        }
+        Subject::Field => field_path(alloc, local, request, type_id, parts),
+    }
+}
+
+/// The local side of a record: the name of its type, and what its access string means there.
+///
+/// Faults in this order: `BtfError` of the type, its name or the string; `InvalidAccessString` where a piece between
+/// colons is no `usize`, `MaximumNestingLevelReached` where there are more than 64; `BtfError` where the type can't
+/// be resolved. Then, of a record on a type, `InvalidAccessString` where the string isn't one 0. On a variant
+/// `InvalidRelocationKindForType` where the type is no enumeration, `InvalidAccessString` where there is more than
+/// one part, `InvalidAccessIndex` where there is no such variant, `BtfError` of its name. On a field, part by part,
+/// `BtfError` of a size, a type or a name, or where the field lies past 4,294,967,295 bits; `InvalidAccessIndex`
+/// past the members or elements; `InvalidRelocationKindForType` in a type that has neither. `OutOfMemory` only where
+/// memory was refused.
+#[tactic(auto, unfolding(crate::specs::LocalPaths::local_path))]
+pub fn local_path(
+    alloc: Global,
+    local: &Btf,
+    relocation: &Relocation,
+) -> Result<LocalPath, RelocationError>
+    ensures { Tells result (local_path local.now relocation.now) }
+{
+    let type_name = local.type_name(local.type_by_id(relocation.type_id)?)?;
+    let access = local.string_at(relocation.access_str_off)?;
+    let parts = access_parts(alloc, type_name.as_str(), access.as_str())?;
+    let type_id = local.resolve_type(relocation.type_id)?;
+    let request = Request {
+        number: relocation.number,
+        kind: relocation.kind,
+        access: access.as_str(),
+        type_name: type_name.as_str(),
+    };
+    let path = path_for(alloc, local, request, type_id, parts.as_slice())?;
+    Ok(LocalPath {
+        type_name: Text::from_str(alloc, type_name.as_str())?,
+        path,
+    })
+}
