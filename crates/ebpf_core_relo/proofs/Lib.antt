@@ -1,0 +1,4 @@
+pub mod Grouped
+pub mod PutSlots
+pub mod Rewritten
+pub mod Tops

@@ -1,0 +1,156 @@
+-- The first span that holds an offset, found by the greatest end up to each span.
+use Rattle.std.proofs.Common.{◌≡◌, ℕ, zero, suc, ◌/◌, ◌<◌, ◌≤◌, Bool, true, false, ◌&&◌, if◌then◌else◌, List, [], ◌∷◌, ◌++◌, length, get_or, max, Option, Some, None, refl, sym, ap, subst, ◌∙◌, arith, ltb, leb, inl, inr, ◌⊎◌}
+use Rattle.std.specs.Prelude.{find, slice_get}
+use Rattle.std.proofs.Math.Nat.{le-max_left, le-max_right, max-le}
+use Rattle.std.specs.List.Sorted.{IsPartitionPoint, IsPartitionedBy}
+use Rattle.std.proofs.lemmas.Bool.{leb-true, leb-false, lt-leb, le-leb, lt-ltb, le-ltb, cases_lt}
+use Rattle.ebpf_core_relo.specs.declared.spans.Span.{Span}
+use Rattle.ebpf_core_relo.specs.Spans.{holds, span_at, held}
+use Rattle.ebpf_core_relo.specs.SpanLists.{IsTopped, last_start, last_top, rises, tops}
+
+first : (a b : Bool) → (a && b) ≡ true → a ≡ true
+first true b h = refl
+first false b h = h
+
+second : (a b : Bool) → (a && b) ≡ true → b ≡ true
+second true b h = h
+second false b h = cc
+
+none_by : (a b : Bool) → a ≡ false → (a && b) ≡ false
+none_by true b h = cc
+none_by false b h = refl
+
+none_after : (a b : Bool) → b ≡ false → (a && b) ≡ false
+none_after true b h = h
+none_after false b h = refl
+
+passed : (offset : ℕ) (s : Span) (ss : List Span) → holds offset s ≡ false → span_at offset (s ∷ ss) ≡ span_at offset ss
+passed offset s ss misses = rw misses refl
+
+-- spans that begin behind the offset
+none_past : (offset place : ℕ) (spans : List Span) → offset < place → rises place spans ≡ true → span_at offset spans ≡ None
+none_past offset place [] lt rising = refl
+none_past offset place (s ∷ ss) lt rising =
+    let begins = leb-true place s.start (first (leb place s.start) (rises s.start ss) rising) in
+    passed offset s ss (none_by (leb s.start offset) (ltb (offset / 8) s.end) (lt-leb s.start offset (omega arith)))
+    ∙ none_past offset s.start ss (omega arith) (second (leb place s.start) (rises s.start ss) rising)
+
+past_max : (x m e : ℕ) → m ≤ x → x < max m e → x < e
+past_max x m e le lt = elim (cases_lt x e) [
+  | inl is ↦ is
+  | inr above ↦ let most = max-le {a = m} {b = e} {k = x} le above in omega arith
+]
+
+here_begun : (offset place : ℕ) (s : Span) (ss : List Span) → offset / 8 < s.end → leb s.start offset ≡ true → span_at offset (s ∷ ss) ≡ held offset (Some s)
+here_begun offset place s ss lt begun = rw (begun, lt-ltb (offset / 8) s.end lt) refl
+
+here_later : (offset place : ℕ) (s : Span) (ss : List Span) → rises place (s ∷ ss) ≡ true → leb s.start offset ≡ false → span_at offset (s ∷ ss) ≡ held offset (Some s)
+here_later offset place s ss rising later =
+    rw later (none_past offset s.start ss (leb-false s.start offset later) (second (leb place s.start) (rises s.start ss) rising))
+
+-- the span at which the greatest end first passes the offset
+here : (offset place : ℕ) (s : Span) (ss : List Span) → rises place (s ∷ ss) ≡ true → offset / 8 < s.end → span_at offset (s ∷ ss) ≡ held offset (Some s)
+here offset place s ss rising lt =
+    elim (leb s.start offset) as (λ b. leb s.start offset ≡ b → span_at offset (s ∷ ss) ≡ held offset (Some s)) [
+      | true ↦ λ begun. here_begun offset place s ss lt begun
+      | false ↦ λ later. here_later offset place s ss rising later
+    ] refl
+
+-- no end before it passes the offset, and its own does
+pub found : (offset place top : ℕ) (spans : List Span) (i : ℕ) → top ≤ offset / 8 → rises place spans ≡ true
+    → ((j : ℕ) → j < i → get_or (tops top spans) j 0 ≤ offset / 8)
+    → (i < length spans → offset / 8 < get_or (tops top spans) i 0)
+    → span_at offset spans ≡ held offset (slice_get spans i)
+found offset place top [] i le rising before at = refl
+found offset place top (s ∷ ss) zero le rising before at =
+    here offset place s ss rising (past_max (offset / 8) top s.end le (at (omega arith)))
+found offset place top (s ∷ ss) (suc i) le rising before at =
+    let own : max top s.end ≤ offset / 8 = before 0 (omega arith) in
+    passed offset s ss (none_after (leb s.start offset) (ltb (offset / 8) s.end) (le-ltb (offset / 8) s.end (let end = le-max_right top s.end in omega arith)))
+    ∙ found offset s.start (max top s.end) ss i own (second (leb place s.start) (rises s.start ss) rising)
+    (λ j lt. before (suc j) (omega arith))
+    (λ lt. at (omega arith))
+
+-- the greatest ends never fall
+tops_from : (top : ℕ) (spans : List Span) (j d : ℕ) → j < length spans → top ≤ get_or (tops top spans) j d
+tops_from top [] j d lt = absurd (omega arith)
+tops_from top (s ∷ ss) zero d lt = le-max_left top s.end
+tops_from top (s ∷ ss) (suc j) d lt =
+    let here_up = le-max_left top s.end in
+    let later = tops_from (max top s.end) ss j d (omega arith) in
+    omega arith
+
+length_tops : (top : ℕ) (spans : List Span) → length (tops top spans) ≡ length spans
+length_tops top [] = refl
+length_tops top (s ∷ ss) = ap suc (length_tops (max top s.end) ss)
+
+rising_tops : (top : ℕ) (spans : List Span) (i j d : ℕ) → i ≤ j → j < length spans → get_or (tops top spans) i d ≤ get_or (tops top spans) j d
+rising_tops top [] i j d le lt = absurd (omega arith)
+rising_tops top (s ∷ ss) zero zero d le lt = omega arith
+rising_tops top (s ∷ ss) zero (suc j) d le lt = tops_from (max top s.end) ss j d (omega arith)
+rising_tops top (s ∷ ss) (suc i) zero d le lt = absurd (omega arith)
+rising_tops top (s ∷ ss) (suc i) (suc j) d le lt = rising_tops (max top s.end) ss i j d (omega arith) (omega arith)
+
+-- so those that are not past a number come first
+pub parted : (top : ℕ) (spans : List Span) (x : ℕ) → IsPartitionedBy (λ end. leb end x) (tops top spans)
+parted top spans x i j d le lt h =
+    let inside : j < length spans = subst (λ n. j < n) (length_tops top spans) lt in
+    let rising = rising_tops top spans i j d le inside in
+    let below = leb-true (get_or (tops top spans) j d) x h in
+    le-leb (get_or (tops top spans) i d) x (omega arith)
+
+-- the span at the number of ends that are not past the slot
+pub found_by : (offset : ℕ) (spans : List Span) (ends : List ℕ) (i : ℕ) → ends ≡ tops 0 spans → rises 0 spans ≡ true
+    → IsPartitionPoint (λ end. leb end (offset / 8) ≡ true) (λ end. leb end (offset / 8) ≡ false) ends i
+    → held offset (slice_get spans i) ≡ span_at offset spans
+found_by offset spans ends i is rising at =
+    let parts = subst (λ (es : List ℕ). IsPartitionPoint (λ end. leb end (offset / 8) ≡ true) (λ end. leb end (offset / 8) ≡ false) es i) is at in
+    sym (found offset 0 0 spans i (omega arith) rising
+    (λ j lt. leb-true (get_or (tops 0 spans) j 0) (offset / 8) (parts.0 j 0 (omega arith) lt))
+    (λ lt. leb-false (get_or (tops 0 spans) i 0) (offset / 8) (parts.1 i 0 (omega arith) (subst (λ n. i < n) (sym (length_tops 0 spans)) lt))))
+
+-- ---- one more span
+
+tops_more : (top : ℕ) (spans : List Span) (s : Span) → tops top (spans ++ s ∷ []) ≡ tops top spans ++ max (last_top top spans) s.end ∷ []
+tops_more top [] s = refl
+tops_more top (x ∷ spans) s = ap (λ es. max top x.end ∷ es) (tops_more (max top x.end) spans s)
+
+last_top_more : (top : ℕ) (spans : List Span) (s : Span) → last_top top (spans ++ s ∷ []) ≡ max (last_top top spans) s.end
+last_top_more top [] s = refl
+last_top_more top (x ∷ spans) s = last_top_more (max top x.end) spans s
+
+last_start_more : (place : ℕ) (spans : List Span) (s : Span) → last_start place (spans ++ s ∷ []) ≡ s.start
+last_start_more place [] s = refl
+last_start_more place (x ∷ spans) s = last_start_more x.start spans s
+
+and_true : (b : Bool) → (b && true) ≡ b
+and_true true = refl
+and_true false = refl
+
+and_assoc : (a b c : Bool) → (a && (b && c)) ≡ ((a && b) && c)
+and_assoc true b c = refl
+and_assoc false b c = refl
+
+rises_more : (place : ℕ) (spans : List Span) (s : Span) → rises place (spans ++ s ∷ []) ≡ (rises place spans && leb (last_start place spans) s.start)
+rises_more place [] s = and_true (leb place s.start)
+rises_more place (x ∷ spans) s =
+    ap (λ b. leb place x.start && b) (rises_more x.start spans s) ∙ and_assoc (leb place x.start) (rises x.start spans) (leb (last_start x.start spans) s.start)
+
+topped_more : (spans : List Span) (ends : List ℕ) (top start : ℕ) (is_rising : Bool) (s : Span) → IsTopped spans ends top start is_rising
+    → IsTopped (spans ++ s ∷ []) (ends ++ max top s.end ∷ []) (max top s.end) s.start (is_rising && leb start s.start)
+topped_more spans ends top start is_rising s h = record {
+  ends_are = ap (λ es. es ++ max top s.end ∷ []) h.ends_are ∙ ap (λ t. tops 0 spans ++ max t s.end ∷ []) h.top_is ∙ sym (tops_more 0 spans s);
+  top_is = ap (λ t. max t s.end) h.top_is ∙ sym (last_top_more 0 spans s);
+  start_is = sym (last_start_more 0 spans s);
+  rising_is = ap (λ b. b && leb start s.start) h.rising_is ∙ ap (λ p. rises 0 spans && leb p s.start) h.start_is ∙ sym (rises_more 0 spans s);
+}
+
+pub topped_by : (spans : List Span) (ends : List ℕ) (top start : ℕ) (is_rising : Bool) (s : Span) (spans' : List Span) (kept ends' : List ℕ) (top' : ℕ) (is_rising' : Bool)
+    → IsTopped spans ends top start is_rising → spans' ≡ spans ++ s ∷ [] → kept ≡ ends → ends' ≡ kept ++ top' ∷ [] → top' ≡ max top s.end → is_rising' ≡ (is_rising && leb start s.start)
+    → IsTopped spans' ends' top' s.start is_rising'
+topped_by spans ends top start is_rising s spans' kept ends' top' is_rising' h a b c d e = record {
+  ends_are = c ∙ ap (λ es. es ++ top' ∷ []) b ∙ ap (λ t. ends ++ t ∷ []) d ∙ (topped_more spans ends top start is_rising s h).ends_are ∙ sym (ap (tops 0) a);
+  top_is = d ∙ (topped_more spans ends top start is_rising s h).top_is ∙ sym (ap (last_top 0) a);
+  start_is = (topped_more spans ends top start is_rising s h).start_is ∙ sym (ap (last_start 0) a);
+  rising_is = e ∙ (topped_more spans ends top start is_rising s h).rising_is ∙ sym (ap (rises 0) a);
+}

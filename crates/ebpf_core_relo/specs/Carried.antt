@@ -1,0 +1,124 @@
+-- What the slots of a function become that carry the outcome of a record (RFC 9669, sections 3 to 5; the kernel's
+-- tools/lib/bpf/relo_core.c, bpf_core_patch_insn and bpf_core_poison_insn).
+use Rattle.std.specs.Prelude.{ℕ, ◌+◌, ◌*◌, ◌/◌, ◌%◌, ◌^◌, ◌==◌, nat_lt, ℤ, pos, Bool, true, false, List, [], length, Option, Some, None, option_map, Result, Ok, Err, slice_get, slice_set, if◌then◌else◌}
+use Rattle.std.specs.Int.{w32, cast_signed}
+use Rattle.ebpf_btf.specs.Next.{if_some}
+use Rattle.ebpf_core.specs.declared.error.RelocationError.{RelocationError}
+use Rattle.ebpf_core.specs.declared.error.RelocationError.TheVariants.{InvalidInstruction, InvalidInstructionIndex}
+use Rattle.ebpf_core.specs.declared.field.FieldClass.{FieldClass}
+use Rattle.ebpf_core.specs.declared.field.FieldClass.TheVariants.{Pointer, UnsignedInt}
+use Rattle.ebpf_core.specs.declared.field.LoadedField.{LoadedField}
+use Rattle.ebpf_core.specs.declared.outcome.Outcome.{Outcome}
+use Rattle.ebpf_core_relo.specs.declared.carried.Carrier.{Carrier}
+use Rattle.ebpf_core_relo.specs.declared.carried.Carrier.TheVariants.{Immediate, Offset, Wide, Nothing}
+use Rattle.ebpf_parts.specs.declared.insn.bpf_insn.{bpf_insn}
+use Rattle.ebpf_parts.specs.Slots.{src_of}
+
+-- ---- one slot
+
+-- where a slot carries a number, by its class in the low three bits: arithmetic (4 and 7) in the immediate, a load or
+-- store through a register (1, 2 and 3) in the offset, a wide load (0) in two immediates, a jump (5 and 6) nowhere
+abbrev pub carrier_of_class : ℕ → Carrier
+carrier_of_class class =
+    if class == 0 then Wide
+    else (if class == 4 then Immediate
+    else (if class == 5 then Nothing
+    else (if class == 6 then Nothing
+    else (if class == 7 then Immediate else Offset))))
+
+abbrev pub carrier_of : bpf_insn → Carrier
+carrier_of slot = carrier_of_class (slot.code % 8)
+
+-- the 32 low bits of a number, and the 32 bits above them, as immediates
+abbrev pub low_half : ℕ → ℤ
+low_half number = cast_signed w32 (number % 2 ^ 32)
+
+abbrev pub high_half : ℕ → ℤ
+high_half number = cast_signed w32 (number / 2 ^ 32)
+
+-- the bits of a load's or store's code that say how many bytes it moves
+abbrev pub size_bits : ℕ → Option ℕ
+size_bits size =
+    if size == 8 then Some 0x18
+    else (if size == 4 then Some 0x00
+    else (if size == 2 then Some 0x08
+    else (if size == 1 then Some 0x10 else None)))
+
+-- a code that moves so many bytes
+abbrev pub resized : ℕ → ℕ → Option ℕ
+resized code size = option_map (λ bits. code / 32 * 32 + bits + code % 8) (size_bits size)
+
+-- whether a load of the one may become a load of the other: of pointers, and of integers without a sign
+unfoldable pub may_resize : FieldClass → FieldClass → Bool
+may_resize Pointer Pointer = true
+may_resize UnsignedInt UnsignedInt = true
+may_resize _ _ = false
+
+abbrev pub resized_to : ℕ → LoadedField → LoadedField → Option ℕ
+resized_to code local target =
+    if local.size == target.size then Some code
+    else (if may_resize local.class target.class then resized code target.size else None)
+
+-- The code of a load or store that moves the field that was found in place of the local one. A bit field has no size:
+-- on one side alone it can't be moved.
+unfoldable pub moved_code : ℕ → Option LoadedField → Option LoadedField → Option ℕ
+moved_code code None None = Some code
+moved_code code None (Some target) = None
+moved_code code (Some local) None = None
+moved_code code (Some local) (Some target) = resized_to code local target
+
+abbrev pub with_offset : bpf_insn → ℕ → Outcome → Option bpf_insn
+with_offset slot number outcome =
+    if nat_lt number (2 ^ 15)
+    then option_map (λ code. record slot { code = code; off = pos number }) (moved_code slot.code outcome.local outcome.target)
+    else None
+
+-- a slot that carries a number, if it can
+unfoldable pub carried_by : Carrier → bpf_insn → ℕ → Outcome → Option bpf_insn
+carried_by Immediate slot number outcome = if src_of slot == 0 then Some (record slot { imm = low_half number }) else None
+carried_by Offset slot number outcome = with_offset slot number outcome
+carried_by Wide slot number outcome = Some (record slot { imm = low_half number })
+carried_by Nothing slot number outcome = None
+
+-- a slot that fails where it is reached: a call of a helper function that no kernel has
+abbrev pub poison : bpf_insn
+poison = record { code = 0x85; regs = 0; off = pos 0; imm = pos 195896080 }
+
+-- ---- the slots of a function
+
+-- slot i, and where there are two, the one behind it as well; a second one that is not there is a fault
+abbrev pub both_written : ℕ → List bpf_insn → ℕ → bpf_insn → (bpf_insn → bpf_insn) → Result (List bpf_insn) RelocationError
+both_written record_number slots i first second =
+    if_some (slice_get slots (i + 1))
+    (λ next. Ok (slice_set (slice_set slots i first) (i + 1) (second next)))
+    (Err (InvalidInstructionIndex (i + 1) (length slots) record_number))
+
+-- a load of a number of 64 bits takes two slots
+abbrev pub poisoned : ℕ → List bpf_insn → ℕ → bpf_insn → Result (List bpf_insn) RelocationError
+poisoned record_number slots i slot =
+    if slot.code == 0x18 then both_written record_number slots i poison (λ next. poison) else Ok (slice_set slots i poison)
+
+abbrev pub is_wide : Carrier → Bool
+is_wide Wide = true
+is_wide _ = false
+
+-- a slot that carries a number, and of a wide load the one behind it
+abbrev pub laid : ℕ → List bpf_insn → ℕ → bpf_insn → bpf_insn → ℕ → Result (List bpf_insn) RelocationError
+laid record_number slots i slot carrying number =
+    if is_wide (carrier_of slot)
+    then both_written record_number slots i carrying (λ next. record next { imm = high_half number })
+    else Ok (slice_set slots i carrying)
+
+abbrev pub numbered : ℕ → List bpf_insn → ℕ → bpf_insn → ℕ → Outcome → Result (List bpf_insn) RelocationError
+numbered record_number slots i slot number outcome =
+    if_some (carried_by (carrier_of slot) slot number outcome)
+    (λ carrying. laid record_number slots i slot carrying number)
+    (Err (InvalidInstruction record_number i []))
+
+-- The slots of a function of which slot i carries the outcome of the record with a number. Slot i is there; of a
+-- function without it the answer is the fault of a slot that is not there.
+unfoldable pub written : ℕ → List bpf_insn → ℕ → Outcome → Result (List bpf_insn) RelocationError
+written record_number slots i outcome =
+    if_some (slice_get slots i)
+    (λ slot. if_some outcome.value (λ number. numbered record_number slots i slot number outcome) (poisoned record_number slots i slot))
+    (Err (InvalidInstructionIndex i (length slots) record_number))

@@ -1,0 +1,118 @@
+-- What the CO-RE records of an object make of the slots of its functions (the kernel's
+-- Documentation/bpf/llvm_reloc.rst, "CO-RE Relocations"; Documentation/bpf/btf.rst, 4.2).
+use Rattle.std.specs.Prelude.{ℕ, ◌-◌, ◌/◌, List, [], ◌∷◌, ◌++◌, Option, Some, None, Result, Ok, Err, codes}
+use Rattle.std.specs.FinMap.{FinMap, empty, get, insert}
+use Rattle.std.specs.Fmt.{decimal}
+use Rattle.ebpf_base.specs.Keys.{key_cmp, text_cmp}
+use Rattle.ebpf_btf.specs.declared.relocation.Relocation.{Relocation}
+use Rattle.ebpf_btf.specs.Next.{if_some}
+use Rattle.ebpf_btf.specs.Strings.{text_at}
+use Rattle.ebpf_btf.specs.TypeInfo.{TypeInfo}
+use Rattle.ebpf_core.specs.Answers.{if_ok}
+use Rattle.ebpf_core.specs.Searches.{outcome_of}
+use Rattle.ebpf_core.specs.Sides.{Sides}
+use Rattle.ebpf_core.specs.declared.error.RelocationError.{RelocationError}
+use Rattle.ebpf_core.specs.declared.error.RelocationError.TheVariants.{BtfError, FunctionNotFound, SectionNotFound}
+use Rattle.ebpf_core_relo.specs.Answers.{fault_in}
+use Rattle.ebpf_core_relo.specs.Carried.{written}
+use Rattle.ebpf_core_relo.specs.Places.{spans_of}
+use Rattle.ebpf_core_relo.specs.Spans.{span_at}
+use Rattle.ebpf_core_relo.specs.declared.error.BtfRelocationError.{BtfRelocationError}
+use Rattle.ebpf_core_relo.specs.declared.spans.Span.{Span}
+use Rattle.ebpf_elf.specs.declared.entries.SectionIndex.{SectionIndex}
+use Rattle.ebpf_parts.specs.declared.insn.bpf_insn.{bpf_insn}
+use Rattle.ebpf_reloc.specs.declared.function.Function.{Function}
+
+-- the slots that records have written so far, by the functions' keys
+abbrev pub Written : Type 0
+Written = FinMap key_cmp (List bpf_insn)
+
+-- what records read: the two sides of types, the functions as they stood, and the sections' numbers by name
+pub record Scene : Type 0 where
+  pub sides : Sides
+  pub functions : FinMap key_cmp Function
+  pub section_infos : FinMap text_cmp SectionIndex
+
+abbrev pub scene_of : Sides → FinMap key_cmp Function → FinMap text_cmp SectionIndex → Scene
+scene_of sides functions infos = record { sides = sides; functions = functions; section_infos = infos }
+
+-- ---- one record
+
+-- a function's own slots
+abbrev pub own_slots : Option Function → List bpf_insn
+own_slots None = []
+own_slots (Some f) = f.instructions
+
+-- a function's slots as records have left them
+abbrev pub slots_by : Option (List bpf_insn) → Option Function → List bpf_insn
+slots_by (Some slots) f = slots
+slots_by None f = own_slots f
+
+abbrev pub slots_at : FinMap key_cmp Function → Written → ℕ × ℕ → List bpf_insn
+slots_at functions so_far key = slots_by (get so_far key) (get functions key)
+
+-- the outcome of a record in the slot of a function that begins at a place
+unfoldable pub put_outcome : Scene → ℕ → Written → Relocation → Span → Result Written RelocationError
+put_outcome scene section so_far r span =
+    if_ok (outcome_of scene.sides.local scene.sides.target r) (λ outcome.
+    if_ok (written r.number (slots_at scene.functions so_far (section, span.address)) ((r.insn_off - span.start) / 8) outcome) (λ slots.
+    Ok (insert so_far (section, span.address) slots)))
+
+-- A record is about the function of its section that holds its instruction, the one with the lowest address.
+unfoldable pub record_applied : Scene → ℕ → Written → Relocation → Result Written RelocationError
+record_applied scene section so_far r =
+    if_some (span_at r.insn_off (spans_of scene.functions section)) (put_outcome scene section so_far r) (Err FunctionNotFound)
+
+-- ---- records in order
+
+-- the records of a section, one after the other
+abbrev pub records_applied : Scene → ℕ → List Relocation → Written → Result Written RelocationError
+records_applied scene section [] so_far = Ok so_far
+records_applied scene section (r ∷ rs) so_far = if_ok (record_applied scene section so_far r) (records_applied scene section rs)
+
+-- a fault in a section, by the section's name
+abbrev pub in_section : {X : Type 0} → List ℕ → Result X RelocationError → Result X BtfRelocationError
+in_section name (Ok x) = Ok x
+in_section name (Err e) = Err (fault_in name e)
+
+-- the text that stands for the name at an offset that can't be read
+abbrev pub unnamed_section : ℕ → List ℕ
+unnamed_section offset = codes "section@" ++ decimal offset
+
+-- the records of the section of a name
+abbrev pub section_applied : Scene → List ℕ → List Relocation → Written → Result Written RelocationError
+section_applied scene name rs so_far =
+    if_some (get scene.section_infos name) (λ section. records_applied scene section.0 rs so_far) (Err SectionNotFound)
+
+-- the records of the section whose name stands at an offset
+abbrev pub named_applied : Scene → ℕ × List Relocation → Written → Result Written BtfRelocationError
+named_applied scene part so_far =
+    elim (text_at scene.sides.local.strings part.0) [
+      | Ok name ↦ in_section name (section_applied scene name part.1 so_far)
+      | Err e ↦ in_section (unnamed_section part.0) (Err (BtfError e))
+    ]
+
+-- all records, section by section
+abbrev pub all_applied : Scene → List (ℕ × List Relocation) → Written → Result Written BtfRelocationError
+all_applied scene [] so_far = Ok so_far
+all_applied scene (part ∷ parts) so_far = if_ok (named_applied scene part so_far) (all_applied scene parts)
+
+-- the slots that the records of an object write, each over those before it, or the first fault
+abbrev pub slots_written : Scene → List (ℕ × List Relocation) → Result Written BtfRelocationError
+slots_written scene parts = all_applied scene parts empty
+
+abbrev pub scene_between : TypeInfo → TypeInfo → FinMap key_cmp Function → FinMap text_cmp SectionIndex → Scene
+scene_between local target functions infos = scene_of (record { local = local; target = target }) functions infos
+
+-- ---- the functions with these slots
+
+-- a function with the slots that were written, if some were
+abbrev pub with_slots : Option (List bpf_insn) → Option Function → Option Function
+with_slots written None = None
+with_slots None (Some f) = Some f
+with_slots (Some slots) (Some f) = Some (record f { instructions = slots })
+
+-- functions of which the one at a key, if it is there, has these slots
+abbrev pub with_slots_at : FinMap key_cmp Function → ℕ × ℕ → List bpf_insn → Option Function → FinMap key_cmp Function
+with_slots_at functions key slots None = functions
+with_slots_at functions key slots (Some f) = insert functions key (record f { instructions = slots })

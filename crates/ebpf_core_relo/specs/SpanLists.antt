@@ -1,0 +1,28 @@
+-- What is kept of spans beside their list: the greatest end up to each, and whether they begin one behind the other.
+use Rattle.std.specs.Prelude.{◌≡◌, ℕ, Bool, true, ◌&&◌, List, [], ◌∷◌, nat_le, max}
+use Rattle.ebpf_core_relo.specs.declared.spans.Span.{Span}
+
+-- the greatest end up to each span, and no less than one given
+abbrev pub tops : ℕ → List Span → List ℕ
+tops top [] = []
+tops top (s ∷ spans) = max top s.end ∷ tops (max top s.end) spans
+
+-- whether each begins no earlier than the one before it, and the first no earlier than a place
+abbrev pub rises : ℕ → List Span → Bool
+rises place [] = true
+rises place (s ∷ spans) = nat_le place s.start && rises s.start spans
+
+-- the greatest end of all, and the place where the last one begins
+abbrev pub last_top : ℕ → List Span → ℕ
+last_top top [] = top
+last_top top (s ∷ spans) = last_top (max top s.end) spans
+
+abbrev pub last_start : ℕ → List Span → ℕ
+last_start place [] = place
+last_start place (s ∷ spans) = last_start s.start spans
+
+pub record IsTopped (spans : List Span) (ends : List ℕ) (top start : ℕ) (is_rising : Bool) : Type 0 where
+  pub ends_are : ends ≡ tops 0 spans
+  pub top_is : top ≡ last_top 0 spans
+  pub start_is : start ≡ last_start 0 spans
+  pub rising_is : is_rising ≡ rises 0 spans

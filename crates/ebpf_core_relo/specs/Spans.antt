@@ -1,0 +1,16 @@
+-- The places that functions take in the data of their section, and which of them holds an offset.
+use Rattle.std.specs.Prelude.{ℕ, ◌/◌, Bool, ◌&&◌, List, Option, Some, None, find, nat_le, nat_lt, if◌then◌else◌}
+use Rattle.ebpf_core_relo.specs.declared.spans.Span.{Span}
+
+-- whether an offset, in bytes, lies in a span: behind its start, and in a slot before its end
+abbrev pub holds : ℕ → Span → Bool
+holds offset span = nat_le span.start offset && nat_lt (offset / 8) span.end
+
+-- the first span that holds an offset
+abbrev pub span_at : ℕ → List Span → Option Span
+span_at offset spans = find (holds offset) spans
+
+-- a span, where it begins no later than an offset
+abbrev pub held : ℕ → Option Span → Option Span
+held offset None = None
+held offset (Some s) = if nat_le s.start offset then Some s else None

@@ -1,0 +1,270 @@
+//! Slots that carry the outcome of a record.
+
+ghost use Rattle.std.specs.Prelude.{◌≡◌, ◌<◌, ◌≤◌, ⊤, MatchBool, [], length, slice_index_or, Some, Ok, Err, IfErr, IfSome, OnOk};
+ghost use Rattle.ebpf_core.specs.Answers.{Tells, told};
+ghost use Rattle.ebpf_core.specs.Memory.{is_memory};
+ghost use Rattle.ebpf_core.specs.declared.error.RelocationError.TheVariants as errors;
+ghost use Rattle.ebpf_core_relo.specs.Carried.{carrier_of, carried_by, high_half, laid, low_half, may_resize, moved_code, poison, poisoned, resized, resized_to, size_bits, with_offset, written};
+
+use ebpf_base::Text;
+use ebpf_core::{FieldClass, LoadedField, Outcome, RelocationError};
+use ebpf_parts::insn::bpf_insn;
+use std::alloc::Global;
+
+/// The greatest offset of a load or store.
+const GREATEST_OFFSET: u64 = 32_767;
+
+/// The code of a load of 64 bits, which takes two slots.
+const WIDE_LOAD: u8 = 0x18;
+
+/// Where a slot carries a number.
+#[derive(Clone, Copy, Debug, PartialEq, Eq)]
+pub enum Carrier {
+    /// In its immediate.
+    Immediate,
+    /// In its offset.
+    Offset,
+    /// In its immediate and that of the slot behind it.
+    Wide,
+    /// Nowhere.
+    Nothing,
+}
+
+/// Where a slot carries a number, by its class (RFC 9669, section 3.1).
+fn carrier_of(slot: &bpf_insn) -> Carrier
+    ensures { result ≡ carrier_of slot.now }
+{
+    match slot.code % 8 {
+        0 => Carrier::Wide,
+        4 | 7 => Carrier::Immediate,
+        5 | 6 => Carrier::Nothing,
+        _ => Carrier::Offset,
+    }
+}
+
+/// The 32 low bits of a number.
+fn low_half(number: u64) -> i32
+    ensures { result ≡ low_half number }
+{
+    ((number % 0x1_0000_0000) as u32).cast_signed()
+}
+
+/// The 32 high bits of a number.
+fn high_half(number: u64) -> i32
+    ensures { result ≡ high_half number }
+{
+    ((number >> 32) as u32).cast_signed()
+}
+
+/// The bits of a load's or store's code that say how many bytes it moves (RFC 9669, section 5.1).
+fn size_bits(size: u32) -> Option<u8>
+    ensures bits { result ≡ size_bits size }
+    ensures small { IfSome result (λ bits. bits ≤ 24) }
+{
+    match size {
+        8 => Some(0x18),
+        4 => Some(0x00),
+        2 => Some(0x08),
+        1 => Some(0x10),
+        _ => None,
+    }
+}
+
+/// A load's or store's code that moves so many bytes.
+fn resized(code: u8, size: u32) -> Option<u8>
+    ensures { result ≡ resized code size }
+{
+    let bits = size_bits(size)?;
+    Some(code / 32 * 32 + bits + code % 8)
+}
+
+/// Whether a load of the one may become a load of the other.
+#[tactic(auto, unfolding(crate::specs::Carried::may_resize))]
+fn may_resize(local: FieldClass, target: FieldClass) -> bool
+    ensures { result ≡ may_resize local target }
+{
+    match (local, target) {
+        (FieldClass::Pointer, FieldClass::Pointer) => true,
+        (FieldClass::UnsignedInt, FieldClass::UnsignedInt) => true,
+        _ => false,
+    }
+}
+
+/// The code that moves the field that was found in place of the local one.
+fn resized_to(code: u8, local: LoadedField, target: LoadedField) -> Option<u8>
+    ensures { result ≡ resized_to code local target }
+{
+    if local.size == target.size {
+        return Some(code);
+    }
+    if !may_resize(local.class, target.class) {
+        return None;
+    }
+    resized(code, target.size)
+}
+
+/// The same, where there may be no field with a size on either side.
+#[tactic(auto, unfolding(crate::specs::Carried::moved_code))]
+fn moved_code(code: u8, local: Option<LoadedField>, target: Option<LoadedField>) -> Option<u8>
+    ensures { result ≡ moved_code code local target }
+{
+    match (local, target) {
+        (None, None) => Some(code),
+        (Some(local), Some(target)) => resized_to(code, local, target),
+        _ => None,
+    }
+}
+
+/// A load or store that carries a number in its offset.
+fn with_offset(slot: bpf_insn, number: u64, outcome: &Outcome) -> Option<bpf_insn>
+    ensures { result ≡ with_offset slot number outcome.now }
+{
+    if number > GREATEST_OFFSET {
+        return None;
+    }
+    let code = moved_code(slot.code, outcome.local, outcome.target)?;
+    Some(bpf_insn {
+        code,
+        off: number as i16,
+        ..slot
+    })
+}
+
+/// A slot that carries a number, if it can.
+#[tactic(auto, unfolding(crate::specs::Carried::carried_by))]
+fn carried(slot: bpf_insn, number: u64, outcome: &Outcome) -> Option<bpf_insn>
+    ensures { result ≡ carried_by (carrier_of slot) slot number outcome.now }
+{
+    match carrier_of(&slot) {
+        Carrier::Immediate if slot.src_reg() != 0 => None,
+        Carrier::Immediate | Carrier::Wide => Some(bpf_insn {
+            imm: low_half(number),
+            ..slot
+        }),
+        Carrier::Offset => with_offset(slot, number, outcome),
+        Carrier::Nothing => None,
+    }
+}
+
+/// A slot that fails where it is reached.
+fn poison() -> bpf_insn
+    ensures { result ≡ poison }
+{
+    bpf_insn {
+        code: 0x85,
+        regs: 0,
+        off: 0,
+        imm: 195_896_080,
+    }
+}
+
+/// `InvalidInstructionIndex` of a slot that is not there.
+fn missing_slot<X>(
+    slots: &[bpf_insn],
+    slot: usize,
+    record_number: usize,
+) -> Result<X, RelocationError>
+    ensures { result ≡ Err (errors.InvalidInstructionIndex slot (length slots.now) record_number) }
+{
+    Err(RelocationError::InvalidInstructionIndex {
+        index: slot,
+        num_instructions: slots.len(),
+        relocation_number: record_number,
+    })
+}
+
+/// `InvalidInstruction` of a slot that can't carry a number.
+fn no_carrier<X>(
+    alloc: Global,
+    slot: usize,
+    record_number: usize,
+    code: u8,
+    number: u64,
+) -> Result<X, RelocationError>
+    ensures { Tells result (Err (errors.InvalidInstruction record_number slot [])) }
+{
+    let error = format!(in alloc; "code {code:#04x} can't carry {number}")?;
+    Err(RelocationError::InvalidInstruction {
+        relocation_number: record_number,
+        index: slot,
+        error: Text::from_string(error),
+    })
+}
+
+/// Writes a slot that fails where it is reached, and where it is a wide load the one behind it.
+fn poison_at(slots: &mut [bpf_insn], at: usize, record_number: usize) -> Result<(), RelocationError>
+    requires { at < length slots.old }
+    ensures slots { OnOk result (poisoned record_number slots.old at (slice_index_or slots.old at poison) ≡ Ok slots.new) }
+    ensures fault { IfErr result (λ e. poisoned record_number slots.old at (slice_index_or slots.old at poison) ≡ Err (told e)) }
+{
+    if slots[at].code != WIDE_LOAD {
+        slots[at] = poison();
+        return Ok(());
+    }
+    if at + 1 >= slots.len() {
+        return missing_slot(slots, at + 1, record_number);
+    }
+    slots[at] = poison();
+    slots[at + 1] = poison();
+    Ok(())
+}
+
+/// Writes the slot that carries a number, and of a wide load the one behind it.
+fn carry_at(
+    slots: &mut [bpf_insn],
+    at: usize,
+    record_number: usize,
+    carrying: bpf_insn,
+    number: u64,
+) -> Result<(), RelocationError>
+    requires { at < length slots.old }
+    ensures slots { OnOk result (laid record_number slots.old at (slice_index_or slots.old at poison) carrying number ≡ Ok slots.new) }
+    ensures fault { IfErr result (λ e. laid record_number slots.old at (slice_index_or slots.old at poison) carrying number ≡ Err (told e)) }
+{
+    if carrier_of(&slots[at]) != Carrier::Wide {
+        slots[at] = carrying;
+        return Ok(());
+    }
+    if at + 1 >= slots.len() {
+        return missing_slot(slots, at + 1, record_number);
+    }
+    let next = slots[at + 1];
+    slots[at] = carrying;
+    slots[at + 1] = bpf_insn {
+        imm: high_half(number),
+        ..next
+    };
+    Ok(())
+}
+
+/// Writes what a record came to into slot `at` of a function. After a refusal the slots are of no use.
+///
+/// # Errors
+///
+/// `InvalidInstructionIndex` where the slot, or the second slot of a wide load, is not there; `InvalidInstruction`
+/// where the slot can't carry the number: a jump, arithmetic with a source register, a load or store of a number past
+/// 32,767, or of a field of another size that is not 1, 2, 4 or 8 bytes or not a pointer or an integer without a sign
+/// on both sides. `OutOfMemory` where memory is refused.
+#[tactic(auto, unfolding(crate::specs::Carried::written))]
+pub fn write_outcome(
+    alloc: Global,
+    slots: &mut [bpf_insn],
+    at: usize,
+    record_number: usize,
+    outcome: &Outcome,
+) -> Result<(), RelocationError>
+    ensures slots { OnOk result (written record_number slots.old at outcome.now ≡ Ok slots.new) }
+    ensures fault { IfErr result (λ e. MatchBool (is_memory e) ⊤ (written record_number slots.old at outcome.now ≡ Err (told e))) }
+{
+    let Some(slot) = slots.get(at) else {
+        return missing_slot(slots, at, record_number);
+    };
+    let slot = *slot;
+    let Some(number) = outcome.value else {
+        return poison_at(slots, at, record_number);
+    };
+    let Some(carrying) = carried(slot, number, outcome) else {
+        return no_carrier(alloc, at, record_number, slot.code, number);
+    };
+    carry_at(slots, at, record_number, carrying, number)
+}

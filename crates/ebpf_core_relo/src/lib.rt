@@ -1,0 +1,15 @@
+//! CO-RE relocations written into the slots of functions.
+#![tactic(auto)]
+
+mod carried;
+mod error;
+mod records;
+mod relocate;
+mod scene;
+mod section_spans;
+mod sections;
+mod spans;
+
+pub use ebpf_core::RelocationError;
+pub use error::BtfRelocationError;
+pub use relocate::{put_slots, relocate_slots};

@@ -1,0 +1,82 @@
+//! The CO-RE relocations of an object.
+
+ghost use Rattle.std.specs.Prelude.{◌≡◌, ℕ, Ok, Err, IfOk, IfErr, MatchBool, []};
+ghost use Rattle.std.specs.FinMap as map;
+ghost use Rattle.ebpf_base.specs.Keys.{key_cmp};
+ghost use Rattle.ebpf_core_relo.specs.Answers.{is_memory_at, told_at};
+ghost use Rattle.ebpf_core_relo.specs.Records.{scene_between, slots_written, with_slots, with_slots_at};
+
+use crate::error::BtfRelocationError;
+use crate::scene::Places;
+use crate::sections::apply_all;
+use ebpf_base::{ByKey, ByName, Items};
+use ebpf_btf::{Btf, BtfExt};
+use ebpf_core::CoreSearch;
+use ebpf_elf::SectionIndex;
+use ebpf_parts::insn::bpf_insn;
+use ebpf_reloc::Function;
+use std::alloc::Global;
+
+/// The slots of the functions that the CO-RE relocations of an object write, by the functions' keys: each relocation's
+/// instruction carries what it asks of the target types. Sections come in order, and in a section the relocations, each
+/// over those before it. The others of a function's slots are as they were.
+///
+/// # Errors
+///
+/// The first fault, with the name of its section: `BtfError` in `section@OFFSET` where the section's name can't be
+/// read, `SectionNotFound` where the object has no section of the name, `FunctionNotFound` where no function of the
+/// section has the slot, then what the search for the type, field or variant answers, then `InvalidInstruction` and
+/// `InvalidInstructionIndex` where the slot can't carry what was found. `OutOfMemory`, with an empty name, only where
+/// memory was refused.
+pub fn relocate_slots(
+    alloc: Global,
+    functions: &ByKey<Function>,
+    section_infos: &ByName<SectionIndex>,
+    local: &Btf,
+    relocations: &BtfExt,
+    target: &Btf,
+) -> Result<ByKey<Items<bpf_insn>>, BtfRelocationError>
+    ensures slots { IfOk result (λ slots. slots_written (scene_between local.now target.now functions.now section_infos.now) relocations.now.relocations ≡ Ok slots) }
+    ensures fault { IfErr result (λ e. MatchBool (is_memory_at e) (e.section ≡ []) (slots_written (scene_between local.now target.now functions.now section_infos.now) relocations.now.relocations ≡ Err (told_at e))) }
+{
+    let Ok(places) = Places::new(alloc, functions, section_infos) else {
+        return Err(BtfRelocationError::memory(alloc));
+    };
+    let mut search = CoreSearch::new(alloc, local, target);
+    let mut written = ByKey::new(alloc);
+    apply_all(
+        alloc,
+        &mut search,
+        &places,
+        &mut written,
+        local,
+        relocations.relocations(),
+    )?;
+    Ok(written)
+}
+
+/// Puts slots in the place of a function's.
+fn set_slots(function: &mut Function, slots: Items<bpf_insn>)
+    ensures { function.new ≡ record function.old { instructions = slots } }
+{
+    function.instructions = slots;
+}
+
+/// The same of the function at a key, if there is one.
+fn set_slots_at(functions: &mut ByKey<Function>, key: (usize, u64), slots: Items<bpf_insn>)
+    ensures { functions.new ≡ with_slots_at functions.old key slots (map.get functions.old key) }
+{
+    let Some(function) = functions.get_mut(key) else {
+        return;
+    };
+    set_slots(function, slots);
+}
+
+/// Puts slots in the places of those of the functions at their keys. No memory is taken.
+pub fn put_slots(functions: &mut ByKey<Function>, written: ByKey<Items<bpf_insn>>)
+    ensures { (q : ℕ × ℕ) → map.get functions.new q ≡ with_slots (map.get written q) (map.get functions.old q) }
+{
+    for (key, slots) in written.into_map() {
+        set_slots_at(functions, key, slots);
+    }
+}

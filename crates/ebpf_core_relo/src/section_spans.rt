@@ -1,0 +1,66 @@
+//! The places that all functions take, by their sections.
+
+ghost use Rattle.std.specs.Prelude.{◌≡◌, ℕ, OnOk, IfOk};
+ghost use Rattle.std.specs.FinMap as map;
+ghost use Rattle.ebpf_core_relo.specs.Places.{added, listed, span_of, spans_of};
+ghost use Rattle.ebpf_core_relo.specs.Spans.{span_at};
+
+use crate::spans::{SLOT, Span, Spans};
+use ebpf_base::{ByKey, BySection};
+use ebpf_reloc::Function;
+use std::alloc::{AllocError, Global};
+
+/// What a function takes of its section's data.
+fn span_of(address: u64, function: &Function) -> Span
+    ensures { result ≡ span_of ((function.now.section_index.0, address), function.now) }
+{
+    Span {
+        address,
+        start: function.section_offset,
+        end: function.section_offset / SLOT + function.instructions.as_slice().len(),
+    }
+}
+
+/// Adds a span behind the others of its section.
+fn add(
+    alloc: Global,
+    sections: &mut BySection<Spans>,
+    section: usize,
+    span: Span,
+) -> Result<(), AllocError>
+    ensures { OnOk result (sections.new ≡ added sections.old section span (map.get sections.old section)) }
+{
+    match sections.get_mut(section) {
+        Some(spans) => {
+            spans.push(span)?;
+        }
+        None => {
+            let mut spans = Spans::new(alloc);
+            spans.push(span)?;
+            sections.insert(section, spans)?;
+        }
+    }
+    Ok(())
+}
+
+/// The spans of all functions, by the sections of their keys, in the order of their addresses.
+#[tactic(auto, using(crate::proofs::Grouped::span_more, crate::proofs::Grouped::span_none, crate::proofs::Grouped::span_all))]
+pub fn section_spans(
+    alloc: Global,
+    functions: &ByKey<Function>,
+) -> Result<BySection<Spans>, AllocError>
+    ensures { IfOk result (λ sections. (q : ℕ) → listed (map.get sections q) ≡ spans_of functions.now q) }
+{
+    let mut sections = BySection::new(alloc);
+    for (key, function) in functions.iter() {
+        add(alloc, &mut sections, key.0, span_of(key.1, function))?;
+    }
+    Ok(sections)
+}
+
+/// The span in a section that holds an offset, in bytes, and has the lowest address.
+pub fn span_in(sections: &BySection<Spans>, section: usize, offset: usize) -> Option<Span>
+    ensures { result ≡ span_at offset (listed (map.get sections.now section)) }
+{
+    sections.get(section)?.at(offset)
+}

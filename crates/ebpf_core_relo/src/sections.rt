@@ -1,0 +1,112 @@
+//! The records of all sections, one section after the other.
+
+ghost use Rattle.std.specs.Prelude.{◌≡◌, [], Err, MatchBool, ⊤, IfOk, IfErr, Ok, codes, ◌++◌};
+ghost use Rattle.std.specs.Fmt.{decimal};
+ghost use Rattle.std.specs.FinMap as map;
+ghost use Rattle.ebpf_btf.specs.Strings.{text_at};
+ghost use Rattle.ebpf_core.specs.Answers.{of_type_error, told};
+ghost use Rattle.ebpf_core.specs.Memory.{is_memory};
+ghost use Rattle.ebpf_core.specs.declared.error.RelocationError.TheVariants.{BtfError};
+ghost use Rattle.ebpf_core_relo.specs.Answers.{IsRefusal, Leaves, LeavesAt, fault_in};
+ghost use Rattle.ebpf_core_relo.specs.Records.{all_applied, named_applied, scene_of, section_applied, slots_written, unnamed_section};
+
+use crate::error::BtfRelocationError;
+use crate::records::apply_records;
+use crate::scene::Places;
+use ebpf_base::{ByKey, Items, Text};
+use ebpf_btf::{Btf, BtfError, Relocation};
+use ebpf_core::{CoreSearch, RelocationError};
+use ebpf_parts::insn::bpf_insn;
+use std::alloc::Global;
+
+/// Applies the records of the section of a name.
+fn apply_section(
+    alloc: Global,
+    search: &mut CoreSearch<'_>,
+    places: &Places<'_>,
+    written: &mut ByKey<Items<bpf_insn>>,
+    name: &str,
+    records: &[Relocation],
+) -> Result<(), RelocationError>
+    ensures applied { Leaves result written.new (section_applied (scene_of search.old places.now.functions.now places.now.section_infos.now) name.now records.now written.old) }
+    ensures search { search.new ≡ search.old }
+{
+    let Some(section) = places.section_infos.get(name) else {
+        return Err(RelocationError::SectionNotFound);
+    };
+    apply_records(alloc, search, places, section.0, written, records)
+}
+
+/// A fault in the section of a name; of a want of memory no section is named.
+fn in_section(alloc: Global, name: &str, error: RelocationError) -> BtfRelocationError
+    ensures { IsRefusal result (fault_in name.now (told error)) }
+{
+    if matches!(error, RelocationError::OutOfMemory) {
+        return BtfRelocationError::memory(alloc);
+    }
+    let Ok(section) = Text::from_str(alloc, name) else {
+        return BtfRelocationError::memory(alloc);
+    };
+    BtfRelocationError { section, error }
+}
+
+/// The fault of a section whose name can't be read.
+fn unnamed(alloc: Global, offset: u32, error: BtfError) -> BtfRelocationError
+    ensures { IsRefusal result (fault_in (unnamed_section offset) (of_type_error error)) }
+{
+    let error = RelocationError::from(error);
+    let Ok(name) = format!(in alloc; "section@{offset}") else {
+        return BtfRelocationError::memory(alloc);
+    };
+    in_section(alloc, name.as_str(), error)
+}
+
+/// Applies the records of the section whose name stands at an offset.
+fn apply_named(
+    alloc: Global,
+    search: &mut CoreSearch<'_>,
+    places: &Places<'_>,
+    written: &mut ByKey<Items<bpf_insn>>,
+    local: &Btf,
+    offset: u32,
+    records: &[Relocation],
+) -> Result<(), BtfRelocationError>
+    requires { search.old.local ≡ local.now }
+    ensures applied { LeavesAt result written.new (named_applied (scene_of search.old places.now.functions.now places.now.section_infos.now) (offset, records.now) written.old) }
+    ensures search { search.new ≡ search.old }
+{
+    let name = match local.string_at(offset) {
+        Ok(name) => name,
+        Err(error) => return Err(unnamed(alloc, offset, error)),
+    };
+    match apply_section(alloc, search, places, written, name.as_str(), records) {
+        Ok(()) => Ok(()),
+        Err(error) => Err(in_section(alloc, name.as_str(), error)),
+    }
+}
+
+/// Applies all records, section by section.
+pub fn apply_all(
+    alloc: Global,
+    search: &mut CoreSearch<'_>,
+    places: &Places<'_>,
+    written: &mut ByKey<Items<bpf_insn>>,
+    local: &Btf,
+    sections: &[(u32, Items<Relocation>)],
+) -> Result<(), BtfRelocationError>
+    requires { search.old.local ≡ local.now }
+    ensures applied { LeavesAt result written.new (all_applied (scene_of search.old places.now.functions.now places.now.section_infos.now) sections.now written.old) }
+{
+    for section in sections {
+        apply_named(
+            alloc,
+            search,
+            places,
+            written,
+            local,
+            section.0,
+            section.1.as_slice(),
+        )?;
+    }
+    Ok(())
+}
