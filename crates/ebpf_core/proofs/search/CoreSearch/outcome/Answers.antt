@@ -1,4 +1,4 @@
-use Rattle.std.proofs.Common.{◌≡◌, true, false, Some, Ok, sym, ap, ◌∙◌}
+use Rattle.std.proofs.Common.{◌≡◌, true, false, Some, Ok, refl, sym, ap, ◌∙◌}
 use Rattle.std.specs.FinMap.{get}
 use Rattle.ebpf_core.specs.Searches.{is_local, itself}
 use Rattle.ebpf_core.proofs.Searching.{ids_kept, ids_refused, local_itself, path_refused}
@@ -25,4 +25,4 @@ pub returns-in_err-ids-clause-outcome : goal.returns-in_err-ids-clause-outcome
 returns-in_err-ids-clause-outcome c =
     let other : is_local c.args.relocation.now.kind ≡ false = cc (c.is_local.ensures, c.if-is_local.false) in
     ids_refused c.self.inside.local.now c.self.inside.target.now c.args.relocation.now c.args.self.now c.self.view_is c.in_ok-path.path _ _ c.in_ok-path.ensures other
-    c.from_residual-in_err-ids.ensures.1 _ _ c.in_err-ids.ensures.candidates (cc c.self.view_is)
+    c.from_residual-in_err-ids.ensures.1 _ _ c.in_err-ids.ensures.candidates refl
