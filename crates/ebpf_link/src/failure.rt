@@ -3,9 +3,11 @@
 ghost use Rattle.std.specs.Prelude.{◌≡◌};
 
 use crate::variants::{
-    variant_of_parsing, variant_of_relocation, variant_of_resolving, variant_of_types,
+    variant_of_adapting, variant_of_parsing, variant_of_relocation, variant_of_resolving,
+    variant_of_types,
 };
 use ebpf_btf::BtfError;
+use ebpf_core_relo::BtfRelocationError;
 use ebpf_ksyms::KsymsError;
 use ebpf_parts::ParseError;
 use ebpf_reloc::EbpfRelocationError;
@@ -21,6 +23,8 @@ pub enum Failure<'a> {
     Btf(&'static str),
     /// The object can't be parsed.
     Parse(&'static str),
+    /// The functions can't be adapted to the kernel's types.
+    Types(&'static str),
     /// The descriptors of maps can't be written.
     Maps(&'static str),
     /// The externs can't be resolved.
@@ -43,6 +47,7 @@ impl fmt::Display for Failure<'_> {
             Failure::CannotRead(path) => write!(f, "cannot read {path}"),
             Failure::Btf(variant) => write!(f, "btf: {variant}"),
             Failure::Parse(variant) => write!(f, "parse: {variant}"),
+            Failure::Types(variant) => write!(f, "types: {variant}"),
             Failure::Maps(variant) => write!(f, "maps: {variant}"),
             Failure::Ksyms(variant) => write!(f, "ksyms: {variant}"),
             Failure::Externs(variant) => write!(f, "externs: {variant}"),
@@ -63,6 +68,11 @@ impl Failure<'static> {
     /// Of parsing the object.
     pub fn of_parsing(error: &ParseError) -> Failure<'static> {
         Failure::Parse(variant_of_parsing(error))
+    }
+
+    /// Of the pass that adapts functions to the kernel's types.
+    pub fn of_adapting(refusal: &BtfRelocationError) -> Failure<'static> {
+        Failure::Types(variant_of_adapting(&refusal.error))
     }
 
     /// Of the pass that writes descriptors.

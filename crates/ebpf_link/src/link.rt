@@ -99,7 +99,7 @@ fn link<'a, K: BufRead + Drop, W: Write>(
     }
 }
 
-/// Reads an object, writes the descriptors of its maps, 1 and on in byte order of their names, and what is known of
+/// Reads an object, adapts its functions to the kernel's types where they are known, writes the descriptors of its maps, 1 and on in byte order of their names, and what is known of
 /// its externs, joins its programs with the functions that they reach, and prints them, all in byte order of their
 /// names or the one that `words` names. `btf` has the kernel's types, little endian, where they are known, and
 /// `kallsyms` the lines of the kernel's symbols. It gives the status: 0, or 1 with one line on `err`.

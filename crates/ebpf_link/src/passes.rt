@@ -27,6 +27,19 @@ fn numbered<'a>(alloc: Global, maps: &'a ByName<Map>) -> Result<Vec<Numbered<'a>
     Ok(numbered)
 }
 
+/// Adapts the functions to the kernel's types, where they are known.
+fn adapt(object: &mut Object, kernel_btf: Option<&Btf>) -> Result<(), Failure<'static>>
+    ensures { OnOk result (object.new ≡ record object.old { functions = object.new.functions }) }
+{
+    let Some(types) = kernel_btf else {
+        return Ok(());
+    };
+    match object.relocate_btf(types) {
+        Ok(()) => Ok(()),
+        Err(refusal) => Err(Failure::of_adapting(&refusal)),
+    }
+}
+
 /// Writes the descriptors of these maps.
 fn write_maps(
     alloc: Global,
@@ -94,7 +107,7 @@ fn join_calls(alloc: Global, object: &mut Object) -> Result<(), Failure<'static>
     }
 }
 
-/// Runs the passes: maps, externs, calls.
+/// Runs the passes: types, maps, externs, calls.
 pub fn run_passes<K: BufRead + Drop>(
     alloc: Global,
     object: &mut Object,
@@ -103,6 +116,7 @@ pub fn run_passes<K: BufRead + Drop>(
 ) -> Result<(), Failure<'static>>
     ensures { OnOk result (object.new ≡ record object.old { functions = object.new.functions; externs = object.new.externs }) }
 {
+    adapt(object, kernel_btf)?;
     relocate_maps(alloc, object)?;
     resolve(object, kernel_btf, kallsyms)?;
     relocate_externs(object)?;

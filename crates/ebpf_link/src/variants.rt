@@ -1,6 +1,7 @@
 //! The names of the variants of errors.
 
 use ebpf_btf::BtfError;
+use ebpf_core_relo::RelocationError as CoreError;
 use ebpf_ksyms::KsymsError;
 use ebpf_parts::ParseError;
 use ebpf_reloc::RelocationError;
@@ -86,5 +87,23 @@ pub fn variant_of_resolving(error: &KsymsError) -> &'static str {
         KsymsError::KallsymsParseError(_) => "KallsymsParseError",
         KsymsError::FunctionNotFound { .. } => "FunctionNotFound",
         KsymsError::OutOfMemory => "OutOfMemory",
+    }
+}
+
+/// The name of an error of adapting functions to a kernel's types.
+pub fn variant_of_adapting(error: &CoreError) -> &'static str {
+    match error {
+        CoreError::SectionNotFound => "SectionNotFound",
+        CoreError::FunctionNotFound => "FunctionNotFound",
+        CoreError::InvalidAccessString { .. } => "InvalidAccessString",
+        CoreError::InvalidInstructionIndex { .. } => "InvalidInstructionIndex",
+        CoreError::ConflictingCandidates { .. } => "ConflictingCandidates",
+        CoreError::MaximumNestingLevelReached { .. } => "MaximumNestingLevelReached",
+        CoreError::InvalidAccessIndex { .. } => "InvalidAccessIndex",
+        CoreError::InvalidRelocationKindForType { .. } => "InvalidRelocationKindForType",
+        CoreError::InvalidInstruction { .. } => "InvalidInstruction",
+        CoreError::MissingTargetDefinition { .. } => "MissingTargetDefinition",
+        CoreError::BtfError(_) => "BtfError",
+        CoreError::OutOfMemory => "OutOfMemory",
     }
 }

@@ -7,3 +7,4 @@ pub mod TypedExterns
 pub mod PatchedBytes
 pub mod TextSections
 pub mod WrittenSlots
+pub mod AdaptedSlots

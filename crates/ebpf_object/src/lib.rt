@@ -1,6 +1,7 @@
 //! eBPF objects: what an ELF file with eBPF programs holds.
 #![tactic(auto)]
 
+pub mod core_relo;
 pub mod elf;
 pub mod extern_types;
 mod globals;
@@ -11,6 +12,7 @@ mod patch;
 mod patch_data;
 mod patch_plan;
 mod queries;
+mod relocate_btf;
 mod relocate_calls;
 mod relocate_externs;
 mod relocate_maps;
