@@ -56,10 +56,7 @@ fn a_field_moves_into_an_unnamed_struct(rt: HostRuntime) -> Result<(), Fail> {
     assert_eq!(rt; offset.as_str(), "Some(8)");
     add_s_with_b(alloc, &mut target, SIGNED, 32)?;
     let offset = b_in(alloc, &target, RelocationKind::FieldByteOffset)?;
-    assert_eq!(rt;
-        offset.as_str(),
-        "types of the kernel for `s` differ"
-    );
+    assert_eq!(rt; offset.as_str(), "types of the kernel for `s` differ");
     Ok(())
 }
 
@@ -84,10 +81,7 @@ fn every_match_agrees_also_without_a_value(rt: HostRuntime) -> Result<(), Fail> 
     assert_eq!(rt; shift.as_str(), "None");
     add_s_with_b(alloc, &mut target, UNSIGNED, 32)?;
     let shift = b_in(alloc, &target, RelocationKind::FieldLShift64)?;
-    assert_eq!(rt;
-        shift.as_str(),
-        "types of the kernel for `s` differ"
-    );
+    assert_eq!(rt; shift.as_str(), "types of the kernel for `s` differ");
     Ok(())
 }
 

@@ -30,10 +30,7 @@ fn types_are_found_or_not(rt: HostRuntime) -> Result<(), Fail> {
     assert_eq!(rt; size.as_str(), "Some(8)");
     add_struct(alloc, &mut target, S, false, &[])?;
     let id = of_struct(alloc, &target, RelocationKind::TypeIdTarget)?;
-    assert_eq!(rt;
-        id.as_str(),
-        "types of the kernel for `s` differ"
-    );
+    assert_eq!(rt; id.as_str(), "types of the kernel for `s` differ");
     Ok(())
 }
 
