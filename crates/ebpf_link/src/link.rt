@@ -76,6 +76,25 @@ fn prepared<K: BufRead + Drop>(
     Ok(object)
 }
 
+/// Writes what the words ask for.
+fn write_asked<'a, W: Write>(
+    alloc: Global,
+    words: &'a Words,
+    object: &Object,
+    out: &mut W,
+) -> Result<(), Failure<'a>>
+    ensures { OnOk result (MatchOption words.now.program ⊤ (λ name. IsSome (map.get object.now.programs name))) }
+{
+    match &words.program {
+        Some(name) => write_named(object, name.as_str(), out)?,
+        None => write_all(alloc, object, out)?,
+    }
+    match out.flush() {
+        Ok(()) => Ok(()),
+        Err(_) => Err(Failure::CannotWrite),
+    }
+}
+
 /// Prepares the object, and writes what the words ask for.
 fn link<'a, K: BufRead + Drop, W: Write>(
     alloc: Global,
@@ -89,13 +108,9 @@ fn link<'a, K: BufRead + Drop, W: Write>(
     ensures named { OnOk result (MatchOption words.now.program ⊤ (λ name. IsSome (map.get (programs file.now) name))) }
 {
     let object = prepared(alloc, file, btf, kallsyms)?;
-    match &words.program {
-        Some(name) => write_named(&object, name.as_str(), out)?,
-        None => write_all(alloc, &object, out)?,
-    }
-    match out.flush() {
+    match write_asked(alloc, words, &object, out) {
         Ok(()) => Ok(()),
-        Err(_) => Err(Failure::CannotWrite),
+        Err(failure) => Err(failure),
     }
 }
 
