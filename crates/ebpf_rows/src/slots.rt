@@ -25,10 +25,7 @@ fn put_all_slots(alloc: Global, text: &mut String, object: &Object) -> Result<()
 }
 
 /// What a pass answers.
-fn said(
-    alloc: Global,
-    answer: &Result<(), EbpfRelocationError>,
-) -> Result<String, AllocError> {
+fn said(alloc: Global, answer: &Result<(), EbpfRelocationError>) -> Result<String, AllocError> {
     format!(in alloc; "{answer:?}")
 }
 
