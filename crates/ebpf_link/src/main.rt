@@ -2,12 +2,10 @@
 #![tactic(auto)]
 
 mod arguments;
-#[cfg(test)]
-mod call_rows;
-#[cfg(test)]
-mod changed_rows;
 mod failure;
 mod link;
+#[cfg(test)]
+mod pass_rows;
 mod passes;
 mod program_text;
 #[cfg(test)]

@@ -5,7 +5,6 @@ ghost use Rattle.std.specs.Prelude.{◌≡◌, OnOk};
 use crate::failure::Failure;
 use ebpf_base::ByName;
 use ebpf_btf::Btf;
-use ebpf_ksyms::resolve_externs;
 use ebpf_object::Object;
 use ebpf_parts::maps::Map;
 use std::alloc::{AllocError, Global};
@@ -60,19 +59,14 @@ fn relocate_maps(alloc: Global, object: &mut Object) -> Result<(), Failure<'stat
 
 /// Resolves the externs.
 fn resolve<K: BufRead + Drop>(
-    alloc: Global,
     object: &mut Object,
     kernel_btf: Option<&Btf>,
     kallsyms: K,
 ) -> Result<(), Failure<'static>>
     ensures { OnOk result (object.new ≡ record object.old { externs = object.new.externs }) }
 {
-    let btf = object.btf.as_ref();
-    match resolve_externs(alloc, btf, &object.externs, kernel_btf, kallsyms) {
-        Ok(externs) => {
-            object.externs = externs;
-            Ok(())
-        }
+    match object.resolve_externs(kernel_btf, kallsyms) {
+        Ok(()) => Ok(()),
         Err(error) => Err(Failure::of_resolving(&error)),
     }
 }
@@ -110,7 +104,7 @@ pub fn run_passes<K: BufRead + Drop>(
     ensures { OnOk result (object.new ≡ record object.old { functions = object.new.functions; externs = object.new.externs }) }
 {
     relocate_maps(alloc, object)?;
-    resolve(alloc, object, kernel_btf, kallsyms)?;
+    resolve(object, kernel_btf, kallsyms)?;
     relocate_externs(object)?;
     join_calls(alloc, object)
 }

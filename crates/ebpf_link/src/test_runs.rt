@@ -46,3 +46,24 @@ pub fn outcome(alloc: Global, file: &[u8]) -> Result<String, AllocError> {
     let err = str::from_utf8(&run.err).unwrap_or("no text");
     format!(in alloc; "status {}\nout:\n{out}err:\n{err}", run.status)
 }
+
+/// The same of a run with the kernel's types, where they are given, and its symbols.
+pub fn kernel_outcome(
+    alloc: Global,
+    file: &[u8],
+    btf: Option<&[u8]>,
+    kallsyms: &[u8],
+) -> Result<String, AllocError> {
+    let words = Words {
+        file: Text::from_str(alloc, "file.o")?,
+        btf: None,
+        kallsyms: None,
+        program: None,
+    };
+    let mut out = Vec::new(alloc);
+    let mut err = Vec::new(alloc);
+    let status = run_link(alloc, &words, file, btf, kallsyms, &mut out, &mut err);
+    let out = str::from_utf8(&out).unwrap_or("no text");
+    let err = str::from_utf8(&err).unwrap_or("no text");
+    format!(in alloc; "status {status}\nout:\n{out}err:\n{err}")
+}

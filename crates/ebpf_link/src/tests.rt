@@ -3,8 +3,8 @@
 use crate::arguments::{WordsError, read_words};
 use crate::failure::cannot_read;
 use crate::link::run_link;
-use crate::test_runs::{run, texts};
-use ebpf_samples::{EXIT, SampleFile, call_object};
+use crate::test_runs::{outcome, run, texts};
+use ebpf_samples::{EXIT, SampleFile, call_object, two_faults_object};
 use std::alloc::{AllocError, Global};
 use std::io::{self, ErrorKind, Write};
 use std::test::Fail;
@@ -170,5 +170,16 @@ fn refuses_other_words(rt: HostRuntime) -> Result<(), Fail> {
     assert!(rt; is_refused(rt.alloc(), &["--program", "a", "--program", "b", "c"])?);
     assert!(rt; is_refused(rt.alloc(), &["--program", "a"])?);
     assert!(rt; !is_refused(rt.alloc(), &["-"])?);
+    Ok(())
+}
+
+#[test]
+fn names_the_fault_of_joining(rt: HostRuntime) -> Result<(), Fail> {
+    let file = two_faults_object(rt.alloc())?;
+    let text = outcome(rt.alloc(), &file)?;
+    assert_eq!(rt;
+        text.as_str(),
+        "status 1\nout:\nerr:\nebpf-link: calls: UnknownFunction\n"
+    );
     Ok(())
 }

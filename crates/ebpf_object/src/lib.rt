@@ -15,6 +15,7 @@ mod relocate_calls;
 mod relocate_externs;
 mod relocate_maps;
 pub mod relocation;
+mod resolve_externs;
 pub mod sanitize;
 mod text_sections;
 
