@@ -6,8 +6,8 @@ use crate::known::set_externs;
 use crate::known_externs::written;
 use ebpf_btf::Btf;
 use ebpf_cases::{Action, Files, no_action};
-use ebpf_ksyms::{KsymsError, resolve_externs};
 use ebpf_object::Object;
+use ebpf_object::extern_types::KsymsError;
 use std::alloc::{AllocError, Global};
 
 /// The kernel's types, where there are some.
@@ -18,42 +18,43 @@ fn kernel_types(alloc: Global, object: &Object, bytes: &[u8]) -> Option<Btf> {
     Btf::parse(alloc, bytes, object.endianness).ok()
 }
 
-/// Resolves the externs.
-fn resolve(
-    alloc: Global,
-    object: &mut Object,
-    kernel: Option<&Btf>,
-    kallsyms: &[u8],
-) -> Result<(), KsymsError> {
-    let btf = object.btf.as_ref();
-    object.externs = resolve_externs(alloc, btf, &object.externs, kernel, kallsyms)?;
-    Ok(())
-}
-
 /// What resolving answers, in a line.
 fn said(alloc: Global, answer: &Result<(), KsymsError>) -> Result<String, AllocError> {
     format!(in alloc; "{answer:?}\n")
 }
 
-/// What resolving answers, and then the externs by name, or what writing them gives.
-fn resolved_with(
+/// Resolves the externs: what that answers, in a line.
+fn resolve(
     alloc: Global,
-    files: &Files,
     object: &mut Object,
     kernel: Option<&Btf>,
-    what: &str,
+    kallsyms: &[u8],
 ) -> Result<String, AllocError> {
-    let answer = resolve(alloc, object, kernel, files.get("kallsyms"));
-    let mut text = said(alloc, &answer)?;
+    let answer = object.resolve_externs(kernel, kallsyms);
+    said(alloc, &answer)
+}
+
+/// Looks the externs up in the kernel of the files: what that answers, in a line.
+fn looked_up(alloc: Global, files: &Files, object: &mut Object) -> Result<String, AllocError> {
+    let kernel = kernel_types(alloc, object, files.get("kernel"));
+    resolve(alloc, object, kernel.as_ref(), files.get("kallsyms"))
+}
+
+/// Adds the externs by name, or what writing them gives.
+fn put_found(
+    alloc: Global,
+    text: &mut String,
+    object: &mut Object,
+    what: &str,
+) -> Result<(), AllocError> {
     match what {
-        "externs" => put_externs(alloc, &mut text, object)?,
+        "externs" => put_externs(alloc, text, object),
         "slots" => {
             let slots = written(alloc, object)?;
-            write!(text, "{slots}")?;
+            write!(text, "{slots}")
         }
-        _ => return no_action(alloc),
+        _ => write!(text, "no such outcome {what}"),
     }
-    Ok(text)
 }
 
 /// What resolving the externs answers, and then the externs by name, or what writing them gives. Further words say what
@@ -68,6 +69,7 @@ pub fn resolved(
     if !set_externs(alloc, &mut object.externs, words)? {
         return no_action(alloc);
     }
-    let kernel = kernel_types(alloc, object, files.get("kernel"));
-    resolved_with(alloc, files, object, kernel.as_ref(), action.word(0))
+    let mut text = looked_up(alloc, files, object)?;
+    put_found(alloc, &mut text, object, action.word(0))?;
+    Ok(text)
 }
