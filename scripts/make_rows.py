@@ -23,12 +23,15 @@ from rows import (
     declared_maps,
     externs,
     joined,
+    known_externs,
     many_types,
+    mapped,
     maps,
     names,
     order,
     programs,
     records,
+    resolved,
     small_object,
     terms,
     texts,
@@ -40,7 +43,7 @@ from rows.case import write_cases
 CRATES = Path(__file__).parents[1] / "crates"
 
 OBJECTS = [small_object, programs, texts, terms, order, maps, declared_maps, externs, type_faults, records, joined]
-OBJECTS += [values, names, compiled]
+OBJECTS += [mapped, known_externs, resolved, values, names, compiled]
 
 TYPES = [btf_one_int, btf_kinds, btf_added, btf_candidates, btf_fits, btf_ext, btf_ext_faults]
 

@@ -1,22 +1,13 @@
 //! What joining the programs of an object with what they reach gives.
 
 use crate::records::put_records;
+use crate::slots::slot_text;
 use crate::tables::put_functions;
 use ebpf_cases::{Action, Tally, no_action};
 use ebpf_object::Object;
-use ebpf_parts::insn::bpf_insn;
 use ebpf_reloc::{EbpfRelocationError, Function};
 use std::alloc::{AllocError, Global};
 use std::collections::HashSet;
-
-/// The numbers of the sections that functions stand in.
-fn text_sections(alloc: Global, object: &Object) -> Result<HashSet<usize>, AllocError> {
-    let mut sections = HashSet::new(alloc);
-    for (key, _) in object.functions.iter() {
-        sections.insert(key.0)?;
-    }
-    Ok(sections)
-}
 
 /// Why programs can't be joined, in a line.
 fn refusal(alloc: Global, error: &EbpfRelocationError) -> Result<String, AllocError> {
@@ -33,12 +24,6 @@ fn join(
         Ok(()) => Ok(String::new(alloc)),
         Err(error) => refusal(alloc, &error),
     }
-}
-
-/// The eight bytes of a slot.
-fn slot_text(alloc: Global, slot: &bpf_insn) -> Result<String, AllocError> {
-    let [a, b, c, d, e, f, g, h] = slot.to_bytes();
-    format!(in alloc; "{a:02x} {b:02x} {c:02x} {d:02x} {e:02x} {f:02x} {g:02x} {h:02x}")
 }
 
 /// A line for each slot of a function.
@@ -96,7 +81,7 @@ pub fn joined(
     object: &mut Object,
     action: &Action<'_>,
 ) -> Result<String, AllocError> {
-    let sections = text_sections(alloc, object)?;
+    let sections = object.text_sections(alloc)?;
     let mut text = join(alloc, object, &sections)?;
     match action.word(0) {
         "functions" => put_functions(&mut text, object)?,

@@ -4,13 +4,18 @@
 mod changed;
 mod declared;
 mod joined;
+mod known;
+mod known_externs;
+mod mapped;
 mod maps;
 mod names;
 mod objects;
 mod outcomes;
 mod patched;
 mod records;
+mod resolved;
 mod sanitized;
+mod slots;
 mod tables;
 
 use crate::outcomes::ObjectOutcomes;

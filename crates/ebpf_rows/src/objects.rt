@@ -2,9 +2,12 @@
 
 use crate::declared::{put_declared_maps, put_externs, put_types};
 use crate::joined::joined;
+use crate::known_externs::known_externs;
+use crate::mapped::mapped;
 use crate::maps::put_maps;
 use crate::patched::patched;
 use crate::records::{put_records, put_type_relocations};
+use crate::resolved::resolved;
 use crate::sanitized::sanitized;
 use crate::tables::{
     put_functions, put_names, put_programs, put_relocations, put_symbols, put_terms,
@@ -68,6 +71,9 @@ fn of_object(
         "parsed" => described(alloc, object, action),
         "types" => types(alloc, object, action),
         "joined" => joined(alloc, object, action),
+        "mapped" => mapped(alloc, object, action),
+        "known_externs" => known_externs(alloc, object, action),
+        "resolved" => resolved(alloc, files, object, action),
         "patched" => patched(alloc, files, object, action),
         "sanitized" => sanitized(alloc, object, action),
         _ => no_action(alloc),
