@@ -13,12 +13,15 @@ pub fn slot_text(alloc: Global, slot: &bpf_insn) -> Result<String, AllocError> {
 
 /// The slots of all functions, by their keys.
 fn put_all_slots(alloc: Global, text: &mut String, object: &Object) -> Result<(), AllocError> {
-    let mut before = " ";
+    let mut first = true;
     for (_, function) in object.functions.iter() {
         for slot in function.instructions.iter() {
             let slot = slot_text(alloc, slot)?;
-            write!(text, "{before}{slot}")?;
-            before = ", ";
+            match first {
+                true => write!(text, " {slot}")?,
+                false => write!(text, ", {slot}")?,
+            }
+            first = false;
         }
     }
     Ok(())
