@@ -7,10 +7,8 @@ use crate::variants::{
     variant_of_types,
 };
 use ebpf_btf::BtfError;
-use ebpf_core_relo::BtfRelocationError;
-use ebpf_ksyms::KsymsError;
+use ebpf_object::prepare::PrepareError;
 use ebpf_parts::ParseError;
-use ebpf_reloc::EbpfRelocationError;
 use std::fmt;
 use std::io::Write;
 
@@ -70,29 +68,19 @@ impl Failure<'static> {
         Failure::Parse(variant_of_parsing(error))
     }
 
-    /// Of the pass that adapts functions to the kernel's types.
-    pub fn of_adapting(refusal: &BtfRelocationError) -> Failure<'static> {
-        Failure::Types(variant_of_adapting(&refusal.error))
-    }
-
-    /// Of the pass that writes descriptors.
-    pub fn of_maps(refusal: &EbpfRelocationError) -> Failure<'static> {
-        Failure::Maps(variant_of_relocation(&refusal.error))
-    }
-
-    /// Of resolving externs.
-    pub fn of_resolving(error: &KsymsError) -> Failure<'static> {
-        Failure::Ksyms(variant_of_resolving(error))
-    }
-
-    /// Of the pass that writes what is known of externs.
-    pub fn of_externs(refusal: &EbpfRelocationError) -> Failure<'static> {
-        Failure::Externs(variant_of_relocation(&refusal.error))
-    }
-
-    /// Of joining programs.
-    pub fn of_calls(refusal: &EbpfRelocationError) -> Failure<'static> {
-        Failure::Calls(variant_of_relocation(&refusal.error))
+    /// Of preparing the object.
+    pub fn of_preparing(error: &PrepareError) -> Failure<'static> {
+        match error {
+            PrepareError::Parse(error) => Failure::of_parsing(error),
+            PrepareError::Types(refusal) => Failure::Types(variant_of_adapting(&refusal.error)),
+            PrepareError::Maps(refusal) => Failure::Maps(variant_of_relocation(&refusal.error)),
+            PrepareError::Ksyms(error) => Failure::Ksyms(variant_of_resolving(error)),
+            PrepareError::Externs(refusal) => {
+                Failure::Externs(variant_of_relocation(&refusal.error))
+            }
+            PrepareError::Calls(refusal) => Failure::Calls(variant_of_relocation(&refusal.error)),
+            PrepareError::OutOfMemory => Failure::Memory,
+        }
     }
 }
 

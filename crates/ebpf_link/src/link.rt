@@ -1,14 +1,14 @@
 //! What the program does once its files are open.
 
-ghost use Rattle.std.specs.Prelude.{◌≡◌, ◌≤◌, ⊤, OnOk, IfOk, IsSome, MatchOption, None};
+ghost use Rattle.std.specs.Prelude.{◌≡◌, ◌≤◌, ⊤, OnOk, IsSome, MatchOption};
 ghost use Rattle.std.specs.FinMap as map;
-ghost use Rattle.ebpf_object.specs.Objects.{programs, parse_fault};
+ghost use Rattle.std.specs.Option.{option_copied};
+ghost use Rattle.ebpf_link.specs.Linked.{HasLinked};
 
 use crate::arguments::Words;
 use crate::failure::{Failure, report};
-use crate::passes::run_passes;
+use crate::preparation::prepared;
 use crate::program_text::write_program;
-use ebpf_btf::{Btf, Endianness};
 use ebpf_object::Object;
 use std::alloc::Global;
 use std::io::{BufRead, Write};
@@ -46,36 +46,6 @@ fn write_all<W: Write>(
     Ok(())
 }
 
-/// The kernel's types, where bytes of them are given.
-fn read_types(alloc: Global, bytes: Option<&[u8]>) -> Result<Option<Btf>, Failure<'static>> {
-    let Some(bytes) = bytes else {
-        return Ok(None);
-    };
-    match Btf::parse(alloc, bytes, Endianness::Little) {
-        Ok(types) => Ok(Some(types)),
-        Err(error) => Err(Failure::of_types(&error)),
-    }
-}
-
-/// The object after the passes.
-fn prepared<K: BufRead + Drop>(
-    alloc: Global,
-    file: &[u8],
-    btf: Option<&[u8]>,
-    kallsyms: K,
-) -> Result<Object, Failure<'static>>
-    ensures parsed { OnOk result (parse_fault file.now ≡ None) }
-    ensures programs { IfOk result (λ object. object.programs ≡ programs file.now) }
-{
-    let types = read_types(alloc, btf)?;
-    let mut object = match Object::parse(alloc, file) {
-        Ok(object) => object,
-        Err(error) => return Err(Failure::of_parsing(&error)),
-    };
-    run_passes(alloc, &mut object, types.as_ref(), kallsyms)?;
-    Ok(object)
-}
-
 /// Writes what the words ask for.
 fn write_asked<'a, W: Write>(
     alloc: Global,
@@ -104,8 +74,7 @@ fn link<'a, K: BufRead + Drop, W: Write>(
     kallsyms: K,
     out: &mut W,
 ) -> Result<(), Failure<'a>>
-    ensures parsed { OnOk result (parse_fault file.now ≡ None) }
-    ensures named { OnOk result (MatchOption words.now.program ⊤ (λ name. IsSome (map.get (programs file.now) name))) }
+    ensures { OnOk result (HasLinked file.now (option_copied btf.entry) (K.remaining kallsyms) words.now.program) }
 {
     let object = prepared(alloc, file, btf, kallsyms)?;
     match write_asked(alloc, words, &object, out) {
@@ -114,10 +83,11 @@ fn link<'a, K: BufRead + Drop, W: Write>(
     }
 }
 
-/// Reads an object, adapts its functions to the kernel's types where they are known, writes the descriptors of its maps, 1 and on in byte order of their names, and what is known of
-/// its externs, joins its programs with the functions that they reach, and prints them, all in byte order of their
-/// names or the one that `words` names. `btf` has the kernel's types, little endian, where they are known, and
-/// `kallsyms` the lines of the kernel's symbols. It gives the status: 0, or 1 with one line on `err`.
+/// Prepares an object and prints its programs, all in byte order of their names or the one that `words` names.
+/// `btf` has the kernel's types, little endian, where they are known, and `kallsyms` the lines of the kernel's
+/// symbols. Functions are adapted to the types where they are known, the object's own maps have the descriptors 1 and
+/// on in byte order of their names, externs are resolved and written, and programs are joined with the functions that
+/// they reach. It gives the status: 0, or 1 with one line on `err`.
 pub fn run_link<K: BufRead + Drop, O: Write, E: Write>(
     alloc: Global,
     words: &Words,
@@ -128,8 +98,7 @@ pub fn run_link<K: BufRead + Drop, O: Write, E: Write>(
     err: &mut E,
 ) -> u8
     ensures status { result ≤ 1 }
-    ensures parsed { result ≡ 0 → parse_fault file.now ≡ None }
-    ensures named { result ≡ 0 → MatchOption words.now.program ⊤ (λ name. IsSome (map.get (programs file.now) name)) }
+    ensures linked { result ≡ 0 → HasLinked file.now (option_copied btf.entry) (K.remaining kallsyms) words.now.program }
 {
     match link(alloc, words, file, btf, kallsyms, out) {
         Ok(()) => 0,

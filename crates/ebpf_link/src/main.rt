@@ -6,7 +6,7 @@ mod failure;
 mod link;
 #[cfg(test)]
 mod pass_rows;
-mod passes;
+mod preparation;
 mod program_text;
 #[cfg(test)]
 mod test_runs;

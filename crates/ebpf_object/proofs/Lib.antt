@@ -10,3 +10,6 @@ pub mod PatchedPlaces
 pub mod PatchedBytes
 pub mod VariablePatches
 pub mod OneJoining
+pub mod Staging
+pub mod KeptParts
+pub mod Headline

@@ -8,3 +8,9 @@ pub mod PatchedBytes
 pub mod TextSections
 pub mod WrittenSlots
 pub mod AdaptedSlots
+pub mod Steps
+pub mod Stages
+pub mod StageFaults
+pub mod Prepared
+pub mod KeptParts
+pub mod Headline

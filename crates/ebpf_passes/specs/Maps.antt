@@ -21,9 +21,16 @@ use Rattle.ebpf_passes.specs.declared.refusal.Fault.{Fault}
 use Rattle.ebpf_passes.specs.declared.refusal.Fault.TheVariants.{UnknownSymbol, InvalidOffset, SectionNotFound, MapAddressOverflow}
 use denote.Ref.{Bor}
 
--- a map that is handed in: its name, its descriptor and the map
+-- a map that is handed in: its descriptor, and the map
 abbrev pub GivenMap : Type 0
-GivenMap = Bor (List ℕ) × ℤ × Bor Map
+GivenMap = ℤ × Map
+
+-- the same as it is lent, behind its name, on which nothing depends
+abbrev pub LentMap : Type 0
+LentMap = Bor (List ℕ) × ℤ × Bor Map
+
+abbrev pub given_by : LentMap → GivenMap
+given_by lent = (lent.1, lent.2.now)
 
 abbrev pub has_data : List ℕ → Bool
 has_data [] = false
@@ -31,7 +38,7 @@ has_data (byte ∷ bytes) = true
 
 -- what a slot takes from it
 abbrev pub target_of : GivenMap → MapTarget
-target_of given = record { descriptor = given.1; has_data = has_data (bytes_of given.2.now) }
+target_of given = record { descriptor = given.0; has_data = has_data (bytes_of given.1) }
 
 abbrev pub at_symbol : Option ℕ → MapTarget → List (ℕ × MapTarget)
 at_symbol None target = []
@@ -40,8 +47,8 @@ at_symbol (Some symbol) target = (symbol, target) ∷ []
 -- the maps that are handed in, by symbol and by section, the later over the earlier
 unfoldable pub tables_of : List GivenMap → MapTables
 tables_of given = record {
-  by_symbol = put_all empty (flat_map (λ m. at_symbol (symbol_index_of m.2.now) (target_of m)) given);
-  by_section = put_all empty (map (λ m. (section_index_of m.2.now, target_of m)) given);
+  by_symbol = put_all empty (flat_map (λ m. at_symbol (symbol_index_of m.1) (target_of m)) given);
+  by_section = put_all empty (map (λ m. (section_index_of m.1, target_of m)) given);
 }
 
 -- the tables with one map more

@@ -1,5 +1,5 @@
 -- The passes over the functions of an object.
-use Rattle.std.specs.Prelude.{List, Option}
+use Rattle.std.specs.Prelude.{List, map, Option}
 use Rattle.std.specs.FinMap.{FinMap}
 use Rattle.std.specs.Iterator.{Drains}
 use Rattle.std.specs.Ordering.{nat_cmp}
@@ -10,12 +10,12 @@ use Rattle.ebpf_reloc.specs.declared.extern_desc.ExternDesc.{ExternDesc}
 use Rattle.ebpf_reloc.specs.declared.function.Function.{Function}
 use Rattle.ebpf_reloc.specs.declared.symbol.Symbol.{Symbol}
 use Rattle.ebpf_passes.specs.Externs.{extern_edit}
-use Rattle.ebpf_passes.specs.Maps.{GivenMap, MapInputs, tables_of, map_edit}
+use Rattle.ebpf_passes.specs.Maps.{GivenMap, LentMap, given_by, MapInputs, tables_of, map_edit}
 use Rattle.ebpf_passes.specs.Relocated.{Relocations, relocated, first_fault}
 
 -- what holds of the maps that an iterator gives until it ends
-abbrev pub Given : {I : Type 0} → (I → Option GivenMap → I → Type 0) → I → (List GivenMap → Type 0) → Type 0
-Given next_gives maps P = (given : List GivenMap) × Drains next_gives maps given × P given
+abbrev pub Given : {I : Type 0} → (I → Option LentMap → I → Type 0) → I → (List GivenMap → Type 0) → Type 0
+Given next_gives maps P = (lent : List LentMap) × Drains next_gives maps lent × P (map given_by lent)
 
 abbrev pub inputs_of : FinMap nat_cmp Symbol → TextSections → List GivenMap → MapInputs
 inputs_of symbols text_sections given = record { symbols = symbols; tables = tables_of given; text_sections = text_sections }

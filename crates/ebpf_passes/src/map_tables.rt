@@ -1,9 +1,8 @@
 //! Where the maps are that relocations refer to.
 
-ghost use Rattle.std.specs.Prelude.{◌≡◌, List, OnOk, IfOk};
-ghost use Rattle.std.specs.FinMap as map;
+ghost use Rattle.std.specs.Prelude.{◌≡◌, List, map, OnOk, IfOk};
 ghost use Rattle.std.specs.Iterator.{IsFinite, Drains};
-ghost use Rattle.ebpf_passes.specs.Maps.{GivenMap, tables_of, has_data, with_map};
+ghost use Rattle.ebpf_passes.specs.Maps.{LentMap, given_by, tables_of, has_data, with_map};
 ghost use Rattle.ebpf_parts.specs.Maps.{bytes_of};
 
 use ebpf_base::ByIndex;
@@ -58,7 +57,7 @@ impl MapTables {
     ) -> Result<MapTables, AllocError>
         requires can { I.can_next maps }
         requires ends { IsFinite (I.remaining maps) }
-        ensures { IfOk result (λ tables. (given : List GivenMap) × Drains I.next_gives maps given × (tables ≡ tables_of given)) }
+        ensures { IfOk result (λ tables. (lent : List LentMap) × Drains I.next_gives maps lent × (tables ≡ tables_of (map given_by lent))) }
     {
         let mut tables = MapTables {
             by_symbol: ByIndex::new(alloc),

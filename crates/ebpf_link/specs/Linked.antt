@@ -1,0 +1,49 @@
+-- What the program does with a file: which types of a kernel it has, and what it chooses of the passes.
+use Rattle.std.specs.Prelude.{◌≡◌, ⊤, ℕ, suc, ◌+◌, ◌-◌, ◌^◌, pos, min, true, List, [], ◌∷◌, Option, Some, None, Result, Ok, Err, IsSome, MatchOption}
+use Rattle.std.specs.FinMap.{FinMap, get, entries}
+use Rattle.std.specs.Map.{keys_of}
+use Rattle.ebpf_base.specs.Keys.{text_cmp}
+use Rattle.ebpf_btf.specs.Reading.{type_info_of}
+use Rattle.ebpf_btf.specs.TypeInfo.{TypeInfo}
+use Rattle.ebpf_btf.specs.declared.endianness.Endianness.TheVariants.{Little}
+use Rattle.ebpf_btf.specs.declared.error.BtfError.{BtfError}
+use Rattle.ebpf_object.specs.Objects.{object_of}
+use Rattle.ebpf_object.specs.Prepared.{IsPrepared}
+use Rattle.ebpf_object.specs.Steps.{Chosen, Descriptor}
+use Rattle.ebpf_object.specs.declared.object.Object.{Object}
+use Rattle.ebpf_parts.specs.declared.maps.either.Map.{Map}
+
+abbrev pub read_as_types : Result TypeInfo BtfError → Result (Option TypeInfo) BtfError
+read_as_types (Ok types) = Ok (Some types)
+read_as_types (Err e) = Err e
+
+-- the kernel's types, little endian, where bytes of them are given
+abbrev pub kernel_types : Option (List ℕ) → Result (Option TypeInfo) BtfError
+kernel_types None = Ok None
+kernel_types (Some bytes) = read_as_types (type_info_of Little bytes)
+
+-- names with descriptors from a number on, none greater than 32 signed bits hold
+abbrev pub numbered : ℕ → List (List ℕ) → List Descriptor
+numbered n [] = []
+numbered n (name ∷ names) = (name, pos (min n (2 ^ 31 - 1))) ∷ numbered (suc n) names
+
+-- All passes, types where the kernel's are known; maps have the descriptors 1, 2, .. in byte order of their names.
+abbrev pub asked : Option TypeInfo → FinMap text_cmp Map → Chosen
+asked types maps = record {
+  target = types;
+  descriptors = Some (numbered 1 (keys_of (entries maps)));
+  kernel = Some types;
+  calls = true;
+}
+
+-- the object of a file after all passes
+pub record IsLinked (file : List ℕ) (btf : Option (List ℕ)) (lines : Option (List ℕ)) (o : Object) : Type 0 where
+  pub types : Option TypeInfo
+  pub kernel : kernel_types btf ≡ Ok types
+  pub prepared : IsPrepared (asked types (object_of file).maps) lines file o
+
+-- the file can be linked, and has the program that is asked for
+pub record HasLinked (file : List ℕ) (btf : Option (List ℕ)) (lines : Option (List ℕ)) (program : Option (List ℕ)) : Type 0 where
+  pub object : Object
+  pub linked : IsLinked file btf lines object
+  pub named : MatchOption program ⊤ (λ name. IsSome (get object.programs name))

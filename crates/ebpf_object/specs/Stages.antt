@@ -1,0 +1,90 @@
+-- The stages of preparing an object: what each leaves of it, and how it refuses it. A stage that is not chosen leaves
+-- it as it is.
+use Rattle.std.specs.Prelude.{◌≡◌, ℕ, ℤ, Bool, true, false, List, Option, Some, None, option_map, IfSome, Err}
+use Rattle.std.specs.FinMap.{FinMap, get}
+use Rattle.std.specs.List.{filter_map}
+use Rattle.ebpf_base.specs.Keys.{text_cmp}
+use Rattle.ebpf_btf.specs.TypeInfo.{TypeInfo}
+use Rattle.ebpf_core_relo.specs.Answers.{told_at}
+use Rattle.ebpf_core_relo.specs.declared.error.BtfRelocationError.{BtfRelocationError}
+use Rattle.ebpf_ksyms.specs.Readers.{IsResolvedIn, IsRefusedIn}
+use Rattle.ebpf_ksyms.specs.declared.error.KsymsError.{KsymsError}
+use Rattle.ebpf_object.specs.AdaptedSlots.{adapted_slots, AreAdapted}
+use Rattle.ebpf_object.specs.Joined.{linkable_of, programs_in_order, AreJoined}
+use Rattle.ebpf_object.specs.Steps.{Descriptor}
+use Rattle.ebpf_object.specs.TextSections.{has_function_in}
+use Rattle.ebpf_object.specs.WrittenSlots.{with_maps, maps_fault, with_externs, externs_fault}
+use Rattle.ebpf_object.specs.declared.object.Object.{Object}
+use Rattle.ebpf_parts.specs.declared.maps.either.Map.{Map}
+use Rattle.ebpf_passes.specs.Maps.{GivenMap}
+use Rattle.ebpf_reloc.specs.Linking.{IsFirstFault}
+use Rattle.ebpf_reloc.specs.declared.error.EbpfRelocationError.{EbpfRelocationError}
+
+-- ---- types
+
+-- the object adapted to a kernel's types
+abbrev pub Adapts : Option TypeInfo → Object → Object → Type 0
+Adapts None o after = after ≡ o
+Adapts (Some target) o after = AreAdapted o target after.functions × (after ≡ record o { functions = after.functions })
+
+-- the first record that can't be applied
+abbrev pub AdaptingFault : Option TypeInfo → Object → BtfRelocationError → Type 0
+AdaptingFault None o e = ⊥
+AdaptingFault (Some target) o e = adapted_slots o target ≡ Err (told_at e)
+
+-- ---- maps
+
+-- a map of the object with a descriptor; a name that the object lacks is passed over
+abbrev pub own_map : FinMap text_cmp Map → Descriptor → Option GivenMap
+own_map maps descriptor = option_map (λ m. (descriptor.1, m)) (get maps descriptor.0)
+
+-- the object's own maps with their descriptors
+abbrev pub own_maps : FinMap text_cmp Map → List Descriptor → List GivenMap
+own_maps maps descriptors = filter_map (own_map maps) descriptors
+
+-- the object with the descriptors of its own maps
+abbrev pub described : Option (List Descriptor) → Object → Object
+described None o = o
+described (Some descriptors) o = with_maps o (has_function_in o.functions) (own_maps o.maps descriptors)
+
+-- the first relocation whose descriptor can't be written
+abbrev pub describing_fault : Option (List Descriptor) → Object → Option EbpfRelocationError
+describing_fault None o = None
+describing_fault (Some descriptors) o = maps_fault o (has_function_in o.functions) (own_maps o.maps descriptors)
+
+-- ---- externs
+
+-- the object with its externs resolved by these lines, where they are known
+abbrev pub Resolves : Option (Option TypeInfo) → Option (List ℕ) → Object → Object → Type 0
+Resolves None lines o after = after ≡ o
+Resolves (Some kernel) lines o after =
+    IfSome lines (λ bytes. IsResolvedIn bytes o.btf kernel o.externs after.externs) × (after ≡ record o { externs = after.externs })
+
+-- the least fault of resolving
+abbrev pub ResolvingFault : Option (Option TypeInfo) → Option (List ℕ) → Object → KsymsError → Type 0
+ResolvingFault None lines o e = ⊥
+ResolvingFault (Some kernel) lines o e = IfSome lines (λ bytes. IsRefusedIn bytes o.btf kernel o.externs e)
+
+-- the object with what is known of its externs
+abbrev pub externs_known : Option (Option TypeInfo) → Object → Object
+externs_known None o = o
+externs_known (Some kernel) o = with_externs o
+
+-- the first relocation whose extern can't be written
+abbrev pub knowing_fault : Option (Option TypeInfo) → Object → Option EbpfRelocationError
+knowing_fault None o = None
+knowing_fault (Some kernel) o = externs_fault o
+
+-- ---- calls
+
+-- the object with its programs joined with the functions that they reach
+abbrev pub Joins : Bool → Object → Object → Type 0
+Joins false o after = after ≡ o
+Joins true o after =
+    AreJoined (linkable_of o (has_function_in o.functions)) (programs_in_order o.programs) after.functions
+    × (after ≡ record o { functions = after.functions })
+
+-- the first program that can't be joined
+abbrev pub JoiningFault : Bool → Object → EbpfRelocationError → Type 0
+JoiningFault false o e = ⊥
+JoiningFault true o e = IsFirstFault (linkable_of o (has_function_in o.functions)) (programs_in_order o.programs) e

@@ -1,0 +1,91 @@
+//! The descriptors of an object's own maps.
+
+ghost use Rattle.std.specs.Prelude.{◌≡◌, map, None, Some, OnOk, IfOk, IfErr, MatchBool};
+ghost use Rattle.ebpf_object.specs.Prepared.{Refuses};
+ghost use Rattle.ebpf_object.specs.StageFaults.{OfMaps};
+ghost use Rattle.ebpf_object.specs.Stages.{own_maps, described, describing_fault};
+ghost use Rattle.ebpf_object.specs.Steps.{descriptor_of};
+ghost use Rattle.ebpf_object.specs.TextSections.{has_function_in};
+ghost use Rattle.ebpf_object.specs.WrittenSlots.{with_maps, maps_fault};
+ghost use Rattle.ebpf_passes.specs.Maps.{given_by};
+ghost use Rattle.ebpf_passes.specs.Relocated.{out_of_memory};
+ghost use Rattle.ebpf_reloc.specs.Memory.{is_memory_at};
+ghost use Rattle.ebpf_reloc.specs.Places.{sections_in};
+
+use crate::object::Object;
+use crate::prepare_error::PrepareError;
+use ebpf_base::ByName;
+use ebpf_parts::maps::Map;
+use ebpf_reloc::EbpfRelocationError;
+use std::alloc::{AllocError, Global};
+use std::collections::HashSet;
+use std::mem;
+
+/// A map with its name and its descriptor.
+type Described<'a> = (&'a str, i32, &'a Map);
+
+/// The maps of these names with their descriptors; a name that stands for none is passed over.
+fn own_maps<'a>(
+    alloc: Global,
+    maps: &'a ByName<Map>,
+    descriptors: &[(&'a str, i32)],
+) -> Result<Vec<Described<'a>>, AllocError>
+    ensures { IfOk result (λ own. map given_by own.items ≡ own_maps maps.now (map descriptor_of descriptors.now)) }
+{
+    let mut own = Vec::with_capacity(alloc, descriptors.len())?;
+    for (name, descriptor) in descriptors {
+        let Some(map) = maps.get(name) else {
+            continue;
+        };
+        own.push((*name, *descriptor, map))?;
+    }
+    Ok(own)
+}
+
+/// Writes the descriptors of these maps.
+fn relocate_listed(
+    object: &mut Object,
+    maps: Vec<Described<'_>>,
+    text_sections: &HashSet<usize>,
+) -> Result<(), EbpfRelocationError>
+    ensures ok { OnOk result (object.new ≡ with_maps object.old (sections_in text_sections.now) (map given_by maps.items)) }
+    ensures sound { OnOk result (maps_fault object.old (sections_in text_sections.now) (map given_by maps.items) ≡ None) }
+    ensures fault { IfErr result (λ e. MatchBool (is_memory_at e) (e ≡ out_of_memory) (maps_fault object.old (sections_in text_sections.now) (map given_by maps.items) ≡ Some e)) }
+{
+    object.relocate_maps(maps.into_iter(), text_sections)
+}
+
+/// Writes the descriptors of some of these maps.
+fn relocate_some(
+    alloc: Global,
+    object: &mut Object,
+    maps: &ByName<Map>,
+    descriptors: &[(&str, i32)],
+) -> Result<(), PrepareError>
+    ensures ok { OnOk result (object.new ≡ with_maps object.old (has_function_in object.old.functions) (own_maps maps.now (map descriptor_of descriptors.now))) }
+    ensures sound { OnOk result (maps_fault object.old (has_function_in object.old.functions) (own_maps maps.now (map descriptor_of descriptors.now)) ≡ None) }
+    ensures fault { IfErr result (Refuses (OfMaps (maps_fault object.old (has_function_in object.old.functions) (own_maps maps.now (map descriptor_of descriptors.now))))) }
+{
+    let own = own_maps(alloc, maps, descriptors)?;
+    let sections = object.text_sections(alloc)?;
+    match relocate_listed(object, own, &sections) {
+        Ok(()) => Ok(()),
+        Err(error) => Err(PrepareError::Maps(error)),
+    }
+}
+
+/// Writes the descriptors of the object's own maps, which are taken out for it and put back.
+pub fn relocate_own_maps(
+    alloc: Global,
+    object: &mut Object,
+    descriptors: &[(&str, i32)],
+) -> Result<(), PrepareError>
+    ensures ok { OnOk result (object.new ≡ described (Some (map descriptor_of descriptors.now)) object.old) }
+    ensures sound { OnOk result (describing_fault (Some (map descriptor_of descriptors.now)) object.old ≡ None) }
+    ensures fault { IfErr result (Refuses (OfMaps (describing_fault (Some (map descriptor_of descriptors.now)) object.old))) }
+{
+    let maps = mem::replace(&mut object.maps, ByName::new(alloc));
+    let answer = relocate_some(alloc, object, &maps, descriptors);
+    object.maps = maps;
+    answer
+}

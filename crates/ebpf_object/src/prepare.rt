@@ -1,0 +1,59 @@
+//! A file's bytes to finished programs.
+
+ghost use Rattle.std.specs.Prelude.{IfOk, IfErr};
+ghost use Rattle.ebpf_object.specs.KeptParts.{KeepsOthers};
+ghost use Rattle.ebpf_object.specs.Objects.{object_of};
+ghost use Rattle.ebpf_object.specs.Prepared.{IsPrepared, IsFirstFault, Refuses};
+ghost use Rattle.ebpf_object.specs.Steps.{chosen};
+
+use crate::object::Object;
+pub use crate::prepare_error::PrepareError;
+use crate::stages::run_stages;
+use ebpf_btf::Btf;
+use std::alloc::Global;
+use std::io::BufRead;
+
+/// What is chosen of the passes over an object.
+#[derive(Clone, Copy)]
+pub struct Steps<'a> {
+    /// A kernel's types, where functions are to be adapted to them.
+    pub target_btf: Option<&'a Btf>,
+    /// Names of maps with their descriptors, where these are to be written; a name that the object lacks is passed
+    /// over, and of maps of one symbol or one section the later one counts.
+    pub map_fds: Option<&'a [(&'a str, i32)]>,
+    /// Where externs are to be resolved and written: the kernel's types, if they are known.
+    pub externs: Option<Option<&'a Btf>>,
+    /// Whether programs are joined with the functions that they reach.
+    pub calls: bool,
+}
+
+/// The object that the bytes of an ELF64 file are, after the chosen passes in this order: functions adapted to a
+/// kernel's types, descriptors of the object's own maps, externs resolved and then written, programs joined with the
+/// functions that they reach. `kallsyms` has the lines of the kernel's symbols. The text sections are those of the
+/// functions' keys.
+///
+/// # Errors
+///
+/// The fault of the first of these that has one: `Parse` with that of `Object::parse`, `Types` with that of
+/// `Object::relocate_btf`, `Maps` with that of `Object::relocate_maps`, `Ksyms` with that of
+/// `Object::resolve_externs`, `Externs` with that of `Object::relocate_externs`, `Calls` with that of
+/// `Object::relocate_calls`. `OutOfMemory`, and the stages' own, only where memory was refused.
+pub fn prepare<K: BufRead + Drop>(
+    alloc: Global,
+    bytes: &[u8],
+    steps: &Steps<'_>,
+    kallsyms: K,
+) -> Result<Object, PrepareError>
+    ensures prepared { IfOk result (IsPrepared (chosen steps.now) (K.remaining kallsyms) bytes.now) }
+    ensures others_stay { IfOk result (λ o. KeepsOthers (object_of bytes.now) o) }
+    ensures fault { IfErr result (Refuses (IsFirstFault (chosen steps.now) (K.remaining kallsyms) bytes.now)) }
+{
+    let mut object = match Object::parse(alloc, bytes) {
+        Ok(object) => object,
+        Err(error) => return Err(PrepareError::Parse(error)),
+    };
+    match run_stages(alloc, &mut object, steps, kallsyms) {
+        Ok(()) => Ok(object),
+        Err(error) => Err(error),
+    }
+}

@@ -1,0 +1,45 @@
+//! Why a file could not be prepared.
+
+ghost use Rattle.std.specs.Prelude.{◌≡◌};
+ghost use Rattle.ebpf_object.specs.declared.prepare_error.PrepareError.TheVariants.{OutOfMemory};
+
+use ebpf_core_relo::BtfRelocationError;
+use ebpf_ksyms::KsymsError;
+use ebpf_parts::ParseError;
+use ebpf_reloc::EbpfRelocationError;
+use std::alloc::AllocError;
+use thiserror::Error;
+
+/// Why a file could not be prepared, by the stage that refused.
+#[derive(Debug, Drop, Error)]
+pub enum PrepareError {
+    /// The file can't be parsed.
+    #[error("{0}")]
+    Parse(ParseError),
+    /// The functions can't be adapted to a kernel's types.
+    #[error("types: {0}")]
+    Types(BtfRelocationError),
+    /// The descriptors of maps can't be written.
+    #[error("maps: {0}")]
+    Maps(EbpfRelocationError),
+    /// The externs can't be resolved.
+    #[error("externs: {0}")]
+    Ksyms(KsymsError),
+    /// What is known of the externs can't be written.
+    #[error("externs: {0}")]
+    Externs(EbpfRelocationError),
+    /// The programs can't be joined with the functions that they reach.
+    #[error("calls: {0}")]
+    Calls(EbpfRelocationError),
+    /// No memory was found between the stages.
+    #[error("out of memory")]
+    OutOfMemory,
+}
+
+impl From<AllocError> for PrepareError {
+    ghost from_gives = { λ _ e. e ≡ OutOfMemory };
+
+    fn from(_error: AllocError) -> PrepareError {
+        PrepareError::OutOfMemory
+    }
+}

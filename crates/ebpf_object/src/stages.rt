@@ -1,0 +1,114 @@
+//! The stages of preparing an object, each after those before it.
+
+ghost use Rattle.std.specs.Prelude.{◌≡◌, None, option_map, OnOk, IfErr};
+ghost use Rattle.std.specs.Option.{option_copied};
+ghost use Rattle.ebpf_object.specs.KeptParts.{KeepsOthers};
+ghost use Rattle.ebpf_object.specs.Prepared.{AfterCalls, IsFault, Refuses};
+ghost use Rattle.ebpf_object.specs.Stages.{Adapts, AdaptingFault, Resolves, ResolvingFault, externs_known, knowing_fault, Joins, JoiningFault, described, describing_fault};
+ghost use Rattle.ebpf_object.specs.StageFaults.{OfTypes, OfMaps, OfKsyms, OfExterns, OfCalls};
+ghost use Rattle.ebpf_object.specs.Steps.{chosen, descriptors_of};
+
+use crate::object::Object;
+use crate::own_maps::relocate_own_maps;
+use crate::prepare::Steps;
+use crate::prepare_error::PrepareError;
+use ebpf_btf::Btf;
+use std::alloc::Global;
+use std::io::BufRead;
+
+/// Adapts the functions to a kernel's types.
+fn adapt(object: &mut Object, target: Option<&Btf>) -> Result<(), PrepareError>
+    ensures ok { OnOk result (Adapts (option_copied target.entry) object.old object.new) }
+    ensures fault { IfErr result (Refuses (OfTypes (AdaptingFault (option_copied target.entry) object.old))) }
+{
+    let Some(target) = target else {
+        return Ok(());
+    };
+    match object.relocate_btf(target) {
+        Ok(()) => Ok(()),
+        Err(error) => Err(PrepareError::Types(error)),
+    }
+}
+
+/// Writes the descriptors of the object's own maps.
+fn describe(
+    alloc: Global,
+    object: &mut Object,
+    descriptors: Option<&[(&str, i32)]>,
+) -> Result<(), PrepareError>
+    ensures ok { OnOk result (object.new ≡ described (descriptors_of descriptors.entry) object.old) }
+    ensures sound { OnOk result (describing_fault (descriptors_of descriptors.entry) object.old ≡ None) }
+    ensures fault { IfErr result (Refuses (OfMaps (describing_fault (descriptors_of descriptors.entry) object.old))) }
+{
+    let Some(descriptors) = descriptors else {
+        return Ok(());
+    };
+    relocate_own_maps(alloc, object, descriptors)
+}
+
+/// Resolves the externs.
+fn resolve<K: BufRead + Drop>(
+    object: &mut Object,
+    kernel: Option<Option<&Btf>>,
+    kallsyms: K,
+) -> Result<(), PrepareError>
+    ensures ok { OnOk result (Resolves (option_map option_copied kernel.entry) (K.remaining kallsyms) object.old object.new) }
+    ensures fault { IfErr result (Refuses (OfKsyms (ResolvingFault (option_map option_copied kernel.entry) (K.remaining kallsyms) object.old))) }
+{
+    let Some(kernel) = kernel else {
+        return Ok(());
+    };
+    match object.resolve_externs(kernel, kallsyms) {
+        Ok(()) => Ok(()),
+        Err(error) => Err(PrepareError::Ksyms(error)),
+    }
+}
+
+/// Writes what is known of the externs.
+fn write_externs(object: &mut Object, kernel: Option<Option<&Btf>>) -> Result<(), PrepareError>
+    ensures ok { OnOk result (object.new ≡ externs_known (option_map option_copied kernel.entry) object.old) }
+    ensures sound { OnOk result (knowing_fault (option_map option_copied kernel.entry) object.old ≡ None) }
+    ensures fault { IfErr result (Refuses (OfExterns (knowing_fault (option_map option_copied kernel.entry) object.old))) }
+{
+    if kernel.is_none() {
+        return Ok(());
+    }
+    match object.relocate_externs() {
+        Ok(()) => Ok(()),
+        Err(error) => Err(PrepareError::Externs(error)),
+    }
+}
+
+/// Joins the programs with the functions that they reach.
+fn join(alloc: Global, object: &mut Object, calls: bool) -> Result<(), PrepareError>
+    ensures ok { OnOk result (Joins calls object.old object.new) }
+    ensures fault { IfErr result (Refuses (OfCalls (JoiningFault calls object.old))) }
+{
+    if !calls {
+        return Ok(());
+    }
+    let sections = object.text_sections(alloc)?;
+    match object.relocate_calls(&sections) {
+        Ok(()) => Ok(()),
+        Err(error) => Err(PrepareError::Calls(error)),
+    }
+}
+
+/// The stages in order.
+#[tactic(auto, using(crate::proofs::Staging::after_calls, crate::proofs::Staging::adapting_refused, crate::proofs::Staging::describing_refused, crate::proofs::Staging::resolving_refused, crate::proofs::Staging::knowing_refused, crate::proofs::Staging::joining_refused, crate::proofs::KeptParts::calls_kept))]
+pub fn run_stages<K: BufRead + Drop>(
+    alloc: Global,
+    object: &mut Object,
+    steps: &Steps<'_>,
+    kallsyms: K,
+) -> Result<(), PrepareError>
+    ensures ok { OnOk result (AfterCalls (chosen steps.now) (K.remaining kallsyms) object.old object.new) }
+    ensures others_stay { OnOk result (KeepsOthers object.old object.new) }
+    ensures fault { IfErr result (Refuses (IsFault (chosen steps.now) (K.remaining kallsyms) object.old)) }
+{
+    adapt(object, steps.target_btf)?;
+    describe(alloc, object, steps.map_fds)?;
+    resolve(object, steps.externs, kallsyms)?;
+    write_externs(object, steps.externs)?;
+    join(alloc, object, steps.calls)
+}
