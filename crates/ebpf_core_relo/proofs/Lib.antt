@@ -1,4 +1,7 @@
 pub mod Grouped
+pub mod OneRecord
+pub mod OutcomeSlots
 pub mod PutSlots
+pub mod RecordRuns
 pub mod Rewritten
 pub mod Tops

@@ -3,6 +3,7 @@
 
 mod carried;
 mod error;
+pub mod laws;
 mod records;
 mod relocate;
 mod scene;

@@ -1,0 +1,218 @@
+-- What one record makes of the slots that were written before it.
+use Rattle.std.proofs.Common.{◌≡◌, ℕ, ◌+◌, ◌-◌, ◌/◌, Bool, true, false, cond, List, length, Option, Some, None, Result, Ok, Err, refl, sym, ap, ◌∙◌, subst, inl, inr, ◌⊎◌, slice_get}
+use Rattle.std.specs.Prelude.{◌≢◌, option_map}
+use Rattle.std.specs.FinMap.{get, get-insert, insert}
+use Rattle.std.specs.Cmp.{eq_by_cmp_equiv}
+use Rattle.std.specs.Ordering.{eq_by_cmp}
+use Rattle.std.proofs.lemmas.Bool.{cases_eq}
+use Rattle.std.proofs.lemmas.Option.{same_Some}
+use Rattle.ebpf_base.proofs.Maps.{key_exact}
+use Rattle.ebpf_base.specs.Keys.{key_cmp, key_total}
+use Rattle.ebpf_btf.specs.Next.{if_some}
+use Rattle.ebpf_btf.specs.declared.relocation.Relocation.{Relocation}
+use Rattle.ebpf_core.specs.Answers.{if_ok}
+use Rattle.ebpf_core.specs.Searches.{outcome_of}
+use Rattle.ebpf_core.specs.declared.error.RelocationError.TheVariants.{FunctionNotFound}
+use Rattle.ebpf_core.specs.declared.outcome.Outcome.{Outcome}
+use Rattle.ebpf_core_relo.proofs.OutcomeSlots.{goes_on_before, nothing_behind, same_ok, written_slots_carry, written_too}
+use Rattle.ebpf_core_relo.specs.Alone.{Carries, Touches, goes_on, slot_of}
+use Rattle.ebpf_core_relo.specs.Carried.{written}
+use Rattle.ebpf_core_relo.specs.Places.{spans_of}
+use Rattle.ebpf_core_relo.specs.Records.{Scene, Written, own_slots, put_outcome, record_applied, slots_at, slots_by}
+use Rattle.ebpf_core_relo.specs.SlotOutcomes.{CarriesAt, behind, carrying}
+use Rattle.ebpf_core_relo.specs.Spans.{span_at}
+use Rattle.ebpf_core_relo.specs.declared.spans.Span.{Span}
+use Rattle.ebpf_parts.specs.declared.insn.bpf_insn.{bpf_insn}
+use Rattle.ebpf_reloc.proofs.Keys.{is_equal}
+use Rattle.ebpf_reloc.specs.declared.function.Function.{Function}
+
+-- the slots of a function as records have left them, and its own
+abbrev pub slots_now : Scene → Written → ℕ × ℕ → List bpf_insn
+slots_now scene so_far key = slots_at scene.functions so_far key
+
+abbrev pub slots_before : Scene → ℕ × ℕ → List bpf_insn
+slots_before scene key = own_slots (get scene.functions key)
+
+-- as many slots as before, and only those of class 0 that were so before
+pub record IsSound (scene : Scene) (so_far : Written) : Type 0 where
+  pub as_many : (key : ℕ × ℕ) → length (slots_now scene so_far key) ≡ length (slots_before scene key)
+  pub goes_on_only : (key : ℕ × ℕ) (i : ℕ) → goes_on (slice_get (slots_now scene so_far key) i) ≡ true → goes_on (slice_get (slots_before scene key) i) ≡ true
+
+-- one record's outcome is put into its slot
+pub record Puts (scene : Scene) (placed : ℕ × Relocation) (so_far left : Written) : Type 0 where
+  pub key : ℕ × ℕ
+  pub slot : ℕ
+  pub about : slot_of scene placed ≡ Some (key, slot)
+  pub outcome : Outcome
+  pub found : outcome_of scene.sides.local scene.sides.target placed.1 ≡ Ok outcome
+  pub slots : List bpf_insn
+  pub carried : written placed.1.number (slots_now scene so_far key) slot outcome ≡ Ok slots
+  pub put : left ≡ insert so_far key slots
+
+-- ---- a record that was applied puts its outcome
+
+pub ok_parts : {A X E : Type 0} (r : Result A E) (next : A → Result X E) (x : X) → if_ok r next ≡ Ok x → (a : A) × (r ≡ Ok a) × (next a ≡ Ok x)
+ok_parts (Ok a) next x e = (a, refl, e)
+ok_parts (Err f) next x e = cc
+
+put_puts : (scene : Scene) (section : ℕ) (so_far left : Written) (r : Relocation) (span : Span) → span_at r.insn_off (spans_of scene.functions section) ≡ Some span
+    → put_outcome scene section so_far r span ≡ Ok left → Puts scene (section, r) so_far left
+unfolding put_outcome
+put_puts scene section so_far left r span found e =
+    let (outcome, is, rest) = ok_parts (outcome_of scene.sides.local scene.sides.target r) _ left e in
+    let (slots, carried, last) = ok_parts (written r.number (slots_at scene.functions so_far (section, span.address)) ((r.insn_off - span.start) / 8) outcome) _ left rest in
+    record {
+      key = (section, span.address);
+      slot = (r.insn_off - span.start) / 8;
+      about = ap (option_map (λ (s : Span). ((section, s.address), (r.insn_off - s.start) / 8))) found;
+      outcome = outcome;
+      found = is;
+      slots = slots;
+      carried = carried;
+      put = sym (same_ok _ _ last);
+    }
+
+pub applied_puts : (scene : Scene) (section : ℕ) (so_far left : Written) (r : Relocation) → record_applied scene section so_far r ≡ Ok left → Puts scene (section, r) so_far left
+unfolding record_applied
+applied_puts scene section so_far left r e = by_span (span_at r.insn_off (spans_of scene.functions section)) refl e
+  where
+    by_span : (o : Option Span) → span_at r.insn_off (spans_of scene.functions section) ≡ o → if_some o (put_outcome scene section so_far r) (Err FunctionNotFound) ≡ Ok left
+        → Puts scene (section, r) so_far left
+    by_span None is e = cc
+    by_span (Some span) is e = put_puts scene section so_far left r span is e
+
+-- ---- what it puts, key by key
+
+-- the function's slots are those that it puts, and those of other functions stay
+abbrev AtOrApart : Scene → Written → Written → ℕ × ℕ → List bpf_insn → ℕ × ℕ → Type 0
+AtOrApart scene so_far left key slots q = ((q ≡ key) × (slots_now scene left q ≡ slots)) ⊎ (slots_now scene left q ≡ slots_now scene so_far q)
+
+by_key : (scene : Scene) (so_far left : Written) (key : ℕ × ℕ) (slots : List bpf_insn) → left ≡ insert so_far key slots → (q : ℕ × ℕ) → AtOrApart scene so_far left key slots q
+by_key scene so_far left key slots put q = by_test (eq_by_cmp key_cmp q key) refl
+  where
+    got : slots_now scene left q ≡ slots_by (cond (eq_by_cmp key_cmp q key) (Some slots) (get so_far q)) (get scene.functions q)
+    got = ap (λ m. slots_now scene m q) put ∙ ap (λ o. slots_by o (get scene.functions q)) (get-insert key_total so_far key slots q)
+
+    by_test : (b : Bool) → eq_by_cmp key_cmp q key ≡ b → AtOrApart scene so_far left key slots q
+    by_test true is = inl (key_exact q key (is_equal _ is), got ∙ ap (λ b. slots_by (cond b (Some slots) (get so_far q)) (get scene.functions q)) is)
+    by_test false is = inr (got ∙ ap (λ b. slots_by (cond b (Some slots) (get so_far q)) (get scene.functions q)) is)
+
+module _ (scene : Scene) (placed : ℕ × Relocation) (so_far left : Written) (p : Puts scene placed so_far left) (sound : IsSound scene so_far) where
+  carries : CarriesAt p.slot p.outcome (slots_now scene so_far p.key) p.slots
+  carries = written_slots_carry placed.1.number (slots_now scene so_far p.key) p.slots p.slot p.outcome p.carried
+
+  place : (q : ℕ × ℕ) → AtOrApart scene so_far left p.key p.slots q
+  place q = by_key scene so_far left p.key p.slots p.put q
+
+  pub sound_after : IsSound scene left
+  sound_after = record { as_many = λ q. many q (place q); goes_on_only = λ q i h. only q i h (place q) }
+    where
+      many : (q : ℕ × ℕ) → AtOrApart scene so_far left p.key p.slots q → length (slots_now scene left q) ≡ length (slots_before scene q)
+      many q (inl (same, is)) = ap length is ∙ carries.as_many ∙ sound.as_many p.key ∙ ap (λ k. length (slots_before scene k)) (sym same)
+      many q (inr is) = ap length is ∙ sound.as_many q
+
+      only : (q : ℕ × ℕ) (i : ℕ) → goes_on (slice_get (slots_now scene left q) i) ≡ true → AtOrApart scene so_far left p.key p.slots q → goes_on (slice_get (slots_before scene q) i) ≡ true
+      only q i h (inl (same, is)) =
+          ap (λ k. goes_on (slice_get (slots_before scene k) i)) same
+          ∙ sound.goes_on_only p.key i
+          (goes_on_before p.slot p.outcome (slots_now scene so_far p.key) p.slots carries i (sym (ap (λ s. goes_on (slice_get s i)) is) ∙ h))
+      only q i h (inr is) = sound.goes_on_only q i (sym (ap (λ s. goes_on (slice_get s i)) is) ∙ h)
+
+  -- its own slots are touched
+  touches_first : Touches scene placed p.key p.slot
+  touches_first = record { slot = p.slot; about = p.about; touched = inl refl }
+
+  touches_second : goes_on (slice_get (slots_before scene p.key) p.slot) ≡ true → Touches scene placed p.key (p.slot + 1)
+  touches_second h = record { slot = p.slot; about = p.about; touched = inr (refl, h) }
+
+  -- slots that it doesn't touch stay
+  second_stays : (¬ (Touches scene placed p.key (p.slot + 1))) → (b : Bool) → goes_on (slice_get (slots_now scene so_far p.key) p.slot) ≡ b
+      → slice_get p.slots (p.slot + 1) ≡ slice_get (slots_now scene so_far p.key) (p.slot + 1)
+  second_stays apart true is = absurd (apart (touches_second (sound.goes_on_only p.key p.slot is)))
+  second_stays apart false is = carries.next ∙ stays (slice_get (slots_now scene so_far p.key) (p.slot + 1))
+    where
+      stays : (o : Option bpf_insn) → option_map (behind p.outcome.value carries.old) o ≡ o
+      stays None = refl
+      stays (Some next) = ap Some (nothing_behind p.outcome.value carries.old next (sym (ap goes_on carries.was) ∙ is))
+
+  in_function : (i : ℕ) → (¬ (Touches scene placed p.key i)) → slice_get p.slots i ≡ slice_get (slots_now scene so_far p.key) i
+  in_function i apart = by_place (cases_eq i p.slot) (cases_eq i (p.slot + 1))
+    where
+      by_place : (i ≡ p.slot) ⊎ (i ≢ p.slot) → (i ≡ p.slot + 1) ⊎ (i ≢ p.slot + 1) → slice_get p.slots i ≡ slice_get (slots_now scene so_far p.key) i
+      by_place (inl same) other = absurd (apart (subst (Touches scene placed p.key) (sym same) touches_first))
+      by_place (inr not_first) (inl same) =
+          ap (slice_get p.slots) same
+          ∙ second_stays (λ t. apart (subst (Touches scene placed p.key) (sym same) t)) (goes_on (slice_get (slots_now scene so_far p.key) p.slot)) refl
+          ∙ ap (slice_get (slots_now scene so_far p.key)) (sym same)
+      by_place (inr not_first) (inr not_second) = carries.others i not_first not_second
+
+  pub others_stay : (q : ℕ × ℕ) (i : ℕ) → (¬ (Touches scene placed q i)) → slice_get (slots_now scene left q) i ≡ slice_get (slots_now scene so_far q) i
+  others_stay q i apart = by_place (place q)
+    where
+      by_place : AtOrApart scene so_far left p.key p.slots q → slice_get (slots_now scene left q) i ≡ slice_get (slots_now scene so_far q) i
+      by_place (inl (same, is)) =
+          ap (λ s. slice_get s i) is
+          ∙ in_function i (λ t. apart (subst (λ k. Touches scene placed k i) (sym same) t))
+          ∙ ap (λ k. slice_get (slots_now scene so_far k) i) (sym same)
+      by_place (inr is) = ap (λ s. slice_get s i) is
+
+  -- its slots carry its outcome, where they are the function's own
+  module _ (own : (q : ℕ × ℕ) (i : ℕ) → Touches scene placed q i → slice_get (slots_now scene so_far q) i ≡ slice_get (slots_before scene q) i) where
+    too : (slots : List bpf_insn) × (written placed.1.number (slots_before scene p.key) p.slot p.outcome ≡ Ok slots)
+    too = written_too placed.1.number (slots_now scene so_far p.key) (slots_before scene p.key) p.slots p.slot p.outcome p.carried (own p.key p.slot touches_first) (sound.as_many p.key)
+
+    own_carries : CarriesAt p.slot p.outcome (slots_before scene p.key) too.0
+    own_carries = written_slots_carry placed.1.number (slots_before scene p.key) too.0 p.slot p.outcome too.1
+
+    same_old : carries.old ≡ own_carries.old
+    same_old = same_Some _ _ (sym carries.was ∙ own p.key p.slot touches_first ∙ own_carries.was)
+
+    first_same : slice_get p.slots p.slot ≡ slice_get too.0 p.slot
+    first_same =
+        carries.is ∙ sym carries.carries ∙ ap (λ s. carrying p.outcome.value s p.outcome) same_old ∙ own_carries.carries ∙ sym own_carries.is
+
+    second_same : goes_on (slice_get (slots_before scene p.key) p.slot) ≡ true → slice_get p.slots (p.slot + 1) ≡ slice_get too.0 (p.slot + 1)
+    second_same h =
+        carries.next
+        ∙ ap (option_map (behind p.outcome.value carries.old)) (own p.key (p.slot + 1) (touches_second h))
+        ∙ ap (λ s. option_map (behind p.outcome.value s) (slice_get (slots_before scene p.key) (p.slot + 1))) same_old
+        ∙ sym own_carries.next
+
+    at_key : slots_now scene left p.key ≡ p.slots
+    at_key =
+        ap (λ m. slots_now scene m p.key) p.put
+        ∙ ap (λ o. slots_by o (get scene.functions p.key)) (get-insert key_total so_far p.key p.slots p.key)
+        ∙ ap (λ b. slots_by (cond b (Some p.slots) (get so_far p.key)) (get scene.functions p.key)) ((eq_by_cmp_equiv key_total).refl p.key)
+
+    same_slot : (slot : ℕ) → slot_of scene placed ≡ Some (p.key, slot) → slot ≡ p.slot
+    same_slot slot about = ap (λ (s : (ℕ × ℕ) × ℕ). s.1) (same_Some _ _ (sym about ∙ p.about))
+
+    touched_same : (i : ℕ) → Touches scene placed p.key i → slice_get p.slots i ≡ slice_get too.0 i
+    touched_same i t = by_place t.touched
+      where
+        slot_is : t.slot ≡ p.slot
+        slot_is = same_slot t.slot t.about
+
+        by_place : (i ≡ t.slot) ⊎ ((i ≡ t.slot + 1) × (goes_on (slice_get (slots_before scene p.key) t.slot) ≡ true)) → slice_get p.slots i ≡ slice_get too.0 i
+        by_place (inl same) = subst (λ j. slice_get p.slots j ≡ slice_get too.0 j) (sym (same ∙ slot_is)) first_same
+        by_place (inr (same, goes)) =
+            subst (λ j. slice_get p.slots j ≡ slice_get too.0 j) (sym (same ∙ ap (λ s. s + 1) slot_is))
+            (second_same (ap (λ s. goes_on (slice_get (slots_before scene p.key) s)) (sym slot_is) ∙ goes))
+
+    pub put_carries : Carries scene left placed
+    put_carries = by_function (get scene.functions p.key) refl
+      where
+        by_function : (o : Option Function) → get scene.functions p.key ≡ o → Carries scene left placed
+        by_function None empty = let never : ◌≡◌ {A = Option bpf_insn} None (Some own_carries.old) = sym (ap (λ o. slice_get (own_slots o) p.slot) empty) ∙ own_carries.was in cc
+        by_function (Some function) there = record {
+          key = p.key;
+          slot = p.slot;
+          about = p.about;
+          function = function;
+          there = there;
+          outcome = p.outcome;
+          found = p.found;
+          slots = too.0;
+          carried = subst (λ o. written placed.1.number (own_slots o) p.slot p.outcome ≡ Ok too.0) there too.1;
+          stands = λ i t. ap (λ s. slice_get s i) at_key ∙ touched_same i t;
+        }

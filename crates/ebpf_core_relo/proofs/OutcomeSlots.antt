@@ -1,0 +1,292 @@
+-- What writing an outcome makes of a function's slots, slot by slot.
+use Rattle.std.proofs.Common.{◌≡◌, ℕ, zero, suc, ◌+◌, ◌*◌, ◌/◌, ◌%◌, ◌<◌, Bool, true, false, List, [], ◌∷◌, length, Option, Some, None, Result, Ok, Err, refl, sym, ap, ◌∙◌, subst, inl, inr, ◌⊎◌, arith, length-set, slice_get, slice_set}
+use Rattle.std.specs.Prelude.{◌≢◌, ◌==◌, ◌^◌, if◌then◌else◌, is_ok, is_some, nat_lt, option_map, pos}
+use Rattle.std.proofs.lemmas.Bool.{cases_eq, eqb-true}
+use Rattle.std.proofs.lemmas.Nat.{mod-mul-add, mod_below}
+use Rattle.std.proofs.lemmas.Option.{cond_some, same_Some, slice_get_within}
+use Rattle.ebpf_btf.specs.Next.{if_some}
+use Rattle.ebpf_core.specs.declared.error.RelocationError.{RelocationError}
+use Rattle.ebpf_core.specs.declared.error.RelocationError.TheVariants.{InvalidInstruction, InvalidInstructionIndex}
+use Rattle.ebpf_core.specs.declared.field.LoadedField.{LoadedField}
+use Rattle.ebpf_core.specs.declared.outcome.Outcome.{Outcome}
+use Rattle.ebpf_core_relo.specs.Alone.{goes_on}
+use Rattle.ebpf_core_relo.specs.Carried.{both_written, carried_by, carrier_of, carrier_of_class, is_wide, high_half, laid, may_resize, moved_code, numbered, poison, poisoned, resized, size_bits, written}
+use Rattle.ebpf_core_relo.specs.SlotOutcomes.{CarriesAt, WrittenSlotsCarry, behind, carrying}
+use Rattle.ebpf_core_relo.specs.declared.carried.Carrier.{Carrier}
+use Rattle.ebpf_core_relo.specs.declared.carried.Carrier.TheVariants.{Immediate, Offset, Wide, Nothing}
+use Rattle.ebpf_parts.specs.Slots.{src_of}
+use Rattle.ebpf_parts.specs.declared.insn.bpf_insn.{bpf_insn}
+
+-- ---- lists and answers
+
+set_same : {X : Type 0} (xs : List X) (i : ℕ) (a : X) → i < length xs → slice_get (slice_set xs i a) i ≡ Some a
+set_same [] i a h = absurd (omega arith)
+set_same (x ∷ xs) zero a h = refl
+set_same (x ∷ xs) (suc i) a h = set_same xs i a (omega arith)
+
+set_other : {X : Type 0} (xs : List X) (i k : ℕ) (a : X) → k ≢ i → slice_get (slice_set xs i a) k ≡ slice_get xs k
+set_other [] i k a h = refl
+set_other (x ∷ xs) zero zero a h = absurd (h refl)
+set_other (x ∷ xs) zero (suc k) a h = refl
+set_other (x ∷ xs) (suc i) zero a h = refl
+set_other (x ∷ xs) (suc i) (suc k) a h = set_other xs i k a (λ e. h (ap suc e))
+
+-- lists of one length have the same places
+same_places : {X : Type 0} (xs ys : List X) (k : ℕ) → length xs ≡ length ys → is_some (slice_get xs k) ≡ is_some (slice_get ys k)
+same_places [] [] k e = refl
+same_places [] (y ∷ ys) k e = absurd (omega arith)
+same_places (x ∷ xs) [] k e = absurd (omega arith)
+same_places (x ∷ xs) (y ∷ ys) zero e = refl
+same_places (x ∷ xs) (y ∷ ys) (suc k) e = same_places xs ys k (omega arith)
+
+map_same : {X : Type 0} (o : Option X) (f : X → X) → ((x : X) → f x ≡ x) → option_map f o ≡ o
+map_same None f h = refl
+map_same (Some x) f h = ap Some (h x)
+
+pub same_ok : {X E : Type 0} (x y : X) → ◌≡◌ {A = Result X E} (Ok x) (Ok y) → x ≡ y
+same_ok {X} {E} x y e = ap given e
+  where
+    given : Result X E → X
+    given (Ok z) = z
+    given (Err z) = x
+
+ok_some : {X E : Type 0} (r : Result X E) → is_ok r ≡ true → (x : X) × (r ≡ Ok x)
+ok_some (Ok x) e = (x, refl)
+ok_some (Err x) e = cc
+
+-- ---- a slot, and the one behind it
+
+module _ (i : ℕ) (outcome : Outcome) (before : List bpf_insn) (old new : bpf_insn) (was : slice_get before i ≡ Some old) (carries : carrying outcome.value old outcome ≡ Some new) where
+  one_slot : ((next : bpf_insn) → behind outcome.value old next ≡ next) → CarriesAt i outcome before (slice_set before i new)
+  one_slot stays = record {
+    old = old;
+    was = was;
+    new = new;
+    carries = carries;
+    is = set_same before i new (slice_get_within before i old was);
+    next = set_other before i (i + 1) new (λ e. omega arith) ∙ sym (map_same (slice_get before (i + 1)) (behind outcome.value old) stays);
+    others = λ k a b. set_other before i k new a;
+    as_many = length-set before i new;
+  }
+
+  two_slots : (next : bpf_insn) (second : bpf_insn → bpf_insn) → slice_get before (i + 1) ≡ Some next → ((x : bpf_insn) → second x ≡ behind outcome.value old x)
+      → CarriesAt i outcome before (slice_set (slice_set before i new) (i + 1) (second next))
+  two_slots next second follows same =
+      let first = slice_set before i new in
+      let inside : i + 1 < length first = rw (length-set before i new) (slice_get_within before (i + 1) next follows) in
+      record {
+        old = old;
+        was = was;
+        new = new;
+        carries = carries;
+        is = set_other first (i + 1) i (second next) (λ e. omega arith) ∙ set_same before i new (slice_get_within before i old was);
+        next = set_same first (i + 1) (second next) inside ∙ ap Some (same next) ∙ sym (ap (option_map (behind outcome.value old)) follows);
+        others = λ k a b. set_other first (i + 1) k (second next) b ∙ set_other before i k new a;
+        as_many = length-set first (i + 1) (second next) ∙ length-set before i new;
+      }
+
+both_parts : (number : ℕ) (before after : List bpf_insn) (i : ℕ) (first : bpf_insn) (second : bpf_insn → bpf_insn) → both_written number before i first second ≡ Ok after
+    → (next : bpf_insn) × (slice_get before (i + 1) ≡ Some next) × (slice_set (slice_set before i first) (i + 1) (second next) ≡ after)
+both_parts number before after i first second e = go (slice_get before (i + 1)) refl e
+  where
+    go : (o : Option bpf_insn) → slice_get before (i + 1) ≡ o
+        → if_some o (λ next. Ok (slice_set (slice_set before i first) (i + 1) (second next))) (Err (InvalidInstructionIndex (i + 1) (length before) number)) ≡ Ok after
+        → (next : bpf_insn) × (slice_get before (i + 1) ≡ Some next) × (slice_set (slice_set before i first) (i + 1) (second next) ≡ after)
+    go None is e = cc
+    go (Some next) is e = (next, is, same_ok _ _ e)
+
+module _ (number : ℕ) (before after : List bpf_insn) (i : ℕ) (outcome : Outcome) (slot : bpf_insn) (was : slice_get before i ≡ Some slot) where
+  -- one slot or two, by a test
+  by_test : (b : Bool) (new : bpf_insn) (second : bpf_insn → bpf_insn) → carrying outcome.value slot outcome ≡ Some new
+      → ((x : bpf_insn) → behind outcome.value slot x ≡ (if b then second x else x))
+      → (if b then both_written number before i new second else Ok (slice_set before i new)) ≡ Ok after
+      → CarriesAt i outcome before after
+  by_test true new second carries same e =
+      let (next, follows, is) = both_parts number before after i new second e in
+      subst (CarriesAt i outcome before) is (two_slots i outcome before slot new was carries next second follows (λ x. sym (same x)))
+  by_test false new second carries same e = subst (CarriesAt i outcome before) (same_ok _ _ e) (one_slot i outcome before slot new was carries same)
+
+  by_carried : (n : ℕ) → outcome.value ≡ Some n → (c : Option bpf_insn) → carried_by (carrier_of slot) slot n outcome ≡ c
+      → if_some c (λ new. laid number before i slot new n) (Err (InvalidInstruction number i [])) ≡ Ok after → CarriesAt i outcome before after
+  by_carried n value None is e = cc
+  by_carried n value (Some new) is e =
+      by_test (is_wide (carrier_of slot)) new (λ x. record x { imm = high_half n })
+      (ap (λ v. carrying v slot outcome) value ∙ is)
+      (λ x. ap (λ v. behind v slot x) value) e
+
+  by_value : (v : Option ℕ) → outcome.value ≡ v → if_some v (λ n. numbered number before i slot n outcome) (poisoned number before i slot) ≡ Ok after → CarriesAt i outcome before after
+  by_value None value e =
+      by_test (slot.code == 0x18) poison (λ x. poison) (ap (λ v. carrying v slot outcome) value) (λ x. ap (λ v. behind v slot x) value) e
+  by_value (Some n) value e = by_carried n value (carried_by (carrier_of slot) slot n outcome) refl e
+
+pub written_slots_carry : WrittenSlotsCarry
+unfolding written
+written_slots_carry number before after i outcome e = by_slot (slice_get before i) refl e
+  where
+    by_slot : (o : Option bpf_insn) → slice_get before i ≡ o
+        → if_some o (λ slot. if_some outcome.value (λ n. numbered number before i slot n outcome) (poisoned number before i slot)) (Err (InvalidInstructionIndex i (length before) number)) ≡ Ok after
+        → CarriesAt i outcome before after
+    by_slot None is e = cc
+    by_slot (Some slot) is e = by_value number before after i outcome slot is outcome.value refl e
+
+-- ---- whether an outcome can be written
+
+-- by its slot, and whether there is one behind it
+laid_tells : Option bpf_insn → bpf_insn → Bool → Bool
+laid_tells None slot more = false
+laid_tells (Some new) slot more = if is_wide (carrier_of slot) then more else true
+
+value_tells : Option ℕ → bpf_insn → Outcome → Bool → Bool
+value_tells None slot outcome more = if slot.code == 0x18 then more else true
+value_tells (Some n) slot outcome more = laid_tells (carried_by (carrier_of slot) slot n outcome) slot more
+
+slot_tells : Option bpf_insn → Outcome → Bool → Bool
+slot_tells None outcome more = false
+slot_tells (Some slot) outcome more = value_tells outcome.value slot outcome more
+
+module _ (number : ℕ) (before : List bpf_insn) (i : ℕ) (outcome : Outcome) where
+  abbrev more : Bool
+  more = is_some (slice_get before (i + 1))
+
+  ok_both : (b : Bool) (o : Option bpf_insn) (two : bpf_insn → List bpf_insn) (one : List bpf_insn) (fault : RelocationError)
+      → is_ok (if b then if_some o (λ x. Ok (two x)) (Err fault) else Ok one) ≡ (if b then is_some o else true)
+  ok_both true None two one fault = refl
+  ok_both true (Some x) two one fault = refl
+  ok_both false o two one fault = refl
+
+  ok_laid : (slot : bpf_insn) (n : ℕ) (c : Option bpf_insn) → is_ok (if_some c (λ new. laid number before i slot new n) (Err (InvalidInstruction number i []))) ≡ laid_tells c slot more
+  unfolding laid_tells
+  ok_laid slot n None = refl
+  ok_laid slot n (Some new) = ok_both (is_wide (carrier_of slot)) (slice_get before (i + 1)) _ _ _
+
+  ok_value : (slot : bpf_insn) (v : Option ℕ) → is_ok (if_some v (λ n. numbered number before i slot n outcome) (poisoned number before i slot)) ≡ value_tells v slot outcome more
+  unfolding value_tells
+  ok_value slot None = ok_both (slot.code == 0x18) (slice_get before (i + 1)) _ _ _
+  ok_value slot (Some n) = ok_laid slot n (carried_by (carrier_of slot) slot n outcome)
+
+  ok_slot : (o : Option bpf_insn)
+      → is_ok (if_some o (λ slot. if_some outcome.value (λ n. numbered number before i slot n outcome) (poisoned number before i slot)) (Err (InvalidInstructionIndex i (length before) number)))
+      ≡ slot_tells o outcome more
+  unfolding slot_tells
+  ok_slot None = refl
+  ok_slot (Some slot) = ok_value slot outcome.value
+
+  ok_written : is_ok (written number before i outcome) ≡ slot_tells (slice_get before i) outcome more
+  unfolding written
+  ok_written = ok_slot (slice_get before i)
+
+-- it can be written into slots of which there are as many and of which this one is the same
+pub written_too : (number : ℕ) (before own after : List bpf_insn) (i : ℕ) (outcome : Outcome) → written number before i outcome ≡ Ok after
+    → slice_get before i ≡ slice_get own i → length before ≡ length own → (slots : List bpf_insn) × (written number own i outcome ≡ Ok slots)
+written_too number before own after i outcome e slot as_many =
+    ok_some (written number own i outcome)
+    (ok_written number own i outcome
+    ∙ sym (ap (slot_tells (slice_get own i) outcome) (same_places before own (i + 1) as_many))
+    ∙ sym (ap (λ o. slot_tells o outcome (is_some (slice_get before (i + 1)))) slot)
+    ∙ sym (ok_written number before i outcome)
+    ∙ ap is_ok e)
+
+-- ---- classes
+
+with_bits : (code bits eighths : ℕ) → bits ≡ eighths * 8 → (code / 32 * 32 + bits + code % 8) % 8 ≡ code % 8
+with_bits code bits eighths e =
+    let whole : code / 32 * 32 + bits + code % 8 ≡ (code / 32 * 4 + eighths) * 8 + code % 8 = omega arith in
+    ap (λ n. n % 8) whole ∙ mod-mul-add (code / 32 * 4 + eighths) 8 (code % 8) (mod_below code 8 (omega arith))
+
+with_size_bits : (a b c d : Bool) (code bits : ℕ) → (if a then Some 0x18 else (if b then Some 0x00 else (if c then Some 0x08 else (if d then Some 0x10 else None)))) ≡ Some bits
+    → (code / 32 * 32 + bits + code % 8) % 8 ≡ code % 8
+with_size_bits true b c d code bits e = with_bits code bits 3 (sym (same_Some _ _ e))
+with_size_bits false true c d code bits e = with_bits code bits 0 (sym (same_Some _ _ e))
+with_size_bits false false true d code bits e = with_bits code bits 1 (sym (same_Some _ _ e))
+with_size_bits false false false true code bits e = with_bits code bits 2 (sym (same_Some _ _ e))
+with_size_bits false false false false code bits e = cc
+
+resized_class : (code size moved : ℕ) → resized code size ≡ Some moved → moved % 8 ≡ code % 8
+resized_class code size moved e = by_bits (size_bits size) refl e
+  where
+    by_bits : (o : Option ℕ) → size_bits size ≡ o → option_map (λ bits. code / 32 * 32 + bits + code % 8) o ≡ Some moved → moved % 8 ≡ code % 8
+    by_bits None is e = cc
+    by_bits (Some bits) is e = ap (λ n. n % 8) (sym (same_Some _ _ e)) ∙ with_size_bits (size == 8) (size == 4) (size == 2) (size == 1) code bits is
+
+sized_class : (same may : Bool) (code size moved : ℕ) → (if same then Some code else (if may then resized code size else None)) ≡ Some moved → moved % 8 ≡ code % 8
+sized_class true may code size moved e = ap (λ n. n % 8) (sym (same_Some _ _ e))
+sized_class false true code size moved e = resized_class code size moved e
+sized_class false false code size moved e = cc
+
+moved_class : (code : ℕ) (local target : Option LoadedField) (moved : ℕ) → moved_code code local target ≡ Some moved → moved % 8 ≡ code % 8
+unfolding moved_code
+moved_class code None None moved e = ap (λ n. n % 8) (sym (same_Some _ _ e))
+moved_class code None (Some target) moved e = cc
+moved_class code (Some local) None moved e = cc
+moved_class code (Some local) (Some target) moved e = sized_class (local.size == target.size) (may_resize local.class target.class) code target.size moved e
+
+offset_class : (fits : Bool) (slot : bpf_insn) (n : ℕ) (o : Option ℕ) (new : bpf_insn) → ((code : ℕ) → o ≡ Some code → code % 8 ≡ slot.code % 8)
+    → (if fits then option_map (λ code. record slot { code = code; off = pos n }) o else None) ≡ Some new → new.code % 8 ≡ slot.code % 8
+offset_class true slot n None new same e = cc
+offset_class true slot n (Some code) new same e = ap (λ (s : bpf_insn). s.code % 8) (sym (same_Some _ _ e)) ∙ same code refl
+offset_class false slot n o new same e = cc
+
+carried_class : (c : Carrier) (slot : bpf_insn) (n : ℕ) (outcome : Outcome) (new : bpf_insn) → carried_by c slot n outcome ≡ Some new → new.code % 8 ≡ slot.code % 8
+unfolding carried_by
+carried_class Immediate slot n outcome new e = ap (λ (s : bpf_insn). s.code % 8) (sym (cond_some (src_of slot == 0) _ new e).1)
+carried_class Offset slot n outcome new e =
+    offset_class (nat_lt n (2 ^ 15)) slot n (moved_code slot.code outcome.local outcome.target) new (λ code is. moved_class slot.code outcome.local outcome.target code is) e
+carried_class Wide slot n outcome new e = ap (λ (s : bpf_insn). s.code % 8) (sym (same_Some _ _ e))
+carried_class Nothing slot n outcome new e = cc
+
+-- a slot that carries an outcome goes on in the next one only where it did so before
+new_goes_on : (v : Option ℕ) (old new : bpf_insn) (outcome : Outcome) → carrying v old outcome ≡ Some new → goes_on (Some new) ≡ true → goes_on (Some old) ≡ true
+new_goes_on None old new outcome e h = let never : false ≡ true = ap goes_on e ∙ h in cc
+new_goes_on (Some n) old new outcome e h = ap (λ class. class == 0) (sym (carried_class (carrier_of old) old n outcome new e)) ∙ h
+
+-- and so does the slot behind it
+next_goes_on : (v : Option ℕ) (old next : bpf_insn) → goes_on (Some (behind v old next)) ≡ true → goes_on (Some next) ≡ true
+next_goes_on None old next h = by_code (old.code == 0x18) h
+  where
+    by_code : (b : Bool) → goes_on (Some (if b then poison else next)) ≡ true → goes_on (Some next) ≡ true
+    by_code true h = cc
+    by_code false h = h
+next_goes_on (Some n) old next h = by_carrier (is_wide (carrier_of old)) h
+  where
+    by_carrier : (b : Bool) → goes_on (Some (if b then record next { imm = high_half n } else next)) ≡ true → goes_on (Some next) ≡ true
+    by_carrier true h = h
+    by_carrier false h = h
+
+mapped_goes_on : (v : Option ℕ) (old : bpf_insn) (o : Option bpf_insn) → goes_on (option_map (behind v old) o) ≡ true → goes_on o ≡ true
+mapped_goes_on v old None h = h
+mapped_goes_on v old (Some next) h = next_goes_on v old next h
+
+-- each slot goes on in the next one only where it did so before
+pub goes_on_before : (i : ℕ) (outcome : Outcome) (before after : List bpf_insn) → CarriesAt i outcome before after → (k : ℕ) → goes_on (slice_get after k) ≡ true → goes_on (slice_get before k) ≡ true
+goes_on_before i outcome before after c k h = by_place (cases_eq k i) (cases_eq k (i + 1))
+  where
+    by_place : (k ≡ i) ⊎ (k ≢ i) → (k ≡ i + 1) ⊎ (k ≢ i + 1) → goes_on (slice_get before k) ≡ true
+    by_place (inl first) other =
+        let at : slice_get after k ≡ Some c.new = ap (slice_get after) first ∙ c.is in
+        ap (λ j. goes_on (slice_get before j)) first ∙ ap goes_on c.was ∙ new_goes_on outcome.value c.old c.new outcome c.carries (sym (ap goes_on at) ∙ h)
+    by_place (inr apart) (inl second) =
+        ap (λ j. goes_on (slice_get before j)) second
+        ∙ mapped_goes_on outcome.value c.old (slice_get before (i + 1)) (sym (ap goes_on (ap (slice_get after) second ∙ c.next)) ∙ h)
+    by_place (inr apart) (inr other) = sym (ap goes_on (c.others k apart other)) ∙ h
+
+-- what is not of class 0 is no wide load
+narrow : (class : ℕ) → (class == 0) ≡ false → is_wide (carrier_of_class class) ≡ false
+narrow class h = by_tests (class == 0) (class == 4) (class == 5) (class == 6) (class == 7) h
+  where
+    by_tests : (a b c d e : Bool) → a ≡ false
+        → is_wide (if a then Wide else (if b then Immediate else (if c then Nothing else (if d then Nothing else (if e then Immediate else Offset))))) ≡ false
+    by_tests true b c d e h = cc
+    by_tests false true c d e h = refl
+    by_tests false false true d e h = refl
+    by_tests false false false true e h = refl
+    by_tests false false false false true h = refl
+    by_tests false false false false false h = refl
+
+-- behind a slot that doesn't go on nothing changes
+pub nothing_behind : (v : Option ℕ) (old next : bpf_insn) → goes_on (Some old) ≡ false → behind v old next ≡ next
+nothing_behind None old next h = by_code (old.code == 0x18) refl
+  where
+    by_code : (b : Bool) → (old.code == 0x18) ≡ b → (if b then poison else next) ≡ next
+    by_code true is = let goes : goes_on (Some old) ≡ true = ap (λ code. code % 8 == 0) (eqb-true old.code 0x18 is) in cc
+    by_code false is = refl
+nothing_behind (Some n) old next h = ap (λ b. if b then record next { imm = high_half n } else next) (narrow (old.code % 8) h)

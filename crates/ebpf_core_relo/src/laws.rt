@@ -1,0 +1,29 @@
+//! What holds of the slots that records write.
+
+ghost use Rattle.ebpf_core_relo.specs.Alone.{OtherSlotsStay, PutSlotsStand, RecordsAloneAreCarried, RecordsKeepShapes, SlotsStayAsMany};
+ghost use Rattle.ebpf_core_relo.specs.SlotOutcomes.{WrittenSlotsCarry};
+
+/// The slots that one record alone touches are those of its function with its outcome written into them: whatever the
+/// other records write, they make no difference there.
+pub fn records_alone_are_carried()
+    ensures { RecordsAloneAreCarried }
+{}
+
+/// A slot that no record touches is as before, and each function has as many slots as before.
+pub fn other_slots_stay()
+    ensures slots { OtherSlotsStay }
+    ensures as_many { SlotsStayAsMany }
+{}
+
+/// The slots that records leave are, once put in place, the functions' own; all else of the functions stays.
+pub fn put_slots_stand()
+    ensures slots { PutSlotsStand }
+    ensures shapes { RecordsKeepShapes }
+{}
+
+/// What writing an outcome makes of a function's slots, slot by slot: its slot carries the number as its class has it,
+/// or fails where it is reached; behind a wide load the next one carries the upper half, or fails with it; all others
+/// are as before.
+pub fn written_slots_carry()
+    ensures { WrittenSlotsCarry }
+{}
