@@ -1,5 +1,5 @@
 -- What a prepared file is, from what its stages leave.
-use Rattle.std.proofs.Common.{◌≡◌, ℕ, ◌+◌, Bool, true, false, cond, ◌||◌, List, [], ◌∷◌, map, Option, Some, None, refl, sym, ap, ◌∙◌, subst, absurd}
+use Rattle.std.proofs.Common.{◌≡◌, ℕ, ◌+◌, Bool, true, false, cond, ◌||◌, List, [], ◌∷◌, map, Option, Some, None, refl, sym, ap, ◌∙◌, subst}
 use Rattle.std.proofs.Math.Option.{some-injective}
 use Rattle.std.proofs.lemmas.Option.{none-some}
 use Rattle.std.specs.Prelude.{MatchBool, Ok, option_map, slice_get}
@@ -11,9 +11,9 @@ use Rattle.ebpf_base.specs.Keys.{text_cmp, key_cmp, key_total}
 use Rattle.ebpf_btf.specs.ExtReading.{ExtInfo}
 use Rattle.ebpf_btf.specs.TypeInfo.{TypeInfo}
 use Rattle.ebpf_btf.specs.declared.relocation.Relocation.{Relocation}
-use Rattle.ebpf_core_relo.proofs.Alone.{records_alone}
+use Rattle.ebpf_core_relo.proofs.RecordRuns.{put_slots_stand, records_alone_are_carried}
 use Rattle.ebpf_core_relo.specs.Alone.{placed_records, Touches, Carries}
-use Rattle.ebpf_core_relo.specs.Records.{Written, own_slots, slots_at, slots_by, slots_written, with_slots}
+use Rattle.ebpf_core_relo.specs.Records.{Written, own_slots, slots_at, slots_written, with_slots}
 use Rattle.ebpf_linker.specs.Functions.{Functions, Linked, BeginsAt, body, or_empty}
 use Rattle.ebpf_linker.specs.Machine.{SameVisits}
 use Rattle.ebpf_object.specs.AdaptedSlots.{AreAdapted, adapted_by}
@@ -89,11 +89,6 @@ module _ (parsed : Object) (target local : TypeInfo) (ext : ExtInfo) where
       → adapted_by parsed target btf btf_ext ≡ Ok slots → slots_written (scene_of parsed local target) ext.relocations ≡ Ok slots
   written_by btf btf_ext slots has says is = sym (λ i. adapted_by parsed target (has i) (says i)) ∙ is
 
--- a function that is there has the slots that were written of it
-slots_with : (w : Option (List bpf_insn)) (f : Function) → own_slots (with_slots w (Some f)) ≡ slots_by w (Some f)
-slots_with None f = refl
-slots_with (Some slots) f = refl
-
 own_body : (f : Option Function) → (or_empty (option_map content_of f)).slots ≡ own_slots f
 own_body None = refl
 own_body (Some f) = refl
@@ -103,12 +98,9 @@ carried : (parsed adapted unlinked : Object) (target local : TypeInfo) (ext : Ex
     → ((key : Key) → get adapted.functions key ≡ with_slots (get slots key) (get parsed.functions key))
     → RecordsAreCarried parsed target adapted unlinked local ext
 carried parsed adapted unlinked target local ext slots are each n record_at at alone =
-    let c : Carries (scene_of parsed local target) slots record_at = records_alone (scene_of parsed local target) ext.relocations slots are n record_at at alone.among_records in
+    let c : Carries (scene_of parsed local target) slots record_at = records_alone_are_carried (scene_of parsed local target) ext.relocations slots are n record_at at alone.among_records in
     let in_adapted : own_slots (get adapted.functions c.key) ≡ slots_at parsed.functions slots c.key =
-    ap own_slots (each c.key)
-    ∙ ap (λ (f : Option Function). own_slots (with_slots (get slots c.key) f)) c.there
-    ∙ slots_with (get slots c.key) c.function
-    ∙ ap (λ (f : Option Function). slots_by (get slots c.key) f) (sym c.there)
+    put_slots_stand (scene_of parsed local target) ext.relocations slots are adapted.functions each c.key
     in
     let stands : (i : ℕ) → Touches (scene_of parsed local target) record_at c.key i → slot_in unlinked c.key i ≡ slice_get c.slots i =
     λ i touched. alone.unwritten c.key i touched ∙ ap (λ (xs : List bpf_insn). slice_get xs i) in_adapted ∙ c.stands i touched

@@ -13,3 +13,5 @@ pub mod OneJoining
 pub mod Staging
 pub mod KeptParts
 pub mod Headline
+pub mod OwnMaps
+pub mod GivenMaps

@@ -25,6 +25,7 @@ use std::mem;
 type Described<'a> = (&'a str, i32, &'a Map);
 
 /// The maps of these names with their descriptors; a name that stands for none is passed over.
+#[tactic(auto, using(crate::proofs::OwnMaps::one_listed, crate::proofs::OwnMaps::none_listed, ebpf_parts::proofs::Walks::rest_none))]
 fn own_maps<'a>(
     alloc: Global,
     maps: &'a ByName<Map>,
@@ -48,9 +49,9 @@ fn relocate_listed(
     maps: Vec<Described<'_>>,
     text_sections: &HashSet<usize>,
 ) -> Result<(), EbpfRelocationError>
-    ensures ok { OnOk result (object.new ≡ with_maps object.old (sections_in text_sections.now) (map given_by maps.items)) }
-    ensures sound { OnOk result (maps_fault object.old (sections_in text_sections.now) (map given_by maps.items) ≡ None) }
-    ensures fault { IfErr result (λ e. MatchBool (is_memory_at e) (e ≡ out_of_memory) (maps_fault object.old (sections_in text_sections.now) (map given_by maps.items) ≡ Some e)) }
+    ensures ok { OnOk result (object.new ≡ with_maps object.old (sections_in text_sections.now) (map given_by maps.entry.items)) }
+    ensures sound { OnOk result (maps_fault object.old (sections_in text_sections.now) (map given_by maps.entry.items) ≡ None) }
+    ensures fault { IfErr result (λ e. MatchBool (is_memory_at e) (e ≡ out_of_memory) (maps_fault object.old (sections_in text_sections.now) (map given_by maps.entry.items) ≡ Some e)) }
 {
     object.relocate_maps(maps.into_iter(), text_sections)
 }

@@ -1,6 +1,7 @@
 //! A file's bytes to finished programs.
 
 ghost use Rattle.std.specs.Prelude.{IfOk, IfErr};
+ghost use Rattle.ebpf_object.specs.Headline.{Headline};
 ghost use Rattle.ebpf_object.specs.KeptParts.{KeepsOthers};
 ghost use Rattle.ebpf_object.specs.Objects.{object_of};
 ghost use Rattle.ebpf_object.specs.Prepared.{IsPrepared, IsFirstFault, Refuses};
@@ -27,18 +28,8 @@ pub struct Steps<'a> {
     pub calls: bool,
 }
 
-/// The object that the bytes of an ELF64 file are, after the chosen passes in this order: functions adapted to a
-/// kernel's types, descriptors of the object's own maps, externs resolved and then written, programs joined with the
-/// functions that they reach. `kallsyms` has the lines of the kernel's symbols. The text sections are those of the
-/// functions' keys.
-///
-/// # Errors
-///
-/// The fault of the first of these that has one: `Parse` with that of `Object::parse`, `Types` with that of
-/// `Object::relocate_btf`, `Maps` with that of `Object::relocate_maps`, `Ksyms` with that of
-/// `Object::resolve_externs`, `Externs` with that of `Object::relocate_externs`, `Calls` with that of
-/// `Object::relocate_calls`. `OutOfMemory`, and the stages' own, only where memory was refused.
-pub fn prepare<K: BufRead + Drop>(
+/// Parses a file, and runs the chosen passes over its object.
+fn run_all<K: BufRead + Drop>(
     alloc: Global,
     bytes: &[u8],
     steps: &Steps<'_>,
@@ -56,4 +47,28 @@ pub fn prepare<K: BufRead + Drop>(
         Ok(()) => Ok(object),
         Err(error) => Err(error),
     }
+}
+
+/// The object that the bytes of an ELF64 file are, after the chosen passes in this order: functions adapted to a
+/// kernel's types, descriptors of the object's own maps, externs resolved and then written, programs joined with the
+/// functions that they reach. `kallsyms` has the lines of the kernel's symbols. The text sections are those of the
+/// functions' keys.
+///
+/// # Errors
+///
+/// The fault of the first of these that has one: `Parse` with that of `Object::parse`, `Types` with that of
+/// `Object::relocate_btf`, `Maps` with that of `Object::relocate_maps`, `Ksyms` with that of
+/// `Object::resolve_externs`, `Externs` with that of `Object::relocate_externs`, `Calls` with that of
+/// `Object::relocate_calls`. `OutOfMemory`, and the stages' own, only where memory was refused.
+pub fn prepare<K: BufRead + Drop>(
+    alloc: Global,
+    bytes: &[u8],
+    steps: &Steps<'_>,
+    kallsyms: K,
+) -> Result<Object, PrepareError>
+    ensures headline { IfOk result (Headline (chosen steps.now) (K.remaining kallsyms) bytes.now) }
+    ensures others_stay { IfOk result (λ o. KeepsOthers (object_of bytes.now) o) }
+    ensures fault { IfErr result (Refuses (IsFirstFault (chosen steps.now) (K.remaining kallsyms) bytes.now)) }
+{
+    run_all(alloc, bytes, steps, kallsyms)
 }

@@ -95,7 +95,6 @@ fn join(alloc: Global, object: &mut Object, calls: bool) -> Result<(), PrepareEr
 }
 
 /// The stages in order.
-#[tactic(auto, using(crate::proofs::Staging::after_calls, crate::proofs::Staging::adapting_refused, crate::proofs::Staging::describing_refused, crate::proofs::Staging::resolving_refused, crate::proofs::Staging::knowing_refused, crate::proofs::Staging::joining_refused, crate::proofs::KeptParts::calls_kept))]
 pub fn run_stages<K: BufRead + Drop>(
     alloc: Global,
     object: &mut Object,
