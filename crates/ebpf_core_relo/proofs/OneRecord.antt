@@ -5,7 +5,7 @@ use Rattle.std.specs.FinMap.{get, get-insert, insert}
 use Rattle.std.specs.Cmp.{eq_by_cmp_equiv}
 use Rattle.std.specs.Ordering.{eq_by_cmp}
 use Rattle.std.proofs.lemmas.Bool.{cases_eq}
-use Rattle.std.proofs.lemmas.Option.{same_Some}
+use Rattle.std.proofs.lemmas.Option.{same_Some, slice_get_within}
 use Rattle.ebpf_base.proofs.Maps.{key_exact}
 use Rattle.ebpf_base.specs.Keys.{key_cmp, key_total}
 use Rattle.ebpf_btf.specs.Next.{if_some}
@@ -15,7 +15,7 @@ use Rattle.ebpf_core.specs.Searches.{outcome_of}
 use Rattle.ebpf_core.specs.declared.error.RelocationError.TheVariants.{FunctionNotFound}
 use Rattle.ebpf_core.specs.declared.outcome.Outcome.{Outcome}
 use Rattle.ebpf_core_relo.proofs.OutcomeSlots.{goes_on_before, nothing_behind, same_ok, written_slots_carry, written_too}
-use Rattle.ebpf_core_relo.specs.Alone.{Carries, Touches, goes_on, slot_of}
+use Rattle.ebpf_core_relo.specs.Alone.{Carries, HasSlot, Touches, goes_on, slot_of}
 use Rattle.ebpf_core_relo.specs.Carried.{written}
 use Rattle.ebpf_core_relo.specs.Places.{spans_of}
 use Rattle.ebpf_core_relo.specs.Records.{Scene, Written, own_slots, put_outcome, record_applied, slots_at, slots_by}
@@ -117,6 +117,15 @@ module _ (scene : Scene) (placed : ℕ × Relocation) (so_far left : Written) (p
           ∙ sound.goes_on_only p.key i
           (goes_on_before p.slot p.outcome (slots_now scene so_far p.key) p.slots carries i (sym (ap (λ s. goes_on (slice_get s i)) is) ∙ h))
       only q i h (inr is) = sound.goes_on_only q i (sym (ap (λ s. goes_on (slice_get s i)) is) ∙ h)
+
+  -- its slot is there
+  pub has_slot : HasSlot scene placed
+  has_slot = record {
+    key = p.key;
+    slot = p.slot;
+    about = p.about;
+    there = rw (← sound.as_many p.key) (slice_get_within (slots_now scene so_far p.key) p.slot carries.old carries.was);
+  }
 
   -- its own slots are touched
   touches_first : Touches scene placed p.key p.slot

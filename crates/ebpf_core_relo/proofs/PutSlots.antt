@@ -1,7 +1,7 @@
 -- Slots that take the places of those of functions.
 use Rattle.std.proofs.Common.{◌≡◌, ℕ, Bool, true, false, cond, List, [], ◌∷◌, Option, Some, None, refl, sym, ap, ◌∙◌}
 use Rattle.std.specs.Prelude.{if◌then◌else◌}
-use Rattle.std.specs.FinMap.{FinMap, get, insert, find, get-insert, from_entries, get-from_entries}
+use Rattle.std.specs.FinMap.{FinMap, get, find, get-insert, from_entries, get-from_entries}
 use Rattle.std.specs.List.{AllByRecursion}
 use Rattle.std.specs.List.Sorted.{IsStrictlySortedBy}
 use Rattle.std.specs.Map.{keys_of}

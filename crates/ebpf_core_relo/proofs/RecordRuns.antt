@@ -1,7 +1,8 @@
 -- What the records of an object leave, one after the other.
 use Rattle.std.proofs.Common.{◌≡◌, ℕ, zero, suc, List, [], ◌∷◌, ◌++◌, length, map, Option, Some, None, Result, Ok, Err, refl, sym, ap, ◌∙◌, subst, arith, slice_get}
-use Rattle.std.specs.Prelude.{IsSomeAnd, MatchOption, option_map}
+use Rattle.std.specs.Prelude.{IsSomeAnd, MatchOption, flat_map, option_map}
 use Rattle.std.specs.FinMap.{empty, get, get-empty}
+use Rattle.std.proofs.lemmas.List.{map-append}
 use Rattle.std.proofs.lemmas.Option.{same_Some}
 use Rattle.ebpf_base.specs.Keys.{key_cmp}
 use Rattle.ebpf_btf.specs.Next.{if_some}
@@ -10,9 +11,9 @@ use Rattle.ebpf_btf.specs.declared.error.BtfError.{BtfError}
 use Rattle.ebpf_btf.specs.declared.relocation.Relocation.{Relocation}
 use Rattle.ebpf_core.specs.declared.error.RelocationError.{RelocationError}
 use Rattle.ebpf_core.specs.declared.error.RelocationError.TheVariants as errors
-use Rattle.ebpf_core_relo.proofs.OneRecord.{IsSound, applied_puts, ok_parts, others_stay, put_carries, slots_before, slots_now, sound_after}
+use Rattle.ebpf_core_relo.proofs.OneRecord.{IsSound, applied_puts, has_slot, ok_parts, others_stay, put_carries, slots_before, slots_now, sound_after}
 use Rattle.ebpf_core_relo.proofs.OutcomeSlots.{same_ok}
-use Rattle.ebpf_core_relo.specs.Alone.{Carries, OtherSlotsStay, PutSlotsStand, RecordsAloneAreCarried, RecordsKeepShapes, SlotsStayAsMany, Touches, WritesAlone, goes_on, placed_in, placed_records, section_named, section_named_at}
+use Rattle.ebpf_core_relo.specs.Alone.{Carries, HasSlot, OtherSlotsStay, PutSlotsStand, RecordsAloneAreCarried, RecordsArePlaced, RecordsHaveSlots, RecordsKeepShapes, SlotsStayAsMany, Touches, WritesAlone, goes_on, placed_in, placed_records, section_named, section_named_at}
 use Rattle.ebpf_core_relo.specs.Records.{Scene, Written, all_applied, in_section, named_applied, own_slots, record_applied, records_applied, section_applied, slots_by, unnamed_section, with_slots}
 use Rattle.ebpf_core_relo.specs.declared.error.BtfRelocationError.{BtfRelocationError}
 use Rattle.ebpf_elf.specs.declared.entries.SectionIndex.{SectionIndex}
@@ -62,6 +63,39 @@ all_run scene (part ∷ parts) a b e =
     let (next, applied, rest) = ok_parts (named_applied scene part a) (all_applied scene parts) b e in
     Runs-append scene (placed_in (section_named_at scene part.0) part.1) (placed_records scene parts) a next b (named_runs scene part a next applied) (all_run scene parts next b rest)
 
+-- no record is left out
+section_placed : (scene : Scene) (rs : List Relocation) (a b : Written) (o : Option SectionIndex)
+    → if_some o (λ section. records_applied scene section.0 rs a) (Err errors.SectionNotFound) ≡ Ok b → map (λ placed. placed.1) (placed_in (option_map (λ section. section.0) o) rs) ≡ rs
+section_placed scene rs a b None e = cc
+section_placed scene rs a b (Some section) e = same_records section.0 rs
+  where
+    same_records : (number : ℕ) (xs : List Relocation) → map (λ (placed : ℕ × Relocation). placed.1) (map (λ r. (number, r)) xs) ≡ xs
+    same_records number [] = refl
+    same_records number (x ∷ xs) = ap (λ ys. x ∷ ys) (same_records number xs)
+
+named_placed : (scene : Scene) (part : ℕ × List Relocation) (a b : Written) → named_applied scene part a ≡ Ok b
+    → map (λ placed. placed.1) (placed_in (section_named_at scene part.0) part.1) ≡ part.1
+named_placed scene part a b e = by_text (text_at scene.sides.local.strings part.0) e
+  where
+    by_text : (t : Result (List ℕ) BtfError)
+        → ◌≡◌ {A = Result Written BtfRelocationError}
+        (elim t [ Ok name ↦ in_section name (section_applied scene name part.1 a) | Err f ↦ in_section (unnamed_section part.0) (Err (errors.BtfError f)) ]) (Ok b)
+        → map (λ placed. placed.1) (placed_in (section_named scene t) part.1) ≡ part.1
+    by_text (Ok name) e = section_placed scene part.1 a b (get scene.section_infos name) (in_section_ok name (section_applied scene name part.1 a) b e)
+    by_text (Err f) e = cc
+
+all_placed : (scene : Scene) (parts : List (ℕ × List Relocation)) (a b : Written) → all_applied scene parts a ≡ Ok b
+    → map (λ placed. placed.1) (placed_records scene parts) ≡ flat_map (λ part. part.1) parts
+all_placed scene [] a b e = refl
+all_placed scene (part ∷ parts) a b e =
+    let (next, applied, rest) = ok_parts (named_applied scene part a) (all_applied scene parts) b e in
+    map-append (λ (placed : ℕ × Relocation). placed.1) (placed_in (section_named_at scene part.0) part.1) (placed_records scene parts)
+    ∙ ap (λ xs. xs ++ map (λ (placed : ℕ × Relocation). placed.1) (placed_records scene parts)) (named_placed scene part a next applied)
+    ∙ ap (λ xs. part.1 ++ xs) (all_placed scene parts next b rest)
+
+pub records_are_placed : RecordsArePlaced
+records_are_placed scene parts so_far e = all_placed scene parts empty so_far e
+
 -- ---- what they leave
 
 none_yet : (scene : Scene) (key : ℕ × ℕ) → slots_now scene (empty {R = key_cmp}) key ≡ slots_before scene key
@@ -78,6 +112,19 @@ sound_run : (scene : Scene) (ps : List (ℕ × Relocation)) (a b : Written) → 
 sound_run scene [] a b run sound = subst (IsSound scene) run sound
 sound_run scene (p ∷ ps) a b (next, applied, rest) sound =
     sound_run scene ps next b rest (sound_after scene p a next (applied_puts scene p.0 a next p.1 applied) sound)
+
+-- each of them is about a slot that is there
+slots_there : (scene : Scene) (ps : List (ℕ × Relocation)) (a b : Written) → Runs scene ps a b → IsSound scene a → (n : ℕ) (placed : ℕ × Relocation) → slice_get ps n ≡ Some placed
+    → HasSlot scene placed
+slots_there scene [] a b run sound n placed is = cc
+slots_there scene (p ∷ ps) a b (next, applied, rest) sound zero placed is =
+    subst (HasSlot scene) (same_Some _ _ is) (has_slot scene p a next (applied_puts scene p.0 a next p.1 applied) sound)
+slots_there scene (p ∷ ps) a b (next, applied, rest) sound (suc n) placed is =
+    slots_there scene ps next b rest (sound_after scene p a next (applied_puts scene p.0 a next p.1 applied) sound) n placed is
+
+pub records_have_slots : RecordsHaveSlots
+records_have_slots scene parts so_far e n placed is =
+    slots_there scene (placed_records scene parts) empty so_far (all_run scene parts empty so_far e) (sound_first scene) n placed is
 
 -- a slot that none of them touches stays
 slot_stays : (scene : Scene) (ps : List (ℕ × Relocation)) (a b : Written) → Runs scene ps a b → IsSound scene a → (key : ℕ × ℕ) (i : ℕ)

@@ -1,5 +1,5 @@
 -- The slots that CO-RE records touch, and what those carry that one record alone touches.
-use Rattle.std.specs.Prelude.{◌≡◌, ◌⊎◌, ℕ, ◌+◌, ◌-◌, ◌/◌, ◌%◌, ◌==◌, Bool, true, false, List, [], map, flat_map, length, Option, Some, None, option_map, Result, Ok, Err, slice_get}
+use Rattle.std.specs.Prelude.{◌≡◌, ◌⊎◌, ℕ, ◌+◌, ◌-◌, ◌/◌, ◌%◌, ◌<◌, ◌==◌, Bool, true, false, List, [], map, flat_map, length, Option, Some, None, option_map, Result, Ok, Err, slice_get}
 use Rattle.std.specs.FinMap.{FinMap, get}
 use Rattle.ebpf_base.specs.Keys.{key_cmp}
 use Rattle.ebpf_btf.specs.Strings.{text_at}
@@ -56,6 +56,25 @@ pub record Touches (scene : Scene) (placed : ℕ × Relocation) (key : ℕ × �
 abbrev pub WritesAlone : Scene → List (ℕ × Relocation) → ℕ → ℕ × Relocation → Type 0
 WritesAlone scene records n placed =
     (m : ℕ) (other : ℕ × Relocation) → slice_get records m ≡ Some other → (key : ℕ × ℕ) (i : ℕ) → Touches scene placed key i → Touches scene other key i → m ≡ n
+
+-- No record is left out.
+abbrev pub RecordsArePlaced : Type 0
+RecordsArePlaced =
+    (scene : Scene) (parts : List (ℕ × List Relocation)) (so_far : Written) → slots_written scene parts ≡ Ok so_far
+    → map (λ placed. placed.1) (placed_records scene parts) ≡ flat_map (λ part. part.1) parts
+
+-- a record is about a slot that is there
+pub record HasSlot (scene : Scene) (placed : ℕ × Relocation) : Type 0 where
+  pub key : ℕ × ℕ
+  pub slot : ℕ
+  pub about : slot_of scene placed ≡ Some (key, slot)
+  pub there : slot < length (own_slots (get scene.functions key))
+
+-- So is each.
+abbrev pub RecordsHaveSlots : Type 0
+RecordsHaveSlots =
+    (scene : Scene) (parts : List (ℕ × List Relocation)) (so_far : Written) → slots_written scene parts ≡ Ok so_far
+    → (n : ℕ) (placed : ℕ × Relocation) → slice_get (placed_records scene parts) n ≡ Some placed → HasSlot scene placed
 
 -- ---- what slots carry
 

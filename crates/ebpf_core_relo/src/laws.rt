@@ -1,12 +1,19 @@
 //! What holds of the slots that records write.
 
-ghost use Rattle.ebpf_core_relo.specs.Alone.{OtherSlotsStay, PutSlotsStand, RecordsAloneAreCarried, RecordsKeepShapes, SlotsStayAsMany};
+ghost use Rattle.ebpf_core_relo.specs.Alone.{OtherSlotsStay, PutSlotsStand, RecordsAloneAreCarried, RecordsArePlaced, RecordsHaveSlots, RecordsKeepShapes, SlotsStayAsMany};
 ghost use Rattle.ebpf_core_relo.specs.SlotOutcomes.{WrittenSlotsCarry};
 
 /// The slots that one record alone touches are those of its function with its outcome written into them: whatever the
 /// other records write, they make no difference there.
 pub fn records_alone_are_carried()
     ensures { RecordsAloneAreCarried }
+{}
+
+/// Where all records were applied, none is left out of the list of those with their sections' numbers, and each is about
+/// a slot that is there.
+pub fn records_have_slots()
+    ensures placed { RecordsArePlaced }
+    ensures slots { RecordsHaveSlots }
 {}
 
 /// A slot that no record touches is as before, and each function has as many slots as before.

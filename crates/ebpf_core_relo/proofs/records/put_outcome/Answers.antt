@@ -1,8 +1,6 @@
-use Rattle.std.proofs.Common.{◌≡◌, ℕ, ◌-◌, ◌/◌, ap, ◌∙◌, sym, subst, Result, Ok}
-use Rattle.std.specs.FinMap.{insert, remove}
-use Rattle.ebpf_core.specs.declared.error.RelocationError.{RelocationError}
+use Rattle.std.proofs.Common.{ℕ, ◌/◌, ap, ◌∙◌, sym}
+use Rattle.std.specs.FinMap.{insert}
 use Rattle.ebpf_core_relo.specs.Carried.{written}
-use Rattle.ebpf_core_relo.specs.Records.{slots_at}
 use Rattle.ebpf_core_relo.proofs.Rewritten.{put_by}
 use Rattle.ebpf_core_relo.proofs.records.put_outcome.Goals as goal
 
