@@ -95,6 +95,33 @@ def views():
     ]
 
 
+def through():
+    """Each step begins in the type that the last one led to, which is resolved."""
+    # `struct s { int x; struct i { int y; int b; } i[2]; }`, type 4.
+    inner = struct_of("i", 8, ("y", 1, 0), ("b", 1, 32))
+    local = [INT_4, inner, array(2, 2), struct_of("s", 20, ("x", 1, 0), ("i", 3, 32))]
+    # There the elements are of a TYPEDEF, type 4, of what is VOLATILE.
+    named = [INT_4, struct_of("", 12, ("b", 1, 64)), ty("", VOLATILE, 2), typedef("t", 3), array(4, 2), typedef("u", 5)]
+    union = [INT_4, ty("i", UNION, 4, "y", 1, 0, "b", 1, 0, entries=2), array(2, 2), pointer(2)]
+    other = [INT_4, struct_of("", 4, ("y", 1, 0)), array(2, 2)]
+    return [
+        beside(
+            "a field of an element",
+            one_of(local, OFFSET, 4, "0:1:1:1"),
+            [
+                ("same", local, numbers(16)),
+                # 8 bytes, an element of 12 bytes, and 8 bytes.
+                ("resolved", [*named, struct_of("s", 32, ("i", 6, 64))], numbers(28)),
+                ("union", [*union, struct_of("s", 8, ("i", 3, 0))], numbers(4)),
+                # Pointers are no structs, and a path ends with the first step that leads nowhere.
+                ("pointers", [*union, array(4, 2), struct_of("s", 16, ("i", 5, 0))], numbers(None)),
+                ("without_i", [*named, struct_of("s", 32, ("b", 1, 0))], numbers(None)),
+                ("without_b", [*other, struct_of("s", 8, ("i", 3, 0))], numbers(None)),
+            ],
+        )
+    ]
+
+
 def indices():
     """Elements of arrays: a type of another kind is no match, nor is an index that the kernel's array lacks."""
     # `struct s { int a[4]; }`, type 3, and a TYPEDEF of the array, type 4.
@@ -219,4 +246,4 @@ def bits():
 
 
 def cases():
-    return moved_fields() + views() + indices() + needed() + bits()
+    return moved_fields() + views() + through() + indices() + needed() + bits()
