@@ -20,6 +20,17 @@ from rows import (
     btf_kinds,
     btf_one_int,
     compiled,
+    core_bit_fields,
+    core_candidates,
+    core_conflicts,
+    core_fields,
+    core_limits,
+    core_matches,
+    core_order,
+    core_paths,
+    core_places,
+    core_slots,
+    core_values,
     declared_maps,
     externs,
     joined,
@@ -47,12 +58,17 @@ OBJECTS += [mapped, known_externs, resolved, values, names, compiled]
 
 TYPES = [btf_one_int, btf_kinds, btf_added, btf_candidates, btf_fits, btf_ext, btf_ext_faults]
 
+# Relocations by types; their limits take long.
+CORE = [core_places, core_paths, core_candidates, core_matches, core_fields, core_values, core_bit_fields]
+CORE += [core_conflicts, core_slots, core_order]
+
 
 def cases_of(modules):
     return [case for module in modules for case in module.cases()]
 
 
 if __name__ == "__main__":
-    write_cases(CRATES / "ebpf_rows", cases_of(OBJECTS))
+    core = {"core_relo": cases_of(CORE), "core_limits": core_limits.cases()}
+    write_cases(CRATES / "ebpf_rows", cases_of(OBJECTS), **core)
     write_cases(CRATES / "ebpf_btf_rows", cases_of(TYPES))
     (CRATES / "ebpf_bench/stdout").write_text("".join(line + "\n" for line in many_types.expected_lines()))

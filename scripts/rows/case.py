@@ -1,7 +1,11 @@
 """A case: files by name, and for each action on them the lines that it has to give."""
+import re
 import textwrap
 
 WIDTH = 48
+
+# How many zeros get a line of their own, where they do.
+ZEROS = 10
 
 
 class Case:
@@ -24,6 +28,16 @@ def plain_lines(data):
             times += 1
         yield f"hex {digits[at]}" if times == 1 else f"times {times} {digits[at]}"
         at += times
+
+
+def short_lines(data):
+    """The same, where many zeros have a line of their own."""
+    at = 0
+    for zeros in re.finditer(rb"\0{%d,}" % ZEROS, data):
+        yield from plain_lines(data[at : zeros.start()])
+        yield f"times {zeros.end() - zeros.start()} 00"
+        at = zeros.end()
+    yield from plain_lines(data[at:])
 
 
 def rising(data, at):
@@ -70,6 +84,16 @@ def case_lines(case):
         yield f"do {action}"
 
 
+def short_case_lines(case):
+    """The same, for many small files that are mostly zeros."""
+    yield f"case {case.name}"
+    for name, data in case.files.items():
+        yield f"file {name}"
+        yield from short_lines(data)
+    for action in case.gives:
+        yield f"do {action}"
+
+
 def expected_lines(case):
     """What the programs have to print of the case."""
     yield case.name
@@ -79,13 +103,22 @@ def expected_lines(case):
             yield f"  {line}"
 
 
-def write_cases(folder, cases):
-    """Writes the cases of a program beside it, and what it has to print of them."""
+def write_lines(path, cases, lines_of):
+    with open(path, "w", encoding="utf-8", newline="\n") as out:
+        for case in cases:
+            out.writelines(line + "\n" for line in lines_of(case))
+
+
+def write_cases(folder, cases, **others):
+    """Writes the cases of a program beside it, and what it has to print of them. Others, by the name of a file of their
+    own, come before them, and short."""
+    every = [case for held in others.values() for case in held] + cases
     names = set()
-    for case in cases:
+    for case in every:
         assert case.name not in names, f"two cases with the name {case.name}"
         names.add(case.name)
-    for path, lines_of in (("data/cases.txt", case_lines), ("stdout", expected_lines)):
-        with open(folder / path, "w", encoding="utf-8", newline="\n") as out:
-            for case in cases:
-                out.writelines(line + "\n" for line in lines_of(case))
+    for name, held in others.items():
+        write_lines(folder / f"data/{name}.txt", held, short_case_lines)
+    write_lines(folder / "data/cases.txt", cases, case_lines)
+    write_lines(folder / "stdout", every, expected_lines)
+    (folder / "args").write_text("".join(f"{name}.txt\n" for name in [*others, "cases"]))

@@ -1,6 +1,7 @@
 //! Rows over all crates but the linking program: reads cases of files, and prints what each of their actions gives.
 #![tactic(auto)]
 
+mod adapted;
 mod changed;
 mod declared;
 mod joined;

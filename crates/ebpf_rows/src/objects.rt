@@ -1,5 +1,6 @@
 //! Actions on an object.
 
+use crate::adapted::adapted;
 use crate::declared::{put_declared_maps, put_externs, put_types};
 use crate::joined::joined;
 use crate::known_externs::known_externs;
@@ -71,6 +72,7 @@ fn of_object(
         "parsed" => described(alloc, object, action),
         "types" => types(alloc, object, action),
         "joined" => joined(alloc, object, action),
+        "adapted" => adapted(alloc, files, object, action),
         "mapped" => mapped(alloc, object, action),
         "known_externs" => known_externs(alloc, object, action),
         "resolved" => resolved(alloc, files, object, action),

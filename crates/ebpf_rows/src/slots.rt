@@ -12,7 +12,7 @@ pub fn slot_text(alloc: Global, slot: &bpf_insn) -> Result<String, AllocError> {
 }
 
 /// The slots of all functions, by their keys.
-fn put_all_slots(alloc: Global, text: &mut String, object: &Object) -> Result<(), AllocError> {
+pub fn put_all_slots(alloc: Global, text: &mut String, object: &Object) -> Result<(), AllocError> {
     let mut first = true;
     for (_, function) in object.functions.iter() {
         for slot in function.instructions.iter() {
