@@ -1,12 +1,13 @@
 #!/usr/bin/env python3
 """Writes the cases of the test programs and what each has to print of them: data/cases.txt and stdout of
-crates/ebpf_rows and crates/ebpf_btf_rows, and stdout of crates/ebpf_bench. usage: make_rows.py
+crates/ebpf_rows, crates/ebpf_btf_rows and crates/ebpf_ksyms_rows, and stdout of crates/ebpf_bench.
+usage: make_rows.py
 
 A new row: in the module of rows/ on its subject, or in a new one listed below, add to its cases() a
     Case("its name", bytes or {"name of a file": bytes}, {"action and its words": "the lines that it has to give"})
 with files made by rows/elf.py and rows/btf.py. What has to be given is written by hand, from the definitions or from
 another reader, and never taken from what the program prints. A new action is a function that gives its text and an arm of
-the `match` in src/objects.rt of ebpf_rows (in src/outcomes.rt of ebpf_btf_rows): it borrows the object and doesn't hold it,
+the `match` in src/objects.rt of ebpf_rows (in src/outcomes.rt of the others): it borrows the object and doesn't hold it,
 or its proof takes minutes. Then run this script, and `rt ci` compares.
 """
 from pathlib import Path
@@ -23,6 +24,7 @@ from rows import (
     declared_maps,
     externs,
     joined,
+    kallsyms,
     known_externs,
     many_types,
     mapped,
@@ -55,4 +57,5 @@ def cases_of(modules):
 if __name__ == "__main__":
     write_cases(CRATES / "ebpf_rows", cases_of(OBJECTS))
     write_cases(CRATES / "ebpf_btf_rows", cases_of(TYPES))
+    write_cases(CRATES / "ebpf_ksyms_rows", kallsyms.cases())
     (CRATES / "ebpf_bench/stdout").write_text("".join(line + "\n" for line in many_types.expected_lines()))
