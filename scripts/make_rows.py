@@ -33,6 +33,7 @@ from rows import (
     order,
     programs,
     records,
+    references,
     resolved,
     small_object,
     terms,
@@ -45,7 +46,7 @@ from rows.case import write_cases
 CRATES = Path(__file__).parents[1] / "crates"
 
 OBJECTS = [small_object, programs, texts, terms, order, maps, declared_maps, externs, type_faults, records, joined]
-OBJECTS += [mapped, known_externs, resolved, values, names, compiled]
+OBJECTS += [mapped, known_externs, resolved, values, names, compiled, references]
 
 TYPES = [btf_one_int, btf_kinds, btf_added, btf_candidates, btf_fits, btf_ext, btf_ext_faults]
 
