@@ -1,4 +1,4 @@
-// A weak function that takes other values in the kernel: not found, and its call is never reached. libbpf 1.1 refuses.
+// A weak function that takes other values in the kernel: it stays unresolved. libbpf 1.1 refuses the object.
 #include "words.h"
 
 extern long bpf_rcu_read_lock(long a, long b) WEAK KSYM;
