@@ -1,12 +1,13 @@
 #!/usr/bin/env python3
 """Writes the cases of the test programs and what each has to print of them: data/cases.txt and stdout of
-crates/ebpf_rows and crates/ebpf_btf_rows, and stdout of crates/ebpf_bench. usage: make_rows.py
+crates/ebpf_rows, crates/ebpf_btf_rows and crates/ebpf_ksyms_rows, and stdout of crates/ebpf_bench.
+usage: make_rows.py
 
 A new row: in the module of rows/ on its subject, or in a new one listed below, add to its cases() a
     Case("its name", bytes or {"name of a file": bytes}, {"action and its words": "the lines that it has to give"})
 with files made by rows/elf.py and rows/btf.py. What has to be given is written by hand, from the definitions or from
 another reader, and never taken from what the program prints. A new action is a function that gives its text and an arm of
-the `match` in src/objects.rt of ebpf_rows (in src/outcomes.rt of ebpf_btf_rows): it borrows the object and doesn't hold it,
+the `match` in src/objects.rt of ebpf_rows (in src/outcomes.rt of the others): it borrows the object and doesn't hold it,
 or its proof takes minutes. Then run this script, and `rt ci` compares.
 """
 from pathlib import Path
@@ -34,6 +35,7 @@ from rows import (
     declared_maps,
     externs,
     joined,
+    kallsyms,
     known_externs,
     many_types,
     mapped,
@@ -42,6 +44,7 @@ from rows import (
     order,
     programs,
     records,
+    references,
     resolved,
     small_object,
     terms,
@@ -54,7 +57,7 @@ from rows.case import write_cases
 CRATES = Path(__file__).parents[1] / "crates"
 
 OBJECTS = [small_object, programs, texts, terms, order, maps, declared_maps, externs, type_faults, records, joined]
-OBJECTS += [mapped, known_externs, resolved, values, names, compiled]
+OBJECTS += [mapped, known_externs, resolved, values, names, compiled, references]
 
 TYPES = [btf_one_int, btf_kinds, btf_added, btf_candidates, btf_fits, btf_ext, btf_ext_faults]
 
@@ -71,4 +74,5 @@ if __name__ == "__main__":
     core = {"core_relo": cases_of(CORE), "core_limits": core_limits.cases()}
     write_cases(CRATES / "ebpf_rows", cases_of(OBJECTS), **core)
     write_cases(CRATES / "ebpf_btf_rows", cases_of(TYPES))
+    write_cases(CRATES / "ebpf_ksyms_rows", kallsyms.cases())
     (CRATES / "ebpf_bench/stdout").write_text("".join(line + "\n" for line in many_types.expected_lines()))

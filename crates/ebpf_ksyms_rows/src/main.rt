@@ -1,0 +1,16 @@
+//! Rows on lists of a kernel's addresses: reads cases of files, and prints what each of their actions gives. The reader
+//! that they are read with can fail.
+#![tactic(auto)]
+
+mod answers;
+mod failing_reader;
+mod given;
+mod outcomes;
+
+use crate::outcomes::LineOutcomes;
+use ebpf_cases::run_cases;
+use std::io;
+
+fn main(rt: HostRuntime) -> io::Result<()> {
+    run_cases(&rt, &LineOutcomes)
+}

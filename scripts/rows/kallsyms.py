@@ -1,0 +1,106 @@
+"""Lists of a kernel's addresses, and readers that fail behind them."""
+from rows.case import Case
+
+FAILED = "KallsymsAccessError(Kind(Other))"
+
+# Two variables, in lines of several forms.
+GOOD = b"1000 D a\n3000 T other\n+2000 d b [module]\r\n1000 D a\n0 D b\n"
+
+
+def externs(**addresses):
+    """The lines of externs without a type: resolved at these addresses, or unresolved."""
+    return [
+        f"extern {name} resolved {str(address is not None).lower()} {'None' if address is None else f'Some({address})'}"
+        for name, address in addresses.items()
+    ]
+
+
+def answer(first, lines, asked=True):
+    return "\n".join([first, *lines, f"reader asked {str(asked).lower()}"])
+
+
+def found(**addresses):
+    return answer("Ok", externs(**addresses))
+
+
+def refused(error):
+    return answer(error, externs(a=None, b=None))
+
+
+def lists():
+    """Lists that are read to their end."""
+    name = 'name: Text { text: "a" }'
+    rows = [
+        # A no-break space is no blank.
+        ("a name that goes on behind a no-break space", "1000 D a\u00a0x\n2000 D a\n3 D b\n", found(a=0x2000, b=3)),
+        ("a plus, a fourth word and an open last line", "+1000 D a [m]\r\n20 D b", found(a=0x1000, b=0x20)),
+        ("an address twice, and 0 behind it", "1 D a\n1 D a\n0 D a\n2 D b\n", found(a=1, b=2)),
+        (
+            "an address of 65 bits",
+            "10000000000000000 D a\n",
+            refused('KallsymsParseError(Text { text: "invalid address: 10000000000000000" })'),
+        ),
+        ("no line", "", refused(f"VariableNotFound {{ {name} }}")),
+        ("a line of a million letters", "x" * 1_000_000 + "\n1000 D a\n20 D b\n", found(a=0x1000, b=0x20)),
+    ]
+    return [Case(name, {"kallsyms": text.encode()}, {"found a b": gives}) for name, text, gives in rows]
+
+
+def failures():
+    """Lists that are cut off by a failure, or by what is no text."""
+    name = 'name: Text { text: "a" }'
+    no_text = 'Error { kind: InvalidData, message: "stream did not contain valid UTF-8" }'
+    ambiguous = f"AmbiguousResolution {{ {name}, first_addr: 4096, second_addr: 8192 }}"
+    places = len(GOOD) + 1
+    return [
+        Case("a failure behind a line", {"kallsyms": b"1000 D a\n"}, {"failing a b": refused(FAILED)}),
+        # The second address is refused before the failure is met.
+        Case(
+            "a failure behind two addresses of a name",
+            {"kallsyms": b"1000 D a\n2000 D a\n"},
+            {"failing a b": refused(ambiguous)},
+        ),
+        # All lines are read, also where each name has an address.
+        Case(
+            "a failure at each place",
+            {"kallsyms": GOOD},
+            {
+                "found a b": found(a=0x1000, b=0x2000),
+                "failing a b": refused(FAILED),
+                "failing_at_each a b": f"{places}: " + refused(FAILED),
+            },
+        ),
+        Case(
+            "a line that is no text",
+            {"kallsyms": b"1 D \xff\n1000 D a\n20 D b\n"},
+            {"found a b": refused(f"KallsymsAccessError({no_text})")},
+        ),
+        Case(
+            "want of memory behind a line",
+            {"kallsyms": b"1000 D a\n"},
+            {"without_memory a b": refused("OutOfMemory")},
+        ),
+    ]
+
+
+def unread():
+    """Readers that fail at once, with and without an extern that needs its lines."""
+    weak = ["extern f resolved false Some(0)"]
+    return [
+        Case(
+            "a reader that fails at once",
+            {"kallsyms": b""},
+            {
+                "failing": answer("Ok", [], asked=False),
+                "failing a=4096": answer("Ok", externs(a=4096), asked=False),
+                "failing f=typed": answer("Ok", weak, asked=False),
+                "failing a=4096 f=typed": answer("Ok", externs(a=4096) + weak, asked=False),
+                "failing a=weak": answer(FAILED, externs(a=None)),
+                "failing a=4096 b": answer(FAILED, externs(a=4096, b=None)),
+            },
+        )
+    ]
+
+
+def cases():
+    return lists() + failures() + unread()
