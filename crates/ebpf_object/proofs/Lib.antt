@@ -10,3 +10,4 @@ pub mod PatchedPlaces
 pub mod PatchedBytes
 pub mod VariablePatches
 pub mod OneJoining
+pub mod MapNames

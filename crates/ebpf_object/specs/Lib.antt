@@ -8,3 +8,4 @@ pub mod PatchedBytes
 pub mod TextSections
 pub mod WrittenSlots
 pub mod AdaptedSlots
+pub mod MapNames

@@ -120,25 +120,6 @@ module _ (bytes : List ℕ) where
               (first_or_later x (read_from (a + 1) n) j s f)
         ] e
 
-  -- ---- no section has a fault
-
-  section_clear : (types : Option TypeInfo) (a n j : ℕ) (s : SectionValue) → first_some (read_fault types bytes) (others_from a n) ≡ None
-      → slice_get (read_from a n) j ≡ Some s → fault_in types s (own_symbols bytes s) ≡ None
-  unfolding section_of section_with
-  section_clear types a zero j s clear e = absurd (let no : ⊥ = cc in no)
-  section_clear types a (suc n) j s clear e =
-      let x : SectionOf = section_at a in
-      elim (is_type_information (section_at a)) as (λ b. first_some (read_fault types bytes) (cond (not b) (section_at a ∷ others_from (a + 1) n) (others_from (a + 1) n)) ≡ None
-      → slice_get (map section_of (cond (not b) (section_at a ∷ others_from (a + 1) n) (others_from (a + 1) n))) j ≡ Some s → fault_in types s (own_symbols bytes s) ≡ None) [
-        | true ↦ λ c f. section_clear types (a + 1) n j s c f
-        | false ↦ λ c f.
-            let both = both_None (read_fault types bytes x) (first_some (read_fault types bytes) (others_from (a + 1) n)) c in
-            ⊎_elim
-            (λ same. subst (λ t. fault_in types t (own_symbols bytes t) ≡ None) same (both_None (section_fault x) (fault_in types (section_of x) (symbols_of (file_symbols bytes) a)) both.0).1)
-            (λ k. section_clear types (a + 1) n k.0 s both.1 k.1)
-            (first_or_later (section_of x) (read_from (a + 1) n) j s f)
-      ] clear e
-
 -- ---- functions by their keys
 
 -- the place of a function that is found
@@ -172,16 +153,6 @@ at_key (g ∷ fs) (suc i) f d e =
 
 -- ---- the Text section
 
-clear_sections : (bytes : List ℕ) → parse_fault bytes ≡ None → first_some (read_fault (types_of bytes) bytes) (other_sections bytes) ≡ None
-unfolding sections_fault
-clear_sections bytes clear =
-    let a = both_None (option_map ElfError (first_in (faults bytes))) _ clear in
-    let b = both_None (license_fault bytes) _ a.1 in
-    let c = both_None (version_fault bytes) _ b.1 in
-    let d = both_None (symbols_fault bytes) _ c.1 in
-    let e = both_None (file_types_fault bytes) _ d.1 in
-    (both_None (file_externs_fault bytes) _ e.1).1
-
 module _ (bytes : List ℕ) (n : ℕ) (s : SectionValue) (is : IsTextSection bytes n s) where
   abbrev said : Said
   said = said_of (ext_of bytes) s.name
@@ -198,7 +169,7 @@ module _ (bytes : List ℕ) (n : ℕ) (s : SectionValue) (is : IsTextSection byt
   text_clear : text_fault s symbols ≡ None
   unfolding fault_in
   text_clear = ap (λ k. fault_by k (types_of bytes) s symbols) (sym is.text)
-      ∙ section_clear bytes (types_of bytes) 1 (section_count bytes - 1) n s (clear_sections bytes is.clear) is.here
+      ∙ kind_clear bytes is.clear n s is.here
 
   walk_clear : walk_fault s symbols ≡ None
   unfolding text_fault
