@@ -28,6 +28,7 @@ use Rattle.ebpf_parsing.specs.Terms.{license_fault, version_fault}
 use Rattle.ebpf_parsing.specs.Texts.{text_fault, conflict_fault, walk_fault, offsets_from}
 use Rattle.ebpf_parsing.specs.TiledSections.{IsTextSection, AreInOrder, own_functions, AtEachAddress, InOrder, SectionsTile}
 use Rattle.ebpf_parsing.proofs.AddedLemmas.{others}
+use Rattle.ebpf_parsing.proofs.ClearSections.{kind_clear}
 use Rattle.ebpf_parsing.proofs.LastEntries.{KeysDiffer, last_at-append, last_at-apart, last_at-differ}
 use Rattle.ebpf_parsing.proofs.TextKeys.{Key, Entry, flipped, entries_apart, section_keys, text_keys, key_of_address, rise, differ}
 use Rattle.ebpf_parsing.proofs.OffsetOrder.{one_order}
