@@ -1,5 +1,5 @@
 -- Where a file has no fault, none of its sections has.
-use Rattle.std.proofs.Common.{◌≡◌, ℕ, zero, suc, List, [], ◌∷◌, map, Option, Some, None, option_map, sym, ap, subst, ◌∙◌, slice_get}
+use Rattle.std.proofs.Common.{◌≡◌, ℕ, zero, suc, List, [], ◌∷◌, map, Option, Some, None, option_map, subst, slice_get}
 use Rattle.ebpf_base.specs.Faults.{or_else, first_some, first_in}
 use Rattle.ebpf_base.proofs.Faults.{both_None}
 use Rattle.ebpf_elf.specs.Faults.{faults}

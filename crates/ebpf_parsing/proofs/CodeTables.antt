@@ -1,6 +1,6 @@
 -- The tables of relocations are those of sections of code, and name symbols.
-use Rattle.std.proofs.Common.{◌≡◌, ◌≢◌, ◌⊎◌, inl, inr, ◌==◌, ◌||◌, ℕ, Bool, true, false, List, [], ◌∷◌, map, Option, Some, None, refl, sym, ap, ◌∙◌, slice_get, if◌then◌else◌}
-use Rattle.std.specs.FinMap.{FinMap, get}
+use Rattle.std.proofs.Common.{◌≡◌, ◌≢◌, ◌⊎◌, inl, inr, ◌==◌, ◌||◌, ℕ, Bool, true, false, List, [], ◌∷◌, map, Some, None, refl, sym, ap, ◌∙◌, slice_get, if◌then◌else◌}
+use Rattle.std.specs.FinMap.{get}
 use Rattle.std.specs.List.{AllByRecursion, list_any}
 use Rattle.std.specs.Ordering.{nat_cmp}
 use Rattle.std.proofs.lemmas.Map.Lookups.{exact_unsigned}
@@ -12,8 +12,7 @@ use Rattle.ebpf_parsing.specs.Relocations.{offset_of, kept_relocations, kept_at}
 use Rattle.ebpf_parsing.specs.Standing.{IsTableOfCode, TablesOfCode, RelocationsNameSymbols}
 use Rattle.ebpf_parsing.proofs.ClearSections.{targets_clear}
 use Rattle.ebpf_parsing.proofs.EntriesStand.{stands, all_flat_map}
-use Rattle.ebpf_parts.specs.Sections.{SectionValue, target_fault}
-use Rattle.ebpf_parts.specs.declared.error.ParseError.{ParseError}
+use Rattle.ebpf_parts.specs.Sections.{SectionValue}
 use Rattle.ebpf_parts.specs.declared.error.ParseError.TheVariants.{UnsupportedRelocationTarget}
 use Rattle.ebpf_parts.specs.declared.section_kind.EbpfSectionKind.{EbpfSectionKind}
 use Rattle.ebpf_parts.specs.declared.section_kind.EbpfSectionKind.TheVariants.{Text, Program as Programs}

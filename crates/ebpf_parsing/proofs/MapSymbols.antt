@@ -1,10 +1,9 @@
 -- The symbols of maps, and the maps without one.
-use Rattle.std.proofs.Common.{◌≡◌, ◌⊎◌, inl, inr, ◌==◌, ℕ, zero, suc, Bool, true, false, cond, List, [], ◌∷◌, map, filter, Option, Some, None, Result, Ok, Err, option_map, refl, sym, ap, subst, ◌∙◌, slice_get, eqb-true}
+use Rattle.std.proofs.Common.{◌≡◌, ◌⊎◌, inl, inr, ℕ, zero, suc, Bool, true, false, cond, List, [], ◌∷◌, map, filter, Option, Some, None, Result, Ok, Err, option_map, refl, sym, ap, subst, ◌∙◌, slice_get, eqb-true}
 use Rattle.std.specs.Cmp.{nat_cmp_total}
 use Rattle.std.specs.FinMap.{get}
 use Rattle.std.specs.List.{AllByRecursion}
 use Rattle.std.specs.Ordering.{nat_cmp}
-use Rattle.std.proofs.lemmas.Map.Lookups.{exact_unsigned}
 use Rattle.std.proofs.lemmas.Option.{slice_get-map}
 use Rattle.ebpf_base.specs.Keys.{text_cmp}
 use Rattle.ebpf_base.proofs.Keyed.{later_text_stands, later_number_stands}

@@ -1,30 +1,25 @@
 -- What an object's table of functions has of one section.
-use Rattle.std.proofs.Common.{◌≡◌, ℕ, suc, zero, ◌+◌, ◌-◌, ◌<◌, ◌≤◌, ◌^◌, Bool, true, false, not, T, cond, List, [], ◌∷◌, ◌++◌, map, filter, length, Option, Some, None, option_map, refl, sym, ap, subst, ◌∙◌, arith, slice_get, if◌then◌else◌, ◌==◌, eqb-true, ◌⊎◌, inl, inr, ⊎_elim}
+use Rattle.std.proofs.Common.{◌≡◌, ℕ, suc, zero, ◌+◌, ◌-◌, ◌<◌, ◌≤◌, ◌^◌, true, false, not, cond, List, [], ◌∷◌, map, length, Option, Some, None, refl, sym, ap, subst, ◌∙◌, arith, slice_get, if◌then◌else◌, ◌==◌, ◌⊎◌, inl, inr, ⊎_elim}
 use Rattle.std.specs.Cmp.{eq_by_cmp_equiv}
 use Rattle.std.specs.FinMap.{get, empty, get-empty, find}
 use Rattle.std.specs.List as list
 use Rattle.std.specs.Ordering.{eq_by_cmp}
 use Rattle.std.specs.List.{AllByRecursion, flat_map, range_with_len}
 use Rattle.std.proofs.lemmas.List.{length-take, length-drop}
-use Rattle.ebpf_base.specs.Faults.{or_else, first_some, first_in}
 use Rattle.ebpf_base.specs.Keyed.{last_at}
 use Rattle.ebpf_base.specs.Keys.{key_cmp, key_total}
 use Rattle.ebpf_base.proofs.Faults.{both_None}
 use Rattle.ebpf_base.proofs.Keyed.{later_key_stands}
-use Rattle.ebpf_btf.specs.TypeInfo.{TypeInfo}
-use Rattle.ebpf_elf.specs.Faults.{faults}
 use Rattle.ebpf_elf.specs.File.{section_count, range_of}
 use Rattle.ebpf_elf.specs.Sections.{SectionOf, header, data_of}
 use Rattle.ebpf_elf.specs.declared.constants.TheConstants.{SHT_NOBITS}
-use Rattle.ebpf_parsing.specs.Contents.{functions, function_entries, parse_fault, read_fault, sections_fault, is_type_information, other_sections, object_sections, symbols_at, own_symbols}
-use Rattle.ebpf_parsing.specs.FileExterns.{types_of, file_externs_fault}
-use Rattle.ebpf_parsing.specs.FileSymbols.{file_symbols, symbols_fault}
-use Rattle.ebpf_parsing.specs.FileTypes.{ext_of, file_types_fault}
+use Rattle.ebpf_parsing.specs.Contents.{functions, function_entries, is_type_information, object_sections, own_symbols}
+use Rattle.ebpf_parsing.specs.FileExterns.{types_of}
+use Rattle.ebpf_parsing.specs.FileTypes.{ext_of}
 use Rattle.ebpf_parsing.specs.OfSection.{functions_by, functions_in, fault_by, fault_in}
 use Rattle.ebpf_parsing.specs.Programs.{placed}
 use Rattle.ebpf_parsing.specs.Records.{Said, said_of}
-use Rattle.ebpf_parsing.specs.Symbols.{SymbolValue, symbols_of}
-use Rattle.ebpf_parsing.specs.Terms.{license_fault, version_fault}
+use Rattle.ebpf_parsing.specs.Symbols.{SymbolValue}
 use Rattle.ebpf_parsing.specs.Texts.{text_fault, conflict_fault, walk_fault, offsets_from}
 use Rattle.ebpf_parsing.specs.TiledSections.{IsTextSection, AreInOrder, own_functions, AtEachAddress, InOrder, SectionsTile}
 use Rattle.ebpf_parsing.proofs.AddedLemmas.{others}
@@ -33,8 +28,7 @@ use Rattle.ebpf_parsing.proofs.LastEntries.{KeysDiffer, last_at-append, last_at-
 use Rattle.ebpf_parsing.proofs.TextKeys.{Key, Entry, flipped, entries_apart, section_keys, text_keys, key_of_address, rise, differ}
 use Rattle.ebpf_parsing.proofs.OffsetOrder.{one_order}
 use Rattle.ebpf_parsing.proofs.Tiles as tiles
-use Rattle.ebpf_parts.specs.Sections.{SectionValue, section_of, section_with, section_fault}
-use Rattle.ebpf_parts.specs.declared.error.ParseError.TheVariants.{ElfError}
+use Rattle.ebpf_parts.specs.Sections.{SectionValue, section_of, section_with}
 use Rattle.ebpf_reloc.specs.declared.function.Function.{Function}
 
 first_or_later : {A : Type 0} (x : A) (xs : List A) (j : ℕ) (y : A) → slice_get (x ∷ xs) j ≡ Some y → (x ≡ y) ⊎ ((k : ℕ) × (slice_get xs k ≡ Some y))
