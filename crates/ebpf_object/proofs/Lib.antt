@@ -15,3 +15,4 @@ pub mod KeptParts
 pub mod Headline
 pub mod OwnMaps
 pub mod GivenMaps
+pub mod MapNames

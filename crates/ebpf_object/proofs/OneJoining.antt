@@ -4,7 +4,7 @@ use Rattle.std.specs.Prelude.{MatchBool}
 use Rattle.std.specs.FinMap.{FinMap, get, same_map}
 use Rattle.ebpf_base.proofs.Maps.{key_exact}
 use Rattle.ebpf_base.specs.Keys.{key_cmp, key_total}
-use Rattle.ebpf_object.specs.Joined.{is_program_key, AreJoined, OneJoining}
+use Rattle.ebpf_object.specs.Joined.{is_program_key, OneJoining}
 use Rattle.ebpf_reloc.proofs.OneResult.{one_way}
 use Rattle.ebpf_reloc.specs.Linking.{IsLinked}
 use Rattle.ebpf_reloc.specs.Places.{LinkableValue}

@@ -14,3 +14,4 @@ pub mod StageFaults
 pub mod Prepared
 pub mod KeptParts
 pub mod Headline
+pub mod MapNames

@@ -1,7 +1,7 @@
 -- Values of global variables, written into the data of the maps that hold them.
-use Rattle.std.specs.Prelude.{ℕ, ◌+◌, ◌==◌, nat_le, Bool, List, [], ◌∷◌, ◌++◌, length, take, drop, fold, Option, Some, None, unwrap_or, Result, Ok, Err, if◌then◌else◌}
-use Rattle.std.specs.FinMap.{FinMap, get, insert, entries, empty, contains_key}
-use Rattle.std.specs.List.{flat_map}
+use Rattle.std.specs.Prelude.{ℕ, ◌+◌, ◌==◌, nat_le, Bool, List, [], ◌∷◌, ◌++◌, length, take, drop, fold, Option, Some, None, option_map, unwrap_or, Result, Ok, Err, if◌then◌else◌}
+use Rattle.std.specs.FinMap.{FinMap, get, insert, entries, empty}
+use Rattle.std.specs.List.{find, flat_map}
 use Rattle.std.specs.Map.{keys_of}
 use Rattle.std.specs.Option.{option_and_then}
 use Rattle.std.specs.Ordering.{nat_cmp}
@@ -54,17 +54,13 @@ symbol_numbers symbols = put_all empty (flat_map (λ number. named_at number (ge
 abbrev pub symbol_named : FinMap nat_cmp Symbol → List ℕ → Option Symbol
 symbol_named symbols name = option_and_then (get symbols) (get (symbol_numbers symbols) name)
 
-abbrev pub with_map : FinMap nat_cmp (List ℕ) → List ℕ → Option Map → FinMap nat_cmp (List ℕ)
-with_map found name None = found
-with_map found name (Some m) = if contains_key found (section_index_of m) then found else insert found (section_index_of m) name
-
--- the name of the first map by name that each section has
-abbrev pub map_names : FinMap text_cmp Map → FinMap nat_cmp (List ℕ)
-map_names maps = fold (λ found name. with_map found name (get maps name)) empty (keys_of (entries maps))
+-- the name of the first map, in byte order of the names, whose section it is
+abbrev pub first_map : FinMap text_cmp Map → ℕ → Option (List ℕ)
+first_map maps section = option_map (λ e. e.0) (find (λ e. section == section_index_of e.1) (entries maps))
 
 abbrev pub map_in : FinMap text_cmp Map → Option ℕ → Option (List ℕ)
 map_in maps None = None
-map_in maps (Some section) = get (map_names maps) section
+map_in maps (Some section) = first_map maps section
 
 -- a variable's value, and whether the object has to have it
 abbrev pub Global : Type 0

@@ -4,7 +4,8 @@ ghost use Rattle.ebpf_object.specs.PatchedBytes.{GreatestNameStands, OtherBytesS
 
 pub use ebpf_parsing::laws::{
     externs_are_unresolved, functions_stand_at_their_keys, functions_tile, later_entries_stand,
-    programs_have_functions, relocations_stand_at_their_offsets, sections_tile,
+    maps_have_their_symbols, programs_have_functions, relocation_tables_are_of_code,
+    relocations_name_symbols, relocations_stand_at_their_offsets, sections_tile,
     symbols_stand_at_their_numbers,
 };
 

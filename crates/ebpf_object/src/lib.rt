@@ -1,6 +1,7 @@
 //! eBPF objects: what an ELF file with eBPF programs holds.
 #![tactic(auto)]
 
+mod clones;
 pub mod core_relo;
 pub mod elf;
 pub mod extern_types;

@@ -71,19 +71,21 @@ impl Object {
         ensures fault { Refuses is_memory result (parse_fault bytes.now) }
     {
         let contents = Contents::read(alloc, bytes)?;
+        let shared = contents.shared;
+        let parts = contents.parts;
         Ok(Object {
             endianness: contents.endianness,
-            license: contents.license,
-            kernel_version: contents.kernel_version,
-            btf: contents.btf,
-            btf_ext: contents.btf_ext,
+            license: shared.license,
+            kernel_version: shared.kernel_version,
+            btf: shared.btf,
+            btf_ext: shared.btf_ext,
             externs: contents.externs,
-            maps: contents.maps,
-            programs: contents.programs,
-            functions: contents.functions,
+            maps: parts.maps,
+            programs: parts.programs,
+            functions: parts.functions,
             symbol_table: contents.symbol_table,
-            relocations: contents.relocations,
-            section_infos: contents.section_infos,
+            relocations: parts.relocations,
+            section_infos: parts.section_infos,
         })
     }
 

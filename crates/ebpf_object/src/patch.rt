@@ -1,13 +1,14 @@
 //! Values of global variables, written into the data of the maps that hold them.
 
-ghost use Rattle.std.specs.Prelude.{◌≡◌, IfOk, map, fold};
+ghost use Rattle.std.specs.Prelude.{◌≡◌, ℕ, IfOk, map};
 ghost use Rattle.std.specs.FinMap as finite;
 ghost use Rattle.std.specs.List.{flat_map};
 ghost use Rattle.std.specs.Map.{keys_of};
 ghost use Rattle.ebpf_base.specs.Keyed.{put_all};
 ghost use Rattle.ebpf_base.specs.Keys.{lent_bytes};
 ghost use Rattle.ebpf_parts.specs.Maps.{bytes_of, with_bytes};
-ghost use Rattle.ebpf_object.specs.Patches.{PatchValue, overwritten, patched, all_patched, named_at, symbol_numbers, with_map, map_names};
+ghost use Rattle.ebpf_object.specs.MapNames.{with_names};
+ghost use Rattle.ebpf_object.specs.Patches.{PatchValue, overwritten, patched, all_patched, named_at, symbol_numbers, first_map};
 ghost use Rattle.ebpf_object.specs.PatchValues.{value_of};
 
 use ebpf_base::{ByIndex, ByName, Text};
@@ -99,7 +100,7 @@ fn put_maps(
     maps: &ByName<Map>,
     names: &[&str],
 ) -> Result<ByIndex<Text>, AllocError>
-    ensures { IfOk result (λ all. all ≡ fold (λ found name. with_map found name (finite.get maps.now name)) found (lent_bytes names.now)) }
+    ensures { IfOk result (λ all. all ≡ with_names maps.now found (lent_bytes names.now)) }
 {
     let mut found = found;
     for name in names {
@@ -115,8 +116,9 @@ fn put_maps(
 }
 
 /// The name of the first map by name that each section has.
+#[tactic(auto, using(crate::proofs::MapNames::first_maps))]
 pub fn map_names(alloc: Global, maps: &ByName<Map>) -> Result<ByIndex<Text>, AllocError>
-    ensures { IfOk result (λ names. names ≡ map_names maps.now) }
+    ensures { IfOk result (λ names. (section : ℕ) → finite.get names section ≡ first_map maps.now section) }
 {
     let names = maps.names(alloc)?;
     put_maps(alloc, ByIndex::new(alloc), maps, names.as_slice())

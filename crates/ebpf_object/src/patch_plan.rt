@@ -1,8 +1,9 @@
 //! Where the value of a global variable goes.
 
-ghost use Rattle.std.specs.Prelude.{◌≡◌, ◌+◌, ◌∷◌, [], nat_le, length, IfOk, IfErr, MatchBool, ⊤, Ok, Err, Some};
+ghost use Rattle.std.specs.Prelude.{◌≡◌, ℕ, ◌+◌, ◌∷◌, [], nat_le, length, IfOk, IfErr, MatchBool, ⊤, Ok, Err, Some};
+ghost use Rattle.std.specs.FinMap.{get};
 ghost use Rattle.std.specs.Option.{option_copied};
-ghost use Rattle.ebpf_object.specs.Patches.{symbol_numbers, symbol_named, map_names, map_in, in_map, of_symbol, patch_of};
+ghost use Rattle.ebpf_object.specs.Patches.{symbol_numbers, symbol_named, first_map, map_in, in_map, of_symbol, patch_of};
 ghost use Rattle.ebpf_object.specs.PatchValues.{value_of, values_of};
 ghost use Rattle.ebpf_parts.specs.Memory.{is_memory};
 ghost use Rattle.ebpf_parts.specs.declared.error.ParseError.TheVariants.{InvalidGlobalData, SymbolNotFound, MapNotFound};
@@ -22,7 +23,7 @@ pub struct Places<'a> {
     pub numbers: &'a ByName<usize>,
     pub names: &'a ByIndex<Text>,
     ghost numbers_are: { numbers.now ≡ symbol_numbers symbols.now },
-    ghost names_are: { names.now ≡ map_names maps.now },
+    ghost names_are: { (section : ℕ) → get names.now section ≡ first_map maps.now section },
 }
 
 /// Whether a range lies inside.

@@ -9,8 +9,6 @@ use crate::object::Object;
 use ebpf_base::ByKey;
 use ebpf_parts::insn::bpf_insn;
 use ebpf_reloc::Function;
-use std::collections::BTreeMap;
-use std::mem;
 
 /// The helper function that every kernel has, in the place of one by its number.
 fn older_helper(helper: i32) -> i32
@@ -62,22 +60,11 @@ fn write_function(function: &mut Function)
 }
 
 /// The same in each function, without memory.
-fn write_each(functions: &mut BTreeMap<(usize, u64), Function>)
-    ensures { functions.new.entries ≡ map (λ e. (e.0, sanitized false e.1)) functions.old.entries }
+#[tactic(auto, using(crate::proofs::Sanitizing::older_functions))]
+fn write_each(functions: &mut ByKey<Function>)
+    ensures { (key : ℕ × ℕ) → finite.get functions.new key ≡ option_map (sanitized false) (finite.get functions.old key) }
 {
-    functions.retain(|_, function| {
-        write_function(function);
-        true
-    });
-}
-
-/// The functions with the helper functions that every kernel has.
-fn written(functions: ByKey<Function>) -> ByKey<Function>
-    ensures { (key : ℕ × ℕ) → finite.get result key ≡ option_map (sanitized false) (finite.get functions key) }
-{
-    let mut functions = functions.into_map();
-    write_each(&mut functions);
-    ByKey::from_map(functions)
+    functions.write_values(|function| write_function(function));
 }
 
 /// Whether the function calls a helper function that older kernels lack.
@@ -117,9 +104,7 @@ impl Object {
         if has_newer() {
             return;
         }
-        let alloc = *self.license.as_vec().allocator();
-        let functions = mem::replace(&mut self.functions, ByKey::new(alloc));
-        self.functions = written(functions);
+        write_each(&mut self.functions);
     }
 }
 

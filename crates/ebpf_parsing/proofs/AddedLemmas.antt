@@ -1,6 +1,5 @@
 -- One more section adds its part.
-use Rattle.std.proofs.Common.{◌≡◌, ℕ, Bool, true, false, not, List, [], ◌∷◌, ◌++◌, map, filter, Option, None, cond, refl, ap, ◌∙◌}
-use Rattle.std.specs.List.{flat_map}
+use Rattle.std.proofs.Common.{◌≡◌, ℕ, Bool, true, false, not, List, ◌∷◌, map, filter, Option, cond, ap, ◌∙◌}
 use Rattle.std.specs.Prelude.{Some, MatchBool, ⊤}
 use Rattle.ebpf_base.specs.Faults.{or_else, first_some}
 use Rattle.ebpf_base.proofs.Keyed.{put_all-flat_map}

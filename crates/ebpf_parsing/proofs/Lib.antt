@@ -15,3 +15,6 @@ pub mod TextKeys
 pub mod SectionTables
 pub mod EntriesStand
 pub mod Standing
+pub mod ClearSections
+pub mod CodeTables
+pub mod MapSymbols

@@ -1,5 +1,5 @@
 -- Functions in order of their offset: there is one such order.
-use Rattle.std.proofs.Common.{◌≡◌, ℕ, suc, zero, ◌+◌, ◌<◌, ◌≤◌, List, [], ◌∷◌, ◌++◌, Option, Some, None, refl, sym, ap, subst, ◌∙◌, arith, slice_get}
+use Rattle.std.proofs.Common.{◌≡◌, ℕ, suc, zero, ◌<◌, List, [], ◌∷◌, Some, refl, sym, ap, subst, ◌∙◌, arith, slice_get}
 use Rattle.ebpf_parsing.specs.TiledSections.{OffsetsRise}
 use Rattle.ebpf_reloc.specs.declared.function.Function.{Function}
 

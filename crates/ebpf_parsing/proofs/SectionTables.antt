@@ -1,39 +1,34 @@
 -- What an object's table of functions has of one section.
-use Rattle.std.proofs.Common.{◌≡◌, ℕ, suc, zero, ◌+◌, ◌-◌, ◌<◌, ◌≤◌, ◌^◌, Bool, true, false, not, T, cond, List, [], ◌∷◌, ◌++◌, map, filter, length, Option, Some, None, option_map, refl, sym, ap, subst, ◌∙◌, arith, slice_get, if◌then◌else◌, ◌==◌, eqb-true, ◌⊎◌, inl, inr, ⊎_elim}
+use Rattle.std.proofs.Common.{◌≡◌, ℕ, suc, zero, ◌+◌, ◌-◌, ◌<◌, ◌≤◌, ◌^◌, true, false, not, cond, List, [], ◌∷◌, map, length, Option, Some, None, refl, sym, ap, subst, ◌∙◌, arith, slice_get, if◌then◌else◌, ◌==◌, ◌⊎◌, inl, inr, ⊎_elim}
 use Rattle.std.specs.Cmp.{eq_by_cmp_equiv}
 use Rattle.std.specs.FinMap.{get, empty, get-empty, find}
 use Rattle.std.specs.List as list
 use Rattle.std.specs.Ordering.{eq_by_cmp}
 use Rattle.std.specs.List.{AllByRecursion, flat_map, range_with_len}
 use Rattle.std.proofs.lemmas.List.{length-take, length-drop}
-use Rattle.ebpf_base.specs.Faults.{or_else, first_some, first_in}
 use Rattle.ebpf_base.specs.Keyed.{last_at}
 use Rattle.ebpf_base.specs.Keys.{key_cmp, key_total}
 use Rattle.ebpf_base.proofs.Faults.{both_None}
 use Rattle.ebpf_base.proofs.Keyed.{later_key_stands}
-use Rattle.ebpf_btf.specs.TypeInfo.{TypeInfo}
-use Rattle.ebpf_elf.specs.Faults.{faults}
 use Rattle.ebpf_elf.specs.File.{section_count, range_of}
 use Rattle.ebpf_elf.specs.Sections.{SectionOf, header, data_of}
 use Rattle.ebpf_elf.specs.declared.constants.TheConstants.{SHT_NOBITS}
-use Rattle.ebpf_parsing.specs.Contents.{functions, function_entries, parse_fault, read_fault, sections_fault, is_type_information, other_sections, object_sections, symbols_at, own_symbols}
-use Rattle.ebpf_parsing.specs.FileExterns.{types_of, file_externs_fault}
-use Rattle.ebpf_parsing.specs.FileSymbols.{file_symbols, symbols_fault}
-use Rattle.ebpf_parsing.specs.FileTypes.{ext_of, file_types_fault}
+use Rattle.ebpf_parsing.specs.Contents.{functions, function_entries, is_type_information, object_sections, own_symbols}
+use Rattle.ebpf_parsing.specs.FileExterns.{types_of}
+use Rattle.ebpf_parsing.specs.FileTypes.{ext_of}
 use Rattle.ebpf_parsing.specs.OfSection.{functions_by, functions_in, fault_by, fault_in}
 use Rattle.ebpf_parsing.specs.Programs.{placed}
 use Rattle.ebpf_parsing.specs.Records.{Said, said_of}
-use Rattle.ebpf_parsing.specs.Symbols.{SymbolValue, symbols_of}
-use Rattle.ebpf_parsing.specs.Terms.{license_fault, version_fault}
+use Rattle.ebpf_parsing.specs.Symbols.{SymbolValue}
 use Rattle.ebpf_parsing.specs.Texts.{text_fault, conflict_fault, walk_fault, offsets_from}
 use Rattle.ebpf_parsing.specs.TiledSections.{IsTextSection, AreInOrder, own_functions, AtEachAddress, InOrder, SectionsTile}
 use Rattle.ebpf_parsing.proofs.AddedLemmas.{others}
+use Rattle.ebpf_parsing.proofs.ClearSections.{kind_clear}
 use Rattle.ebpf_parsing.proofs.LastEntries.{KeysDiffer, last_at-append, last_at-apart, last_at-differ}
 use Rattle.ebpf_parsing.proofs.TextKeys.{Key, Entry, flipped, entries_apart, section_keys, text_keys, key_of_address, rise, differ}
 use Rattle.ebpf_parsing.proofs.OffsetOrder.{one_order}
 use Rattle.ebpf_parsing.proofs.Tiles as tiles
-use Rattle.ebpf_parts.specs.Sections.{SectionValue, section_of, section_with, section_fault}
-use Rattle.ebpf_parts.specs.declared.error.ParseError.TheVariants.{ElfError}
+use Rattle.ebpf_parts.specs.Sections.{SectionValue, section_of, section_with}
 use Rattle.ebpf_reloc.specs.declared.function.Function.{Function}
 
 first_or_later : {A : Type 0} (x : A) (xs : List A) (j : ℕ) (y : A) → slice_get (x ∷ xs) j ≡ Some y → (x ≡ y) ⊎ ((k : ℕ) × (slice_get xs k ≡ Some y))
@@ -120,25 +115,6 @@ module _ (bytes : List ℕ) where
               (first_or_later x (read_from (a + 1) n) j s f)
         ] e
 
-  -- ---- no section has a fault
-
-  section_clear : (types : Option TypeInfo) (a n j : ℕ) (s : SectionValue) → first_some (read_fault types bytes) (others_from a n) ≡ None
-      → slice_get (read_from a n) j ≡ Some s → fault_in types s (own_symbols bytes s) ≡ None
-  unfolding section_of section_with
-  section_clear types a zero j s clear e = absurd (let no : ⊥ = cc in no)
-  section_clear types a (suc n) j s clear e =
-      let x : SectionOf = section_at a in
-      elim (is_type_information (section_at a)) as (λ b. first_some (read_fault types bytes) (cond (not b) (section_at a ∷ others_from (a + 1) n) (others_from (a + 1) n)) ≡ None
-      → slice_get (map section_of (cond (not b) (section_at a ∷ others_from (a + 1) n) (others_from (a + 1) n))) j ≡ Some s → fault_in types s (own_symbols bytes s) ≡ None) [
-        | true ↦ λ c f. section_clear types (a + 1) n j s c f
-        | false ↦ λ c f.
-            let both = both_None (read_fault types bytes x) (first_some (read_fault types bytes) (others_from (a + 1) n)) c in
-            ⊎_elim
-            (λ same. subst (λ t. fault_in types t (own_symbols bytes t) ≡ None) same (both_None (section_fault x) (fault_in types (section_of x) (symbols_of (file_symbols bytes) a)) both.0).1)
-            (λ k. section_clear types (a + 1) n k.0 s both.1 k.1)
-            (first_or_later (section_of x) (read_from (a + 1) n) j s f)
-      ] clear e
-
 -- ---- functions by their keys
 
 -- the place of a function that is found
@@ -172,16 +148,6 @@ at_key (g ∷ fs) (suc i) f d e =
 
 -- ---- the Text section
 
-clear_sections : (bytes : List ℕ) → parse_fault bytes ≡ None → first_some (read_fault (types_of bytes) bytes) (other_sections bytes) ≡ None
-unfolding sections_fault
-clear_sections bytes clear =
-    let a = both_None (option_map ElfError (first_in (faults bytes))) _ clear in
-    let b = both_None (license_fault bytes) _ a.1 in
-    let c = both_None (version_fault bytes) _ b.1 in
-    let d = both_None (symbols_fault bytes) _ c.1 in
-    let e = both_None (file_types_fault bytes) _ d.1 in
-    (both_None (file_externs_fault bytes) _ e.1).1
-
 module _ (bytes : List ℕ) (n : ℕ) (s : SectionValue) (is : IsTextSection bytes n s) where
   abbrev said : Said
   said = said_of (ext_of bytes) s.name
@@ -198,7 +164,7 @@ module _ (bytes : List ℕ) (n : ℕ) (s : SectionValue) (is : IsTextSection byt
   text_clear : text_fault s symbols ≡ None
   unfolding fault_in
   text_clear = ap (λ k. fault_by k (types_of bytes) s symbols) (sym is.text)
-      ∙ section_clear bytes (types_of bytes) 1 (section_count bytes - 1) n s (clear_sections bytes is.clear) is.here
+      ∙ kind_clear bytes is.clear n s is.here
 
   walk_clear : walk_fault s symbols ≡ None
   unfolding text_fault

@@ -1,6 +1,6 @@
 -- What stands in the tables of each file.
-use Rattle.std.proofs.Common.{◌≡◌, ℕ, suc, zero, Bool, false, List, [], ◌∷◌, ◌++◌, map, filter, Option, Some, None, Result, Ok, Err, refl, sym, ap, subst, ◌∙◌, slice_get}
-use Rattle.std.specs.FinMap.{FinMap, get, empty, get-empty}
+use Rattle.std.proofs.Common.{◌≡◌, ℕ, suc, Bool, false, List, [], ◌∷◌, map, filter, Option, Some, None, Result, Ok, Err, refl, sym, ◌∙◌, slice_get}
+use Rattle.std.specs.FinMap.{FinMap, get, get-empty}
 use Rattle.std.specs.List.{AllByRecursion, flat_map}
 use Rattle.std.specs.Cmp.{nat_cmp_total}
 use Rattle.std.specs.Ordering.{nat_cmp}
@@ -26,7 +26,7 @@ use Rattle.ebpf_parsing.specs.FileTypes.{ext_of, btf_of}
 use Rattle.ebpf_parsing.specs.OfSection.{functions_by, functions_in, programs_by, programs_in, relocations_by, relocations_in}
 use Rattle.ebpf_parsing.specs.Programs.{placed, program_function, program_of, programs_of, is_program_symbol}
 use Rattle.ebpf_parsing.specs.Records.{Said, said_of}
-use Rattle.ebpf_parsing.specs.Relocations.{offset_of, kept_relocations, kept_at}
+use Rattle.ebpf_parsing.specs.Relocations.{offset_of, kept_at}
 use Rattle.ebpf_parsing.specs.Standing.{FunctionsAtTheirKeys, IsFileSymbol, SymbolsAtTheirNumbers, RelocationsAtTheirOffsets, ProgramsHaveFunctions, ExternsAreUnresolved}
 use Rattle.ebpf_parsing.specs.SymbolNames.{weak_named}
 use Rattle.ebpf_parsing.specs.Symbols.{SymbolValue}

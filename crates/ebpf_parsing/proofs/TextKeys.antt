@@ -1,11 +1,9 @@
 -- The keys of a section's functions.
-use Rattle.std.proofs.Common.{◌≡◌, ℕ, suc, zero, ◌+◌, ◌*◌, ◌/◌, ◌%◌, ◌^◌, ◌<◌, ◌≤◌, Bool, true, false, ◌&&◌, T, cond, List, [], ◌∷◌, ◌++◌, map, filter, length, Option, Some, None, refl, sym, ap, subst, ◌∙◌, arith, nat_lt, ◌==◌, slice_get, eqb-true, mod-eq_of_lt, div-add-mod', mul-le-mul_right, suc-mul, ⊎_elim, if◌then◌else◌, nat_cmp}
-use Rattle.std.specs.declared.cmp.Ordering.TheVariants.{Less, Equal}
-use Rattle.std.specs.Cmp.{eq_by_cmp_equiv, nat_cmp_total, nat_cmp_is, tied_itself}
-use Rattle.std.specs.FinMap.{is_sorted}
-use Rattle.std.specs.FinMap.Entries.{below_all}
+use Rattle.std.proofs.Common.{◌≡◌, ℕ, suc, zero, ◌+◌, ◌*◌, ◌/◌, ◌%◌, ◌^◌, ◌<◌, ◌≤◌, Bool, true, false, ◌&&◌, cond, List, [], ◌∷◌, ◌++◌, map, filter, length, Option, Some, None, refl, sym, ap, subst, ◌∙◌, arith, nat_lt, ◌==◌, slice_get, eqb-true, div-add-mod', mul-le-mul_right, suc-mul, ⊎_elim, if◌then◌else◌, nat_cmp}
+use Rattle.std.specs.declared.cmp.Ordering.TheVariants.{Equal}
+use Rattle.std.specs.Cmp.{eq_by_cmp_equiv}
 use Rattle.std.specs.List.{AllByRecursion, flat_map, find}
-use Rattle.std.specs.Ordering.{is_lt, eq_by_cmp, ordering_then}
+use Rattle.std.specs.Ordering.{eq_by_cmp}
 use Rattle.std.proofs.lemmas.Bool.{cases_lt, eqb-false, ltb-true}
 use Rattle.std.proofs.lemmas.Map.Lookups.{exact_pairs, exact_unsigned}
 use Rattle.ebpf_base.specs.Faults.{first_some}

@@ -22,7 +22,9 @@ use Rattle.ebpf_parsing.specs.OfSection.{maps_in, programs_in, functions_in, rel
 use Rattle.ebpf_parsing.specs.Symbols.{SymbolValue, symbols_of}
 use Rattle.ebpf_parsing.specs.Terms.{license_of, license_fault, kernel_version_of, version_fault}
 use Rattle.ebpf_parsing.specs.declared.contents.Contents.{Contents}
+use Rattle.ebpf_parsing.specs.declared.parts.Parts.{Parts}
 use Rattle.ebpf_parsing.specs.declared.program.Program.{Program}
+use Rattle.ebpf_parsing.specs.declared.shared.Shared.{Shared}
 use Rattle.ebpf_parts.specs.Sections.{SectionValue, section_of, section_fault}
 use Rattle.ebpf_parts.specs.declared.error.ParseError.{ParseError}
 use Rattle.ebpf_parts.specs.declared.error.ParseError.TheVariants.{ElfError}
@@ -85,20 +87,32 @@ section_infos bytes = put_all (names_met bytes) (name_entries bytes)
 
 -- ---- the whole
 
-abbrev pub contents_of : List ℕ → Contents
-contents_of bytes = record {
-  endianness = order_of bytes;
+-- what programs and functions carry of it
+abbrev pub shared_of : List ℕ → Shared
+shared_of bytes = record {
   license = license_of bytes;
   kernel_version = kernel_version_of bytes;
   btf = types_of bytes;
   btf_ext = ext_of bytes;
-  externs = externs_of bytes;
+}
+
+-- what its sections give
+abbrev pub tables_of : List ℕ → Parts
+tables_of bytes = record {
   maps = maps bytes;
   programs = programs bytes;
   functions = functions bytes;
-  symbol_table = symbol_table (file_symbols bytes);
   relocations = kept bytes;
   section_infos = section_infos bytes;
+}
+
+abbrev pub contents_of : List ℕ → Contents
+contents_of bytes = record {
+  endianness = order_of bytes;
+  shared = shared_of bytes;
+  externs = externs_of bytes;
+  symbol_table = symbol_table (file_symbols bytes);
+  parts = tables_of bytes;
 }
 
 -- ---- the first fault

@@ -1,18 +1,16 @@
 -- The tables while the sections of a file are read, one after the other.
-use Rattle.std.specs.Prelude.{ℕ, not, List, [], ◌∷◌, map, filter, Option, None, if◌then◌else◌}
+use Rattle.std.specs.Prelude.{ℕ, List}
 use Rattle.std.specs.FinMap.{FinMap, empty}
 use Rattle.std.specs.List.{flat_map}
 use Rattle.ebpf_base.specs.Keyed.{put_all}
 use Rattle.ebpf_base.specs.Keys.{text_cmp}
-use Rattle.ebpf_btf.specs.TypeInfo.{TypeInfo}
-use Rattle.ebpf_elf.specs.Sections.{SectionOf}
 use Rattle.ebpf_elf.specs.declared.entries.SectionIndex.{SectionIndex}
-use Rattle.ebpf_parsing.specs.Contents.{is_type_information, symbols_at, map_entries, program_entries, function_entries, relocation_entries, name_entries}
-use Rattle.ebpf_parsing.specs.OfSection.{maps_in, programs_in, functions_in, relocations_in, name_in, fault_in}
+use Rattle.ebpf_parsing.specs.Contents.{symbols_at, map_entries, program_entries, function_entries, relocation_entries, name_entries}
+use Rattle.ebpf_parsing.specs.OfSection.{maps_in, programs_in, functions_in, relocations_in, name_in}
 use Rattle.ebpf_parsing.specs.Symbols.{SymbolValue}
 use Rattle.ebpf_parsing.specs.declared.parts.Parts.{Parts}
 use Rattle.ebpf_parsing.specs.declared.shared.Shared.{Shared}
-use Rattle.ebpf_parts.specs.Sections.{SectionValue, section_of, section_fault}
+use Rattle.ebpf_parts.specs.Sections.{SectionValue}
 
 -- what one section adds
 unfoldable pub added : Shared → Parts → SectionValue → List SymbolValue → Parts

@@ -8,34 +8,30 @@ ghost use Rattle.ebpf_parts.specs.Memory.{is_memory};
 use crate::externs::FileExterns;
 use crate::file_types::FileTypes;
 use crate::license::read_license;
-use crate::parts::read_sections;
-use crate::program::Program;
+use crate::parts::{Parts, read_sections};
 use crate::shared::Shared;
 use crate::symbols::read_symbols;
 use crate::version::read_version;
-use ebpf_base::{ByIndex, ByKey, ByName, ByOffset, BySection, Items};
-use ebpf_btf::{Btf, BtfExt, Endianness};
-use ebpf_elf::{ElfFile, SectionIndex};
-use ebpf_parts::maps::Map;
-use ebpf_parts::{ParseError, Relocation};
-use ebpf_reloc::{ExternDesc, Function, Symbol};
+use ebpf_base::{ByIndex, ByName};
+use ebpf_btf::Endianness;
+use ebpf_elf::ElfFile;
+use ebpf_parts::ParseError;
+use ebpf_reloc::{ExternDesc, Symbol};
 use std::alloc::Global;
 
-/// What an ELF file with eBPF programs holds: the fields of an object.
+/// What an ELF file with eBPF programs holds.
 #[derive(Drop)]
 pub struct Contents {
+    /// The byte order of the file's numbers.
     pub endianness: Endianness,
-    pub license: Items<u8>,
-    pub kernel_version: Option<u32>,
-    pub btf: Option<Btf>,
-    pub btf_ext: Option<BtfExt>,
+    /// What programs and functions carry of their object.
+    pub shared: Shared,
+    /// The externs by name.
     pub externs: ByName<ExternDesc>,
-    pub maps: ByName<Map>,
-    pub programs: ByName<Program>,
-    pub functions: ByKey<Function>,
+    /// The symbols by their number.
     pub symbol_table: ByIndex<Symbol>,
-    pub relocations: BySection<ByOffset<Relocation>>,
-    pub section_infos: ByName<SectionIndex>,
+    /// What the sections give.
+    pub parts: Parts,
 }
 
 impl Contents {
@@ -69,17 +65,10 @@ impl Contents {
         let parts = read_sections(alloc, &shared, types.section_infos, &file, &symbols.groups)?;
         Ok(Contents {
             endianness: file.endianness(),
-            license: shared.license,
-            kernel_version: shared.kernel_version,
-            btf: shared.btf,
-            btf_ext: shared.btf_ext,
+            shared,
             externs: declared.externs,
-            maps: parts.maps,
-            programs: parts.programs,
-            functions: parts.functions,
             symbol_table: symbols.table,
-            relocations: parts.relocations,
-            section_infos: parts.section_infos,
+            parts,
         })
     }
 }

@@ -5,7 +5,7 @@ ghost use Rattle.ebpf_base.specs.Keyed.{LaterStands};
 ghost use Rattle.ebpf_base.specs.Keys.{text_cmp, key_cmp};
 ghost use Rattle.ebpf_elf.specs.declared.entries.ElfRelocation.{ElfRelocation};
 ghost use Rattle.ebpf_elf.specs.declared.entries.SectionIndex.{SectionIndex};
-ghost use Rattle.ebpf_parsing.specs.Standing.{FunctionsAtTheirKeys, SymbolsAtTheirNumbers, RelocationsAtTheirOffsets, ProgramsHaveFunctions, ExternsAreUnresolved};
+ghost use Rattle.ebpf_parsing.specs.Standing.{FunctionsAtTheirKeys, SymbolsAtTheirNumbers, RelocationsAtTheirOffsets, TablesOfCode, RelocationsNameSymbols, ProgramsHaveFunctions, MapsHaveTheirSymbols, OtherMapsAreOfData, ExternsAreUnresolved};
 ghost use Rattle.ebpf_parsing.specs.TiledSections.{AtEachAddress, InOrder, SectionsTile};
 ghost use Rattle.ebpf_parsing.specs.Tiling.{FunctionsTile};
 ghost use Rattle.ebpf_parsing.specs.declared.program.Program.{Program};
@@ -54,9 +54,26 @@ pub fn relocations_stand_at_their_offsets()
     ensures { RelocationsAtTheirOffsets }
 {}
 
+/// Only a section whose kind is Text or Program has a table of relocations: those of the section.
+pub fn relocation_tables_are_of_code()
+    ensures { TablesOfCode }
+{}
+
+/// No relocation of a file without a fault has the symbol number 0.
+pub fn relocations_name_symbols()
+    ensures { RelocationsNameSymbols }
+{}
+
 /// The key of each program is that of a function.
 pub fn programs_have_functions()
     ensures { ProgramsHaveFunctions }
+{}
+
+/// The symbol of a map, where it has one, stands in the table of symbols, has the map's name and is in the map's
+/// section. A map without a symbol is that of a data section, by the section's name.
+pub fn maps_have_their_symbols()
+    ensures symbols { MapsHaveTheirSymbols }
+    ensures others { OtherMapsAreOfData }
 {}
 
 /// No extern has an id or an address of the kernel, or is resolved.

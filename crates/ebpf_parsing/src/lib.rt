@@ -25,4 +25,6 @@ mod text_symbols;
 mod version;
 
 pub use contents::Contents;
+pub use parts::Parts;
 pub use program::Program;
+pub use shared::Shared;

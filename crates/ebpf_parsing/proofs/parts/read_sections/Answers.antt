@@ -1,16 +1,14 @@
-use Rattle.std.proofs.Common.{◌≡◌, ◌∷◌, rules, arith, sym, ap, subst, ◌∙◌, None, true, false, map, filter}
+use Rattle.std.proofs.Common.{◌≡◌, ◌∷◌, rules, sym, ap, subst, ◌∙◌, None, false, map, filter}
 use Rattle.std.specs.Prelude.{◌==◌, Some, Err, MatchBool, ⊤}
-use Rattle.std.proofs.lemmas.Grind.{common_steps}
-use Rattle.std.specs.List.{flat_map}
 use Rattle.ebpf_base.specs.Faults.{Refuses, first_some, or_else}
 use Rattle.ebpf_elf.specs.Relocations.{relocation_sections, target_of}
 use Rattle.ebpf_elf.specs.Sections.{sections}
 use Rattle.ebpf_parsing.specs.Contents.{read_fault, sections_fault, is_type_information, map_entries, program_entries, function_entries, relocation_entries, name_entries}
 use Rattle.ebpf_parsing.specs.FileSymbols.{file_symbols}
 use Rattle.ebpf_parsing.specs.OfSection.{fault_in}
-use Rattle.ebpf_parsing.specs.Parts.{all_added, added, parts_from, parts_of}
+use Rattle.ebpf_parsing.specs.Parts.{all_added, added, parts_from}
 use Rattle.ebpf_parsing.specs.Symbols.{symbols_of}
-use Rattle.ebpf_parsing.proofs.AddedLemmas.{others, passed, one_more, fault_more, refused_first}
+use Rattle.ebpf_parsing.proofs.AddedLemmas.{others, one_more, fault_more, refused_first}
 use Rattle.ebpf_parsing.proofs.FromFile.{AllFrom, all_from}
 use Rattle.ebpf_parsing.proofs.parts.read_sections.Goals as goal
 use Rattle.ebpf_parts.specs.Memory.{is_memory}
