@@ -69,7 +69,7 @@ elements a b = both (element a) (element b)
 
 -- two names that are equal, or of which one is empty
 abbrev pub names_fit : List ℕ → List ℕ → Bool
-names_fit a b = length a == 0 || length b == 0 || bytes_eq a b
+names_fit a b = bytes_eq b a || bytes_eq b [] || bytes_eq a []
 
 -- whether two types have such names, their flavors aside
 abbrev pub are_named_alike : TypeInfo → TypeInfo → BtfType → BtfType → Result Bool BtfError
