@@ -1,8 +1,7 @@
 use Rattle.std.proofs.Common.{◌≡◌, drop}
-use Rattle.ebpf_declarations.specs.MapMembers.{by_members}
-use Rattle.ebpf_declarations.specs.Maps.{with_outer_member, definitions}
-use Rattle.ebpf_declarations.proofs.definitions.definitions.Given as goal
+use Rattle.ebpf_declarations.specs.Maps.{saying, with_members, definitions}
+use Rattle.ebpf_declarations.proofs.map_sayings.definitions.Given as goal
 
--- what the members from here on make of what is said so far is what all make of nothing
+-- with what the members from here on say it is what all say
 abbrev pub invariant-loop-member : goal.invariant-loop-member
-invariant-loop-member l = by_members l.btf.strings (with_outer_member l.btf l.name) l.all (drop l.member-index l.members) ≡ definitions l.fn.btf l.fn.name l.fn.members
+invariant-loop-member l = with_members (saying l.btf l.name) l.all (drop l.member-index l.members) ≡ definitions l.fn.btf l.fn.name l.fn.members

@@ -1,8 +1,8 @@
 use Rattle.std.proofs.Common.{◌≡◌, drop}
-use Rattle.ebpf_declarations.specs.MapMembers.{by_members, with_inner_member}
-use Rattle.ebpf_declarations.specs.Maps.{inner_definition}
-use Rattle.ebpf_declarations.proofs.definitions.inner_definition.Given as goal
+use Rattle.ebpf_declarations.specs.Maps.{inner_saying, with_members}
+use Rattle.ebpf_declarations.specs.Sayings.{no_definitions}
+use Rattle.ebpf_declarations.proofs.map_sayings.inner_definition.Given as goal
 
--- what the members from here on make of what is said so far is what all make of nothing
+-- with what the members from here on say it is what all say
 abbrev pub invariant-loop-member : goal.invariant-loop-member
-invariant-loop-member l = by_members l.btf.strings (with_inner_member l.btf.types l.name) l.def (drop l.member-index l.members) ≡ inner_definition l.fn.btf l.fn.name l.fn.members
+invariant-loop-member l = with_members (inner_saying l.btf l.name) l.all (drop l.member-index l.members) ≡ with_members (inner_saying l.fn.btf l.fn.name) no_definitions l.fn.members
