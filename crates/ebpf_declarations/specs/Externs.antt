@@ -1,5 +1,5 @@
 -- Externs: the kernel's functions and variables that an object names in its DATASEC `.ksyms`.
-use Rattle.std.specs.Prelude.{ℕ, Bool, true, false, ◌||◌, not, List, [], Option, Some, None, Result, Ok, Err, ◌==◌, codes, if◌then◌else◌}
+use Rattle.std.specs.Prelude.{ℕ, Bool, true, false, ◌||◌, not, List, Option, Some, None, Result, Ok, Err, ◌==◌, codes, if◌then◌else◌}
 use Rattle.std.specs.FinMap.{FinMap, empty}
 use Rattle.std.specs.List.{flat_map}
 use Rattle.ebpf_base.specs.Faults.{first_some, or_else, fault_of}

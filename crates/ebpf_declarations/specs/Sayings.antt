@@ -6,7 +6,7 @@ use Rattle.ebpf_declarations.specs.declared.definitions.MapDefinitions.{MapDefin
 use Rattle.ebpf_declarations.specs.declared.map_member.MapNumber.{MapNumber}
 use Rattle.ebpf_declarations.specs.declared.map_member.MapNumber.TheVariants.{MapType, KeySize, ValueSize, MaxEntries, MapFlags, MapExtra}
 use Rattle.ebpf_declarations.specs.declared.saying.Saying.{Saying}
-use Rattle.ebpf_declarations.specs.declared.saying.Saying.TheVariants.{Number, Pinning, Key, Value, Values, Nothing}
+use Rattle.ebpf_declarations.specs.declared.saying.Saying.TheVariants.{Number, Pinning, Key, Value, Values}
 use Rattle.ebpf_parts.specs.declared.maps.definition.BtfMapDef.{BtfMapDef}
 use Rattle.ebpf_parts.specs.declared.maps.pinning.PinningType.{PinningType}
 use Rattle.ebpf_parts.specs.declared.maps.pinning.PinningType.TheVariants as pinned

@@ -1,4 +1,4 @@
-use Rattle.std.proofs.Common.{◌∙◌, sym, arith, refl}
+use Rattle.std.proofs.Common.{◌∙◌, sym}
 use Rattle.ebpf_declarations.specs.Maps.{saying}
 use Rattle.ebpf_declarations.proofs.Said.{more_said}
 use Rattle.ebpf_declarations.proofs.map_sayings.definitions.Goals as goal

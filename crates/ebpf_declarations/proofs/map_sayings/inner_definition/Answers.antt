@@ -1,4 +1,4 @@
-use Rattle.std.proofs.Common.{◌∙◌, sym, arith, refl}
+use Rattle.std.proofs.Common.{◌∙◌, sym}
 use Rattle.ebpf_declarations.specs.Maps.{inner_saying}
 use Rattle.ebpf_declarations.proofs.Said.{more_said}
 use Rattle.ebpf_declarations.proofs.map_sayings.inner_definition.Goals as goal
