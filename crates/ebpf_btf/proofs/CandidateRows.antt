@@ -1,11 +1,10 @@
 -- The candidates by the rows of the types.
 use Rattle.std.proofs.Common.{◌≡◌, ◌+◌, ◌-◌, ◌==◌, take, drop, ℕ, Bool, true, false, ◌&&◌, cond, List, [], ◌∷◌, map, Option, Some, None, Result, Ok, Err, refl, sym, ap, ◌∙◌}
-use Rattle.std.specs.Prelude.{option_map, slice_range, if◌then◌else◌}
+use Rattle.std.specs.Prelude.{option_map, slice_range}
 use Rattle.std.specs.List.{enumerate_from, filter}
 use Rattle.std.specs.List.Sorted.{IsStable}
 use Rattle.std.specs.Result.{result_ok}
 use Rattle.std.proofs.lemmas.List.{take-map, drop-map}
-use Rattle.ebpf_base.specs.Faults.{fault_of, first_some, or_else}
 use Rattle.std.specs.Ordering.{is_eq, nat_cmp, ordering_then}
 use Rattle.std.specs.Str.{bytes_eq}
 use Rattle.std.specs.Cmp.Lexicographic.{texts_ties}
@@ -18,11 +17,10 @@ use Rattle.ebpf_btf.specs.declared.kind.BtfKind.{BtfKind}
 use Rattle.ebpf_btf.specs.declared.types.BtfType.{BtfType}
 use Rattle.ebpf_btf.specs.Candidates.{candidates, is_candidate}
 use Rattle.ebpf_btf.specs.EssentialNames.{essential_name}
-use Rattle.ebpf_btf.specs.Strings.{before_zero, text_at, text_or_fault, type_name}
+use Rattle.ebpf_btf.specs.Strings.{type_name}
 use Rattle.ebpf_btf.specs.TypeInfo.{TypeInfo}
 use Rattle.ebpf_btf.specs.TypeRows.{Row, key_row, row_cmp, row_total, rows, rows_from}
-use Rattle.ebpf_btf.specs.Types.{kind_number, kind_of, is_kind, name_of}
-use Rattle.ebpf_btf.specs.declared.error.BtfError.TheVariants.{InvalidStringOffset}
+use Rattle.ebpf_btf.specs.Types.{kind_number, kind_of, is_kind}
 use Rattle.ebpf_btf.proofs.RowRange.{filter_sorted}
 
 is_eq-then : (a b : Ordering) → is_eq (ordering_then a b) ≡ (is_eq a && is_eq b)

@@ -9,7 +9,8 @@ use Rattle.ebpf_btf.specs.declared.members.BtfParam.{BtfParam}
 use Rattle.ebpf_btf.specs.declared.pair.Pair.{Pair}
 use Rattle.ebpf_btf.specs.declared.types.BtfType.{BtfType}
 use Rattle.ebpf_btf.specs.Steps.{resolved_type}
-use Rattle.ebpf_btf.specs.Compatibility.{agree, both, compared, held, held_alike, held_pair, if_alike, if_resolved, pair_of, params_alike, params_of, parts_alike}
+use Rattle.ebpf_btf.specs.Comparisons.{compared, held_alike, if_alike, params_alike, parts_alike}
+use Rattle.ebpf_btf.specs.Compatibility.{agree, both, held, held_pair, if_resolved, pair_of, params_of}
 
 -- ---- a pair
 

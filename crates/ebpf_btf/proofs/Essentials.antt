@@ -1,9 +1,8 @@
 -- The essential name of a text, byte by byte.
 use Rattle.std.proofs.Common.{◌≡◌, ◌+◌, ℕ, zero, suc, Bool, true, false, ◌&&◌, cond, List, [], ◌∷◌, ◌++◌, length, take, drop, Option, Some, None, refl, sym, ap, ◌∙◌, true≢false, add-one}
-use Rattle.std.specs.Prelude.{find, nat_eq, option_map, unwrap_or, is_some, if◌then◌else◌}
+use Rattle.std.specs.Prelude.{find, nat_eq, option_map, unwrap_or, is_some}
 use Rattle.std.specs.List.{range_with_len, starts_with}
-use Rattle.std.specs.Str.{bytes_eq}
-use Rattle.std.specs.Str.Lossy.{replacement_bytes, utf8_lossy}
+use Rattle.std.specs.Str.Lossy.{replacement_bytes}
 use Rattle.ebpf_btf.specs.EssentialNames.{essential_name, flavor_mark, flavor_place}
 
 find_later : (p : ℕ → Bool) (a n : ℕ) → find p (range_with_len (a + 1) n) ≡ option_map suc (find (λ k. p (suc k)) (range_with_len a n))

@@ -12,7 +12,7 @@ use Rattle.ebpf_btf.specs.declared.ext_infos.FuncSecInfo.{FuncSecInfo}
 use Rattle.ebpf_btf.specs.declared.ext_infos.LineSecInfo.{LineSecInfo}
 use Rattle.ebpf_btf.specs.declared.relocation.Relocation.{Relocation}
 use Rattle.ebpf_btf.specs.ExtFormat.{ext_header_fault, func_part, line_part, part_fault, record_size, relocation_part, section_end, section_fault, sections_end, sections_start}
-use Rattle.ebpf_btf.specs.ExtReading.{ExtInfo, by_names, func_said, func_sections, line_said, line_sections, read_ext, relocation_sections, relocations_said, section_with, sections_from, sections_in}
+use Rattle.ebpf_btf.specs.ExtReading.{ExtInfo, func_said, func_sections, line_said, line_sections, read_ext, relocation_sections, relocations_said, section_with, sections_from, sections_in}
 use Rattle.ebpf_btf.specs.ExtSpelling.{AreSectionsAt, IsPart, IsSectionAt, SpellsExt}
 use Rattle.ebpf_btf.specs.Memory.{is_memory}
 use Rattle.ebpf_btf.specs.Next.{if_ok, if_some}

@@ -1,11 +1,12 @@
 -- One level of a comparison of fields, where k levels are over.
-use Rattle.std.proofs.Common.{◌≡◌, ◌-◌, ◌+◌, ◌<◌, ◌≤◌, ℕ, zero, suc, Option, Some, None, Ok, Err, refl, sym, ◌∙◌, arith}
+use Rattle.std.proofs.Common.{◌≡◌, ◌-◌, ◌+◌, ◌<◌, ◌≤◌, ℕ, zero, suc, [], Option, Some, None, Ok, Err, refl, sym, ◌∙◌, arith}
 use Rattle.ebpf_btf.specs.declared.error.BtfError.{BtfError}
 use Rattle.ebpf_btf.specs.declared.error.BtfError.TheVariants.{MaximumTypeDepth}
 use Rattle.ebpf_btf.specs.declared.pair.Pair.{Pair}
 use Rattle.ebpf_btf.specs.declared.types.BtfType.{BtfType}
 use Rattle.ebpf_btf.specs.Steps.{resolved_type}
 use Rattle.ebpf_btf.specs.Compatibility.{both, element, elements, fields_fit, if_resolved, types_fit}
+use Rattle.ebpf_btf.specs.EssentialNames.{essential_name}
 use Rattle.ebpf_btf.specs.Next.{if_some}
 use Rattle.ebpf_btf.specs.TypeInfo.{TypeInfo}
 
@@ -45,3 +46,8 @@ unfolding fields_fit
 fields_over k local target root pair over =
     let none : 33 - k ≡ zero = omega arith in
     rw none refl
+
+-- the empty name has no flavor
+pub no_flavor : essential_name [] ≡ []
+unfolding essential_name
+no_flavor = refl

@@ -1,9 +1,7 @@
 -- The tables of kinds and of their numbers, row by row.
-use Rattle.std.proofs.Common.{◌≡◌, ◌<◌, ◌==◌, ℕ, Bool, true, false, cond, Option, Some, None, refl, sym, ap, ◌∙◌, arith}
+use Rattle.std.proofs.Common.{◌≡◌, ◌==◌, ℕ, Bool, true, false, cond, Option, Some, None, refl, sym, ap, ◌∙◌, arith}
 use Rattle.std.proofs.lemmas.Bool.Decides.{nat_tests}
-use Rattle.ebpf_btf.specs.declared.kind.BtfKind.{BtfKind}
 use Rattle.ebpf_btf.specs.declared.kind.BtfKind.TheVariants as kinds
-use Rattle.ebpf_btf.specs.declared.relocation.RelocationKind.{RelocationKind}
 use Rattle.ebpf_btf.specs.declared.relocation.RelocationKind.TheVariants as asked
 use Rattle.ebpf_btf.specs.Format.{kind_in, kind_number_in}
 use Rattle.ebpf_btf.specs.KindTables.{KindsByNumber, NumbersOfKinds, NumbersOfRelocationKinds, RelocationKindsByNumber}

@@ -6,6 +6,7 @@ pub mod Essentials
 pub mod ExtSections
 pub mod ExtSpelled
 pub mod Fields
+pub mod FoundPairs
 pub mod InOrder
 pub mod KindRows
 pub mod Looks

@@ -1,11 +1,10 @@
 -- Which types of an object fit which of a kernel. These are definitions of this library, after what
 -- bpf_core_fields_are_compat and bpf_core_types_are_compat of the kernel's tools/lib/bpf/relo_core.c decide.
-use Rattle.std.specs.Prelude.{ℕ, zero, suc, ◌/◌, ◌%◌, ◌^◌, Bool, true, false, List, [], ◌∷◌, length, Option, Some, None, Result, Ok, Err, ◌==◌, ◌&&◌, ◌||◌, if◌then◌else◌}
-use Rattle.std.specs.List.{zip}
+use Rattle.std.specs.Prelude.{ℕ, zero, suc, ◌/◌, ◌%◌, ◌^◌, Bool, true, false, List, [], ◌∷◌, ◌++◌, length, map, take, drop, unwrap_or, Option, Some, None, Result, Ok, Err, ◌==◌, ◌&&◌, ◌||◌, if◌then◌else◌}
+use Rattle.std.specs.List.{zip, flat_map}
 use Rattle.std.specs.Str.{bytes_eq}
+use Rattle.ebpf_base.specs.Faults.{first_some}
 use Rattle.ebpf_btf.specs.declared.pair.Pair.{Pair}
-use Rattle.ebpf_btf.specs.declared.compatible_types.Verdict.{Verdict}
-use Rattle.ebpf_btf.specs.declared.compatible_types.Verdict.TheVariants.{Alike, Different}
 use Rattle.ebpf_btf.specs.declared.error.BtfError.{BtfError}
 use Rattle.ebpf_btf.specs.declared.error.BtfError.TheVariants.{MaximumTypeDepth}
 use Rattle.ebpf_btf.specs.declared.kind.BtfKind.{BtfKind}
@@ -69,7 +68,7 @@ elements a b = both (element a) (element b)
 
 -- two names that are equal, or of which one is empty
 abbrev pub names_fit : List ℕ → List ℕ → Bool
-names_fit a b = length a == 0 || length b == 0 || bytes_eq a b
+names_fit a b = bytes_eq b a || bytes_eq b [] || bytes_eq a []
 
 -- whether two types have such names, their flavors aside
 abbrev pub are_named_alike : TypeInfo → TypeInfo → BtfType → BtfType → Result Bool BtfError
@@ -146,49 +145,48 @@ held_pair a b = both (held a) (held b)
 abbrev pub agree : BtfType → BtfType → Bool
 agree a b = same_kind a b && is_compared (kind_of a) && both_begin_at_0 a b && length (params_of a) == length (params_of b)
 
--- what follows where types are alike, with the number of pairs that may still be met
-abbrev pub if_alike : Result Verdict BtfError → (ℕ → Result Verdict BtfError) → Result Verdict BtfError
-if_alike (Ok (Alike left)) next = next left
-if_alike (Ok Different) next = Ok Different
-if_alike (Err e) next = Err e
+-- whether the two types of a pair are alike, those that they hold aside
+abbrev pub alike_at : List BtfType → List BtfType → Pair → Result Bool BtfError
+alike_at local target pair = if_resolved local target pair (λ a b. Ok (agree a b))
 
--- a comparison of a pair, where so many pairs may still be met
-abbrev pub Comparison : Type 0
-Comparison = ℕ → Pair → Result Verdict BtfError
+-- the pairs that two types hold: of their parameters in order, and then of what both hold
+abbrev pub held_pairs : BtfType → BtfType → List Pair
+held_pairs a b =
+    map (λ (p : BtfParam × BtfParam). pair_of p.0.btf_type p.1.btf_type) (zip (params_of a) (params_of b))
+    ++ if_some (held_pair a b) (λ pair. pair ∷ []) []
 
--- the types of parameters, one pair after the other
-abbrev pub params_alike : Comparison → ℕ → List (BtfParam × BtfParam) → Result Verdict BtfError
-params_alike compare left [] = Ok (Alike left)
-params_alike compare left (p ∷ ps) =
-    if_alike (compare left (pair_of p.0.btf_type p.1.btf_type)) (λ rest. params_alike compare rest ps)
+abbrev pub pairs_or_none : Result (List Pair) BtfError → List Pair
+pairs_or_none (Ok pairs) = pairs
+pairs_or_none (Err e) = []
 
--- the types that two types hold
-abbrev pub held_alike : Comparison → ℕ → BtfType → BtfType → Result Verdict BtfError
-held_alike compare left a b =
-    if_some (held_pair a b) (λ pair. compare left pair) (Ok (Alike left))
+-- the pairs that a pair leads to
+abbrev pub pairs_below : List BtfType → List BtfType → Pair → List Pair
+pairs_below local target pair = pairs_or_none (if_resolved local target pair (λ a b. Ok (held_pairs a b)))
 
--- all types below two types that agree: the parameters first
-abbrev pub parts_alike : Comparison → ℕ → BtfType → BtfType → Result Verdict BtfError
-parts_alike compare left a b =
-    if_alike (params_alike compare left (zip (params_of a) (params_of b))) (λ rest. held_alike compare rest a b)
+-- What is found at a pair and at all below it, in depth-first order. There may be so many levels.
+unfoldable pub found_from : ℕ → List BtfType → List BtfType → ℕ → Pair → List (Result Bool BtfError)
+found_from zero local target root pair = Err (MaximumTypeDepth root) ∷ []
+found_from (suc levels) local target root pair =
+    alike_at local target pair ∷ flat_map (found_from levels local target root) (pairs_below local target pair)
 
--- A pair and all below it, depth first, up to the first that differs. There may be so many levels and so many pairs.
-unfoldable pub compared : ℕ → List BtfType → List BtfType → ℕ → Comparison
-compared zero local target root left pair = Err (MaximumTypeDepth root)
-compared (suc levels) local target root zero pair = Err (MaximumTypeDepth root)
-compared (suc levels) local target root (suc left) pair =
-    if_resolved local target pair (λ a b.
-    if agree a b then parts_alike (compared levels local target root) left a b else Ok Different)
+-- what ends a comparison: a difference, or a fault
+abbrev pub ends : Result Bool BtfError → Option (Result Bool BtfError)
+ends (Ok true) = None
+ends answer = Some answer
 
--- whether a comparison found no difference
-abbrev pub is_alike : Result Verdict BtfError → Result Bool BtfError
-is_alike (Ok (Alike left)) = Ok true
-is_alike (Ok Different) = Ok false
-is_alike (Err e) = Err e
+-- all are alike where none is left
+abbrev pub all_alike : BtfError → List (Result Bool BtfError) → Result Bool BtfError
+all_alike past [] = Ok true
+all_alike past (answer ∷ more) = Err past
+
+-- the first that ends a comparison, where so many may be met
+unfoldable pub first_end : ℕ → BtfError → List (Result Bool BtfError) → Result Bool BtfError
+first_end pairs past found = unwrap_or (first_some ends (take pairs found)) (all_alike past (drop pairs found))
 
 -- whether a type stands for another: their kinds, as they stand, are the same, and all below them is alike
 abbrev pub types_compatible : TypeInfo → ℕ → TypeInfo → ℕ → Result Bool BtfError
 types_compatible local id target other =
     if_ok (type_at local.types id) (λ a. if_ok (type_at target.types other) (λ b.
-    if same_kind a b then is_alike (compared type_levels local.types target.types id type_pairs (pair_of id other))
+    if same_kind a b
+    then first_end type_pairs (MaximumTypeDepth id) (found_from type_levels local.types target.types id (pair_of id other))
     else Ok false))

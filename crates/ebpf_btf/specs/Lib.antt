@@ -1,5 +1,6 @@
 pub mod Additions
 pub mod Candidates
+pub mod Comparisons
 pub mod Compatibility
 pub mod EssentialNames
 pub mod ExtFormat

@@ -1,6 +1,6 @@
 //! Types and their strings.
 
-ghost use Rattle.std.specs.Prelude.{◌≡◌, ◌≤◌, ◌^◌, ◌∷◌, ◌++◌, [], length, slice_get, IfOk, IfErr, OnOk, OnErr, Ok, Some};
+ghost use Rattle.std.specs.Prelude.{◌≡◌, ◌<◌, ◌≤◌, ◌^◌, ◌∷◌, ◌++◌, [], length, slice_get, IfOk, IfErr, OnOk, OnErr, Ok, Some};
 ghost use Rattle.std.specs.Option.{option_copied};
 ghost use Rattle.std.specs.Result.{result_ok};
 ghost use Rattle.std.specs.Cow.{cow_str_bytes};
@@ -8,7 +8,7 @@ ghost use Rattle.ebpf_base.specs.Faults.{Refuses, fault_of};
 ghost use Rattle.ebpf_btf.specs.Memory.{is_memory};
 ghost use Rattle.ebpf_btf.specs.Strings.{text_at};
 ghost use Rattle.ebpf_btf.specs.TypeInfo.{no_types};
-ghost use Rattle.ebpf_btf.specs.Additions.{with_type, with_string, number_fault};
+ghost use Rattle.ebpf_btf.specs.Additions.{with_type, with_string, only_first, number_fault};
 ghost use Rattle.ebpf_btf.specs.declared.error.BtfError.TheVariants.{OutOfMemory, UnknownBtfType};
 ghost use Rattle.ebpf_btf.specs.declared.types.BtfType.TheVariants.{Unknown};
 
@@ -105,6 +105,13 @@ impl Btf {
         &self.strings
     }
 
+    /// The number of bytes of the strings.
+    pub fn string_len(&self) -> usize
+        ensures { result ≡ length self.now.strings }
+    {
+        self.strings.len()
+    }
+
     /// The memory that the types and strings lie in.
     pub(crate) fn allocator(&self) -> Global {
         *self.strings.allocator()
@@ -147,6 +154,16 @@ impl Btf {
         };
         append_text(&mut self.strings, text)?;
         Ok(offset)
+    }
+
+    /// Takes back what was added: the first types stay, `void` among them, and the first bytes of the strings, so
+    /// many of each. Where there are no more all stay. No memory is taken.
+    pub fn truncate(&mut self, types: usize, strings: usize)
+        requires { 0 < types }
+        ensures { self.new ≡ only_first self.old types strings }
+    {
+        self.types.as_vec_mut().truncate(types);
+        self.strings.truncate(strings);
     }
 }
 

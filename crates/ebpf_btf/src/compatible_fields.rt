@@ -3,7 +3,10 @@
 ghost use Rattle.std.specs.Prelude.{◌≡◌, IfOk, Ok};
 ghost use Rattle.ebpf_base.specs.Faults.{Gives};
 ghost use Rattle.ebpf_btf.specs.Compatibility.{are_named_alike, element, fields_compatible, is_composite, names_fit, types_fit};
+ghost use Rattle.ebpf_btf.specs.EssentialNames.{essential_name};
 ghost use Rattle.ebpf_btf.specs.Memory.{is_memory};
+ghost use Rattle.ebpf_btf.specs.Next.{if_ok};
+ghost use Rattle.ebpf_btf.specs.Strings.{type_name};
 
 use crate::btf::Btf;
 use crate::error::BtfError;
@@ -33,14 +36,19 @@ fn element(ty: &BtfType) -> Option<u32>
     }
 }
 
-/// Whether two names are equal or one is empty.
-fn names_fit(local: &[u8], target: &[u8]) -> bool
-    ensures { result ≡ names_fit local.now target.now }
+/// Whether the name of a type, its flavor aside, is a text, its flavor aside, or one of the two is empty.
+#[tactic(auto, using(crate::proofs::Fields::no_flavor))]
+fn is_named_alike(btf: &Btf, ty: &BtfType, name: &str) -> Result<bool, BtfError>
+    ensures { result ≡ if_ok (type_name btf.now ty.now) (λ read. Ok (names_fit (essential_name name.now) (essential_name read))) }
 {
-    local.is_empty() || target.is_empty() || local == target
+    let offset = ty.name_offset();
+    if btf.is_essential_name_at(offset, name)? || btf.is_essential_name_at(offset, "")? {
+        return Ok(true);
+    }
+    Ok(essential_name(name.as_bytes()) == b"".as_slice())
 }
 
-/// Whether two types have such names, their flavors aside.
+/// Whether two types have names that are equal, their flavors aside, or of which one is empty.
 fn are_named_alike(
     local: &Btf,
     local_type: &BtfType,
@@ -49,12 +57,8 @@ fn are_named_alike(
 ) -> Result<bool, BtfError>
     ensures { Gives is_memory result (are_named_alike local.now target.now local_type.now target_type.now) }
 {
-    let local_name = local.type_name(local_type)?;
-    let target_name = target.type_name(target_type)?;
-    Ok(names_fit(
-        essential_name(local_name.as_str().as_bytes()),
-        essential_name(target_name.as_str().as_bytes()),
-    ))
+    let name = local.type_name(local_type)?;
+    is_named_alike(target, target_type, name.as_str())
 }
 
 /// Whether two types fit that are not both ARRAYs.
@@ -91,7 +95,7 @@ fn types_fit(
 ///
 /// `UnknownBtfType` and `MaximumTypeDepth` as in `resolve_type`; `MaximumTypeDepth` of `local_id` where it would be
 /// the 33rd time to go from ARRAYs to their elements; `InvalidStringOffset` where a name can't be read;
-/// `OutOfMemory` where a name is not UTF-8 and memory for a copy is refused. A fault of the local side comes first.
+/// `OutOfMemory` where the local name is not UTF-8 and memory for a copy is refused. A fault of the local side comes first.
 #[tactic(auto, using(crate::proofs::Fields::fields_local_fault, crate::proofs::Fields::fields_target_fault, crate::proofs::Fields::fields_here, crate::proofs::Fields::fields_next, crate::proofs::Fields::fields_over))]
 pub fn fields_are_compatible(
     local: &Btf,

@@ -1,7 +1,9 @@
 //! Whether a type stands for another.
 
 ghost use Rattle.std.specs.Prelude.{◌≡◌, IfOk, Ok};
-ghost use Rattle.ebpf_btf.specs.Compatibility.{agree, compared, held, is_compared, params_of, types_compatible};
+ghost use Rattle.ebpf_btf.specs.Comparisons.{compared, is_alike};
+ghost use Rattle.ebpf_btf.specs.Compatibility.{agree, first_end, found_from, held, is_compared, params_of, type_levels, type_pairs, types_compatible};
+ghost use Rattle.ebpf_btf.specs.declared.error.BtfError.TheVariants.{MaximumTypeDepth};
 
 use crate::btf::Btf;
 use crate::error::BtfError;
@@ -117,6 +119,25 @@ fn compare(sides: Sides<'_>, levels: u32, left: u32, pair: Pair) -> Result<Verdi
     }
 }
 
+/// Whether a comparison found no difference.
+fn is_alike(found: Result<Verdict, BtfError>) -> Result<bool, BtfError>
+    ensures { result ≡ is_alike found }
+{
+    match found {
+        Ok(Verdict::Alike { .. }) => Ok(true),
+        Ok(Verdict::Different) => Ok(false),
+        Err(e) => Err(e),
+    }
+}
+
+/// Whether the types of a pair and all below them are alike.
+#[tactic(auto, using(crate::proofs::FoundPairs::compared_found))]
+fn all_alike(sides: Sides<'_>, pair: Pair) -> Result<bool, BtfError>
+    ensures { result ≡ first_end type_pairs (MaximumTypeDepth sides.entry.root) (found_from type_levels sides.entry.local.now.types sides.entry.target.now.types sides.entry.root pair) }
+{
+    is_alike(compare(sides, TYPE_LEVELS, TYPE_PAIRS, pair))
+}
+
 /// Whether the type `local_id` of an object stands for the type `target_id` of a kernel.
 ///
 /// Their kinds, as they stand, have to be the same. Then pairs of types are compared, depth first, up to the first
@@ -148,8 +169,5 @@ pub fn types_are_compatible(
         local: local_id,
         target: target_id,
     };
-    match compare(sides, TYPE_LEVELS, TYPE_PAIRS, pair)? {
-        Verdict::Alike { .. } => Ok(true),
-        Verdict::Different => Ok(false),
-    }
+    all_alike(sides, pair)
 }

@@ -55,8 +55,8 @@ impl Model for BtfExt {
     ghost coded = { Prim.hlevel (codes, map.code {R = text_cmp} coded_text funcs.the_row.coded, map.code {R = text_cmp} coded_text lines.the_row.coded) };
 
     ghost view = { λ x. record {
-      func_info = x.func_info.sections;
-      line_info = x.line_info.sections;
+      func_info = x.func_info;
+      line_info = x.line_info;
       relocations = x.relocations;
       func_record_size = x.func_info_rec_size;
       line_record_size = x.line_info_rec_size;

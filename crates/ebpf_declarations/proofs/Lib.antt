@@ -1,2 +1,6 @@
+pub mod Added
 pub mod Answered
+pub mod Beginnings
+pub mod LaterMembers
 pub mod Put
+pub mod Said

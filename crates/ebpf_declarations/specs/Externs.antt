@@ -1,5 +1,5 @@
 -- Externs: the kernel's functions and variables that an object names in its DATASEC `.ksyms`.
-use Rattle.std.specs.Prelude.{ℕ, Bool, true, false, ◌||◌, not, List, [], Option, Some, None, Result, Ok, Err, ◌==◌, codes, if◌then◌else◌}
+use Rattle.std.specs.Prelude.{ℕ, Bool, true, false, ◌||◌, not, List, Option, Some, None, Result, Ok, Err, ◌==◌, codes, if◌then◌else◌}
 use Rattle.std.specs.FinMap.{FinMap, empty}
 use Rattle.std.specs.List.{flat_map}
 use Rattle.ebpf_base.specs.Faults.{first_some, or_else, fault_of}
@@ -14,9 +14,11 @@ use Rattle.ebpf_btf.specs.declared.error.BtfError.TheVariants.{InvalidDatasec, I
 use Rattle.ebpf_btf.specs.declared.members.DataSecEntry.{DataSecEntry}
 use Rattle.ebpf_btf.specs.declared.types.BtfType.{BtfType}
 use Rattle.ebpf_btf.specs.declared.types.BtfType.TheVariants.{Func, Var}
-use Rattle.ebpf_declarations.specs.Attempts.{given, fault_in}
-use Rattle.ebpf_declarations.specs.DataSections.{section_entries}
+use Rattle.ebpf_declarations.specs.Attempts.{given}
+use Rattle.ebpf_declarations.specs.DataSections.{MetSection, met_section, entries_in, section_fault}
 use Rattle.ebpf_declarations.specs.Placeholders.{with_placeholder, placeholder_fault}
+use Rattle.ebpf_declarations.specs.declared.externs.MetEntry.{MetEntry}
+use Rattle.ebpf_declarations.specs.declared.externs.MetEntry.TheVariants.{Function, Unreadable}
 use Rattle.ebpf_reloc.specs.declared.extern_desc.ExternDesc.{ExternDesc}
 
 -- ---- one extern
@@ -57,35 +59,30 @@ extern_of info weak entry =
 
 -- ---- all of them
 
--- the entries of the first DATASEC `.ksyms`; a name of a DATASEC before it that can't be read is a fault
-abbrev pub found_entries : TypeInfo → Option (Result (List DataSecEntry) BtfError)
-found_entries info = first_some (section_entries info (codes ".ksyms")) info.types
+-- the first DATASEC `.ksyms`, or one before it whose name can't be read
+abbrev pub found_entries : TypeInfo → Option MetSection
+found_entries info = first_some (met_section info (codes ".ksyms")) info.types
 
-abbrev pub entries_in : Option (Result (List DataSecEntry) BtfError) → List DataSecEntry
-entries_in (Some (Ok entries)) = entries
-entries_in _ = []
+-- what a search for a function meets at an entry: one, or a type that can't be read
+abbrev pub met_by : Result BtfType BtfError → Option MetEntry
+met_by (Ok t) = if is_function t then Some Function else None
+met_by (Err e) = Some (Unreadable e)
 
--- whether an entry is a function, as far as its type can be read
-abbrev pub function_by : Result BtfType BtfError → Option (Result (Unit {0}) BtfError)
-function_by (Ok t) = if is_function t then Some (Ok tt) else None
-function_by (Err e) = Some (Err e)
+unfoldable pub met_entry : TypeInfo → DataSecEntry → Option MetEntry
+met_entry info entry = met_by (type_at info.types entry.btf_type)
 
-unfoldable pub function_at : TypeInfo → DataSecEntry → Option (Result (Unit {0}) BtfError)
-function_at info entry = function_by (type_at info.types entry.btf_type)
-
--- the first function among entries, or an entry before it whose type can't be read
-abbrev pub first_function : TypeInfo → List DataSecEntry → Option (Result (Unit {0}) BtfError)
-first_function info entries = first_some (function_at info) entries
+abbrev pub first_met : TypeInfo → List DataSecEntry → Option MetEntry
+first_met info entries = first_some (met_entry info) entries
 
 -- with a function among the externs there is a placeholder
-unfoldable pub types_with : TypeInfo → Option (Result (Unit {0}) BtfError) → TypeInfo
-types_with info (Some (Ok u)) = with_placeholder info
+unfoldable pub types_with : TypeInfo → Option MetEntry → TypeInfo
+types_with info (Some Function) = with_placeholder info
 types_with info _ = info
 
-unfoldable pub types_fault : TypeInfo → Option (Result (Unit {0}) BtfError) → Option BtfError
+unfoldable pub types_fault : TypeInfo → Option MetEntry → Option BtfError
 types_fault info None = None
-types_fault info (Some (Err e)) = Some e
-types_fault info (Some (Ok u)) = placeholder_fault info
+types_fault info (Some (Unreadable e)) = Some e
+types_fault info (Some Function) = placeholder_fault info
 
 -- the externs that entries declare, by name; of equal names the later stands
 abbrev pub externs_of : TypeInfo → (List ℕ → Option Bool) → List DataSecEntry → FinMap text_cmp ExternDesc
@@ -96,7 +93,7 @@ entries_fault info weak entries = first_some (λ entry. fault_of (extern_of info
 
 -- the types with what externs add
 abbrev pub extern_types : TypeInfo → TypeInfo
-extern_types info = types_with info (first_function info (entries_in (found_entries info)))
+extern_types info = types_with info (first_met info (entries_in (found_entries info)))
 
 -- the externs of an object with these types, and what symbols say of names
 abbrev pub externs : TypeInfo → (List ℕ → Option Bool) → FinMap text_cmp ExternDesc
@@ -104,6 +101,6 @@ externs info weak = externs_of (extern_types info) weak (entries_in (found_entri
 
 abbrev pub externs_fault : TypeInfo → (List ℕ → Option Bool) → Option BtfError
 externs_fault info weak =
-    or_else (fault_in (found_entries info))
-    (or_else (types_fault info (first_function info (entries_in (found_entries info))))
+    or_else (section_fault (found_entries info))
+    (or_else (types_fault info (first_met info (entries_in (found_entries info))))
     (entries_fault (extern_types info) weak (entries_in (found_entries info))))

@@ -1,5 +1,5 @@
 -- The maps that types declare in the DATASECs of a section as `.maps` (libbpf's "BTF-defined maps").
-use Rattle.std.specs.Prelude.{ℕ, List, [], Option, Some, None, Result, Ok, Err}
+use Rattle.std.specs.Prelude.{ℕ, List, [], Option, Some, None, Result, Ok, Err, ◌==◌, if◌then◌else◌}
 use Rattle.std.specs.List.{flat_map}
 use Rattle.ebpf_base.specs.Faults.{first_some, fault_of}
 use Rattle.ebpf_btf.specs.Next.{if_some, if_ok}
@@ -7,56 +7,71 @@ use Rattle.ebpf_btf.specs.Steps.{type_at}
 use Rattle.ebpf_btf.specs.Strings.{type_name}
 use Rattle.ebpf_btf.specs.TypeInfo.{TypeInfo}
 use Rattle.ebpf_btf.specs.declared.error.BtfError.{BtfError}
+use Rattle.ebpf_btf.specs.declared.error.BtfError.TheVariants.{InnerMapCannotBePinned, MultiLevelMapInMapNotSupported}
 use Rattle.ebpf_btf.specs.declared.members.BtfMember.{BtfMember}
 use Rattle.ebpf_btf.specs.declared.members.DataSecEntry.{DataSecEntry}
 use Rattle.ebpf_btf.specs.declared.types.BtfType.{BtfType}
 use Rattle.ebpf_btf.specs.declared.types.BtfType.TheVariants.{Var}
-use Rattle.ebpf_declarations.specs.Attempts.{given}
-use Rattle.ebpf_declarations.specs.DataSections.{section_entries}
-use Rattle.ebpf_declarations.specs.MapMembers.{unexpected, resolved_struct, held_struct, with_member, with_inner_member, by_members}
+use Rattle.ebpf_declarations.specs.Attempts.{given, all_given}
+use Rattle.ebpf_declarations.specs.DataSections.{MetSection, Named, Unreadable, met_section}
+use Rattle.ebpf_declarations.specs.MapMembers.{unexpected, number, sized_type, resolved_struct, held_struct, member_at}
+use Rattle.ebpf_declarations.specs.Sayings.{no_definitions, with_all}
 use Rattle.ebpf_declarations.specs.declared.map_member.MapMember.{MapMember}
-use Rattle.ebpf_declarations.specs.declared.map_member.MapMember.TheVariants.{Values}
+use Rattle.ebpf_declarations.specs.declared.map_member.MapMember.TheVariants as about
 use Rattle.ebpf_declarations.specs.declared.definitions.MapDefinitions.{MapDefinitions}
+use Rattle.ebpf_declarations.specs.declared.saying.Saying.{Saying}
+use Rattle.ebpf_declarations.specs.declared.saying.Saying.TheVariants as said
 use Rattle.ebpf_parts.specs.declared.error.ParseError.{ParseError}
 use Rattle.ebpf_parts.specs.declared.error.ParseError.TheVariants as errors
 use Rattle.ebpf_parts.specs.declared.maps.definition.BtfMapDef.{BtfMapDef}
 use Rattle.ebpf_parts.specs.declared.maps.either.Map.{Map}
 use Rattle.ebpf_parts.specs.declared.maps.either.Map.TheVariants.{Btf}
+use Rattle.ebpf_parts.specs.declared.maps.pinning.PinningType.{PinningType}
 use Rattle.ebpf_parts.specs.declared.maps.pinning.PinningType.TheVariants as pinned
 
--- ---- one map
+-- ---- what a member says
 
--- nothing is said
-abbrev pub no_definition : BtfMapDef
-no_definition = record {
-  map_type = 0;
-  key_size = 0;
-  value_size = 0;
-  max_entries = 0;
-  map_flags = 0;
-  map_extra = 0;
-  pinning = pinned.None;
-  btf_key_type_id = 0;
-  btf_value_type_id = 0;
-}
+abbrev pub pinning_of : ℕ → PinningType
+pinning_of n = if n == 1 then pinned.ByName else pinned.None
 
--- what members say of an inner map of the map with a name
+-- a number or a type; members of other names say nothing
+unfoldable pub plain_saying : List BtfType → MapMember → ℕ → Result Saying BtfError
+plain_saying types (about.Number of) id = if_ok (number types id) (λ n. Ok (said.Number of n))
+plain_saying types about.Pinning id = if_ok (number types id) (λ n. Ok (said.Pinning (pinning_of n)))
+plain_saying types about.Key id = if_ok (sized_type types id) (λ t. Ok (said.Key t.0 t.1))
+plain_saying types about.Value id = if_ok (sized_type types id) (λ t. Ok (said.Value t.0 t.1))
+plain_saying types _ id = Ok said.Nothing
+
+-- a definition with what members say, or the first fault of a member
+abbrev pub with_members : (BtfMember → Result Saying BtfError) → MapDefinitions → List BtfMember → Result MapDefinitions BtfError
+with_members says d members = if_ok (all_given says members) (λ all. Ok (with_all d all))
+
+-- of an inner map of the map with a name, which neither is pinned nor holds maps
+unfoldable pub inner_saying_of : TypeInfo → List ℕ → MapMember → ℕ → Result Saying BtfError
+inner_saying_of info name about.Pinning id = Err (InnerMapCannotBePinned name)
+inner_saying_of info name about.Values id = Err (MultiLevelMapInMapNotSupported name)
+inner_saying_of info name member id = plain_saying info.types member id
+
+unfoldable pub inner_saying : TypeInfo → List ℕ → BtfMember → Result Saying BtfError
+inner_saying info name m = if_ok (member_at info.strings m) (λ member. inner_saying_of info name member m.btf_type)
+
 abbrev pub inner_definition : TypeInfo → List ℕ → List BtfMember → Result BtfMapDef BtfError
-inner_definition info name members = by_members info.strings (with_inner_member info.types name) no_definition members
+inner_definition info name members = if_ok (with_members (inner_saying info name) no_definitions members) (λ d. Ok d.def)
 
--- the size of a value that is a map
-abbrev pub with_inner : MapDefinitions → BtfMapDef → MapDefinitions
-with_inner d inner = record { def = record d.def { value_size = 4 }; inner_def = Some inner }
+-- of the map with a name, which may hold maps
+unfoldable pub saying_of : TypeInfo → List ℕ → MapMember → ℕ → Result Saying BtfError
+saying_of info name about.Values id =
+    if_ok (held_struct info.types name id) (λ held.
+    if_ok (inner_definition info name held) (λ inner. Ok (said.Values inner)))
+saying_of info name member id = plain_saying info.types member id
 
--- a member of the map with a name
-unfoldable pub with_outer_member : TypeInfo → List ℕ → MapDefinitions → MapMember → ℕ → Result MapDefinitions BtfError
-with_outer_member info name d Values id =
-    if_ok (held_struct info.types name id) (λ members.
-    if_ok (inner_definition info name members) (λ inner. Ok (with_inner d inner)))
-with_outer_member info name d member id = if_ok (with_member info.types d.def member id) (λ def. Ok (record d { def = def }))
+unfoldable pub saying : TypeInfo → List ℕ → BtfMember → Result Saying BtfError
+saying info name m = if_ok (member_at info.strings m) (λ member. saying_of info name member m.btf_type)
 
 abbrev pub definitions : TypeInfo → List ℕ → List BtfMember → Result MapDefinitions BtfError
-definitions info name members = by_members info.strings (with_outer_member info name) (record { def = no_definition; inner_def = None }) members
+definitions info name members = with_members (saying info name) no_definitions members
+
+-- ---- one map
 
 -- the id of the type that a VAR holds
 unfoldable pub variable : BtfType → Option ℕ
@@ -93,21 +108,21 @@ entries_maps info symbols section entries = flat_map (λ entry. given (map_of in
 abbrev pub entries_fault : TypeInfo → (List ℕ → Option ℕ) → ℕ → List DataSecEntry → Option ParseError
 entries_fault info symbols section entries = first_some (λ entry. fault_of (map_of info symbols section entry)) entries
 
-abbrev pub maps_by : TypeInfo → (List ℕ → Option ℕ) → ℕ → Option (Result (List DataSecEntry) BtfError) → List (List ℕ × Map)
-maps_by info symbols section (Some (Ok entries)) = entries_maps info symbols section entries
+abbrev pub maps_by : TypeInfo → (List ℕ → Option ℕ) → ℕ → Option MetSection → List (List ℕ × Map)
+maps_by info symbols section (Some (Named entries)) = entries_maps info symbols section entries
 maps_by info symbols section _ = []
 
-abbrev pub fault_by : TypeInfo → (List ℕ → Option ℕ) → ℕ → Option (Result (List DataSecEntry) BtfError) → Option ParseError
+abbrev pub fault_by : TypeInfo → (List ℕ → Option ℕ) → ℕ → Option MetSection → Option ParseError
 fault_by info symbols section None = None
-fault_by info symbols section (Some (Err e)) = Some (errors.BtfError e)
-fault_by info symbols section (Some (Ok entries)) = entries_fault info symbols section entries
+fault_by info symbols section (Some (Unreadable e)) = Some (errors.BtfError e)
+fault_by info symbols section (Some (Named entries)) = entries_fault info symbols section entries
 
 -- those of one type, where it is a DATASEC of the section's name
 unfoldable pub type_maps : TypeInfo → (List ℕ → Option ℕ) → ℕ → List ℕ → BtfType → List (List ℕ × Map)
-type_maps info symbols section name t = maps_by info symbols section (section_entries info name t)
+type_maps info symbols section name t = maps_by info symbols section (met_section info name t)
 
 unfoldable pub type_fault : TypeInfo → (List ℕ → Option ℕ) → ℕ → List ℕ → BtfType → Option ParseError
-type_fault info symbols section name t = fault_by info symbols section (section_entries info name t)
+type_fault info symbols section name t = fault_by info symbols section (met_section info name t)
 
 -- Of a section with this number and name, the symbols of which have these numbers.
 abbrev pub btf_maps : TypeInfo → (List ℕ → Option ℕ) → ℕ → List ℕ → List (List ℕ × Map)

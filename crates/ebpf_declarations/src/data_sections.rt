@@ -1,11 +1,9 @@
 //! The DATASECs of a name.
 
-ghost use Rattle.std.specs.Prelude.{◌≡◌, IfOk, Ok, option_map};
+ghost use Rattle.std.specs.Prelude.{◌≡◌, IfOk, IfErr, Some, option_map};
 ghost use Rattle.std.specs.Option.{option_copied};
-ghost use Rattle.ebpf_base.specs.Faults.{Refuses, first_some};
-ghost use Rattle.ebpf_btf.specs.Memory.{is_memory};
-ghost use Rattle.ebpf_declarations.specs.Attempts.{fault_in};
-ghost use Rattle.ebpf_declarations.specs.DataSections.{entries_of, section_entries};
+ghost use Rattle.ebpf_base.specs.Faults.{first_some};
+ghost use Rattle.ebpf_declarations.specs.DataSections.{Named, Unreadable, entries_of, met_section};
 
 use ebpf_btf::{Btf, BtfError, BtfType, DataSecEntry};
 
@@ -21,20 +19,19 @@ fn entries_of(ty: &BtfType) -> Option<&[DataSecEntry]>
 }
 
 /// The entries of a type that is a DATASEC with this name.
-#[tactic(auto, unfolding(crate::specs::DataSections::section_entries))]
+#[tactic(auto, unfolding(crate::specs::DataSections::met_section))]
 pub fn section_entries<'a>(
     btf: &Btf,
     wanted: &str,
     ty: &'a BtfType,
 ) -> Result<Option<&'a [DataSecEntry]>, BtfError>
-    ensures found { IfOk result (λ found. section_entries btf.now wanted.now ty.now ≡ option_map Ok (option_copied found)) }
-    ensures fault { Refuses is_memory result (fault_in (section_entries btf.now wanted.now ty.now)) }
+    ensures found { IfOk result (λ found. met_section btf.now wanted.now ty.now ≡ option_map Named (option_copied found)) }
+    ensures fault { IfErr result (λ e. met_section btf.now wanted.now ty.now ≡ Some (Unreadable e)) }
 {
     let Some(entries) = entries_of(ty) else {
         return Ok(None);
     };
-    let name = btf.type_name(ty)?;
-    if name.as_str() == wanted {
+    if btf.is_name_at(ty.name_offset(), wanted)? {
         return Ok(Some(entries));
     }
     Ok(None)
@@ -43,8 +40,8 @@ pub fn section_entries<'a>(
 /// The entries of the first DATASEC with this name.
 #[tactic(auto, using(ebpf_parts::proofs::Walks::rest_more, ebpf_parts::proofs::Walks::rest_none))]
 pub fn first_entries<'a>(btf: &'a Btf, wanted: &str) -> Result<Option<&'a [DataSecEntry]>, BtfError>
-    ensures found { IfOk result (λ found. first_some (section_entries btf.now wanted.now) btf.now.types ≡ option_map Ok (option_copied found)) }
-    ensures fault { Refuses is_memory result (fault_in (first_some (section_entries btf.now wanted.now) btf.now.types)) }
+    ensures found { IfOk result (λ found. first_some (met_section btf.now wanted.now) btf.now.types ≡ option_map Named (option_copied found)) }
+    ensures fault { IfErr result (λ e. first_some (met_section btf.now wanted.now) btf.now.types ≡ Some (Unreadable e)) }
 {
     for ty in btf.types() {
         if let Some(entries) = section_entries(btf, wanted, ty)? {

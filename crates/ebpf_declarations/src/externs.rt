@@ -1,10 +1,11 @@
 //! The externs of an object.
 
-ghost use Rattle.std.specs.Prelude.{◌≡◌, IfOk, OnOk};
+ghost use Rattle.std.specs.Prelude.{◌≡◌, IfOk, OnOk, OnErr};
 ghost use Rattle.std.specs.FinMap as map;
-ghost use Rattle.ebpf_base.specs.Faults.{Gives, Refuses};
+ghost use Rattle.ebpf_base.specs.Faults.{Gives, Refuses, or_else};
 ghost use Rattle.ebpf_btf.specs.Memory.{is_memory};
-ghost use Rattle.ebpf_declarations.specs.Externs.{is_function, held, new_extern, extern_of, function_at, first_function, types_with, types_fault, externs_of, entries_fault, extern_types, externs, externs_fault};
+ghost use Rattle.ebpf_declarations.specs.Externs.{is_function, held, new_extern, extern_of, met_entry, first_met, types_with, types_fault, externs_of, entries_fault, extern_types, externs, externs_fault};
+ghost use Rattle.ebpf_declarations.specs.Placeholders.{Begins};
 
 use crate::data_sections::first_entries;
 use crate::placeholders::add_placeholder;
@@ -34,26 +35,35 @@ fn held(ty: &BtfType) -> Option<u32>
     }
 }
 
-/// Whether an entry is a function, as far as its type can be read.
-#[tactic(auto, unfolding(crate::specs::Externs::function_at))]
-fn function_at(btf: &Btf, entry: &DataSecEntry) -> Option<Result<(), BtfError>>
-    ensures { result ≡ function_at btf.now entry.now }
+/// What a search for a function among entries meets.
+#[derive(Debug, Drop)]
+pub enum MetEntry {
+    /// A function.
+    Function,
+    /// An entry whose type can't be read.
+    Unreadable(BtfError),
+}
+
+/// What it meets at an entry.
+#[tactic(auto, unfolding(crate::specs::Externs::met_entry))]
+fn met_entry(btf: &Btf, entry: &DataSecEntry) -> Option<MetEntry>
+    ensures { result ≡ met_entry btf.now entry.now }
 {
     match btf.type_by_id(entry.btf_type) {
-        Ok(ty) if is_function(ty) => Some(Ok(())),
+        Ok(ty) if is_function(ty) => Some(MetEntry::Function),
         Ok(_) => None,
-        Err(error) => Some(Err(error)),
+        Err(error) => Some(MetEntry::Unreadable(error)),
     }
 }
 
-/// The first function among entries, or an entry before it whose type can't be read.
+/// What it meets first.
 #[tactic(auto, using(ebpf_parts::proofs::Walks::rest_more, ebpf_parts::proofs::Walks::rest_none))]
-fn first_function(btf: &Btf, entries: &[DataSecEntry]) -> Option<Result<(), BtfError>>
-    ensures { result ≡ first_function btf.now entries.now }
+fn first_met(btf: &Btf, entries: &[DataSecEntry]) -> Option<MetEntry>
+    ensures { result ≡ first_met btf.now entries.now }
 {
     for entry in entries {
-        if let Some(found) = function_at(btf, entry) {
-            return Some(found);
+        if let Some(met) = met_entry(btf, entry) {
+            return Some(met);
         }
     }
     None
@@ -62,13 +72,14 @@ fn first_function(btf: &Btf, entries: &[DataSecEntry]) -> Option<Result<(), BtfE
 /// Adds a placeholder where there is a function among entries.
 #[tactic(auto, unfolding(crate::specs::Externs::types_with, crate::specs::Externs::types_fault))]
 fn prepare_types(btf: &mut Btf, entries: &[DataSecEntry]) -> Result<(), BtfError>
-    ensures types { OnOk result (btf.new ≡ types_with btf.old (first_function btf.old entries.now)) }
-    ensures fault { Refuses is_memory result (types_fault btf.old (first_function btf.old entries.now)) }
+    ensures types { OnOk result (btf.new ≡ types_with btf.old (first_met btf.old entries.now)) }
+    ensures fault { Refuses is_memory result (types_fault btf.old (first_met btf.old entries.now)) }
+    ensures begins { Begins btf.old btf.new }
 {
-    match first_function(btf, entries) {
+    match first_met(btf, entries) {
         None => Ok(()),
-        Some(Ok(())) => add_placeholder(btf),
-        Some(Err(error)) => Err(error),
+        Some(MetEntry::Function) => add_placeholder(btf),
+        Some(MetEntry::Unreadable(error)) => Err(error),
     }
 }
 
@@ -121,6 +132,24 @@ fn externs_of(
     Ok(externs)
 }
 
+/// The externs that entries declare, by name, and where one is a function a placeholder among the types. After a
+/// refusal the types begin as before.
+#[tactic(auto, unfolding(crate::specs::Externs::types_with, crate::specs::Externs::types_fault))]
+fn add_externs(
+    alloc: Global,
+    btf: &mut Btf,
+    weak: &ByName<bool>,
+    entries: &[DataSecEntry],
+) -> Result<ByName<ExternDesc>, BtfError>
+    ensures types { OnOk result (btf.new ≡ types_with btf.old (first_met btf.old entries.now)) }
+    ensures externs { IfOk result (λ found. found ≡ externs_of (types_with btf.old (first_met btf.old entries.now)) (map.get weak.now) entries.now) }
+    ensures fault { Refuses is_memory result (or_else (types_fault btf.old (first_met btf.old entries.now)) (entries_fault (types_with btf.old (first_met btf.old entries.now)) (map.get weak.now) entries.now)) }
+    ensures begins { Begins btf.old btf.new }
+{
+    prepare_types(btf, entries)?;
+    externs_of(alloc, btf, weak, entries)
+}
+
 /// The externs of an object, by name: the entries of the first DATASEC `.ksyms`. `weak` says of each name that a
 /// symbol has whether the first such symbol is weak. Where an entry is a FUNC, a variable is added to the types
 /// that stands in for functions, and first an INT of 4 bytes where there is none.
@@ -129,7 +158,7 @@ fn externs_of(
 /// to the first FUNC; `TooLarge` where the types or strings have no room for the variable; then for each entry
 /// `UnknownBtfType`, `InvalidDatasec` where it is neither FUNC nor VAR, `InvalidStringOffset` of its name,
 /// `InvalidSymbolName` where no symbol has its name, and those of resolving its type. `OutOfMemory` only where
-/// memory was refused.
+/// memory was refused. After a refusal the types are as before.
 #[tactic(auto, unfolding(crate::specs::Externs::types_with, crate::specs::Externs::types_fault))]
 pub fn collect_externs(
     alloc: Global,
@@ -139,11 +168,17 @@ pub fn collect_externs(
     ensures types { OnOk result (btf.new ≡ extern_types btf.old) }
     ensures externs { IfOk result (λ found. found ≡ externs btf.old (map.get weak.now)) }
     ensures fault { Refuses is_memory result (externs_fault btf.old (map.get weak.now)) }
+    ensures unchanged { OnErr result (btf.new ≡ btf.old) }
 {
     let entries = match first_entries(btf, EXTERNS)? {
         Some(entries) => Vec::from_slice(alloc, entries)?,
         None => return Ok(ByName::new(alloc)),
     };
-    prepare_types(btf, &entries)?;
-    externs_of(alloc, btf, weak, &entries)
+    let types = btf.types().len();
+    let strings = btf.string_len();
+    let added = add_externs(alloc, btf, weak, &entries);
+    if added.is_err() {
+        btf.truncate(types, strings);
+    }
+    added
 }

@@ -5,12 +5,15 @@ mod data_sections;
 mod definitions;
 mod error;
 mod externs;
+pub mod laws;
 mod map_member;
+mod map_sayings;
 mod map_structs;
 mod map_types;
 mod maps;
 mod placeholders;
+mod saying;
 
 pub use error::parse_error;
 pub use externs::collect_externs;
-pub use maps::put_btf_maps;
+pub use maps::collect_btf_maps;

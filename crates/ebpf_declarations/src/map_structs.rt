@@ -6,7 +6,7 @@ ghost use Rattle.ebpf_base.specs.Faults.{fault_of};
 ghost use Rattle.ebpf_btf.specs.Memory.{is_memory};
 ghost use Rattle.ebpf_declarations.specs.MapMembers.{resolved_struct, pointed_struct, held_struct};
 
-use crate::map_types::{array_element, array_length, pointed, struct_members, unexpected};
+use crate::map_types::{pointed, struct_members, unexpected};
 use ebpf_base::Text;
 use ebpf_btf::{Btf, BtfError, BtfMember};
 use std::alloc::Global;
@@ -17,7 +17,7 @@ pub fn resolved_struct(btf: &Btf, type_id: u32) -> Result<&[BtfMember], BtfError
     ensures members { IfOk result (λ members. resolved_struct btf.now.types type_id ≡ Ok members.now) }
     ensures fault { fault_of result ≡ fault_of (resolved_struct btf.now.types type_id) }
 {
-    let ty = btf.type_by_id(btf.resolve_type(type_id)?)?;
+    let ty = btf.resolved_type(type_id)?;
     match struct_members(ty) {
         Some(members) => Ok(members),
         None => Err(unexpected(ty)),
@@ -30,7 +30,7 @@ fn pointed_struct(btf: &Btf, type_id: u32) -> Result<&[BtfMember], BtfError>
     ensures members { IfOk result (λ members. pointed_struct btf.now.types type_id ≡ Ok members.now) }
     ensures fault { fault_of result ≡ fault_of (pointed_struct btf.now.types type_id) }
 {
-    let pointer = btf.type_by_id(btf.resolve_type(type_id)?)?;
+    let pointer = btf.resolved_type(type_id)?;
     match pointed(pointer) {
         Some(target) => resolved_struct(btf, target),
         None => Err(unexpected(pointer)),
@@ -49,11 +49,13 @@ pub fn held_struct<'a>(
     ensures fault { IfErr result (λ e. MatchBool (is_memory e) ⊤ (held_struct btf.now.types name.now type_id ≡ Err e)) }
 {
     let ty = btf.type_by_id(type_id)?;
-    match array_length(ty) {
-        Some(0) => pointed_struct(btf, array_element(ty)),
-        Some(_) => Err(BtfError::InvalidValuesSpec {
-            name: Text::from_str(alloc, name)?,
-        }),
-        None => Err(unexpected(ty)),
+    let Some(array) = ty.array() else {
+        return Err(unexpected(ty));
+    };
+    if array.len == 0 {
+        return pointed_struct(btf, array.element_type);
     }
+    Err(BtfError::InvalidValuesSpec {
+        name: Text::from_str(alloc, name)?,
+    })
 }

@@ -4,7 +4,7 @@ ghost use Rattle.std.specs.Prelude.{◌≡◌, Some};
 ghost use Rattle.std.specs.Option.{option_copied};
 ghost use Rattle.ebpf_base.specs.Faults.{Gives};
 ghost use Rattle.ebpf_btf.specs.Memory.{is_memory};
-ghost use Rattle.ebpf_declarations.specs.MapMembers.{unexpected, pointed, array_length, array_element, struct_members, number, sized_type};
+ghost use Rattle.ebpf_declarations.specs.MapMembers.{unexpected, pointed, struct_members, number, sized_type};
 
 use ebpf_btf::{Btf, BtfError, BtfMember, BtfType};
 
@@ -28,28 +28,6 @@ pub fn pointed(ty: &BtfType) -> Option<u32>
     }
 }
 
-/// The number of elements of an ARRAY.
-#[tactic(auto, unfolding(crate::specs::MapMembers::array_length))]
-pub fn array_length(ty: &BtfType) -> Option<u32>
-    ensures { result ≡ array_length ty.now }
-{
-    match ty {
-        BtfType::Array { len, .. } => Some(*len),
-        _ => None,
-    }
-}
-
-/// The type of an ARRAY's elements, 0 of others.
-#[tactic(auto, unfolding(crate::specs::MapMembers::array_element))]
-pub fn array_element(ty: &BtfType) -> u32
-    ensures { result ≡ array_element ty.now }
-{
-    match ty {
-        BtfType::Array { element_type, .. } => *element_type,
-        _ => 0,
-    }
-}
-
 /// The members of a STRUCT.
 #[tactic(auto, unfolding(crate::specs::MapMembers::struct_members))]
 pub fn struct_members(ty: &BtfType) -> Option<&[BtfMember]>
@@ -67,13 +45,13 @@ pub fn number(btf: &Btf, type_id: u32) -> Result<u32, BtfError>
     ensures { result ≡ number btf.now.types type_id }
 {
     let pointer = btf.type_by_id(type_id)?;
-    let Some(array) = pointed(pointer) else {
+    let Some(target) = pointed(pointer) else {
         return Err(unexpected(pointer));
     };
-    let array = btf.type_by_id(array)?;
-    match array_length(array) {
-        Some(len) => Ok(len),
-        None => Err(unexpected(array)),
+    let target = btf.type_by_id(target)?;
+    match target.array() {
+        Some(array) => Ok(array.len),
+        None => Err(unexpected(target)),
     }
 }
 

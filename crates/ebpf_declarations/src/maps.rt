@@ -1,16 +1,16 @@
 //! The maps of a section that types declare.
 
-ghost use Rattle.std.specs.Prelude.{◌≡◌, ◌∷◌, [], OnOk, IfOk, Some};
+ghost use Rattle.std.specs.Prelude.{◌≡◌, ◌++◌, OnOk, IfOk};
 ghost use Rattle.std.specs.FinMap as map;
-ghost use Rattle.ebpf_base.specs.Faults.{Gives, Refuses, fault_of};
-ghost use Rattle.ebpf_base.specs.Keyed.{put_all};
+ghost use Rattle.ebpf_base.specs.Faults.{Gives, Refuses};
 ghost use Rattle.ebpf_btf.specs.Memory.{is_memory as is_btf_memory};
 ghost use Rattle.ebpf_declarations.specs.Maps.{variable, declared, map_of, entries_maps, entries_fault, type_maps, type_fault, btf_maps, btf_maps_fault};
 ghost use Rattle.ebpf_parts.specs.Memory.{is_memory};
 
 use crate::data_sections::section_entries;
-use crate::definitions::{MapDefinitions, definitions};
+use crate::definitions::MapDefinitions;
 use crate::error::parse_error;
+use crate::map_sayings::definitions;
 use crate::map_structs::resolved_struct;
 use crate::map_types::unexpected;
 use ebpf_base::{ByName, Items, Text};
@@ -77,66 +77,64 @@ fn map_of(
     Ok((name, map))
 }
 
-/// Puts the maps of entries by name.
-#[tactic(auto, using(crate::proofs::Put::entries_more, ebpf_parts::proofs::Walks::rest_more, ebpf_parts::proofs::Walks::rest_none))]
-fn put_entries(
+/// Adds the maps of entries.
+#[tactic(auto, using(crate::proofs::Added::more_added, ebpf_parts::proofs::Walks::rest_more, ebpf_parts::proofs::Walks::rest_none))]
+fn add_entries(
     alloc: Global,
-    maps: &mut ByName<Map>,
+    found: &mut Items<(Text, Map)>,
     btf: &Btf,
     section: &Section<'_>,
     symbols: &ByName<usize>,
     entries: &[DataSecEntry],
 ) -> Result<(), ParseError>
-    ensures put { OnOk result (maps.new ≡ put_all maps.old (entries_maps btf.now (map.get symbols.now) section.now.index.0 entries.now)) }
+    ensures added { OnOk result (found.new ≡ found.old ++ entries_maps btf.now (map.get symbols.now) section.now.index.0 entries.now) }
     ensures fault { Refuses is_memory result (entries_fault btf.now (map.get symbols.now) section.now.index.0 entries.now) }
 {
     for entry in entries {
-        let (name, map) = map_of(alloc, btf, section, symbols, entry)?;
-        maps.insert(name.into_string(), map)?;
+        found.push(map_of(alloc, btf, section, symbols, entry)?)?;
     }
     Ok(())
 }
 
-/// Puts the maps of a type, where it is a DATASEC of the section's name.
+/// Adds the maps of a type, where it is a DATASEC of the section's name.
 #[tactic(auto, unfolding(crate::specs::Maps::type_maps, crate::specs::Maps::type_fault))]
-fn put_type(
+fn add_type(
     alloc: Global,
-    maps: &mut ByName<Map>,
+    found: &mut Items<(Text, Map)>,
     btf: &Btf,
     section: &Section<'_>,
     symbols: &ByName<usize>,
     ty: &BtfType,
 ) -> Result<(), ParseError>
-    ensures put { OnOk result (maps.new ≡ put_all maps.old (type_maps btf.now (map.get symbols.now) section.now.index.0 section.now.name ty.now)) }
+    ensures added { OnOk result (found.new ≡ found.old ++ type_maps btf.now (map.get symbols.now) section.now.index.0 section.now.name ty.now) }
     ensures fault { Refuses is_memory result (type_fault btf.now (map.get symbols.now) section.now.index.0 section.now.name ty.now) }
 {
     match section_entries(btf, section.name, ty) {
-        Ok(Some(entries)) => put_entries(alloc, maps, btf, section, symbols, entries),
+        Ok(Some(entries)) => add_entries(alloc, found, btf, section, symbols, entries),
         Ok(None) => Ok(()),
         Err(error) => Err(parse_error(error)),
     }
 }
 
-/// Puts the maps that types declare in a section, by name: DATASEC by DATASEC of the section's name, and of each
-/// its entries in order; the later of equal names stands. `symbols` has the numbers of the section's symbols by
-/// name, of equal names the greatest.
+/// The maps that types declare in a section, with their names: DATASEC by DATASEC of the section's name, and of each
+/// its entries in order. `symbols` has the numbers of the section's symbols by name, of equal names the greatest.
 ///
 /// Faults in that order: `BtfError` of a DATASEC's name; of each entry `BtfError` where its type is no VAR, where
 /// its name can't be read, where its type stands for no STRUCT, and of each member; `SymbolNotFound` where the
 /// section has no symbol of the map's name. `OutOfMemory` only where memory was refused.
-#[tactic(auto, using(crate::proofs::Put::entries_more, ebpf_parts::proofs::Walks::rest_more, ebpf_parts::proofs::Walks::rest_none))]
-pub fn put_btf_maps(
+#[tactic(auto, using(crate::proofs::Added::more_added, ebpf_parts::proofs::Walks::rest_more, ebpf_parts::proofs::Walks::rest_none))]
+pub fn collect_btf_maps(
     alloc: Global,
-    maps: &mut ByName<Map>,
     btf: &Btf,
     section: &Section<'_>,
     symbols: &ByName<usize>,
-) -> Result<(), ParseError>
-    ensures put { OnOk result (maps.new ≡ put_all maps.old (btf_maps btf.now (map.get symbols.now) section.now.index.0 section.now.name)) }
+) -> Result<Items<(Text, Map)>, ParseError>
+    ensures found { IfOk result (λ found. found ≡ btf_maps btf.now (map.get symbols.now) section.now.index.0 section.now.name) }
     ensures fault { Refuses is_memory result (btf_maps_fault btf.now (map.get symbols.now) section.now.index.0 section.now.name) }
 {
+    let mut found = Items::new(alloc);
     for ty in btf.types() {
-        put_type(alloc, maps, btf, section, symbols, ty)?;
+        add_type(alloc, &mut found, btf, section, symbols, ty)?;
     }
-    Ok(())
+    Ok(found)
 }

@@ -4,7 +4,7 @@ ghost use Rattle.std.specs.Prelude.{◌≡◌, ◌<◌, ◌^◌, length, IfOk, O
 ghost use Rattle.std.specs.List.{position};
 ghost use Rattle.ebpf_base.specs.Faults.{Refuses};
 ghost use Rattle.ebpf_btf.specs.Memory.{is_memory};
-ghost use Rattle.ebpf_declarations.specs.Placeholders.{is_word, word_id, with_word, word_fault, the_word, with_placeholder, placeholder_fault};
+ghost use Rattle.ebpf_declarations.specs.Placeholders.{Begins, is_word, word_id, with_word, word_fault, the_word, with_placeholder, placeholder_fault};
 
 use ebpf_btf::{Btf, BtfError, BtfType};
 
@@ -40,6 +40,7 @@ fn add_word(btf: &mut Btf) -> Result<u32, BtfError>
     ensures types { OnOk result (btf.new ≡ with_word btf.old) }
     ensures id { IfOk result (λ id. id ≡ the_word btf.old) }
     ensures fault { Refuses is_memory result (word_fault btf.old) }
+    ensures begins { Begins btf.old btf.new }
 {
     if let Some(id) = word_id(btf.types()) {
         return Ok(id as u32);
@@ -56,6 +57,7 @@ fn add_word(btf: &mut Btf) -> Result<u32, BtfError>
 pub fn add_placeholder(btf: &mut Btf) -> Result<(), BtfError>
     ensures types { OnOk result (btf.new ≡ with_placeholder btf.old) }
     ensures fault { Refuses is_memory result (placeholder_fault btf.old) }
+    ensures begins { Begins btf.old btf.new }
 {
     let word = add_word(btf)?;
     let name_offset = btf.add_string("ksym_func_placeholder")?;

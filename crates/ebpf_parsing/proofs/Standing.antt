@@ -15,7 +15,8 @@ use Rattle.ebpf_btf.specs.TypeInfo.{TypeInfo}
 use Rattle.ebpf_btf.specs.declared.error.BtfError.{BtfError}
 use Rattle.ebpf_btf.specs.declared.members.DataSecEntry.{DataSecEntry}
 use Rattle.ebpf_declarations.specs.Attempts.{given}
-use Rattle.ebpf_declarations.specs.Externs.{extern_of, extern_types, entries_in, found_entries}
+use Rattle.ebpf_declarations.specs.DataSections.{entries_in}
+use Rattle.ebpf_declarations.specs.Externs.{extern_of, extern_types, found_entries}
 use Rattle.ebpf_elf.specs.SymbolTable.{symbol_table as table_of}
 use Rattle.ebpf_elf.specs.Symbols.{symbols_in}
 use Rattle.ebpf_elf.specs.declared.entries.ElfRelocation.{ElfRelocation}

@@ -1,6 +1,6 @@
 //! The maps that types declare.
 
-ghost use Rattle.std.specs.Prelude.{◌≡◌, OnOk};
+ghost use Rattle.std.specs.Prelude.{◌≡◌, OnOk, IfErr, true};
 ghost use Rattle.ebpf_base.specs.Faults.{Refuses};
 ghost use Rattle.ebpf_base.specs.Keyed.{put_all};
 ghost use Rattle.ebpf_parsing.specs.DeclaredMaps.{declared_maps, declared_maps_fault};
@@ -8,12 +8,23 @@ ghost use Rattle.ebpf_parts.specs.Memory.{is_memory};
 
 use crate::symbol_names::numbers_by_name;
 use crate::symbols::NamedSymbol;
-use ebpf_base::{ByName, Text};
+use ebpf_base::{ByName, Items, Text};
 use ebpf_btf::Btf;
-use ebpf_declarations::put_btf_maps;
+use ebpf_declarations::collect_btf_maps;
 use ebpf_parts::maps::Map;
 use ebpf_parts::{ParseError, Section};
 use std::alloc::Global;
+
+/// Puts maps by name; the later of equal names stands.
+fn put_maps(maps: &mut ByName<Map>, found: Items<(Text, Map)>) -> Result<(), ParseError>
+    ensures put { OnOk result (maps.new ≡ put_all maps.old found) }
+    ensures memory { IfErr result (λ e. is_memory e ≡ true) }
+{
+    for (name, map) in found.into_vec() {
+        maps.insert(name.into_string(), map)?;
+    }
+    Ok(())
+}
 
 /// Puts the maps that types declare in a section by name.
 #[tactic(auto, unfolding(crate::specs::DeclaredMaps::declared_maps, crate::specs::DeclaredMaps::declared_maps_fault))]
@@ -36,5 +47,6 @@ pub fn put_declared_maps(
         });
     }
     let numbers = numbers_by_name(alloc, symbols)?;
-    put_btf_maps(alloc, maps, types, section, &numbers)
+    let found = collect_btf_maps(alloc, types, section, &numbers)?;
+    put_maps(maps, found)
 }

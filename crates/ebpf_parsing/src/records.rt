@@ -87,10 +87,10 @@ impl<'e> FuncRecords<'e> {
         info: &'e FuncInfo,
         name: &str,
     ) -> Result<FuncRecords<'e>, ParseError>
-        ensures info { IfOk result (λ r. r ≡ func_info_at info.now.sections name.now) }
+        ensures info { IfOk result (λ r. r ≡ func_info_at info.now name.now) }
         ensures memory { IfErr result (λ e. is_memory e ≡ true) }
     {
-        match info.sections.get(name) {
+        match info.section(name) {
             Some(said) => FuncRecords::new(
                 alloc,
                 said.sec_name_offset,
@@ -217,10 +217,10 @@ impl<'e> LineRecords<'e> {
         info: &'e LineInfo,
         name: &str,
     ) -> Result<LineRecords<'e>, ParseError>
-        ensures info { IfOk result (λ r. r ≡ line_info_at info.now.sections name.now) }
+        ensures info { IfOk result (λ r. r ≡ line_info_at info.now name.now) }
         ensures memory { IfErr result (λ e. is_memory e ≡ true) }
     {
-        match info.sections.get(name) {
+        match info.section(name) {
             Some(said) => LineRecords::new(
                 alloc,
                 said.sec_name_offset,

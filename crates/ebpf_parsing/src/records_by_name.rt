@@ -49,7 +49,7 @@ fn funcs_of_names<'e>(
     info: &'e FuncInfo,
     names: &[&str],
 ) -> Result<ByName<FuncRecords<'e>>, ParseError>
-    ensures table { IfOk result (λ t. t ≡ fold (λ t name. finite.insert t name (func_info_at info.now.sections name)) finite.empty (lent_bytes names.now)) }
+    ensures table { IfOk result (λ t. t ≡ fold (λ t name. finite.insert t name (func_info_at info.now name)) finite.empty (lent_bytes names.now)) }
     ensures memory { IfErr result (λ e. is_memory e ≡ true) }
 {
     let mut table = ByName::new(alloc);
@@ -66,10 +66,10 @@ fn gather_funcs<'e>(
     alloc: Global,
     info: &'e FuncInfo,
 ) -> Result<ByName<FuncRecords<'e>>, ParseError>
-    ensures table { IfOk result (λ t. t ≡ info.now.sections) }
+    ensures table { IfOk result (λ t. t ≡ info.now) }
     ensures memory { IfErr result (λ e. is_memory e ≡ true) }
 {
-    let names = info.sections.names(alloc)?;
+    let names = info.names(alloc)?;
     funcs_of_names(alloc, info, names.as_slice())
 }
 
@@ -79,7 +79,7 @@ fn lines_of_names<'e>(
     info: &'e LineInfo,
     names: &[&str],
 ) -> Result<ByName<LineRecords<'e>>, ParseError>
-    ensures table { IfOk result (λ t. t ≡ fold (λ t name. finite.insert t name (line_info_at info.now.sections name)) finite.empty (lent_bytes names.now)) }
+    ensures table { IfOk result (λ t. t ≡ fold (λ t name. finite.insert t name (line_info_at info.now name)) finite.empty (lent_bytes names.now)) }
     ensures memory { IfErr result (λ e. is_memory e ≡ true) }
 {
     let mut table = ByName::new(alloc);
@@ -96,10 +96,10 @@ fn gather_lines<'e>(
     alloc: Global,
     info: &'e LineInfo,
 ) -> Result<ByName<LineRecords<'e>>, ParseError>
-    ensures table { IfOk result (λ t. t ≡ info.now.sections) }
+    ensures table { IfOk result (λ t. t ≡ info.now) }
     ensures memory { IfErr result (λ e. is_memory e ≡ true) }
 {
-    let names = info.sections.names(alloc)?;
+    let names = info.names(alloc)?;
     lines_of_names(alloc, info, names.as_slice())
 }
 

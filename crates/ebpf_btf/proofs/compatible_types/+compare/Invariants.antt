@@ -1,7 +1,7 @@
 use Rattle.std.proofs.Common.{◌≡◌, ◌-◌}
 use Rattle.std.specs.Slice.Iter.{iter_rest}
 use Rattle.std.specs.Iterator.Adapters.{zip_first, zip_second}
-use Rattle.ebpf_btf.specs.Compatibility.{compared}
+use Rattle.ebpf_btf.specs.Comparisons.{compared}
 use Rattle.ebpf_btf.proofs.Comparing.{rest_alike}
 use Rattle.ebpf_btf.proofs.compatible_types.+compare.Given as goal
 

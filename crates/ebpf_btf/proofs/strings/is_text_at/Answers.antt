@@ -1,4 +1,4 @@
-use Rattle.std.proofs.Common.{refl, ◌∙◌}
+use Rattle.std.proofs.Common.{refl}
 use Rattle.ebpf_btf.proofs.NearTexts.{found_near, missing_near}
 use Rattle.ebpf_btf.proofs.strings.is_text_at.Goals as goal
 

@@ -8,5 +8,5 @@ use Rattle.ebpf_parsing.proofs.records_by_name.lines_of_names.Given as goal
 -- what is left to gather from here gives what all gives from the start
 abbrev pub invariant-loop-name : goal.invariant-loop-name
 invariant-loop-name l =
-    fold (λ t name. insert t name (line_info_at l.info.sections name)) l.table (lent_bytes (drop l.name-index l.names))
-    ≡ fold (λ t name. insert t name (line_info_at l.info.sections name)) empty (lent_bytes l.names)
+    fold (λ t name. insert t name (line_info_at l.info name)) l.table (lent_bytes (drop l.name-index l.names))
+    ≡ fold (λ t name. insert t name (line_info_at l.info name)) empty (lent_bytes l.names)

@@ -1,0 +1,146 @@
+//! What the members of a struct say of a map.
+
+ghost use Rattle.std.specs.Prelude.{◌≡◌};
+ghost use Rattle.ebpf_base.specs.Faults.{Gives};
+ghost use Rattle.ebpf_btf.specs.Memory.{is_memory};
+ghost use Rattle.ebpf_declarations.specs.Maps.{pinning_of, plain_saying, inner_saying_of, inner_saying, inner_definition, saying_of, saying, definitions};
+
+use crate::definitions::MapDefinitions;
+use crate::map_member::{MapMember, member_at};
+use crate::map_structs::held_struct;
+use crate::map_types::{number, sized_type};
+use crate::saying::Saying;
+use ebpf_base::Text;
+use ebpf_btf::{Btf, BtfError, BtfMember};
+use ebpf_parts::maps::{BtfMapDef, PinningType};
+use std::alloc::Global;
+
+fn pinning_of(number: u32) -> PinningType
+    ensures { result ≡ pinning_of number }
+{
+    if number == 1 {
+        return PinningType::ByName;
+    }
+    PinningType::None
+}
+
+/// What a member says that is about a number or a type; others say nothing.
+#[tactic(auto, unfolding(crate::specs::Maps::plain_saying))]
+fn plain_saying(btf: &Btf, member: MapMember, type_id: u32) -> Result<Saying, BtfError>
+    ensures { result ≡ plain_saying btf.now.types member type_id }
+{
+    match member {
+        MapMember::Number(of) => {
+            let number = number(btf, type_id)?;
+            Ok(Saying::Number { of, number })
+        }
+        MapMember::Pinning => Ok(Saying::Pinning(pinning_of(number(btf, type_id)?))),
+        MapMember::Key => {
+            let (type_id, size) = sized_type(btf, type_id)?;
+            Ok(Saying::Key { type_id, size })
+        }
+        MapMember::Value => {
+            let (type_id, size) = sized_type(btf, type_id)?;
+            Ok(Saying::Value { type_id, size })
+        }
+        MapMember::Values | MapMember::Other => Ok(Saying::Nothing),
+    }
+}
+
+/// What a member says of an inner map of the map with a name.
+#[tactic(auto, unfolding(crate::specs::Maps::inner_saying_of))]
+fn inner_saying_of(
+    alloc: Global,
+    btf: &Btf,
+    name: &str,
+    member: MapMember,
+    type_id: u32,
+) -> Result<Saying, BtfError>
+    ensures { Gives is_memory result (inner_saying_of btf.now name.now member type_id) }
+{
+    match member {
+        MapMember::Pinning => Err(BtfError::InnerMapCannotBePinned {
+            name: Text::from_str(alloc, name)?,
+        }),
+        MapMember::Values => Err(BtfError::MultiLevelMapInMapNotSupported {
+            name: Text::from_str(alloc, name)?,
+        }),
+        _ => plain_saying(btf, member, type_id),
+    }
+}
+
+/// The same, by the member's name.
+#[tactic(auto, unfolding(crate::specs::Maps::inner_saying))]
+fn inner_saying(
+    alloc: Global,
+    btf: &Btf,
+    name: &str,
+    member: &BtfMember,
+) -> Result<Saying, BtfError>
+    ensures { Gives is_memory result (inner_saying btf.now name.now member.now) }
+{
+    let about = member_at(btf, member)?;
+    inner_saying_of(alloc, btf, name, about, member.btf_type)
+}
+
+/// What members say of an inner map of the map with a name.
+#[tactic(auto, using(crate::proofs::Said::fault_said, crate::proofs::Said::all_said))]
+fn inner_definition(
+    alloc: Global,
+    btf: &Btf,
+    name: &str,
+    members: &[BtfMember],
+) -> Result<BtfMapDef, BtfError>
+    ensures { Gives is_memory result (inner_definition btf.now name.now members.now) }
+{
+    let mut all = MapDefinitions::none();
+    for member in members {
+        all = all.with(inner_saying(alloc, btf, name, member)?);
+    }
+    Ok(all.def)
+}
+
+/// What a member says of the map with a name.
+#[tactic(auto, unfolding(crate::specs::Maps::saying_of))]
+fn saying_of(
+    alloc: Global,
+    btf: &Btf,
+    name: &str,
+    member: MapMember,
+    type_id: u32,
+) -> Result<Saying, BtfError>
+    ensures { Gives is_memory result (saying_of btf.now name.now member type_id) }
+{
+    if member != MapMember::Values {
+        return plain_saying(btf, member, type_id);
+    }
+    let held = held_struct(alloc, btf, name, type_id)?;
+    let inner = inner_definition(alloc, btf, name, held)?;
+    Ok(Saying::Values(inner))
+}
+
+/// The same, by the member's name.
+#[tactic(auto, unfolding(crate::specs::Maps::saying))]
+fn saying(alloc: Global, btf: &Btf, name: &str, member: &BtfMember) -> Result<Saying, BtfError>
+    ensures { Gives is_memory result (saying btf.now name.now member.now) }
+{
+    let about = member_at(btf, member)?;
+    saying_of(alloc, btf, name, about, member.btf_type)
+}
+
+/// What members say of the map with a name.
+#[tactic(auto, using(crate::proofs::Said::fault_said, crate::proofs::Said::all_said))]
+pub fn definitions(
+    alloc: Global,
+    btf: &Btf,
+    name: &str,
+    members: &[BtfMember],
+) -> Result<MapDefinitions, BtfError>
+    ensures { Gives is_memory result (definitions btf.now name.now members.now) }
+{
+    let mut all = MapDefinitions::none();
+    for member in members {
+        all = all.with(saying(alloc, btf, name, member)?);
+    }
+    Ok(all)
+}

@@ -1,0 +1,21 @@
+//! What a member says of a map.
+
+use crate::map_member::MapNumber;
+use ebpf_parts::maps::{BtfMapDef, PinningType};
+
+/// What a member says of a map.
+#[derive(Clone, Copy, Debug, PartialEq, Eq)]
+pub enum Saying {
+    /// A number.
+    Number { of: MapNumber, number: u32 },
+    /// How the map is pinned.
+    Pinning(PinningType),
+    /// The type of a key, and its size in bytes.
+    Key { type_id: u32, size: u32 },
+    /// The type of a value, and its size in bytes.
+    Value { type_id: u32, size: u32 },
+    /// The maps that it holds.
+    Values(BtfMapDef),
+    /// Nothing.
+    Nothing,
+}
