@@ -42,6 +42,7 @@ from rows import (
     maps,
     names,
     order,
+    prepared,
     programs,
     records,
     references,
@@ -57,7 +58,7 @@ from rows.case import write_cases
 CRATES = Path(__file__).parents[1] / "crates"
 
 OBJECTS = [small_object, programs, texts, terms, order, maps, declared_maps, externs, type_faults, records, joined]
-OBJECTS += [mapped, known_externs, resolved, values, names, compiled, references]
+OBJECTS += [mapped, known_externs, resolved, prepared, values, names, compiled, references]
 
 TYPES = [btf_one_int, btf_kinds, btf_added, btf_candidates, btf_fits, btf_ext, btf_ext_faults]
 

@@ -170,7 +170,10 @@ def faults():
 
 
 def cases():
-    joined = [Case(name, data, {"joined slots": expected}) for name, data, expected in joins()]
+    joined = [
+        Case(name, data, {"joined slots": expected, "prepared calls": "maps 0\n" + expected})
+        for name, data, expected in joins()
+    ]
     counts = """
         program p slots 20001
         10000: 85 10 00 00 01 00 00 00

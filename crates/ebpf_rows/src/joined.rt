@@ -51,7 +51,7 @@ fn put_slot_counts(
 }
 
 /// A line for each program, in byte order of their names, and lines for its slots.
-fn put_slots(
+pub fn put_slots(
     alloc: Global,
     text: &mut String,
     object: &Object,

@@ -13,6 +13,7 @@ mod names;
 mod objects;
 mod outcomes;
 mod patched;
+mod prepared;
 mod records;
 mod resolved;
 mod sanitized;

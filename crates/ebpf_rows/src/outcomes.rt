@@ -4,6 +4,7 @@ use crate::changed::{bytes, prefixes};
 use crate::maps::{map_copy, map_info};
 use crate::names::{kind, map_type, pinning, program_type};
 use crate::objects::on_object;
+use crate::prepared::prepared;
 use ebpf_cases::{Action, Files, Outcomes};
 use std::alloc::{AllocError, Global};
 
@@ -27,6 +28,7 @@ impl Outcomes for ObjectOutcomes {
             "map_copy" => map_copy(alloc),
             "prefixes" => prefixes(alloc, files, action),
             "bytes" => bytes(alloc, files, action),
+            "prepared" => prepared(alloc, files, action),
             _ => on_object(alloc, files, files.get("object"), action),
         }
     }

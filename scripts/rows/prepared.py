@@ -1,0 +1,119 @@
+"""Files that are prepared in one call."""
+import struct
+
+from make_call_object import call_object
+from rows.btf import datasec, variable
+from rows.case import Case
+from rows.elf import CALL, CALL32, EXIT, LOAD64, NOTHING, call_by, changed
+from rows.joined import END, call, no_function, slots
+from rows.mapped import LOAD_8, referring
+from rows.resolved import FAR, GLOBAL, LOAD, function_of, with_extern
+from rows.small_object import RELOCATION
+
+# Where a relocation entry has the number of its symbol.
+SYMBOL = 12
+
+
+def prepared(maps, text):
+    return f"maps {maps}\n{text}"
+
+
+def refused(stage, function, error):
+    return f'{stage}(EbpfRelocationError {{ function: Text {{ text: "{function}" }}, error: {error} }})'
+
+
+def chosen():
+    """The small object with none of the passes and with some, and with one change."""
+    plain = slots("p", call(-1), END)
+    other_symbol = changed(call_object(), RELOCATION + SYMBOL, struct.pack("<I", 7))
+    return [
+        Case(
+            "the small object, prepared",
+            call_object(),
+            {
+                "prepared": prepared(0, plain),
+                "prepared calls": prepared(0, slots("p", call(1), END, END)),
+                # a name that the object lacks
+                "prepared maps m=7 calls": prepared(0, slots("p", call(1), END, END)),
+                "prepared types maps known_externs calls": prepared(0, slots("p", call(1), END, END)),
+            },
+        ),
+        # Without a usable relocation the call is of its own function.
+        Case(
+            "the small object with a relocation to no symbol, prepared",
+            other_symbol,
+            {
+                "prepared calls": prepared(0, slots("p", call(1), END, call(-1), END)),
+                "prepared maps calls": refused("Maps", "p", "UnknownSymbol { index: 7 }"),
+            },
+        ),
+        Case("no file, prepared", b"foo", {"prepared calls": "Parse(ElfError(TooShort))"}),
+    ]
+
+
+def descriptors():
+    """Descriptors of the object's own maps, which stay."""
+    file = referring([LOAD_8, NOTHING, LOAD_8, NOTHING, EXIT], [(0, 2, LOAD64), (16, 4, LOAD64)])
+    far = referring([LOAD_8, NOTHING, EXIT], [(0, 5, LOAD64)])
+    value = ("18210000", 7), ("00000000", 24)
+    no_map = 'SectionNotFound { section_index: 7, symbol_index: 5, symbol_name: Some(Text { text: "x" }) }'
+    whole = slots("p", *value, ("18110000", 3), ("00000000", 0), END)
+    return [
+        Case(
+            "descriptors of its own maps, prepared",
+            file,
+            {
+                "prepared maps .data=7 m=3": prepared(3, whole),
+                # names that the object lacks, and a name twice
+                "prepared maps n=9 .data=1 .data=7 m=3 .bss=4 calls": prepared(3, whole),
+                "prepared maps .data=7": refused("Maps", "p", no_map.replace("7,", "6,").replace("5,", "4,").replace('"x"', '"m"')),
+            },
+        ),
+        Case("a section without a map, prepared", far, {"prepared maps .data=7 calls": refused("Maps", "p", no_map)}),
+    ]
+
+
+def externs():
+    """Externs that are resolved, and then written; a stage's fault comes before those of later stages."""
+    types = variable("v", 0), datasec(".ksyms", 1)
+    known = with_extern("v", GLOBAL, *types, slots=[LOAD, NOTHING, EXIT], relocations=[(0, LOAD64)])
+    called = with_extern("v", GLOBAL, *types, slots=[CALL, EXIT], relocations=[(0, CALL32)])
+    astray = with_extern("v", GLOBAL, *types, slots=[call_by(5), EXIT])
+    lines = b"ffffffff81000010 D v\n"
+    return [
+        Case(
+            "the address of a variable, prepared",
+            {"object": known, "kallsyms": lines},
+            {
+                "prepared externs calls": prepared(0, slots("p", ("18010000", FAR - 2**32 * (FAR >> 32) - 2**32), ("00000000", -1), END)),
+                "prepared": prepared(0, slots("p", ("18010000", 0), ("00000000", 0), END)),
+            },
+        ),
+        Case(
+            "a variable without an address, prepared",
+            {"object": known, "kallsyms": b""},
+            {"prepared externs calls": 'Ksyms(VariableNotFound { name: Text { text: "v" } })'},
+        ),
+        Case(
+            "a call of an address, prepared",
+            {"object": called, "kallsyms": lines},
+            {"prepared externs calls": refused("Externs", "p", 'UnresolvableSymbol { name: Text { text: "v" } }')},
+        ),
+        Case(
+            "a function without a kernel's types, prepared",
+            function_of("f", GLOBAL),
+            {"prepared externs": "Ksyms(TypedKsymRequiresKernelBtf)"},
+        ),
+        Case(
+            "a variable without an address and a call of no function, prepared",
+            {"object": astray, "kallsyms": b""},
+            {
+                "prepared externs calls": 'Ksyms(VariableNotFound { name: Text { text: "v" } })',
+                "prepared calls": f"Calls({no_function('p', 'p', 48)})",
+            },
+        ),
+    ]
+
+
+def cases():
+    return chosen() + descriptors() + externs()
