@@ -5,6 +5,7 @@ ghost use Rattle.std.specs.Prelude.{◌≡◌, IfOk};
 use crate::object::Object;
 use ebpf_base::{ByIndex, ByKey, ByName, ByOffset, BySection};
 use ebpf_btf::{Btf, BtfExt};
+use ebpf_parsing::{Parts, Shared};
 use ebpf_parts::Relocation;
 use std::alloc::AllocError;
 
@@ -65,23 +66,52 @@ fn copy_ext(ext: &Option<BtfExt>) -> Result<Option<BtfExt>, AllocError>
     }
 }
 
+/// A copy of what programs and functions carry of their object.
+fn copy_shared(object: &Object) -> Result<Shared, AllocError>
+    ensures { IfOk result (λ copy. copy ≡ record { license = object.now.license; kernel_version = object.now.kernel_version; btf = object.now.btf; btf_ext = object.now.btf_ext }) }
+{
+    Ok(Shared {
+        license: object.license.copied()?,
+        kernel_version: object.kernel_version,
+        btf: copy_btf(&object.btf)?,
+        btf_ext: copy_ext(&object.btf_ext)?,
+    })
+}
+
+/// A copy of what the sections gave.
+fn copy_parts(object: &Object) -> Result<Parts, AllocError>
+    ensures { IfOk result (λ copy. copy ≡ record { maps = object.now.maps; programs = object.now.programs; functions = object.now.functions; relocations = object.now.relocations; section_infos = object.now.section_infos }) }
+{
+    Ok(Parts {
+        maps: copy_names(&object.maps)?,
+        programs: copy_names(&object.programs)?,
+        functions: copy_keys(&object.functions)?,
+        relocations: copy_relocations(&object.relocations)?,
+        section_infos: copy_names(&object.section_infos)?,
+    })
+}
+
 impl Clone for Object {
     ghost is_clone = { λ old copy. copy ≡ old };
 
     fn clone(&self) -> Result<Object, AllocError> {
+        let externs = copy_names(&self.externs)?;
+        let symbol_table = copy_numbers(&self.symbol_table)?;
+        let shared = copy_shared(self)?;
+        let parts = copy_parts(self)?;
         Ok(Object {
             endianness: self.endianness,
-            license: self.license.copied()?,
-            kernel_version: self.kernel_version,
-            btf: copy_btf(&self.btf)?,
-            btf_ext: copy_ext(&self.btf_ext)?,
-            externs: copy_names(&self.externs)?,
-            maps: copy_names(&self.maps)?,
-            programs: copy_names(&self.programs)?,
-            functions: copy_keys(&self.functions)?,
-            symbol_table: copy_numbers(&self.symbol_table)?,
-            relocations: copy_relocations(&self.relocations)?,
-            section_infos: copy_names(&self.section_infos)?,
+            license: shared.license,
+            kernel_version: shared.kernel_version,
+            btf: shared.btf,
+            btf_ext: shared.btf_ext,
+            externs,
+            maps: parts.maps,
+            programs: parts.programs,
+            functions: parts.functions,
+            symbol_table,
+            relocations: parts.relocations,
+            section_infos: parts.section_infos,
         })
     }
 }
