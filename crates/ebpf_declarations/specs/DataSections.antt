@@ -17,13 +17,13 @@ entries_of _ = None
 -- The DATASEC that a search by name meets: one of that name, with its entries, or one whose name can't be read.
 pub data MetSection : Type 0 where
   Named : List DataSecEntry → MetSection
-  Unreadable : BtfError → MetSection
+  UnreadableName : BtfError → MetSection
 
 -- a DATASEC with these entries, by whether its name is the wanted one
 abbrev pub met_if : List DataSecEntry → Result Bool BtfError → Option MetSection
 met_if entries (Ok true) = Some (Named entries)
 met_if entries (Ok false) = None
-met_if entries (Err e) = Some (Unreadable e)
+met_if entries (Err e) = Some (UnreadableName e)
 
 -- what the search meets at a type
 unfoldable pub met_section : TypeInfo → List ℕ → BtfType → Option MetSection
@@ -35,5 +35,5 @@ entries_in (Some (Named entries)) = entries
 entries_in _ = []
 
 abbrev pub section_fault : Option MetSection → Option BtfError
-section_fault (Some (Unreadable e)) = Some e
+section_fault (Some (UnreadableName e)) = Some e
 section_fault _ = None

@@ -18,7 +18,7 @@ use Rattle.ebpf_declarations.specs.Attempts.{given}
 use Rattle.ebpf_declarations.specs.DataSections.{MetSection, met_section, entries_in, section_fault}
 use Rattle.ebpf_declarations.specs.Placeholders.{with_placeholder, placeholder_fault}
 use Rattle.ebpf_declarations.specs.declared.externs.MetEntry.{MetEntry}
-use Rattle.ebpf_declarations.specs.declared.externs.MetEntry.TheVariants.{Function, Unreadable}
+use Rattle.ebpf_declarations.specs.declared.externs.MetEntry.TheVariants.{Function, UnreadableType}
 use Rattle.ebpf_reloc.specs.declared.extern_desc.ExternDesc.{ExternDesc}
 
 -- ---- one extern
@@ -66,7 +66,7 @@ found_entries info = first_some (met_section info (codes ".ksyms")) info.types
 -- what a search for a function meets at an entry: one, or a type that can't be read
 abbrev pub met_by : Result BtfType BtfError → Option MetEntry
 met_by (Ok t) = if is_function t then Some Function else None
-met_by (Err e) = Some (Unreadable e)
+met_by (Err e) = Some (UnreadableType e)
 
 unfoldable pub met_entry : TypeInfo → DataSecEntry → Option MetEntry
 met_entry info entry = met_by (type_at info.types entry.btf_type)
@@ -81,7 +81,7 @@ types_with info _ = info
 
 unfoldable pub types_fault : TypeInfo → Option MetEntry → Option BtfError
 types_fault info None = None
-types_fault info (Some (Unreadable e)) = Some e
+types_fault info (Some (UnreadableType e)) = Some e
 types_fault info (Some Function) = placeholder_fault info
 
 -- the externs that entries declare, by name; of equal names the later stands

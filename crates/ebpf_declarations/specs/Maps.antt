@@ -13,7 +13,7 @@ use Rattle.ebpf_btf.specs.declared.members.DataSecEntry.{DataSecEntry}
 use Rattle.ebpf_btf.specs.declared.types.BtfType.{BtfType}
 use Rattle.ebpf_btf.specs.declared.types.BtfType.TheVariants.{Var}
 use Rattle.ebpf_declarations.specs.Attempts.{given, all_given}
-use Rattle.ebpf_declarations.specs.DataSections.{MetSection, Named, Unreadable, met_section}
+use Rattle.ebpf_declarations.specs.DataSections.{MetSection, Named, UnreadableName, met_section}
 use Rattle.ebpf_declarations.specs.MapMembers.{unexpected, number, sized_type, resolved_struct, held_struct, member_at}
 use Rattle.ebpf_declarations.specs.Sayings.{no_definitions, with_all}
 use Rattle.ebpf_declarations.specs.declared.map_member.MapMember.{MapMember}
@@ -114,7 +114,7 @@ maps_by info symbols section _ = []
 
 abbrev pub fault_by : TypeInfo → (List ℕ → Option ℕ) → ℕ → Option MetSection → Option ParseError
 fault_by info symbols section None = None
-fault_by info symbols section (Some (Unreadable e)) = Some (errors.BtfError e)
+fault_by info symbols section (Some (UnreadableName e)) = Some (errors.BtfError e)
 fault_by info symbols section (Some (Named entries)) = entries_fault info symbols section entries
 
 -- those of one type, where it is a DATASEC of the section's name

@@ -13,16 +13,16 @@ use Rattle.ebpf_parts.specs.declared.maps.pinning.PinningType.TheVariants as pin
 
 -- ---- what one member says
 
-abbrev pub place_of : MapNumber → ℕ
-place_of MapType = 0
-place_of KeySize = 1
-place_of ValueSize = 2
-place_of MaxEntries = 3
-place_of MapFlags = 4
-place_of MapExtra = 5
+abbrev pub number_place : MapNumber → ℕ
+number_place MapType = 0
+number_place KeySize = 1
+number_place ValueSize = 2
+number_place MaxEntries = 3
+number_place MapFlags = 4
+number_place MapExtra = 5
 
 abbrev pub same_number : MapNumber → MapNumber → Bool
-same_number a b = place_of a == place_of b
+same_number a b = number_place a == number_place b
 
 -- a number: its own, the size of a key or value of a type, 4 for a value that is a map
 abbrev pub number_said : MapNumber → Saying → Option ℕ

@@ -3,7 +3,7 @@
 ghost use Rattle.std.specs.Prelude.{◌≡◌, IfOk, IfErr, Some, option_map};
 ghost use Rattle.std.specs.Option.{option_copied};
 ghost use Rattle.ebpf_base.specs.Faults.{first_some};
-ghost use Rattle.ebpf_declarations.specs.DataSections.{Named, Unreadable, entries_of, met_section};
+ghost use Rattle.ebpf_declarations.specs.DataSections.{Named, UnreadableName, entries_of, met_section};
 
 use ebpf_btf::{Btf, BtfError, BtfType, DataSecEntry};
 
@@ -26,7 +26,7 @@ pub fn section_entries<'a>(
     ty: &'a BtfType,
 ) -> Result<Option<&'a [DataSecEntry]>, BtfError>
     ensures found { IfOk result (λ found. met_section btf.now wanted.now ty.now ≡ option_map Named (option_copied found)) }
-    ensures fault { IfErr result (λ e. met_section btf.now wanted.now ty.now ≡ Some (Unreadable e)) }
+    ensures fault { IfErr result (λ e. met_section btf.now wanted.now ty.now ≡ Some (UnreadableName e)) }
 {
     let Some(entries) = entries_of(ty) else {
         return Ok(None);
@@ -41,7 +41,7 @@ pub fn section_entries<'a>(
 #[tactic(auto, using(ebpf_parts::proofs::Walks::rest_more, ebpf_parts::proofs::Walks::rest_none))]
 pub fn first_entries<'a>(btf: &'a Btf, wanted: &str) -> Result<Option<&'a [DataSecEntry]>, BtfError>
     ensures found { IfOk result (λ found. first_some (met_section btf.now wanted.now) btf.now.types ≡ option_map Named (option_copied found)) }
-    ensures fault { IfErr result (λ e. first_some (met_section btf.now wanted.now) btf.now.types ≡ Some (Unreadable e)) }
+    ensures fault { IfErr result (λ e. first_some (met_section btf.now wanted.now) btf.now.types ≡ Some (UnreadableName e)) }
 {
     for ty in btf.types() {
         if let Some(entries) = section_entries(btf, wanted, ty)? {

@@ -41,7 +41,7 @@ pub enum MetEntry {
     /// A function.
     Function,
     /// An entry whose type can't be read.
-    Unreadable(BtfError),
+    UnreadableType(BtfError),
 }
 
 /// What it meets at an entry.
@@ -52,7 +52,7 @@ fn met_entry(btf: &Btf, entry: &DataSecEntry) -> Option<MetEntry>
     match btf.type_by_id(entry.btf_type) {
         Ok(ty) if is_function(ty) => Some(MetEntry::Function),
         Ok(_) => None,
-        Err(error) => Some(MetEntry::Unreadable(error)),
+        Err(error) => Some(MetEntry::UnreadableType(error)),
     }
 }
 
@@ -79,7 +79,7 @@ fn prepare_types(btf: &mut Btf, entries: &[DataSecEntry]) -> Result<(), BtfError
     match first_met(btf, entries) {
         None => Ok(()),
         Some(MetEntry::Function) => add_placeholder(btf),
-        Some(MetEntry::Unreadable(error)) => Err(error),
+        Some(MetEntry::UnreadableType(error)) => Err(error),
     }
 }
 
