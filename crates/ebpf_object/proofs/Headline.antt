@@ -1,8 +1,7 @@
 -- What a prepared file is, from what its stages leave.
 use Rattle.std.proofs.Common.{◌≡◌, ℕ, ◌+◌, Bool, true, false, cond, ◌||◌, List, [], ◌∷◌, map, Option, Some, None, refl, sym, ap, ◌∙◌, subst}
-use Rattle.std.proofs.Math.Option.{some-injective}
 use Rattle.std.proofs.lemmas.Option.{none-some}
-use Rattle.std.specs.Prelude.{MatchBool, Ok, option_map, slice_get}
+use Rattle.std.specs.Prelude.{MatchBool, Ok, option_map, slice_get, unwrap_or}
 use Rattle.std.specs.Cmp.{eq_by_cmp_equiv}
 use Rattle.std.specs.FinMap.{FinMap, get, entries, find, get-entries}
 use Rattle.std.specs.List.{list_any}
@@ -40,26 +39,39 @@ module _ (program : Program) where
   abbrev key_among : List (List ℕ × Program) → Bool
   key_among es = list_any (λ (p : ProgramValue). eq_by_cmp key_cmp (key_of program) (linking.key_of p)) (map (λ e. with_name e.0 e.1) es)
 
+  or_true : (c more : Bool) → more ≡ true → (c || more) ≡ true
+  or_true true more is = refl
+  or_true false more is = is
+
   any_by : (b c more : Bool) → (b ≡ true → c ≡ true) → (b ≡ false → more ≡ true) → (c || more) ≡ true
-  any_by true true more here later = refl
-  any_by true false more here later = here refl
-  any_by false true more here later = refl
-  any_by false false more here later = later refl
+  any_by true c more here later = ap (λ (x : Bool). x || more) (here refl)
+  any_by false c more here later = or_true c more (later refl)
+
+  first_found : (b : Bool) (first : Program) (rest : Option Program) → b ≡ true → cond b (Some first) rest ≡ Some program → program ≡ first
+  first_found true first rest same is = sym (ap (λ (o : Option Program). unwrap_or o first) is)
+  first_found false first rest same is = cc
+
+  later_found : (b : Bool) (first : Program) (rest : Option Program) → b ≡ false → cond b (Some first) rest ≡ Some program → rest ≡ Some program
+  later_found true first rest other is = cc
+  later_found false first rest other is = is
+
+  same_key : (other : Program) → program ≡ other → eq_by_cmp key_cmp (key_of program) (key_of other) ≡ true
+  same_key other is = ap (λ (p : Program). eq_by_cmp key_cmp (key_of program) (key_of p)) (sym is) ∙ (eq_by_cmp_equiv key_total).refl (key_of program)
 
   found_among : (es : List (List ℕ × Program)) (name : List ℕ) → find text_cmp name es ≡ Some program → key_among es ≡ true
   found_among [] name is = absurd (none-some program is)
   found_among (e ∷ es) name is =
       any_by (eq_by_cmp text_cmp name e.0) (eq_by_cmp key_cmp (key_of program) (key_of e.1)) (key_among es)
-      (λ same. ap (λ p. eq_by_cmp key_cmp (key_of program) (key_of p)) (some-injective e.1 program (sym (ap (λ b. cond b (Some e.1) (find text_cmp name es)) same) ∙ is)) ∙ (eq_by_cmp_equiv key_total).refl (key_of program))
-      (λ other. found_among es name (sym (ap (λ b. cond b (Some e.1) (find text_cmp name es)) other) ∙ is))
+      (λ same. same_key e.1 (first_found (eq_by_cmp text_cmp name e.0) e.1 (find text_cmp name es) same is))
+      (λ other. found_among es name (later_found (eq_by_cmp text_cmp name e.0) e.1 (find text_cmp name es) other is))
 
   program_key : (programs : FinMap text_cmp Program) (name : List ℕ) → get programs name ≡ Some program → is_program_key (programs_in_order programs) (key_of program) ≡ true
   program_key programs name is = found_among (entries programs) name (sym (get-entries programs name) ∙ is)
 
 -- what joining says of the key of a program
-joined_at : (b : Bool) {A B : Type 0} → b ≡ true → MatchBool b A B → A
-joined_at true is joined = joined
-joined_at false is joined = cc
+joined_at : (b : Bool) (A B : Type 0) → b ≡ true → MatchBool b A B → A
+joined_at true A B is joined = joined
+joined_at false A B is joined = cc
 
 joins_calls : (calls : Bool) (d o : Object) → calls ≡ true → Joins calls d o → Joins true d o
 joins_calls true d o is joins = joins
@@ -78,7 +90,7 @@ whole d key linked is =
 whole_programs : (d o : Object) → Joins true d o → ProgramsAreWhole d o
 whole_programs d o joins name program is =
     let same : get d.programs name ≡ Some program = sym (ap (λ (x : Object). get x.programs name) joins.1) ∙ is in
-    let g = joined_at (is_program_key (programs_in_order d.programs) (key_of program)) (program_key program d.programs name same) (joins.0 (key_of program)) in
+    let g = joined_at (is_program_key (programs_in_order d.programs) (key_of program)) _ _ (program_key program d.programs name same) (joins.0 (key_of program)) in
     (g.0, g.1, whole d (key_of program) g.0 g.2)
 
 -- ---- types
