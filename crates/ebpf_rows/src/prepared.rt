@@ -14,10 +14,7 @@ fn descriptor(word: &str) -> Option<(&str, i32)> {
 }
 
 /// The descriptors that words give, in their order.
-fn descriptors<'a>(
-    alloc: Global,
-    words: &[&'a str],
-) -> Result<Vec<(&'a str, i32)>, AllocError> {
+fn descriptors<'a>(alloc: Global, words: &[&'a str]) -> Result<Vec<(&'a str, i32)>, AllocError> {
     let mut given = Vec::new(alloc);
     for word in words {
         let Some(named) = descriptor(word) else {
