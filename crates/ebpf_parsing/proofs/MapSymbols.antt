@@ -11,9 +11,8 @@ use Rattle.ebpf_base.proofs.TextMaps.{text_exact}
 use Rattle.ebpf_btf.specs.Next.{if_some}
 use Rattle.ebpf_btf.specs.TypeInfo.{TypeInfo}
 use Rattle.ebpf_btf.specs.declared.error.BtfError.{BtfError}
-use Rattle.ebpf_btf.specs.declared.members.DataSecEntry.{DataSecEntry}
 use Rattle.ebpf_declarations.specs.Attempts.{given}
-use Rattle.ebpf_declarations.specs.DataSections.{section_entries}
+use Rattle.ebpf_declarations.specs.DataSections.{MetSection, Named, UnreadableName, met_section}
 use Rattle.ebpf_declarations.specs.Maps.{declared, map_at, map_of, type_maps, placed, maps_by as maps_of_entries}
 use Rattle.ebpf_declarations.specs.declared.definitions.MapDefinitions.{MapDefinitions}
 use Rattle.ebpf_elf.specs.SymbolTable.{symbol_table as table_of}
@@ -129,11 +128,11 @@ module _ (bytes : List ℕ) where
     by_declared (Err x) = tt
     by_declared (Ok d) = by_number d (numbers d.0) refl
 
-    by_entries : (info : TypeInfo) (o : Option (Result (List DataSecEntry) BtfError)) → ArePlaced (maps_of_entries info numbers section o)
+    by_entries : (info : TypeInfo) (o : Option MetSection) → ArePlaced (maps_of_entries info numbers section o)
     unfolding map_of
     by_entries info None = tt
-    by_entries info (Some (Err x)) = tt
-    by_entries info (Some (Ok entries)) =
+    by_entries info (Some (UnreadableName x)) = tt
+    by_entries info (Some (Named entries)) =
         all_flat_map (λ e. IsPlaced e.0 e.1) (λ entry. given (map_of info numbers section entry)) entries (λ i entry here. by_declared (declared info entry))
 
   numbers_known : (section : ℕ) (ys : List SymbolValue) → AllByRecursion (λ y. IsSymbolIn bytes y.index y.name section) ys → AllByRecursion (λ e. IsSymbolIn bytes e.1 e.0 section) (map numbered ys)
@@ -147,7 +146,7 @@ module _ (bytes : List ℕ) where
       let numbers : List ℕ → Option ℕ = get (numbers_by_name ys) in
       let symbols = λ (name : List ℕ) (i : ℕ) (e : numbers name ≡ Some i). stands text_cmp text_exact (λ n k. IsSymbolIn bytes k n s.index.0) name later_text_stands (map numbered ys) (numbers_known s.index.0 ys all) i e in
       all_flat_map (λ e. IsPlaced e.0 e.1) (type_maps info numbers s.index.0 s.name) info.types
-      (λ i t here. by_entries s.index.0 numbers symbols info (section_entries info s.name t))
+      (λ i t here. by_entries s.index.0 numbers symbols info (met_section info s.name t))
 
   -- of data
   no_symbol : (s : SectionValue) (k : ℕ) → symbol_index_of (data_map s) ≡ Some k → IsSymbolIn bytes k s.name (section_index_of (data_map s))
