@@ -2,8 +2,9 @@
 import struct
 
 from make_call_object import call_object
-from rows.btf import datasec, variable
+from rows.btf import btf, datasec, struct_of, variable
 from rows.case import Case
+from rows.core_sides import INT_4, OFFSET, S, one_of
 from rows.elf import CALL, CALL32, EXIT, LOAD64, NOTHING, call_by, changed
 from rows.joined import END, call, no_function, slots
 from rows.mapped import LOAD_8, referring
@@ -20,6 +21,11 @@ def prepared(maps, text):
 
 def refused(stage, function, error):
     return f'{stage}(EbpfRelocationError {{ function: Text {{ text: "{function}" }}, error: {error} }})'
+
+
+def no_map(section, symbol, name):
+    said = f'section_index: {section}, symbol_index: {symbol}, symbol_name: Some(Text {{ text: "{name}" }})'
+    return refused("Maps", "p", f"SectionNotFound {{ {said} }}")
 
 
 def chosen():
@@ -56,7 +62,6 @@ def descriptors():
     file = referring([LOAD_8, NOTHING, LOAD_8, NOTHING, EXIT], [(0, 2, LOAD64), (16, 4, LOAD64)])
     far = referring([LOAD_8, NOTHING, EXIT], [(0, 5, LOAD64)])
     value = ("18210000", 7), ("00000000", 24)
-    no_map = 'SectionNotFound { section_index: 7, symbol_index: 5, symbol_name: Some(Text { text: "x" }) }'
     whole = slots("p", *value, ("18110000", 3), ("00000000", 0), END)
     return [
         Case(
@@ -66,10 +71,10 @@ def descriptors():
                 "prepared maps .data=7 m=3": prepared(3, whole),
                 # names that the object lacks, and a name twice
                 "prepared maps n=9 .data=1 .data=7 m=3 .bss=4 calls": prepared(3, whole),
-                "prepared maps .data=7": refused("Maps", "p", no_map.replace("7,", "6,").replace("5,", "4,").replace('"x"', '"m"')),
+                "prepared maps .data=7": no_map(6, 4, "m"),
             },
         ),
-        Case("a section without a map, prepared", far, {"prepared maps .data=7 calls": refused("Maps", "p", no_map)}),
+        Case("a section without a map, prepared", far, {"prepared maps .data=7 calls": no_map(7, 5, "x")}),
     ]
 
 
@@ -85,7 +90,7 @@ def externs():
             "the address of a variable, prepared",
             {"object": known, "kallsyms": lines},
             {
-                "prepared externs calls": prepared(0, slots("p", ("18010000", FAR - 2**32 * (FAR >> 32) - 2**32), ("00000000", -1), END)),
+                "prepared externs calls": prepared(0, slots("p", ("18010000", FAR % 2**32 - 2**32), ("00000000", -1), END)),
                 "prepared": prepared(0, slots("p", ("18010000", 0), ("00000000", 0), END)),
             },
         ),
@@ -115,5 +120,29 @@ def externs():
     ]
 
 
+def types():
+    """Functions that are adapted to a kernel's types, before all other passes."""
+    kernel = btf(INT_4, struct_of("s", 12, ("a", 1, 0), ("x", 1, 32), ("b", 1, 64)))
+    no_path = (
+        'Types(BtfRelocationError { section: Text { text: "kprobe/p" }, error: InvalidAccessString'
+        ' { access_str: Text { text: "x" } } })'
+    )
+    return [
+        Case(
+            "a place in a kernel's type, prepared",
+            {"object": one_of(S, OFFSET, 2, "0:1"), "types": kernel},
+            {
+                "prepared types calls": prepared(0, slots("p", ("b7010000", 8))),
+                "prepared calls": prepared(0, slots("p", ("b7010000", 0))),
+            },
+        ),
+        Case(
+            "no access string, prepared",
+            {"object": one_of(S, OFFSET, 2, "x"), "types": kernel},
+            {"prepared types maps externs calls": no_path, "prepared calls": prepared(0, slots("p", ("b7010000", 0)))},
+        ),
+    ]
+
+
 def cases():
-    return chosen() + descriptors() + externs()
+    return chosen() + types() + descriptors() + externs()
