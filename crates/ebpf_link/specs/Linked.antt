@@ -1,6 +1,7 @@
 -- What the program does with a file: which types of a kernel it has, and what it chooses of the passes.
-use Rattle.std.specs.Prelude.{◌≡◌, ⊤, ℕ, suc, ◌+◌, ◌-◌, ◌^◌, pos, min, true, List, [], ◌∷◌, Option, Some, None, Result, Ok, Err, IsSome, MatchOption}
+use Rattle.std.specs.Prelude.{◌≡◌, ⊤, ℕ, ℤ, pos, ◌+ℤ◌, true, List, [], ◌∷◌, Option, Some, None, Result, Ok, Err, IsSome, MatchOption}
 use Rattle.std.specs.FinMap.{FinMap, get, entries}
+use Rattle.std.specs.Int.{w32, saturate_signed}
 use Rattle.std.specs.Map.{keys_of}
 use Rattle.ebpf_base.specs.Keys.{text_cmp}
 use Rattle.ebpf_btf.specs.Reading.{type_info_of}
@@ -22,16 +23,20 @@ abbrev pub kernel_types : Option (List ℕ) → Result (Option TypeInfo) BtfErro
 kernel_types None = Ok None
 kernel_types (Some bytes) = read_as_types (type_info_of Little bytes)
 
--- names with descriptors from a number on, none greater than 32 signed bits hold
-abbrev pub numbered : ℕ → List (List ℕ) → List Descriptor
+-- the number behind one, or the greatest that 32 signed bits hold
+abbrev pub following : ℤ → ℤ
+following n = saturate_signed w32 (n +ℤ pos 1)
+
+-- names with descriptors, from the number behind one on
+abbrev pub numbered : ℤ → List (List ℕ) → List Descriptor
 numbered n [] = []
-numbered n (name ∷ names) = (name, pos (min n (2 ^ 31 - 1))) ∷ numbered (suc n) names
+numbered n (name ∷ names) = (name, following n) ∷ numbered (following n) names
 
 -- All passes, types where the kernel's are known; maps have the descriptors 1, 2, .. in byte order of their names.
 abbrev pub asked : Option TypeInfo → FinMap text_cmp Map → Chosen
 asked types maps = record {
   target = types;
-  descriptors = Some (numbered 1 (keys_of (entries maps)));
+  descriptors = Some (numbered (pos 0) (keys_of (entries maps)));
   kernel = Some types;
   calls = true;
 }

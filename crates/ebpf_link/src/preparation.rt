@@ -1,9 +1,10 @@
 //! A file, prepared with all passes.
 
-ghost use Rattle.std.specs.Prelude.{◌≡◌, map, Ok, IfOk};
+ghost use Rattle.std.specs.Prelude.{◌≡◌, map, pos, Ok, IfOk};
 ghost use Rattle.std.specs.FinMap.{entries};
 ghost use Rattle.std.specs.Map.{keys_of};
 ghost use Rattle.std.specs.Option.{option_copied};
+ghost use Rattle.ebpf_base.specs.Keys.{lent_bytes};
 ghost use Rattle.ebpf_object.specs.Objects.{object_of};
 ghost use Rattle.ebpf_object.specs.Prepared.{IsPrepared};
 ghost use Rattle.ebpf_object.specs.Steps.{descriptor_of};
@@ -18,17 +19,26 @@ use ebpf_object::prepare::{Steps, prepare};
 use std::alloc::{AllocError, Global};
 use std::io::BufRead;
 
-/// The names of maps with descriptors, 1 and on in byte order.
-fn numbered<'a>(alloc: Global, maps: &'a ByName<Map>) -> Result<Vec<(&'a str, i32)>, AllocError>
-    ensures { IfOk result (λ named. map descriptor_of named.items ≡ numbered 1 (keys_of (entries maps.now))) }
+/// Names with descriptors, 1 and on.
+#[tactic(auto, using(crate::proofs::Numbered::one_numbered, ebpf_parts::proofs::Walks::rest_none))]
+fn numbered_names<'a>(alloc: Global, names: &[&'a str]) -> Result<Vec<(&'a str, i32)>, AllocError>
+    ensures { IfOk result (λ named. map descriptor_of named.items ≡ numbered (pos 0) (lent_bytes names.now)) }
 {
-    let mut numbered = Vec::with_capacity(alloc, maps.len())?;
+    let mut numbered = Vec::with_capacity(alloc, names.len())?;
     let mut descriptor: i32 = 0;
-    for name in maps.names(alloc)? {
+    for name in names {
         descriptor = descriptor.saturating_add(1);
-        numbered.push((name, descriptor))?;
+        numbered.push((*name, descriptor))?;
     }
     Ok(numbered)
+}
+
+/// The names of maps with descriptors, 1 and on in byte order.
+fn numbered<'a>(alloc: Global, maps: &'a ByName<Map>) -> Result<Vec<(&'a str, i32)>, AllocError>
+    ensures { IfOk result (λ named. map descriptor_of named.items ≡ numbered (pos 0) (keys_of (entries maps.now))) }
+{
+    let names = maps.names(alloc)?;
+    numbered_names(alloc, &names)
 }
 
 /// The kernel's types, where bytes of them are given.
