@@ -39,7 +39,7 @@ some_to name o d h = ap (some_map name) h
 module _ {M D K E : Type 0} (G : Functions M D) (F : Functions K E) (IsNumber : M → Type 0) (key : M → K) (name : D → E) (num : Numbers G F IsNumber key name) where
   -- references as they stand, and where a program is linked
 
-  references_same : SameReferences G.reference F.reference IsNumber key name
+  pub references_same : SameReferences G.reference F.reference IsNumber key name
   references_same = record { reference = num.reference; closed = num.closed; apart = num.apart }
 
   content_to : (m : M) → IsNumber m → content_at F (key m) ≡ content_at G m
@@ -70,7 +70,7 @@ module _ {M D K E : Type 0} (G : Functions M D) (F : Functions K E) (IsNumber : 
   checked_names p (Faulty d) m e = cc
   checked_names p (Names k) m e = named_if (agree G p k) (G.mismatch k) k m e
 
-  linking_same : (p : M) → IsNumber p → SameReferences (linking G p) (linking F (key p)) IsNumber key name
+  pub linking_same : (p : M) → IsNumber p → SameReferences (linking G p) (linking F (key p)) IsNumber key name
   linking_same p is =
       record {
         reference = λ m i im. ap (checked F (key p)) (num.reference m i im) ∙ checked_to p (G.reference m i) is (λ k e. num.closed m k i im e);
@@ -80,7 +80,7 @@ module _ {M D K E : Type 0} (G : Functions M D) (F : Functions K E) (IsNumber : 
 
   -- sizes and places
 
-  body_to : (m : M) → IsNumber m → body F (key m) ≡ body G m
+  pub body_to : (m : M) → IsNumber m → body F (key m) ≡ body G m
   body_to m is = ap (λ (c : Content). c.slots) (content_to m is)
 
   total_to : (ms : List M) → AllNumbers IsNumber ms → total F (map key ms) ≡ total G ms
@@ -170,7 +170,7 @@ module _ {M D K E : Type 0} (G : Functions M D) (F : Functions K E) (IsNumber : 
           }),
         )
 
-    faultless_to : Faultless G R p → Faultless F S (key p)
+    pub faultless_to : Faultless G R p → Faultless F S (key p)
     faultless_to h path x e s = let (d, t) = stands_from path x e s in h path x d t
 
     least_to : (d : D) → LeastFault G R p d → LeastFault F S (key p) (name d)
@@ -183,12 +183,12 @@ module _ {M D K E : Type 0} (G : Functions M D) (F : Functions K E) (IsNumber : 
 
   -- the linked program
 
-  begins_to : (ms : List M) (m : M) (b : ℕ) → AllNumbers IsNumber ms → BeginsAt G ms m b → BeginsAt F (map key ms) (key m) b
+  pub begins_to : (ms : List M) (m : M) (b : ℕ) → AllNumbers IsNumber ms → BeginsAt G ms m b → BeginsAt F (map key ms) (key m) b
   begins_to [] m b all h = absurd h
   begins_to (n ∷ ms) m b all (inl h) = inl (ap key h.0, h.1)
   begins_to (n ∷ ms) m b all (inr (c, e, h)) = inr (c, e ∙ ap (λ (s : List bpf_insn). length s + c) (sym (body_to n all.0)), begins_to ms m c all.1 h)
 
-  begins_from : (ms : List M) (k : K) (b : ℕ) → AllNumbers IsNumber ms → BeginsAt F (map key ms) k b → (m : M) × IsNumber m × (key m ≡ k) × BeginsAt G ms m b
+  pub begins_from : (ms : List M) (k : K) (b : ℕ) → AllNumbers IsNumber ms → BeginsAt F (map key ms) k b → (m : M) × IsNumber m × (key m ≡ k) × BeginsAt G ms m b
   begins_from [] k b all h = absurd h
   begins_from (n ∷ ms) k b all (inl h) = (n, all.0, h.0, inl (refl, h.1))
   begins_from (n ∷ ms) k b all (inr (c, e, h)) =

@@ -21,4 +21,9 @@ pub mod Seen
 pub mod Soundly
 pub mod Renamed
 pub mod Carry
+pub mod MapWalks
+pub mod Mapping
+pub mod CarryMap
+pub mod OneMap
+pub mod Written
 mod Rows

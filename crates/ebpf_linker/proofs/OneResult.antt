@@ -1,5 +1,5 @@
 -- Linking has one result: the order, the slots and the records of a linked program, and the least fault.
-use Rattle.std.proofs.Common.{◌≡◌, ℕ, zero, suc, ◌+◌, ◌-◌, ◌<◌, ◌≤◌, ◌⊎◌, List, [], ◌∷◌, ◌++◌, length, Option, Some, None, Ok, Err, Result, refl, sym, ap, ◌∙◌, subst, inl, inr, ⊎_elim, arith}
+use Rattle.std.proofs.Common.{◌≡◌, ℕ, suc, ◌+◌, ◌-◌, ◌<◌, ◌≤◌, List, [], ◌∷◌, ◌++◌, length, Option, Some, refl, sym, ap, ◌∙◌, subst, inl, inr, ⊎_elim, arith}
 use Rattle.std.specs.Prelude.{slice_get, pos, ◌-ℤ◌}
 use Rattle.std.proofs.lemmas.Bool.{cases_lt}
 use Rattle.std.proofs.lemmas.Option.{slice_get_cases}
@@ -7,11 +7,11 @@ use Rattle.ebpf_parts.specs.declared.insn.bpf_insn.{bpf_insn}
 use Rattle.ebpf_linker.specs.declared.body.LinkedProgram.{LinkedProgram}
 use Rattle.ebpf_linker.specs.Slots.{relinked}
 use Rattle.ebpf_linker.specs.Functions.{Reference, Nothing, Faulty, Names, References, Functions, body, Among, Distinct, BeginsAt, Becomes, Linked, Walk, last_of, total}
-use Rattle.ebpf_linker.specs.Order.{Before, KeyPath, HasFault, InOrder}
-use Rattle.ebpf_linker.specs.Faults.{CopyFault, StandsAt, LeastFault, append_fault, linking}
-use Rattle.ebpf_linker.specs.Records.{linked_func_info, linked_line_info, has_lines, count_if}
+use Rattle.ebpf_linker.specs.Order.{Before, HasFault, InOrder}
+use Rattle.ebpf_linker.specs.Faults.{StandsAt, LeastFault, append_fault, linking}
+use Rattle.ebpf_linker.specs.Records.{has_lines, count_if}
 use Rattle.ebpf_linker.specs.Faults.{has_some}
-use Rattle.ebpf_linker.specs.Result.{IsProgram, IsLinking}
+use Rattle.ebpf_linker.specs.Result.{IsProgram}
 use Rattle.ebpf_linker.proofs.Bases.{one_base}
 use Rattle.ebpf_linker.proofs.Paths.{before_cases, before_trans, last_same, walk_same, walk_parts}
 use Rattle.ebpf_linker.proofs.Visits.{begins_among}
@@ -93,7 +93,7 @@ module _ {K E : Type 0} (F : Functions K E) where
       record { key = rest.key; base = length (body F k) + rest.base; slot = rest.slot; begins = inr (rest.base, refl, rest.begins); within = rest.within; is = omega (arith, rest.is) })
       (cases_lt x (length (body F k)))
 
-  one_begin : (ks : List K) (k : K) (b c : ℕ) → Distinct ks → BeginsAt F ks k b → BeginsAt F ks k c → b ≡ c
+  pub one_begin : (ks : List K) (k : K) (b c : ℕ) → Distinct ks → BeginsAt F ks k b → BeginsAt F ks k c → b ≡ c
   one_begin [] k b c once h g = absurd h
   one_begin (m ∷ ks) k b c once (inl h) (inl g) = h.1 ∙ sym g.1
   one_begin (m ∷ ks) k b c once (inl h) (inr g) = absurd (once.0 (subst (λ (r : K). Among ks r) (sym h.0) (begins_among F ks k g.0 g.2)))

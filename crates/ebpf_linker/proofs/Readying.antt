@@ -102,12 +102,12 @@ module _ (B : List Body) (C : List (Vec Call Global)) (p : ℕ) where
         short = short ks sound found;
       }
 
-  all_in : (ks : List ℕ) (k : ℕ) → All (λ m. m < length B) ks → Among ks k → k < length B
+  pub all_in : (ks : List ℕ) (k : ℕ) → All (λ m. m < length B) ks → Among ks k → k < length B
   all_in [] k h a = absurd a
   all_in (m ∷ ks) k h (inl e) = subst (λ (u : ℕ). u < length B) e (All-get_or (λ (u : ℕ). u < length B) (m ∷ ks) 0 0 (omega arith) h)
   all_in (m ∷ ks) k h (inr a) = all_in ks k (λ i d lt. h (suc i) d (omega arith)) a
 
-  content_some : (k : ℕ) → k < length B → (c : Content) × ((functions B C).content k ≡ Some c)
+  pub content_some : (k : ℕ) → k < length B → (c : Content) × ((functions B C).content k ≡ Some c)
   content_some k lt = let (b, at) = get_body B k lt in (_, ap option_content at)
 
   -- the program that was written

@@ -14,12 +14,12 @@ use Rattle.ebpf_linker.specs.Answer.{IsOrder}
 use Rattle.ebpf_linker.specs.Image.{became, body_at, copied, laid, placed, size_of}
 use Rattle.ebpf_linker.proofs.Visits.{begins_among}
 
-get_left : {X : Type 0} (xs ys : List X) (i : ℕ) (x : X) → slice_get xs i ≡ Some x → slice_get (xs ++ ys) i ≡ Some x
+pub get_left : {X : Type 0} (xs ys : List X) (i : ℕ) (x : X) → slice_get xs i ≡ Some x → slice_get (xs ++ ys) i ≡ Some x
 get_left [] ys i x e = cc
 get_left (y ∷ xs) ys zero x e = e
 get_left (y ∷ xs) ys (suc i) x e = get_left xs ys i x e
 
-get_right : {X : Type 0} (xs ys : List X) (n i : ℕ) → n ≡ length xs + i → slice_get (xs ++ ys) n ≡ slice_get ys i
+pub get_right : {X : Type 0} (xs ys : List X) (n i : ℕ) → n ≡ length xs + i → slice_get (xs ++ ys) n ≡ slice_get ys i
 get_right [] ys n i e = let z : n ≡ i = omega arith in ap (slice_get ys) z
 get_right (y ∷ xs) ys zero i e = absurd (omega arith)
 get_right (y ∷ xs) ys (suc n) i e = get_right xs ys n i (omega arith)
@@ -66,7 +66,7 @@ module _ (B : List Body) (C : List (Vec Call Global)) where
       let ne : k ≢ m = λ (e : k ≡ m). apart (inl (sym e)) in
       placed_other (end + length (body_at B m)) (slice_set bases m end) ks k (λ a. apart (inr a)) ∙ get_or-set_other bases m k end 0 ne
 
-  placed_at : (end : ℕ) (bases ks : List ℕ) (k : ℕ) → Distinct ks → ((m : ℕ) → Among ks m → m < length bases) → Among ks k → (c : ℕ) × BeginsAt (functions B C) ks k c × (slice_index (placed B end bases ks) k ≡ end + c)
+  pub placed_at : (end : ℕ) (bases ks : List ℕ) (k : ℕ) → Distinct ks → ((m : ℕ) → Among ks m → m < length bases) → Among ks k → (c : ℕ) × BeginsAt (functions B C) ks k c × (slice_index (placed B end bases ks) k ≡ end + c)
   placed_at end bases [] k once within a = absurd a
   placed_at end bases (m ∷ ks) k once within (inl e) =
       let other = placed_other (end + length (body_at B m)) (slice_set bases m end) ks m once.0 in

@@ -11,3 +11,6 @@ pub mod Ready
 pub mod Result
 pub mod Steps
 pub mod Renaming
+pub mod LinkMap
+pub mod Noted
+pub mod MapLaws

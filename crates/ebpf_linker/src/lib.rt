@@ -3,8 +3,11 @@
 
 mod body;
 mod copies;
+pub mod link_map;
 #[cfg(test)]
 mod machines;
+#[cfg(test)]
+mod map_tests;
 mod places;
 mod program;
 mod records;

@@ -1,5 +1,6 @@
 //! Functions and references for tests.
 
+use crate::link_map::{NumberedMap, link_map};
 use crate::{Body, Call, Fault, LinkedProgram, Target, is_sound, link};
 use ebpf_parts::insn::bpf_insn;
 use std::alloc::{AllocError, Global};
@@ -83,4 +84,16 @@ pub fn linked(
         return Ok(None);
     }
     Ok(Some(link(alloc, bodies, calls, 0)?))
+}
+
+/// What the first function is made of, linked; none where the references are not sound.
+pub fn mapped(
+    alloc: Global,
+    bodies: &[Body<'_>],
+    calls: &[Vec<Call>],
+) -> Result<Option<Result<NumberedMap, Fault>>, AllocError> {
+    if bodies.is_empty() || calls.len() != bodies.len() || !is_sound(calls, bodies.len()) {
+        return Ok(None);
+    }
+    Ok(Some(link_map(alloc, bodies, calls, 0)?))
 }

@@ -11,3 +11,5 @@ pub mod SoFar
 pub mod Gathered
 pub mod Shapes
 pub mod OneResult
+pub mod KeyedMaps
+pub mod OneLinkMap

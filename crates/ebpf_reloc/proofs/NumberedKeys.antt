@@ -127,7 +127,7 @@ module _ (parts : LinkableValue) where
     function_here : (m : ℕ) → m < length keys → get parts.functions (key_in keys m) ≡ slice_get fs m
     function_here m lt = function_at parts.functions m lt
 
-    name_here : (m : ℕ) → m < length keys → name_at parts.functions (key_in keys m) ≡ name_in fs m
+    pub name_here : (m : ℕ) → m < length keys → name_at parts.functions (key_in keys m) ≡ name_in fs m
     name_here m lt = ap name_of (function_here m lt)
 
     reference_here : (m i : ℕ) (f : Option Function) → slice_get fs m ≡ f → reference_of parts f i ≡ renamed (key_in keys) (told fs) (referred (or_none (option_map (λ f. calls_of parts keys m f) f)) i)

@@ -1,23 +1,20 @@
 -- Linking the programs of an object has one result.
-use Rattle.std.proofs.Common.{◌≡◌, ◌+◌, ◌<◌, ◌≤◌, ℕ, zero, suc, Bool, true, false, List, [], ◌∷◌, Option, Some, None, Ok, Err, Result, refl, sym, ap, subst, ◌∙◌, ⊎_elim, inl, inr, arith}
+use Rattle.std.proofs.Common.{◌≡◌, ◌+◌, ◌<◌, ◌≤◌, ℕ, zero, suc, Bool, true, false, List, [], ◌∷◌, Option, Some, None, Ok, Err, refl, sym, ap, subst, ◌∙◌, ⊎_elim, inl, arith}
 use Rattle.std.specs.Prelude.{slice_get, is_some, MatchOption, ◌||◌}
-use Rattle.std.specs.FinMap.{FinMap, get, contains_key, same_map}
+use Rattle.std.specs.FinMap.{FinMap, get, same_map}
 use Rattle.std.specs.List.{list_any}
 use Rattle.std.specs.Ordering.{eq_by_cmp}
 use Rattle.std.specs.Cmp.{eq_by_cmp_equiv}
 use Rattle.std.proofs.lemmas.Bool.{cases_lt}
 use Rattle.ebpf_base.proofs.Maps.{key_exact}
 use Rattle.ebpf_base.specs.Keys.{key_cmp, key_total}
-use Rattle.ebpf_linker.specs.declared.body.LinkedProgram.{LinkedProgram}
 use Rattle.ebpf_linker.specs.Faults.{LeastFault, linking}
-use Rattle.ebpf_linker.specs.Functions.{Nothing, BeginsAt, body}
 use Rattle.ebpf_linker.proofs.OneResult.{same_order, one_program, one_fault, not_linked, plain_stays}
-use Rattle.ebpf_parts.specs.declared.insn.bpf_insn.{bpf_insn}
 use Rattle.ebpf_reloc.specs.declared.error.EbpfRelocationError.{EbpfRelocationError}
 use Rattle.ebpf_reloc.specs.declared.error.RelocationError.{RelocationError}
 use Rattle.ebpf_reloc.specs.declared.error.RelocationError.TheVariants.{UnknownProgram}
 use Rattle.ebpf_reloc.specs.declared.function.Function.{Function}
-use Rattle.ebpf_reloc.specs.Laws.{IsAnswer, OneResult, OneProgram, IsPlain, OwnSlotsStay, CopiedSlotsStay}
+use Rattle.ebpf_reloc.specs.Laws.{OneResult, OneProgram, OwnSlotsStay, CopiedSlotsStay}
 use Rattle.ebpf_reloc.specs.Linking.{ProgramValue, key_of, with_linked, IsLinked, IsFault, IsRefused, AreLinked, IsFirstFault}
 use Rattle.ebpf_reloc.specs.Places.{LinkableValue}
 use Rattle.ebpf_reloc.specs.References.{Key, functions_of}
@@ -48,14 +45,14 @@ one_fault_of parts key d e a b = step (get parts.functions key) a b
     step None h g = h ∙ sym g
     step (Some f) h g = one_fault (functions_of parts) (linking (functions_of parts) key) key d e h g
 
-one_refusal : (parts : LinkableValue) (program : ProgramValue) (d e : EbpfRelocationError) → IsRefused parts program d → IsRefused parts program e → d ≡ e
+pub one_refusal : (parts : LinkableValue) (program : ProgramValue) (d e : EbpfRelocationError) → IsRefused parts program d → IsRefused parts program e → d ≡ e
 one_refusal parts program d e a b =
     let name : d.function ≡ e.function = a.0 ∙ sym b.0 in
     let error : d.error ≡ e.error = one_fault_of parts (key_of program) d.error e.error a.1 b.1 in
     λ i. record { function = name i; error = error i }
 
 -- a program that is linked is not refused
-not_refused : (parts : LinkableValue) (key : Key) (f : Function) (e : RelocationError) → IsLinked parts key f → IsFault parts key e → ⊥
+pub not_refused : (parts : LinkableValue) (key : Key) (f : Function) (e : RelocationError) → IsLinked parts key f → IsFault parts key e → ⊥
 not_refused parts key f e a h =
     let fault : LeastFault (functions_of parts) (linking (functions_of parts) key) key e = subst (λ (o : Option Function). MatchOption o (e ≡ UnknownProgram key.0 key.1) (λ _. LeastFault (functions_of parts) (linking (functions_of parts) key) key e)) a.stands h in
     not_linked (functions_of parts) key a.order a.made e a.program fault
@@ -83,7 +80,7 @@ one_first parts programs d e a b = ⊎_elim
     (cases_lt b.place a.place))
     (cases_lt a.place b.place)
 
-any_at : (p : ProgramValue → Bool) (programs : List ProgramValue) (i : ℕ) (program : ProgramValue) → slice_get programs i ≡ Some program → p program ≡ true → list_any p programs ≡ true
+pub any_at : (p : ProgramValue → Bool) (programs : List ProgramValue) (i : ℕ) (program : ProgramValue) → slice_get programs i ≡ Some program → p program ≡ true → list_any p programs ≡ true
 any_at p [] i program at h = cc
 any_at p (q ∷ programs) zero program at h = let same : q ≡ program = cc in ap (λ r. p r || list_any p programs) same ∙ ap (λ b. b || list_any p programs) h
 any_at p (q ∷ programs) (suc i) program at h = ap (λ b. p q || b) (any_at p programs i program at h) ∙ or_true (p q)

@@ -8,3 +8,5 @@ pub mod References
 pub mod Numbers
 pub mod Linking
 pub mod Laws
+pub mod LinkMaps
+pub mod MapLaws

@@ -1,6 +1,7 @@
 //! What follows of linked programs.
 
 ghost use Rattle.ebpf_reloc.specs.Laws.{OneResult, OneProgram, OwnSlotsStay, CopiedSlotsStay};
+ghost use Rattle.ebpf_reloc.specs.MapLaws.{OneMap, OneMapAnswer, RefusedAsLinking, MapsTell, MappedAreLinked, FirstWithoutMap, AllWithMaps};
 
 /// What `relocate_calls` promises leaves one result, want of memory aside: the functions, the order of the copies
 /// in each, and the error. It follows from the functions, symbols, relocations, sections and programs as values,
@@ -15,4 +16,27 @@ pub fn one_result()
 pub fn plain_slots_stay()
     ensures own { OwnSlotsStay }
     ensures copied { CopiedSlotsStay }
+{}
+
+/// What `program_map` promises leaves one map of a program, with its copies in one order, and one answer, want of
+/// memory aside. It is refused exactly where `relocate_calls` refuses the program alone, with the same error.
+pub fn one_map()
+    ensures map { OneMap }
+    ensures answer { OneMapAnswer }
+    ensures refusal { RefusedAsLinking }
+{}
+
+/// The map of a program is that of the linked program: the copies stand in the order in which they are linked and
+/// have all slots, and the slot at each reference's place holds the distance from the slot after it to the base of
+/// a listed copy of the function that it refers to. Each program that has a map can be linked.
+pub fn maps_tell()
+    ensures tell { MapsTell }
+    ensures linked { MappedAreLinked }
+{}
+
+/// Asking for the maps of programs one after the other refuses exactly where `relocate_calls` refuses them, with the
+/// same error: that of the first program without a map.
+pub fn maps_refuse_alike()
+    ensures first { FirstWithoutMap }
+    ensures none { AllWithMaps }
 {}

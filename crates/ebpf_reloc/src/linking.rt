@@ -144,7 +144,7 @@ impl NumberedFunctions<'_> {
 }
 
 /// The functions by numbers, with their calls.
-fn numbered<'a>(
+pub fn numbered<'a>(
     alloc: Global,
     parts: &Linkable<'a>,
 ) -> Result<NumberedFunctions<'a>, EbpfRelocationError>

@@ -91,7 +91,7 @@ impl<'a> NumberedFunctions<'a> {
 }
 
 /// The name of the function with a number.
-fn name_in(alloc: Global, functions: &[&Function], number: usize) -> Result<Text, AllocError>
+pub fn name_in(alloc: Global, functions: &[&Function], number: usize) -> Result<Text, AllocError>
     ensures { IfOk result (λ name. name ≡ name_in (map (λ f. f.now) functions.now) number) }
 {
     match functions.get(number) {

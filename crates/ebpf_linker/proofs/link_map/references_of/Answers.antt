@@ -1,0 +1,55 @@
+use Rattle.std.proofs.Common.{ℕ, ◌<◌, ◌∙◌, List, sym, arith, subst, length, get_or}
+use Rattle.std.specs.Prelude.{All}
+use Rattle.ebpf_parts.specs.declared.insn.bpf_insn.{bpf_insn}
+use Rattle.ebpf_linker.specs.declared.reference.Call.{Call}
+use Rattle.ebpf_linker.specs.Image.{Fit}
+use Rattle.ebpf_linker.specs.Numbered.{IsIn}
+use Rattle.ebpf_linker.proofs.MapWalks.{references_first, references_more}
+use Rattle.ebpf_linker.proofs.Placed.{body_read, calls_read, no_body}
+use Rattle.ebpf_linker.proofs.RecordWalks.{fit_more, room_more}
+use Rattle.ebpf_linker.proofs.link_map.references_of.Goals as goal
+
+pub loop-function-init : goal.loop-function-init
+loop-function-init c =
+    let B = c.args.bodies.now in
+    let p = c.args.start in
+    let lt : p < length c.args.calls.now = omega (arith, c.requires.calls, c.requires.start) in
+    let calls = calls_read c.args.calls.now p c.index-calls-start.result lt c.index-calls-start.is ∙ sym c.deref.ensures.value in
+    let body = body_read B p no_body c.requires.start in
+    record {
+      whole = references_first B c.args.calls.now c.args.bases.now p c.args.reached.now (get_or B p no_body).slots.now c.deref.result.now c.new-references.result.items c.add_references.new.references.items body calls c.new-references.ensures.items c.in_ok-add_references.ensures;
+      fit = subst (λ (s : List bpf_insn). Fit B (length s) c.args.reached.now) body c.requires.fit;
+    }
+
+pub add_references-requires-in-loop-function-clause-within : goal.add_references-requires-in-loop-function-clause-within
+add_references-requires-in-loop-function-clause-within c =
+    let k = get_or c.args.reached.now c.loop-function.function-index 0 in
+    let lt = c.requires.reached c.loop-function.function-index 0 c.loop-function-test.true in
+    let lt' : k < length c.args.calls.now = omega (arith, lt, c.requires.calls) in
+    let calls = calls_read c.args.calls.now k c.index-calls-function.result lt' c.index-calls-function.is ∙ sym c.deref-in-loop-function.ensures.value in
+    subst (λ (n : ℕ). All (λ call. IsIn n call.target) c.deref-in-loop-function.result.now) (sym c.requires.bases)
+    (subst (λ (cs : List Call). All (λ call. IsIn (length c.args.bodies.now) call.target) cs) calls (c.requires.sound.within k))
+
+pub add_references-requires-in-loop-function-clause-room : goal.add_references-requires-in-loop-function-clause-room
+add_references-requires-in-loop-function-clause-room c =
+    let known = c.requires.reached c.loop-function.function-index 0 c.loop-function-test.true in
+    let room = room_more c.args.bodies.now c.args.reached.now c.loop-function.base c.loop-function.function-index c.loop-function-test.true known c.loop-function.invariant.fit in
+    omega (arith, room)
+
+pub overflow_add-base : goal.overflow_add-base
+overflow_add-base c =
+    let known = c.requires.reached c.loop-function.function-index 0 c.loop-function-test.true in
+    let room = room_more c.args.bodies.now c.args.reached.now c.loop-function.base c.loop-function.function-index c.loop-function-test.true known c.loop-function.invariant.fit in
+    omega (arith, room)
+
+pub loop-function-preserved : goal.loop-function-preserved
+loop-function-preserved c =
+    let B = c.args.bodies.now in
+    let k = get_or c.args.reached.now c.loop-function.function-index 0 in
+    let known = c.requires.reached c.loop-function.function-index 0 c.loop-function-test.true in
+    let lt : k < length c.args.calls.now = omega (arith, known, c.requires.calls) in
+    let calls = calls_read c.args.calls.now k c.index-calls-function.result lt c.index-calls-function.is ∙ sym c.deref-in-loop-function.ensures.value in
+    record {
+      whole = references_more B c.args.reached.now c.loop-function.base c.loop-function.function-index c.loop-function-test.true known c.args.calls.now c.args.bases.now c.deref-in-loop-function.result.now calls c.loop-function.references.items _ _ c.loop-function.invariant.whole c.in_ok-add_references-2.ensures;
+      fit = fit_more B c.args.reached.now c.loop-function.base c.loop-function.function-index c.loop-function-test.true known c.loop-function.invariant.fit;
+    }

@@ -1,0 +1,76 @@
+-- What a linked program is made of: the copies of functions, and the references between them.
+use Rattle.std.specs.Prelude.{◌≡◌, ℕ, ◌+◌, ◌≤◌, List, [], ◌∷◌, length, map, Some, slice_get, Result, Ok, Err}
+use Rattle.ebpf_parts.specs.declared.insn.bpf_insn.{bpf_insn}
+use Rattle.ebpf_linker.specs.Slots.{is_pseudo_call}
+use Rattle.ebpf_linker.specs.Functions.{Names, Content, Functions, body, Among, BeginsAt}
+use Rattle.ebpf_linker.specs.Faults.{linking, Faultless, LeastFault}
+use Rattle.ebpf_linker.specs.Answer.{IsOrder}
+use Rattle.ebpf_linker.specs.declared.link_map.NumberedCopy.{NumberedCopy}
+use Rattle.ebpf_linker.specs.declared.link_map.NumberedMap.{NumberedMap}
+use Rattle.ebpf_linker.specs.declared.link_map.Reference.{Reference}
+
+-- a copy of the function at a key: the place at which it begins, and how many slots it has
+pub record CopyOf (K : Type 0) : Type 0 where
+  pub key : K
+  pub base : ℕ
+  pub slots : ℕ
+
+-- places from low on, each above the one before
+abbrev pub PlacesRise : ℕ → List Reference → Type 0
+PlacesRise low [] = Unit {0}
+PlacesRise low (r ∷ rs) = (low ≤ r.place) × PlacesRise (r.place + 1) rs
+
+module _ {K E : Type 0} where
+  -- copies of these functions, one after the other, the first at a base
+  abbrev pub copies_from : Functions K E → ℕ → List K → List (CopyOf K)
+  copies_from F base [] = []
+  copies_from F base (k ∷ ks) = record { key = k; base = base; slots = length (body F k) } ∷ copies_from F (base + length (body F k)) ks
+
+  -- r is a reference of p, linked with the functions ks: slot i of the copy of k that begins at b is s and refers to
+  -- m, whose copy among those of ks begins c slots after the end of p
+  pub record IsReference (F : Functions K E) (p : K) (ks : List K) (r : Reference) : Type 0 where
+    pub k : K
+    pub b : ℕ
+    pub begins : BeginsAt F (p ∷ ks) k b
+    pub i : ℕ
+    pub s : bpf_insn
+    pub slot : slice_get (body F k) i ≡ Some s
+    pub m : K
+    pub names : F.reference k i ≡ Names m
+    pub c : ℕ
+    pub reaches : BeginsAt F ks m c
+    pub place : r.place ≡ b + i
+    pub base : r.base ≡ length (body F p) + c
+    pub is_call : r.is_call ≡ is_pseudo_call s
+
+  -- these are the references of p, linked with the functions ks, in the order of their places
+  pub record AreReferences (F : Functions K E) (p : K) (ks : List K) (rs : List Reference) : Type 0 where
+    pub sound : (r : Reference) → Among rs r → IsReference F p ks r
+    pub complete : (r : Reference) → IsReference F p ks r → Among rs r
+    pub rises : PlacesRise 0 rs
+
+  -- p and each function ks that its references reach, in the order of their key paths, have these copies and these
+  -- references; no fault stands
+  pub record IsLinkMap (F : Functions K E) (p : K) (ks : List K) (cs : List (CopyOf K)) (rs : List Reference) : Type 0 where
+    pub order : IsOrder F.reference p ks
+    pub functions : (k : K) → Among ks k → (c : Content) × (F.content k ≡ Some c)
+    pub copies : cs ≡ copies_from F 0 (p ∷ ks)
+    pub references : AreReferences F p ks rs
+    pub faultless : Faultless F (linking F p) p
+
+-- a copy by another name of its function
+abbrev pub key_copy : {M K : Type 0} → (M → K) → CopyOf M → CopyOf K
+key_copy key c = record { key = key c.key; base = c.base; slots = c.slots }
+
+-- a copy with the number of its function
+abbrev pub numbered_copy : CopyOf ℕ → NumberedCopy
+numbered_copy c = record { function = c.key; base = c.base; slots = c.slots }
+
+-- the map of the program p, of functions by their numbers
+abbrev pub IsNumberedMap : {E : Type 0} → Functions ℕ E → ℕ → NumberedMap → Type 0
+IsNumberedMap F p m = (ks : List ℕ) × (cs : List (CopyOf ℕ)) × IsLinkMap F p ks cs m.references × (m.copies ≡ map numbered_copy cs)
+
+-- the map, or the least fault
+abbrev pub IsMapping : {E : Type 0} → Functions ℕ E → ℕ → Result NumberedMap E → Type 0
+IsMapping F p (Ok m) = IsNumberedMap F p m
+IsMapping F p (Err e) = LeastFault F (linking F p) p e

@@ -1,0 +1,198 @@
+//! What a linked program is made of, without its slots.
+
+ghost use Rattle.std.specs.Prelude.{◌≡◌, ℕ, ◌+◌, ◌<◌, ◌≤◌, ◌^◌, [], ◌∷◌, ◌++◌, length, map, IfOk, OnOk, All};
+ghost use Rattle.ebpf_linker.specs.Image.{Fit, body_at};
+ghost use Rattle.ebpf_linker.specs.LinkMap.{copies_from, numbered_copy, IsMapping, IsNumberedMap};
+ghost use Rattle.ebpf_linker.specs.Noted.{noted, noted_of, noted_all};
+ghost use Rattle.ebpf_linker.specs.Numbered.{IsIn, Sound, functions};
+ghost use Rattle.ebpf_linker.specs.Ready.{IsReady};
+
+use crate::body::Body;
+use crate::places::places;
+use crate::reference::{Call, Fault, Target};
+use crate::search::search;
+use crate::slot::is_pseudo_call;
+use ebpf_base::Items;
+use ebpf_parts::insn::bpf_insn;
+use std::alloc::{AllocError, Global};
+
+/// A copy of a function in a linked program.
+#[derive(Clone, Copy, Debug, PartialEq, Eq)]
+pub struct NumberedCopy {
+    /// The function's number.
+    pub function: usize,
+    /// The place at which the copy begins, in slots.
+    pub base: usize,
+    /// How many slots it has.
+    pub slots: usize,
+}
+
+/// A reference in a linked program.
+#[derive(Clone, Copy, Debug, PartialEq, Eq)]
+pub struct Reference {
+    /// The place of the slot that refers, in slots.
+    pub place: usize,
+    /// The place at which the copy that it refers to begins, in slots.
+    pub base: usize,
+    /// Whether the slot is a call, or else the load of an address.
+    pub is_call: bool,
+}
+
+/// What a linked program is made of, by the numbers of functions.
+#[derive(Debug, Drop)]
+pub struct NumberedMap {
+    /// The program and the copies of functions, in order.
+    pub copies: Items<NumberedCopy>,
+    /// The references of all copies, in the order of their places.
+    pub references: Items<Reference>,
+}
+
+// The program and the copies of these functions, one after the other.
+fn copies_of(
+    alloc: Global,
+    bodies: &[Body<'_>],
+    start: usize,
+    reached: &[usize],
+) -> Result<Vec<NumberedCopy>, AllocError>
+    requires start { start < length bodies.now }
+    requires reached { All (λ k. k < length bodies.now) reached.now }
+    requires fit { Fit bodies.now (length (body_at bodies.now start)) reached.now }
+    ensures { IfOk result (λ copies. copies.items ≡ map numbered_copy (copies_from (functions bodies.now []) 0 (start ∷ reached.now))) }
+{
+    let mut copies = Vec::new(alloc);
+    let mut end = bodies[start].slots.len();
+    copies.push(NumberedCopy {
+        function: start,
+        base: 0,
+        slots: end,
+    })?;
+    for function in reached {
+        let slots = bodies[*function].slots.len();
+        copies.push(NumberedCopy {
+            function: *function,
+            base: end,
+            slots,
+        })?;
+        end += slots;
+    }
+    Ok(copies)
+}
+
+// The reference of a slot of a function whose copy begins at a base; none where it leads nowhere.
+fn reference_at(body: &[bpf_insn], call: Call, bases: &[usize], base: usize) -> Option<Reference>
+    requires within { IsIn (length bases.now) call.target }
+    requires room { base ≤ 2147483647 }
+    ensures { result ≡ noted bases.now base body.now call }
+{
+    let slot = body.get(call.slot)?;
+    match call.target {
+        Target::Nowhere(_) => None,
+        Target::Function(callee) => Some(Reference {
+            place: base + call.slot,
+            base: bases[callee],
+            is_call: is_pseudo_call(*slot),
+        }),
+    }
+}
+
+// Adds the references of a function whose copy begins at a base.
+#[tactic(auto, using(crate::proofs::MapWalks::noted_here, crate::proofs::MapWalks::none_noted, ebpf_parts::proofs::Walks::rest_none))]
+fn add_references(
+    references: &mut Vec<Reference>,
+    body: &[bpf_insn],
+    calls: &[Call],
+    bases: &[usize],
+    base: usize,
+) -> Result<(), AllocError>
+    requires within { All (λ call. IsIn (length bases.now) call.target) calls.now }
+    requires room { base ≤ 2147483647 }
+    ensures { OnOk result (references.new.items ≡ references.old.items ++ noted_of bases.now base body.now calls.now) }
+{
+    for call in calls {
+        let Some(reference) = reference_at(body, *call, bases, base) else {
+            continue;
+        };
+        references.push(reference)?;
+    }
+    Ok(())
+}
+
+// The references of the program and of copies of these functions, one after the other.
+fn references_of(
+    alloc: Global,
+    bodies: &[Body<'_>],
+    calls: &[Vec<Call>],
+    start: usize,
+    reached: &[usize],
+    bases: &[usize],
+) -> Result<Vec<Reference>, AllocError>
+    requires calls { length calls.now ≡ length bodies.now }
+    requires sound { Sound (length bodies.now) calls.now }
+    requires bases { length bases.now ≡ length bodies.now }
+    requires start { start < length bodies.now }
+    requires reached { All (λ k. k < length bodies.now) reached.now }
+    requires fit { Fit bodies.now (length (body_at bodies.now start)) reached.now }
+    ensures { IfOk result (λ references. references.items ≡ noted_all bodies.now calls.now bases.now 0 (start ∷ reached.now)) }
+{
+    let mut references = Vec::new(alloc);
+    add_references(
+        &mut references,
+        bodies[start].slots,
+        &calls[start],
+        bases,
+        0,
+    )?;
+    let mut base = bodies[start].slots.len();
+    for function in reached {
+        let slots = bodies[*function].slots;
+        add_references(&mut references, slots, &calls[*function], bases, base)?;
+        base += slots.len();
+    }
+    Ok(references)
+}
+
+// The copies and the references of the program with copies of these functions.
+fn mapped(
+    alloc: Global,
+    bodies: &[Body<'_>],
+    calls: &[Vec<Call>],
+    start: usize,
+    reached: &[usize],
+) -> Result<NumberedMap, AllocError>
+    requires calls { length calls.now ≡ length bodies.now }
+    requires sound { Sound (length bodies.now) calls.now }
+    requires ready { IsReady bodies.now calls.now start reached.now }
+    ensures { IfOk result (λ m. IsNumberedMap (functions bodies.now calls.now) start m) }
+{
+    let bases = places(alloc, bodies, bodies[start].slots.len(), reached)?;
+    let copies = copies_of(alloc, bodies, start, reached)?;
+    let references = references_of(alloc, bodies, calls, start, reached, &bases)?;
+    Ok(NumberedMap {
+        copies: Items::from_vec(copies),
+        references: Items::from_vec(references),
+    })
+}
+
+/// What the program `start` is made of once it is linked: where its copies begin, and its references with the places
+/// that they lead to. The program is linked as `link` does, but no slot and no record is written.
+///
+/// # Errors
+///
+/// Those of `link`.
+pub fn link_map(
+    alloc: Global,
+    bodies: &[Body<'_>],
+    calls: &[Vec<Call>],
+    start: usize,
+) -> Result<Result<NumberedMap, Fault>, AllocError>
+    requires start { start < length bodies.now }
+    requires calls { length calls.now ≡ length bodies.now }
+    requires sound { Sound (length bodies.now) calls.now }
+    ensures { IfOk result (λ answer. IsMapping (functions bodies.now calls.now) start answer) }
+{
+    let order = match search(alloc, bodies, calls, start)? {
+        Ok(order) => order,
+        Err(fault) => return Ok(Err(fault)),
+    };
+    Ok(Ok(mapped(alloc, bodies, calls, start, &order[1..])?))
+}
