@@ -10,6 +10,7 @@ pub mod PatchedPlaces
 pub mod PatchedBytes
 pub mod VariablePatches
 pub mod OneJoining
+pub mod MapsOfJoined
 pub mod Staging
 pub mod KeptParts
 pub mod Headline

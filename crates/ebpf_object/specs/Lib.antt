@@ -1,5 +1,7 @@
 pub mod Objects
 pub mod Joined
+pub mod ProgramMaps
+pub mod JoinedMaps
 pub mod OlderHelpers
 pub mod Patches
 pub mod PatchValues

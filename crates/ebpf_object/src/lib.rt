@@ -7,6 +7,7 @@ pub mod elf;
 pub mod extern_types;
 mod globals;
 pub mod laws;
+mod link_map;
 pub mod obj;
 mod object;
 mod own_maps;

@@ -1,3 +1,3 @@
-//! Relocation, and why it can refuse.
+//! Relocation, and why it can refuse; what linked programs are made of.
 
-pub use ebpf_reloc::{EbpfRelocationError, RelocationError};
+pub use ebpf_reloc::{CodeCopy, EbpfRelocationError, LinkMap, Reference, RelocationError};
