@@ -1,7 +1,9 @@
 -- The essential name of a text, byte by byte.
-use Rattle.std.proofs.Common.{◌≡◌, ◌+◌, ℕ, zero, suc, Bool, true, false, ◌&&◌, cond, List, [], ◌∷◌, ◌++◌, length, take, drop, Option, Some, None, refl, sym, ap, ◌∙◌, true≢false, add-one}
+use Rattle.std.proofs.Common.{◌≡◌, ◌+◌, ◌-◌, ◌<◌, ◌≤◌, get_or, ℕ, zero, suc, Bool, true, false, ◌&&◌, cond, List, [], ◌∷◌, ◌++◌, length, take, drop, Option, Some, None, refl, sym, ap, ◌∙◌, true≢false, add-one, arith, length-drop}
 use Rattle.std.specs.Prelude.{find, nat_eq, option_map, unwrap_or, is_some}
 use Rattle.std.specs.List.{range_with_len, starts_with}
+use Rattle.std.proofs.lemmas.Bool.Decides.{nat_tests}
+use Rattle.std.proofs.lemmas.List.{drop_more, get_or-drop}
 use Rattle.std.specs.Str.Lossy.{replacement_bytes}
 use Rattle.ebpf_btf.specs.EssentialNames.{essential_name, flavor_mark, flavor_place}
 
@@ -22,7 +24,7 @@ place_step : (x : ℕ) (xs : List ℕ) → flavor_place (x ∷ xs) ≡ cond (ope
 place_step x xs = ap (λ o. cond (opens (x ∷ xs)) (Some 0) o) (find_later (λ n. starts_with nat_eq (drop n (x ∷ xs)) flavor_mark) 0 (length xs))
 
 -- the essential name, by the first byte
-essential_step : (x : ℕ) (xs : List ℕ) → essential_name (x ∷ xs) ≡ cond (opens (x ∷ xs)) [] (x ∷ essential_name xs)
+pub essential_step : (x : ℕ) (xs : List ℕ) → essential_name (x ∷ xs) ≡ cond (opens (x ∷ xs)) [] (x ∷ essential_name xs)
 unfolding essential_name
 essential_step x xs = ap (λ o. take (unwrap_or o (length (x ∷ xs))) (x ∷ xs)) (place_step x xs) ∙ by_first (opens (x ∷ xs)) (flavor_place xs)
   where
@@ -99,3 +101,82 @@ essential_past (x ∷ y ∷ z ∷ front) rest none =
         → cond b [] (x ∷ essential_name (y ∷ z ∷ (front ++ (replacement_bytes ++ rest)))) ≡ x ∷ y ∷ z ∷ (front ++ (replacement_bytes ++ essential_name rest))
     by_first true none later = absurd (true≢false none)
     by_first false none later = ap (λ name. x ∷ name) (later none)
+
+-- ---- a search from a place on
+
+abbrev moved : ℕ → Option ℕ → Option ℕ
+moved n o = option_map (λ k. n + k) o
+
+-- where three underscores are first from a place on
+abbrev pub place_from : List ℕ → ℕ → Option ℕ
+place_from name place = moved place (flavor_place (drop place name))
+
+moved_none : (o : Option ℕ) → moved 0 o ≡ o
+moved_none None = refl
+moved_none (Some k) = ap Some (omega arith)
+
+pub from_start : (name : List ℕ) → place_from name 0 ≡ flavor_place name
+from_start name = moved_none (flavor_place name)
+
+moved_one : (place next : ℕ) (o : Option ℕ) → next ≡ place + 1 → moved next o ≡ moved place (option_map suc o)
+moved_one place next None is = refl
+moved_one place next (Some k) is = ap Some (omega arith)
+
+-- where none begins at a place
+pub past_one : (name : List ℕ) (place next : ℕ) → next ≡ place + 1 → place < length name → opens (drop place name) ≡ false → place_from name next ≡ place_from name place
+past_one name place next is inside none =
+    let here : drop place name ≡ get_or name place 0 ∷ drop (place + 1) name = drop_more name place 0 inside in
+    let rest = flavor_place (drop (place + 1) name) in
+    let step : flavor_place (drop place name) ≡ option_map suc rest =
+    ap flavor_place here ∙ place_step (get_or name place 0) (drop (place + 1) name)
+    ∙ ap (λ b. cond b (Some 0) (option_map suc rest)) (ap opens (sym here) ∙ none) in
+    ap (λ n. moved next (flavor_place (drop n name))) is ∙ moved_one place next rest is ∙ ap (moved place) (sym step)
+
+not_first : (xs : List ℕ) → nat_eq 95 (get_or xs 0 0) ≡ false → opens xs ≡ false
+not_first [] other = refl
+not_first (x ∷ xs) other = rw other refl
+
+not_second : (xs : List ℕ) → nat_eq 95 (get_or xs 1 0) ≡ false → opens xs ≡ false
+not_second [] other = refl
+not_second (x ∷ []) other = short x
+not_second (x ∷ y ∷ xs) other = rw other (never (nat_eq 95 x))
+
+not_third : (xs : List ℕ) → nat_eq 95 (get_or xs 2 0) ≡ false → opens xs ≡ false
+not_third [] other = refl
+not_third (x ∷ []) other = short x
+not_third (x ∷ y ∷ []) other = short_two x y
+not_third (x ∷ y ∷ z ∷ xs) other = rw other (never_second (nat_eq 95 x) (nat_eq 95 y))
+
+-- where the third of three bytes is another
+pub past_three : (name : List ℕ) (place : ℕ) → place + 2 < length name → (get_or name (place + 2) 0 ≡ 95 → ⊥) → place_from name (place + 3) ≡ place_from name place
+past_three name place inside other =
+    let byte : nat_eq 95 (get_or name (place + 2) 0) ≡ false = grind (arith, nat_tests) in
+    let third : opens (drop place name) ≡ false = not_third (drop place name) (ap (nat_eq 95) (get_or-drop place name 2 0) ∙ byte) in
+    let second : opens (drop (place + 1) name) ≡ false =
+    not_second (drop (place + 1) name) (ap (nat_eq 95) (get_or-drop (place + 1) name 1 0 ∙ ap (λ n. get_or name n 0) (omega arith)) ∙ byte) in
+    let first : opens (drop (place + 2) name) ≡ false =
+    not_first (drop (place + 2) name) (ap (nat_eq 95) (get_or-drop (place + 2) name 0 0 ∙ ap (λ n. get_or name n 0) (omega arith)) ∙ byte) in
+    past_one name (place + 2) (place + 3) (omega arith) (omega arith) first
+    ∙ past_one name (place + 1) (place + 2) (omega arith) (omega arith) second
+    ∙ past_one name place (place + 1) refl (omega arith) third
+
+none_short : (xs : List ℕ) → length xs ≤ 2 → flavor_place xs ≡ None
+none_short [] few = refl
+none_short (x ∷ []) few = place_step x [] ∙ ap (λ b. cond b (Some 0) (option_map suc (flavor_place []))) (short x)
+none_short (x ∷ y ∷ []) few =
+    place_step x (y ∷ []) ∙ ap (λ b. cond b (Some 0) (option_map suc (flavor_place (y ∷ [])))) (short_two x y) ∙ ap (option_map suc) (none_short (y ∷ []) (omega arith))
+none_short (x ∷ y ∷ z ∷ xs) few = absurd (omega arith)
+
+-- fewer than three bytes are left
+pub past_end : (name : List ℕ) (place : ℕ) → length name - place ≤ 2 → place_from name place ≡ None
+past_end name place few = ap (moved place) (none_short (drop place name) (omega (arith, length-drop place name)))
+
+-- three begin at a place
+pub found_at : (name : List ℕ) (place : ℕ) → place < length name → opens (drop place name) ≡ true → place_from name place ≡ Some place
+found_at name place inside found =
+    let here : drop place name ≡ get_or name place 0 ∷ drop (place + 1) name = drop_more name place 0 inside in
+    let rest = flavor_place (drop (place + 1) name) in
+    let step : flavor_place (drop place name) ≡ Some 0 =
+    ap flavor_place here ∙ place_step (get_or name place 0) (drop (place + 1) name)
+    ∙ ap (λ b. cond b (Some 0) (option_map suc rest)) (ap opens (sym here) ∙ found) in
+    ap (moved place) step ∙ ap Some (omega arith)

@@ -1,3 +1,4 @@
+pub mod BytesLooks
 pub mod CandidateLaws
 pub mod CandidateRows
 pub mod Comparing
@@ -12,6 +13,7 @@ pub mod KindRows
 pub mod Looks
 pub mod LossyTexts
 pub mod NearTexts
+pub mod OddTexts
 pub mod OneAfterOther
 pub mod RecordPlaces
 pub mod Refusals
@@ -21,3 +23,4 @@ pub mod Spelling
 pub mod Texts
 pub mod Unions
 pub mod UnreadNames
+pub mod WithoutNames

@@ -1,6 +1,6 @@
 -- Types whose names can't be read, and their faults.
 use Rattle.std.proofs.Common.{◌≡◌, ◌+◌, ◌≤◌, ◌==◌, drop, ℕ, Bool, true, false, cond, List, [], ◌∷◌, Option, Some, None, Result, Ok, Err, refl, sym, ap, ◌∙◌, arith}
-use Rattle.std.specs.Prelude.{nat_le, if◌then◌else◌}
+use Rattle.std.specs.Prelude.{nat_le, option_map, if◌then◌else◌}
 use Rattle.std.specs.List.{enumerate_from}
 use Rattle.std.specs.Result.{result_ok}
 use Rattle.std.proofs.lemmas.Bool.Decides.{nat_tests}
@@ -11,9 +11,10 @@ use Rattle.ebpf_btf.specs.declared.kind.BtfKind.{BtfKind}
 use Rattle.ebpf_btf.specs.declared.types.BtfType.{BtfType}
 use Rattle.ebpf_btf.specs.declared.unreadable.UnreadableName.{UnreadableName}
 use Rattle.ebpf_btf.specs.Candidates.{candidates_fault, candidates_of_both_fault, name_fault}
+use Rattle.ebpf_btf.specs.EssentialNames.{essential_name}
 use Rattle.ebpf_btf.specs.Strings.{before_zero, text_at, text_or_fault, type_name}
 use Rattle.ebpf_btf.specs.TypeInfo.{TypeInfo}
-use Rattle.ebpf_btf.specs.TypeRows.{lower, unread, unreadable_fault, unreadable_from, unreadable_name}
+use Rattle.ebpf_btf.specs.TypeRows.{lower, readable_name, unread, unreadable_fault, unreadable_from, unreadable_name}
 use Rattle.ebpf_btf.specs.Types.{is_kind, kind_number, kind_of, name_of}
 
 or_else_assoc : {E : Type 0} (a b c : Option E) → or_else (or_else a b) c ≡ or_else a (or_else b c)
@@ -35,6 +36,22 @@ unread_skip info kind types i t text here readable = by_name (type_name info t) 
         by_kind true = refl
         by_kind false = refl
     by_name (Err e) is same = cc
+
+pub unread_past : (info : TypeInfo) (kind : BtfKind) (types : List BtfType) (i : ℕ) (t : BtfType) (name : List ℕ) → drop i types ≡ t ∷ drop (i + 1) types
+    → readable_name info t ≡ Some name → unreadable_from info kind (i + 1) (drop (i + 1) types) ≡ unreadable_from info kind i (drop i types)
+unread_past info kind types i t name here readable = by_name (type_name info t) refl readable
+  where
+    by_name : (r : Result (List ℕ) BtfError) → type_name info t ≡ r → option_map essential_name (result_ok r) ≡ Some name
+        → unreadable_from info kind (i + 1) (drop (i + 1) types) ≡ unreadable_from info kind i (drop i types)
+    by_name (Ok read) is same = unread_skip info kind types i t read here (rw is refl)
+    by_name (Err e) is same = cc
+
+pub unreadable_none : (info : TypeInfo) (t : BtfType) → readable_name info t ≡ None → result_ok (type_name info t) ≡ None
+unreadable_none info t none = by_name (result_ok (type_name info t)) none
+  where
+    by_name : (o : Option (List ℕ)) → option_map essential_name o ≡ None → o ≡ None
+    by_name None is = refl
+    by_name (Some text) is = cc
 
 -- and one that can't be is kept, where it is the first of its kind
 pub unread_more : (info : TypeInfo) (kind : BtfKind) (types : List BtfType) (i : ℕ) (t : BtfType) (old new all : Option UnreadableName)

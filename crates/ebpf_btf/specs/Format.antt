@@ -80,6 +80,18 @@ has_list kinds.DataSec = true
 has_list kinds.Enum64 = true
 has_list _ = false
 
+-- whether a kind has the first three words alone, and the third is its size or another type
+abbrev pub is_head : BtfKind → Bool
+is_head kinds.Ptr = true
+is_head kinds.Typedef = true
+is_head kinds.Volatile = true
+is_head kinds.Const = true
+is_head kinds.Restrict = true
+is_head kinds.Func = true
+is_head kinds.Float = true
+is_head kinds.TypeTag = true
+is_head _ = false
+
 -- n items of a size in bytes, one after the other from a place on
 unfoldable pub items_at : {X : Type 0} → (ℕ → X) → ℕ → ℕ → ℕ → List X
 items_at item size place n = map (λ k. item (place + size * k)) (range_with_len 0 n)

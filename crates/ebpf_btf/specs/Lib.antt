@@ -12,6 +12,7 @@ pub mod KindTables
 pub mod Memory
 pub mod Next
 pub mod Numbers
+pub mod OddNames
 pub mod Reading
 pub mod RelocationKinds
 pub mod Steps

@@ -83,15 +83,16 @@ fn read_types(
     ensures few { IfOk result (λ types. length types + start ≤ end + 1) }
     ensures void { IfOk result (λ types. slice_get types 0 ≡ Some Unknown) }
 {
-    let mut types = Items::from_vec(Vec::with_capacity(alloc, 1 + (end - start) / USUAL_LENGTH)?);
+    let mut types = Vec::with_capacity(alloc, 1 + (end - start) / USUAL_LENGTH)?;
     types.push(BtfType::Unknown)?;
     let mut place = start;
     while place < end {
+        types.reserve(1)?;
         let (ty, next) = read_type(alloc, order, bytes, place, end)?;
-        types.push(ty)?;
+        types.push_reserved(ty);
         place = next;
     }
-    Ok(types)
+    Ok(Items::from_vec(types))
 }
 
 /// The two parts, read.

@@ -1,10 +1,11 @@
 //! One type, read from bytes.
 
-ghost use Rattle.std.specs.Prelude.{◌≡◌, ◌+◌, ◌*◌, ◌≤◌, length, IfOk, false};
+ghost use Rattle.std.specs.Prelude.{◌≡◌, ◌+◌, ◌*◌, ◌≤◌, ℕ, length, IfOk, false, true};
+ghost use Rattle.std.specs.Bool.{OnTrue};
 ghost use Rattle.std.specs.Option.{ok_or};
 ghost use Rattle.ebpf_base.specs.Faults.{Gives};
 ghost use Rattle.ebpf_btf.specs.Memory.{is_memory};
-ghost use Rattle.ebpf_btf.specs.Format.{kind_in, flag_in, count_in, further_words, has_list, end_of, spelled};
+ghost use Rattle.ebpf_btf.specs.Format.{kind_in, flag_in, count_in, further_words, has_list, is_head, end_of, spelled};
 ghost use Rattle.ebpf_btf.specs.Reading.{type_before};
 ghost use Rattle.ebpf_btf.specs.declared.error.BtfError.TheVariants.{InvalidTypeInfo};
 
@@ -87,11 +88,31 @@ fn further_words(kind: BtfKind, count: usize) -> usize
     }
 }
 
-/// The type of a kind without a list that stands at a place.
-#[tactic(auto, unfolding(crate::specs::Format::spelled, crate::specs::Format::further_words))]
-fn read_plain(order: Endianness, bytes: &[u8], place: usize, kind: BtfKind) -> BtfType
-    requires plain { has_list kind ≡ false }
-    requires whole { end_of order bytes.now place kind ≤ length bytes.now }
+/// Whether a type of a kind has the first three words alone.
+#[tactic(auto, unfolding(crate::specs::Format::further_words))]
+fn is_head(kind: BtfKind) -> bool
+    ensures head { result ≡ is_head kind }
+    ensures words { OnTrue result ((count : ℕ) → further_words kind count ≡ 0) }
+{
+    matches!(
+        kind,
+        BtfKind::Ptr
+            | BtfKind::Typedef
+            | BtfKind::Volatile
+            | BtfKind::Const
+            | BtfKind::Restrict
+            | BtfKind::Func
+            | BtfKind::Float
+            | BtfKind::TypeTag
+    )
+}
+
+/// The type of such a kind that stands at a place. All of them are written in one way, so that no jump is made for
+/// the most of a kernel's types.
+#[tactic(auto, unfolding(crate::specs::Format::spelled))]
+fn read_head(order: Endianness, bytes: &[u8], place: usize, kind: BtfKind) -> BtfType
+    requires head { is_head kind ≡ true }
+    requires whole { place + 12 ≤ length bytes.now }
     ensures { result ≡ spelled order bytes.now place kind }
 {
     let name_offset = read_u32(order, bytes, place);
@@ -118,15 +139,30 @@ fn read_plain(order: Endianness, bytes: &[u8], place: usize, kind: BtfKind) -> B
             name_offset,
             btf_type,
         },
-        BtfKind::TypeTag => BtfType::TypeTag {
-            name_offset,
-            btf_type,
-        },
         BtfKind::Func => BtfType::Func {
             name_offset,
             btf_type,
         },
         BtfKind::Float => BtfType::Float { name_offset, size },
+        _ => BtfType::TypeTag {
+            name_offset,
+            btf_type,
+        },
+    }
+}
+
+/// The type of another kind without a list that stands at a place.
+#[tactic(auto, unfolding(crate::specs::Format::spelled, crate::specs::Format::further_words))]
+fn read_plain(order: Endianness, bytes: &[u8], place: usize, kind: BtfKind) -> BtfType
+    requires plain { has_list kind ≡ false }
+    requires more { is_head kind ≡ false }
+    requires whole { end_of order bytes.now place kind ≤ length bytes.now }
+    ensures { result ≡ spelled order bytes.now place kind }
+{
+    let name_offset = read_u32(order, bytes, place);
+    let size = read_u32(order, bytes, place + 8);
+    let btf_type = size;
+    match kind {
         BtfKind::Fwd => BtfType::Fwd {
             name_offset,
             kind_flag: flag_in(read_u32(order, bytes, place + 4)),
@@ -156,7 +192,7 @@ fn read_plain(order: Endianness, bytes: &[u8], place: usize, kind: BtfKind) -> B
     }
 }
 
-/// The type of a kind that stands at a place.
+/// The type of a kind with more than the first three words that stands at a place.
 #[tactic(auto, unfolding(crate::specs::Format::spelled, crate::specs::Format::further_words))]
 fn read_kind(
     alloc: Global,
@@ -165,7 +201,8 @@ fn read_kind(
     place: usize,
     kind: BtfKind,
 ) -> Result<BtfType, AllocError>
-    requires { end_of order bytes.now place kind ≤ length bytes.now }
+    requires more { is_head kind ≡ false }
+    requires whole { end_of order bytes.now place kind ≤ length bytes.now }
     ensures { IfOk result (λ t. t ≡ spelled order bytes.now place kind) }
 {
     let name_offset = read_u32(order, bytes, place);
@@ -236,6 +273,9 @@ pub fn read_type(
     let Some(kind) = kind_in(info) else {
         return Err(BtfError::InvalidTypeInfo);
     };
+    if is_head(kind) {
+        return Ok((read_head(order, bytes, place, kind), place + HEAD_LENGTH));
+    }
     let next = place + HEAD_LENGTH + 4 * further_words(kind, count_in(info));
     if next > end {
         return Err(BtfError::InvalidTypeInfo);

@@ -38,7 +38,7 @@ pub fn read_rows<R: Row + Drop>(
 {
     let mut items = Vec::with_capacity(alloc, count)?;
     for k in 0..count {
-        items.push(R::read(order, bytes, place + size * k))?;
+        items.push_reserved(R::read(order, bytes, place + size * k));
     }
     Ok(Items::from_vec(items))
 }

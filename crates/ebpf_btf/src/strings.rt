@@ -1,8 +1,9 @@
 //! Texts in the strings.
 
-ghost use Rattle.std.specs.Prelude.{◌≡◌, ◌==◌, take, IfOk, IfErr, Ok, Err};
+ghost use Rattle.std.specs.Prelude.{◌≡◌, ◌==◌, drop, take, IfOk, IfErr, Ok, Err};
 ghost use Rattle.std.specs.List.{position};
 ghost use Rattle.std.specs.Option.{option_copied};
+ghost use Rattle.std.specs.Result.{result_ok};
 ghost use Rattle.std.specs.Cow.{cow_str_bytes};
 ghost use Rattle.std.specs.Str.Lossy.{utf8_lossy};
 ghost use Rattle.ebpf_base.specs.Faults.{Refuses, fault_of};
@@ -15,7 +16,7 @@ use std::alloc::{AllocError, Global};
 use std::borrow::CowStr;
 
 /// The place of the first zero byte.
-fn zero_place(bytes: &[u8]) -> Option<usize>
+pub fn zero_place(bytes: &[u8]) -> Option<usize>
     ensures { result ≡ position (λ b. b == 0) bytes.now }
 {
     bytes.iter().position(|b| *b == 0)
@@ -46,6 +47,7 @@ fn lossy(alloc: Global, bytes: &[u8]) -> Result<CowStr<'_, Global>, AllocError>
 #[tactic(auto, unfolding(crate::specs::Strings::text_at))]
 pub fn read_bytes(strings: &[u8], offset: u32) -> Result<&[u8], BtfError>
     ensures text { IfOk result (λ bytes. text_at strings.now offset ≡ Ok (utf8_lossy bytes.now)) }
+    ensures found { option_copied (result_ok result) ≡ before_zero (drop offset strings.now) }
     ensures fault { IfErr result (λ e. text_at strings.now offset ≡ Err e) }
 {
     let place = offset as usize;

@@ -1,13 +1,11 @@
 //! Types by kind and name.
 
-ghost use Rattle.std.specs.Prelude.{◌≡◌, ◌==◌, ◌<◌, ◌≤◌, ◌^◌, ◌++◌, ℕ, length, map, IfOk, IfErr, OnOk, None, Some, slice_index_or, option_map, if◌then◌else◌};
-ghost use Rattle.std.specs.Cow.{cow_str_bytes};
-ghost use Rattle.std.specs.Result.{result_ok};
+ghost use Rattle.std.specs.Prelude.{◌≡◌, [], length, IfOk, IfErr, OnOk, None, slice_index_or};
+ghost use Rattle.std.specs.List.Sorted.{IsSortedBy, IsStableBy};
 ghost use Rattle.ebpf_base.specs.Faults.{fault_of, Refuses};
 ghost use Rattle.ebpf_btf.specs.Candidates.{candidates, candidates_fault, candidates_of_both, candidates_of_both_fault};
 ghost use Rattle.ebpf_btf.specs.Memory.{is_memory};
-ghost use Rattle.ebpf_btf.specs.Strings.{type_name};
-ghost use Rattle.ebpf_btf.specs.TypeRows.{rows, unreadable_from};
+ghost use Rattle.ebpf_btf.specs.TypeRows.{is_before, rows, unreadable_from};
 ghost use Rattle.ebpf_btf.specs.Types.{kind_number};
 ghost use Rattle.ebpf_btf.specs.declared.error.BtfError.TheVariants.{OutOfMemory};
 ghost use Rattle.ebpf_btf.specs.declared.kind.BtfKind.{BtfKind};
@@ -17,39 +15,34 @@ use crate::error::BtfError;
 use crate::flavors::essential_name;
 use crate::joined_ids::union;
 use crate::kind::{BtfKind, KINDS, kind_number};
-use crate::type_row::{TypeRow, places_of};
-use crate::types::BtfType;
+use crate::nameless::{NamelessTypes, add_nameless, no_nameless_types};
+use crate::type_names::TypeNames;
+use crate::type_row::{TypeRow, key_hash, order_of_rows, places_of};
 use crate::unreadable::{UnreadableName, UnreadableNames, keep_first, lower};
-use std::alloc::Global;
-use std::borrow::CowStr;
+use std::alloc::{AllocError, Global};
 use std::marker::Model;
 
-/// The name of a type, where it can be read.
-fn readable_name<'a>(btf: &'a Btf, ty: &BtfType) -> Result<Option<CowStr<'a, Global>>, BtfError>
-    ensures name { IfOk result (λ name. option_map cow_str_bytes name ≡ result_ok (type_name btf.now ty.now)) }
-    ensures memory { IfErr result (λ e. e ≡ OutOfMemory) }
-{
-    match btf.type_name(ty) {
-        Ok(name) => Ok(Some(name)),
-        Err(BtfError::OutOfMemory) => Err(BtfError::OutOfMemory),
-        Err(_) => Ok(None),
-    }
+/// What one pass over the types finds.
+#[derive(Drop)]
+struct Found {
+    rows: Vec<TypeRow>,
+    nameless: NamelessTypes,
+    unreadable: UnreadableNames,
 }
 
-/// The rows of the types whose names can be read, by id, and the offsets of the first names that can't.
-fn read_rows<'a>(
-    alloc: Global,
-    btf: &'a Btf,
-) -> Result<(Vec<TypeRow<'a>>, UnreadableNames), BtfError>
-    ensures rows { IfOk result (λ found. found.0.items ≡ rows btf.now) }
-    ensures unread { IfOk result (λ found. (kind : BtfKind) → slice_index_or found.1 (kind_number kind) None ≡ unreadable_from btf.now kind 0 btf.now.types) }
-    ensures kinds { IfOk result (λ found. length found.1 ≡ 20) }
-    ensures memory { IfErr result (λ e. e ≡ OutOfMemory) }
+/// The rows of the types that have names, by id, the ids of those that have none, and the offsets of the first names
+/// that can't be read.
+fn read_rows(alloc: Global, names: &TypeNames<'_>) -> Result<Found, AllocError>
+    ensures rows { IfOk result (λ found. found.rows.items ≡ rows names.now) }
+    ensures nameless { IfOk result (λ found. (kind : BtfKind) → slice_index_or found.nameless.items (kind_number kind) [] ≡ candidates names.now kind []) }
+    ensures unread { IfOk result (λ found. (kind : BtfKind) → slice_index_or found.unreadable (kind_number kind) None ≡ unreadable_from names.now kind 0 names.now.types) }
+    ensures kinds { IfOk result (λ found. (length found.nameless.items ≡ 20) × (length found.unreadable ≡ 20)) }
 {
-    let mut rows = Vec::with_capacity(alloc, btf.types().len())?;
+    let mut rows = Vec::new(alloc);
+    let mut nameless = no_nameless_types(alloc)?;
     let mut unreadable: UnreadableNames = [None; KINDS];
-    for (id, ty) in btf.types().iter().enumerate() {
-        let Some(name) = readable_name(btf, ty)? else {
+    for (id, ty) in names.btf().types().iter().enumerate() {
+        let Some(name) = names.name(id, ty) else {
             let first = UnreadableName {
                 id: id as u32,
                 offset: ty.name_offset(),
@@ -57,9 +50,31 @@ fn read_rows<'a>(
             keep_first(&mut unreadable, ty.kind(), first);
             continue;
         };
-        rows.push(TypeRow::new(kind_number(ty.kind()), name, id as u32))?;
+        if name.is_empty() {
+            add_nameless(&mut nameless, ty.kind(), id as u32)?;
+            continue;
+        }
+        rows.push(TypeRow {
+            hash: key_hash(kind_number(ty.kind()), name),
+            id: id as u32,
+        })?;
     }
-    Ok((rows, unreadable))
+    Ok(Found {
+        rows,
+        nameless,
+        unreadable,
+    })
+}
+
+/// Sorts rows by hash, kind and name; those that have the same stay in order of their ids. Sorted by hashes alone they
+/// are in order but for collisions, so that the second sort is one pass.
+fn sort_rows(names: &TypeNames<'_>, rows: &mut Vec<TypeRow>) -> Result<(), AllocError>
+    ensures sorted { OnOk result (IsSortedBy (is_before names.now) rows.new.items) }
+    ensures stable { OnOk result (IsStableBy (is_before names.now) rows.old.items rows.new.items) }
+{
+    rows.sort_by_key(|row| row.hash)?;
+    rows.sort_by(|left, right| order_of_rows(names, *left, *right))?;
+    Ok(())
 }
 
 /// Types by kind and name, the names without what follows three underscores.
@@ -67,9 +82,10 @@ fn read_rows<'a>(
 /// Contracts see the type information that it was made for.
 #[derive(Drop)]
 pub struct TypeIndex<'a> {
-    btf: &'a Btf,
-    rows: Vec<TypeRow<'a>>,
+    names: TypeNames<'a>,
+    rows: Vec<TypeRow>,
     ids: Vec<u32>,
+    nameless: NamelessTypes,
     unreadable: UnreadableNames,
 }
 
@@ -79,9 +95,9 @@ impl<'a> Model for TypeIndex<'a> {
 
     ghost Value = { TypeInfo };
 
-    ghost view = { λ x. x.btf.now };
+    ghost view = { λ x. x.names };
 
-    ghost invariant = { λ x. IsIndex x.btf.now x.rows.items x.ids.items x.unreadable };
+    ghost invariant = { λ x. IsIndex x.names x.rows.items x.ids.items x.nameless.items x.unreadable };
 }
 
 impl<'a> TypeIndex<'a> {
@@ -91,13 +107,19 @@ impl<'a> TypeIndex<'a> {
         ensures types { IfOk result (λ index. index ≡ btf.now) }
         ensures memory { IfErr result (λ e. e ≡ OutOfMemory) }
     {
-        let (mut rows, unreadable) = read_rows(alloc, btf)?;
-        rows.sort()?;
-        let ids = rows.iter().map(|row| row.id()).collect(alloc)?;
+        let names = TypeNames::new(alloc, btf)?;
+        let Found {
+            mut rows,
+            nameless,
+            unreadable,
+        } = read_rows(alloc, &names)?;
+        sort_rows(&names, &mut rows)?;
+        let ids = rows.iter().map(|row| row.id).collect(alloc)?;
         Ok(TypeIndex {
-            btf,
+            names,
             rows,
             ids,
+            nameless,
             unreadable,
         })
     }
@@ -106,7 +128,7 @@ impl<'a> TypeIndex<'a> {
     pub fn btf(&self) -> &'a Btf
         ensures { result.now ≡ self.now }
     {
-        self.btf
+        self.names.btf()
     }
 
     /// The first type of a kind whose name can't be read.
@@ -121,7 +143,11 @@ impl<'a> TypeIndex<'a> {
         ensures { result.now ≡ candidates self.now kind name.now }
     {
         let number = kind_number(kind);
-        let (start, end) = places_of(&self.rows, number, essential_name(name.as_bytes()));
+        let name = essential_name(name.as_bytes());
+        if name.is_empty() {
+            return self.nameless[number as usize].as_slice();
+        }
+        let (start, end) = places_of(&self.names, &self.rows, number, name);
         &self.ids[start..end]
     }
 

@@ -9,7 +9,7 @@ use crate::kind::BtfKind;
 use crate::members::{BtfEnum, BtfEnum64, BtfMember, BtfParam, DataSecEntry};
 use ebpf_base::Items;
 
-/// A type (`struct btf_type` and what follows it), by its kind.
+/// A type (`struct btf_type` and what follows it), by its kind; the kinds are in the order of their numbers.
 ///
 /// `name_offset` is the offset of the name in the strings, 0 where the type has none; `size` is in bytes;
 /// `btf_type` and other fields that end in `_type` are ids of types.
@@ -17,41 +17,6 @@ use ebpf_base::Items;
 pub enum BtfType {
     /// No type, or `void`.
     Unknown,
-    /// A struct or, where `kind_flag` is set, a union that is declared and not defined.
-    Fwd {
-        name_offset: u32,
-        kind_flag: bool,
-    },
-    /// `const`.
-    Const {
-        name_offset: u32,
-        btf_type: u32,
-    },
-    /// `volatile`.
-    Volatile {
-        name_offset: u32,
-        btf_type: u32,
-    },
-    /// `restrict`.
-    Restrict {
-        name_offset: u32,
-        btf_type: u32,
-    },
-    /// A pointer.
-    Ptr {
-        name_offset: u32,
-        btf_type: u32,
-    },
-    /// A name for a type.
-    Typedef {
-        name_offset: u32,
-        btf_type: u32,
-    },
-    /// A function; `btf_type` is its FUNC_PROTO.
-    Func {
-        name_offset: u32,
-        btf_type: u32,
-    },
     /// An integer. `int_data` has the encoding in bits 24 to 27 (1: signed), the bit offset in bits 16 to 23
     /// and the number of bits in bits 0 to 7.
     Int {
@@ -59,17 +24,10 @@ pub enum BtfType {
         size: u32,
         int_data: u32,
     },
-    /// A floating point number.
-    Float {
+    /// A pointer.
+    Ptr {
         name_offset: u32,
-        size: u32,
-    },
-    /// An enumeration with values of up to 32 bits, signed where `kind_flag` is set.
-    Enum {
-        name_offset: u32,
-        size: u32,
-        kind_flag: bool,
-        variants: Items<BtfEnum>,
+        btf_type: u32,
     },
     /// An array of `len` elements.
     Array {
@@ -93,6 +51,43 @@ pub enum BtfType {
         members: Items<BtfMember>,
         enum64_fallback: Option<BoxedFallback>,
     },
+    /// An enumeration with values of up to 32 bits, signed where `kind_flag` is set.
+    Enum {
+        name_offset: u32,
+        size: u32,
+        kind_flag: bool,
+        variants: Items<BtfEnum>,
+    },
+    /// A struct or, where `kind_flag` is set, a union that is declared and not defined.
+    Fwd {
+        name_offset: u32,
+        kind_flag: bool,
+    },
+    /// A name for a type.
+    Typedef {
+        name_offset: u32,
+        btf_type: u32,
+    },
+    /// `volatile`.
+    Volatile {
+        name_offset: u32,
+        btf_type: u32,
+    },
+    /// `const`.
+    Const {
+        name_offset: u32,
+        btf_type: u32,
+    },
+    /// `restrict`.
+    Restrict {
+        name_offset: u32,
+        btf_type: u32,
+    },
+    /// A function; `btf_type` is its FUNC_PROTO.
+    Func {
+        name_offset: u32,
+        btf_type: u32,
+    },
     /// What a function takes, and in `btf_type` what it gives.
     FuncProto {
         name_offset: u32,
@@ -110,6 +105,11 @@ pub enum BtfType {
         name_offset: u32,
         size: u32,
         entries: Items<DataSecEntry>,
+    },
+    /// A floating point number.
+    Float {
+        name_offset: u32,
+        size: u32,
     },
     /// A tag of a declaration, or of the member or parameter `component_index`.
     DeclTag {
@@ -139,22 +139,22 @@ impl BtfType {
     {
         match self {
             BtfType::Unknown => BtfKind::Unknown,
-            BtfType::Fwd { .. } => BtfKind::Fwd,
-            BtfType::Const { .. } => BtfKind::Const,
-            BtfType::Volatile { .. } => BtfKind::Volatile,
-            BtfType::Restrict { .. } => BtfKind::Restrict,
-            BtfType::Ptr { .. } => BtfKind::Ptr,
-            BtfType::Typedef { .. } => BtfKind::Typedef,
-            BtfType::Func { .. } => BtfKind::Func,
             BtfType::Int { .. } => BtfKind::Int,
-            BtfType::Float { .. } => BtfKind::Float,
-            BtfType::Enum { .. } => BtfKind::Enum,
+            BtfType::Ptr { .. } => BtfKind::Ptr,
             BtfType::Array { .. } => BtfKind::Array,
             BtfType::Struct { .. } => BtfKind::Struct,
             BtfType::Union { .. } => BtfKind::Union,
+            BtfType::Enum { .. } => BtfKind::Enum,
+            BtfType::Fwd { .. } => BtfKind::Fwd,
+            BtfType::Typedef { .. } => BtfKind::Typedef,
+            BtfType::Volatile { .. } => BtfKind::Volatile,
+            BtfType::Const { .. } => BtfKind::Const,
+            BtfType::Restrict { .. } => BtfKind::Restrict,
+            BtfType::Func { .. } => BtfKind::Func,
             BtfType::FuncProto { .. } => BtfKind::FuncProto,
             BtfType::Var { .. } => BtfKind::Var,
             BtfType::DataSec { .. } => BtfKind::DataSec,
+            BtfType::Float { .. } => BtfKind::Float,
             BtfType::DeclTag { .. } => BtfKind::DeclTag,
             BtfType::TypeTag { .. } => BtfKind::TypeTag,
             BtfType::Enum64 { .. } => BtfKind::Enum64,

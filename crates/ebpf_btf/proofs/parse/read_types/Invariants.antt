@@ -7,9 +7,9 @@ use Rattle.ebpf_btf.proofs.parse.read_types.Given as goal
 abbrev pub invariant-loop-place : goal.invariant-loop-place
 invariant-loop-place l = record {
   within : (l.start ≤ l.place) × (l.place ≤ l.«end»);
-  void : slice_get l.types 0 ≡ Some Unknown;
-  few : length l.types + l.start ≤ l.place + 1;
-  rest : with_front l.types (types_from (l.«end» - l.place) l.order l.bytes l.place l.«end»)
+  void : slice_get l.types.items 0 ≡ Some Unknown;
+  few : length l.types.items + l.start ≤ l.place + 1;
+  rest : with_front l.types.items (types_from (l.«end» - l.place) l.order l.bytes l.place l.«end»)
       ≡ with_front (Unknown ∷ []) (types_from (l.«end» - l.start) l.order l.bytes l.start l.«end»);
 }
 

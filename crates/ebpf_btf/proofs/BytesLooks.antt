@@ -1,0 +1,173 @@
+-- One look at each byte of a name, up to its zero byte.
+use Rattle.std.proofs.Common.{◌≡◌, ◌+◌, ◌-◌, ◌<◌, ◌≤◌, ◌==◌, ℕ, zero, suc, Bool, true, false, not, cond, List, [], ◌∷◌, ◌++◌, length, get_or, take, drop, nat_lt, Option, Some, None, refl, sym, ap, ◌∙◌, arith, add-one, append-nil, append_assoc, ◌&&◌, ⊎_elim, subst}
+use Rattle.std.specs.Prelude.{option_map, nat_eq, replicate}
+use Rattle.std.specs.List.{prefix_len}
+use Rattle.std.proofs.lemmas.Bool.{cases_eq, cases_lt}
+use Rattle.std.proofs.lemmas.Bool.Decides.{nat_tests}
+use Rattle.std.proofs.lemmas.List.{drop_all, drop_more, replicate_more, take_more}
+use Rattle.ebpf_btf.specs.EssentialNames.{essential_name}
+use Rattle.ebpf_btf.specs.Strings.{before_zero}
+use Rattle.ebpf_btf.proofs.Essentials.{essential_step}
+
+abbrev front : List ℕ → ℕ
+front xs = prefix_len (λ b. not (b == 0)) xs
+
+zero_first : (xs : List ℕ) → before_zero (0 ∷ xs) ≡ Some []
+zero_first xs = let less : nat_lt 0 (suc (length xs)) ≡ true = grind (arith, nat_tests) in rw less refl
+
+zero_later : (x : ℕ) (xs : List ℕ) → (x == 0) ≡ false → before_zero (x ∷ xs) ≡ option_map (λ t. x ∷ t) (before_zero xs)
+zero_later x xs other = rw other (by_test (nat_lt (front xs) (length xs)) refl)
+  where
+    by_test : (b : Bool) → nat_lt (front xs) (length xs) ≡ b
+        → option_map (λ n. take n (x ∷ xs)) (cond (nat_lt (1 + front xs) (suc (length xs))) (Some (1 + front xs)) None)
+        ≡ option_map (λ t. x ∷ t) (option_map (λ n. take n xs) (cond b (Some (front xs)) None))
+    by_test true e = let more : nat_lt (1 + front xs) (suc (length xs)) ≡ true = grind (arith, nat_tests) in
+        let one : 1 + front xs ≡ suc (front xs) = omega arith in
+        rw more (ap (λ n. Some (take n (x ∷ xs))) one)
+    by_test false e = let more : nat_lt (1 + front xs) (suc (length xs)) ≡ false = grind (arith, nat_tests) in rw more refl
+
+-- no zero byte is there
+none_left : before_zero [] ≡ None
+none_left = refl
+
+-- what is left to say of a name, where the bytes before a place have no zero byte and no three underscores, and end
+-- in so many underscores
+abbrev pub told : List ℕ → ℕ → ℕ → Option (List ℕ)
+told bytes place marks = option_map (λ tail. take (place - marks) bytes ++ essential_name (replicate marks 95 ++ tail)) (before_zero (drop place bytes))
+
+-- the bytes before a place end in so many underscores
+abbrev pub EndsIn : List ℕ → ℕ → ℕ → Type 0
+EndsIn bytes place marks = take (place - marks) bytes ++ replicate marks 95 ≡ take place bytes
+
+same_map : (f g : List ℕ → List ℕ) (o : Option (List ℕ)) → ((t : List ℕ) → f t ≡ g t) → option_map f o ≡ option_map g o
+same_map f g None same = refl
+same_map f g (Some t) same = ap Some (same t)
+
+map_twice : (f g : List ℕ → List ℕ) (o : Option (List ℕ)) → option_map f (option_map g o) ≡ option_map (λ t. f (g t)) o
+map_twice f g None = refl
+map_twice f g (Some t) = refl
+
+byte_at : (bytes : List ℕ) (place : ℕ) → place < length bytes → drop place bytes ≡ get_or bytes place 0 ∷ drop (place + 1) bytes
+byte_at bytes place inside = drop_more bytes place 0 inside
+
+-- what is left at a byte that is not zero
+told_byte : (bytes : List ℕ) (place marks : ℕ) → place < length bytes → (get_or bytes place 0 == 0) ≡ false
+    → told bytes place marks ≡ option_map (λ tail. take (place - marks) bytes ++ essential_name (replicate marks 95 ++ (get_or bytes place 0 ∷ tail))) (before_zero (drop (place + 1) bytes))
+told_byte bytes place marks inside other =
+    let F : List ℕ → List ℕ = λ tail. take (place - marks) bytes ++ essential_name (replicate marks 95 ++ tail) in
+    let x = get_or bytes place 0 in
+    ap (λ xs. option_map F (before_zero xs)) (byte_at bytes place inside)
+    ∙ ap (option_map F) (zero_later x (drop (place + 1) bytes) other)
+    ∙ map_twice F (λ t. x ∷ t) (before_zero (drop (place + 1) bytes))
+
+closed : (b c : Bool) → c ≡ false → (b && (c && true)) ≡ false
+closed true c e = rw e refl
+closed false c e = refl
+
+-- underscores before another byte are part of the name
+essential_other : (marks x : ℕ) (tail : List ℕ) → marks ≤ 2 → nat_eq 95 x ≡ false → essential_name (replicate marks 95 ++ (x ∷ tail)) ≡ replicate marks 95 ++ (x ∷ essential_name tail)
+essential_other zero x tail few other = essential_step x tail ∙ rw other refl
+essential_other (suc zero) x tail few other =
+    essential_step 95 (x ∷ tail) ∙ rw other (ap (λ name. 95 ∷ name) (essential_step x tail ∙ rw other refl))
+essential_other (suc (suc zero)) x tail few other =
+    essential_step 95 (95 ∷ x ∷ tail) ∙ rw other (ap (λ name. 95 ∷ name) (essential_step 95 (x ∷ tail) ∙ rw other (ap (λ name. 95 ∷ name) (essential_step x tail ∙ rw other refl))))
+essential_other (suc (suc (suc marks))) x tail few other = absurd (omega arith)
+
+essential_marks : (marks : ℕ) → marks ≤ 2 → essential_name (replicate marks 95) ≡ replicate marks 95
+unfolding essential_name
+essential_marks zero few = refl
+essential_marks (suc zero) few = refl
+essential_marks (suc (suc zero)) few = refl
+essential_marks (suc (suc (suc marks))) few = absurd (omega arith)
+
+-- ---- the steps
+
+-- a byte that is neither zero nor an underscore
+pub told_other : (bytes : List ℕ) (place marks : ℕ) → place < length bytes → marks ≤ 2 → EndsIn bytes place marks
+    → (get_or bytes place 0 == 0) ≡ false → nat_eq 95 (get_or bytes place 0) ≡ false → told bytes (place + 1) 0 ≡ told bytes place marks
+told_other bytes place marks inside few ends other byte = sym (told_byte bytes place marks inside other ∙ same_map _ _ (before_zero (drop (place + 1) bytes)) each)
+  where
+    each : (tail : List ℕ) → take (place - marks) bytes ++ essential_name (replicate marks 95 ++ (get_or bytes place 0 ∷ tail)) ≡ take (place + 1 - 0) bytes ++ essential_name tail
+    each tail =
+        let x = get_or bytes place 0 in
+        let front_to : take (place + 1 - 0) bytes ≡ take place bytes ++ x ∷ [] = ap (λ n. take n bytes) (omega arith) ∙ take_more bytes place 0 inside in
+        ap (λ name. take (place - marks) bytes ++ name) (essential_other marks x tail few byte)
+        ∙ sym (append_assoc (take (place - marks) bytes) (replicate marks 95) (x ∷ essential_name tail))
+        ∙ ap (λ f. f ++ (x ∷ essential_name tail)) ends
+        ∙ sym (append_assoc (take place bytes) (x ∷ []) (essential_name tail))
+        ∙ ap (λ f. f ++ essential_name tail) (sym front_to)
+
+-- an underscore that is the first or the second in a row
+pub told_mark : (bytes : List ℕ) (place marks : ℕ) → place < length bytes → marks ≤ place → marks ≤ 1 → get_or bytes place 0 ≡ 95 → told bytes (place + 1) (marks + 1) ≡ told bytes place marks
+told_mark bytes place marks inside low few byte =
+    let other : (get_or bytes place 0 == 0) ≡ false = grind (arith, nat_tests) in
+    sym (told_byte bytes place marks inside other ∙ same_map _ _ (before_zero (drop (place + 1) bytes)) each)
+  where
+    more : (n : ℕ) (tail : List ℕ) → replicate n 95 ++ (95 ∷ tail) ≡ replicate (suc n) 95 ++ tail
+    more zero tail = refl
+    more (suc n) tail = ap (λ t. 95 ∷ t) (more n tail)
+
+    each : (tail : List ℕ) → take (place - marks) bytes ++ essential_name (replicate marks 95 ++ (get_or bytes place 0 ∷ tail)) ≡ take (place + 1 - (marks + 1)) bytes ++ essential_name (replicate (marks + 1) 95 ++ tail)
+    each tail =
+        let same : place - marks ≡ place + 1 - (marks + 1) = omega arith in
+        ap (λ x. take (place - marks) bytes ++ essential_name (replicate marks 95 ++ (x ∷ tail))) byte
+        ∙ ap (λ t. take (place - marks) bytes ++ essential_name t) (more marks tail)
+        ∙ ap (λ n. take (place - marks) bytes ++ essential_name (replicate n 95 ++ tail)) (sym (add-one marks))
+        ∙ ap (λ n. take n bytes ++ essential_name (replicate (marks + 1) 95 ++ tail)) same
+
+-- the third
+pub told_third : (bytes : List ℕ) (place : ℕ) → place < length bytes → get_or bytes place 0 ≡ 95 → told bytes place 2 ≡ option_map (λ tail. take (place - 2) bytes) (before_zero (drop (place + 1) bytes))
+told_third bytes place inside byte =
+    let other : (get_or bytes place 0 == 0) ≡ false = grind (arith, nat_tests) in
+    told_byte bytes place 2 inside other ∙ same_map _ _ (before_zero (drop (place + 1) bytes)) each
+  where
+    each : (tail : List ℕ) → take (place - 2) bytes ++ essential_name (95 ∷ 95 ∷ (get_or bytes place 0 ∷ tail)) ≡ take (place - 2) bytes
+    each tail = ap (λ x. take (place - 2) bytes ++ essential_name (95 ∷ 95 ∷ (x ∷ tail))) byte ∙ ap (λ name. take (place - 2) bytes ++ name) (essential_step 95 (95 ∷ 95 ∷ tail)) ∙ append-nil (take (place - 2) bytes)
+
+-- the zero byte
+pub told_zero : (bytes : List ℕ) (place marks : ℕ) → place < length bytes → marks ≤ 2 → EndsIn bytes place marks → get_or bytes place 0 ≡ 0 → told bytes place marks ≡ Some (take place bytes)
+told_zero bytes place marks inside few ends byte =
+    let F : List ℕ → List ℕ = λ tail. take (place - marks) bytes ++ essential_name (replicate marks 95 ++ tail) in
+    ap (λ xs. option_map F (before_zero xs)) (byte_at bytes place inside ∙ ap (λ x. x ∷ drop (place + 1) bytes) byte)
+    ∙ ap (option_map F) (zero_first (drop (place + 1) bytes))
+    ∙ ap Some (ap (λ t. take (place - marks) bytes ++ essential_name t) (append-nil (replicate marks 95)) ∙ ap (λ name. take (place - marks) bytes ++ name) (essential_marks marks few) ∙ ends)
+
+pub told_end : (bytes : List ℕ) (place marks : ℕ) → length bytes ≤ place → told bytes place marks ≡ None
+told_end bytes place marks past =
+    ap (λ xs. option_map (λ tail. take (place - marks) bytes ++ essential_name (replicate marks 95 ++ tail)) (before_zero xs)) (drop_all place bytes past)
+
+-- ---- all of it at one place
+
+pub record IsTold (bytes : List ℕ) (place marks : ℕ) (all : Option (List ℕ)) : Type 0 where
+  pub few : marks ≤ 2
+  pub low : marks ≤ place
+  pub ends : EndsIn bytes place marks
+  pub rest : told bytes place marks ≡ all
+
+pub told_start : (bytes : List ℕ) → IsTold bytes 0 0 (option_map essential_name (before_zero bytes))
+told_start bytes = record { few = omega arith; low = omega arith; ends = refl; rest = refl }
+
+pub told_step : (bytes : List ℕ) (place marks next : ℕ) (all : Option (List ℕ)) → place < length bytes → IsTold bytes place marks all
+    → ((get_or bytes place 0 ≡ 0) → ⊥) → ((marks ≡ 2) → (get_or bytes place 0 ≡ 95) → ⊥) → next ≡ cond (get_or bytes place 0 == 95) (marks + 1) 0
+    → IsTold bytes (place + 1) next all
+told_step bytes place marks next all inside is other third after = by_byte (get_or bytes place 0 == 95) refl after
+  where
+    by_byte : (b : Bool) → (get_or bytes place 0 == 95) ≡ b → next ≡ cond b (marks + 1) 0 → IsTold bytes (place + 1) next all
+    by_byte true e same =
+        let byte : get_or bytes place 0 ≡ 95 = grind (arith, nat_tests) in
+        let few : marks ≤ 1 = ⊎_elim (λ (low : marks < 2). omega arith) (λ (high : 2 ≤ marks). let up = is.few in absurd (third (omega arith) byte)) (cases_lt marks 2) in
+        let under = is.low in
+        let front_to : take (place + 1) bytes ≡ take place bytes ++ 95 ∷ [] = take_more bytes place 0 inside ∙ ap (λ x. take place bytes ++ x ∷ []) byte in
+        let back : place + 1 - (marks + 1) ≡ place - marks = omega arith in
+        let ends : EndsIn bytes (place + 1) (marks + 1) =
+        ap (λ n. take n bytes ++ replicate (marks + 1) 95) back
+        ∙ ap (λ xs. take (place - marks) bytes ++ xs) (sym (replicate_more marks 95))
+        ∙ sym (append_assoc (take (place - marks) bytes) (replicate marks 95) (95 ∷ []))
+        ∙ ap (λ xs. xs ++ 95 ∷ []) is.ends ∙ sym front_to in
+        subst (λ n. IsTold bytes (place + 1) n all) (sym same)
+        (record { few = omega arith; low = omega arith; ends = ends; rest = told_mark bytes place marks inside is.low few byte ∙ is.rest })
+    by_byte false e same =
+        let zero_test : (get_or bytes place 0 == 0) ≡ false = ⊎_elim (λ (none : get_or bytes place 0 ≡ 0). absurd (other none)) (λ (some : (get_or bytes place 0 ≡ 0) → ⊥). grind (arith, nat_tests)) (cases_eq (get_or bytes place 0) 0) in
+        let mark_test : nat_eq 95 (get_or bytes place 0) ≡ false = grind (arith, nat_tests) in
+        subst (λ n. IsTold bytes (place + 1) n all) (sym same)
+        (record { few = omega arith; low = omega arith; ends = append-nil (take (place + 1 - 0) bytes) ∙ ap (λ n. take n bytes) (omega arith); rest = told_other bytes place marks inside is.few is.ends zero_test mark_test ∙ is.rest })
