@@ -1,11 +1,8 @@
 -- One more symbol in its group.
-use Rattle.std.proofs.Common.{◌≡◌, ℕ, ◌+◌, ◌<◌, ◌≤◌, length, drop, sym, Bool, true, false, List, [], ◌∷◌, ◌++◌, filter, refl, ap, ◌∙◌, append_assoc, append-nil}
-use Rattle.std.specs.Prelude.{◌==◌, if◌then◌else◌, slice_index_or}
+use Rattle.std.proofs.Common.{◌≡◌, ℕ, Bool, true, false, List, [], ◌∷◌, ◌++◌, filter, refl, ap, ◌∙◌, append_assoc, append-nil}
+use Rattle.std.specs.Prelude.{◌==◌, if◌then◌else◌}
 use Rattle.ebpf_elf.specs.Relocations.{target_of}
 use Rattle.ebpf_elf.specs.Sections.{SectionOf}
-use Rattle.ebpf_btf.specs.declared.ext_infos.bpf_func_info.{bpf_func_info}
-use Rattle.ebpf_parsing.specs.Records.{is_func_at}
-use Rattle.ebpf_parts.proofs.Walks.{rest_more, rest_none}
 use Rattle.ebpf_parsing.specs.Symbols.{SymbolValue, symbols_of, is_in}
 
 pub group_more : (group group' : List SymbolValue) (y : SymbolValue) (rest : List SymbolValue) (q : ℕ)
@@ -36,17 +33,3 @@ target_more group group' r rest q e = ap (λ g. g ++ filter (λ s. target_of s =
 
 pub target_all : (group : List SectionOf) (q : ℕ) → group ++ filter (λ s. target_of s == q) [] ≡ group
 target_all group q = append-nil group
-
--- one more record on functions in the group of its slot
-pub func_more : (group group' : List bpf_func_info) (rows : List bpf_func_info) (i : ℕ) (r : bpf_func_info) (q : ℕ) → i < length rows → r ≡ slice_index_or rows i r
-    → group' ≡ (if r.insn_off == q then group ++ r ∷ [] else group)
-    → group' ++ filter (is_func_at q) (drop (i + 1) rows) ≡ group ++ filter (is_func_at q) (drop i rows)
-func_more group group' rows i r q below here e =
-    ap (λ g. g ++ filter (is_func_at q) (drop (i + 1) rows)) e ∙ by_case (r.insn_off == q) ∙ ap (λ l. group ++ filter (is_func_at q) l) (sym (rest_more rows i r below here))
-  where
-    by_case : (b : Bool) → (if b then group ++ r ∷ [] else group) ++ filter (is_func_at q) (drop (i + 1) rows) ≡ group ++ (if b then r ∷ filter (is_func_at q) (drop (i + 1) rows) else filter (is_func_at q) (drop (i + 1) rows))
-    by_case true = append_assoc group (r ∷ []) (filter (is_func_at q) (drop (i + 1) rows))
-    by_case false = refl
-
-pub funcs_none : (group : List bpf_func_info) (rows : List bpf_func_info) (i q : ℕ) → length rows ≤ i → group ++ filter (is_func_at q) (drop i rows) ≡ group
-funcs_none group rows i q past = ap (λ l. group ++ filter (is_func_at q) l) (rest_none rows i past) ∙ append-nil group

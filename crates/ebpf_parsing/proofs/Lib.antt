@@ -2,6 +2,7 @@ pub mod AddedLemmas
 pub mod FirstNames
 pub mod FromFile
 pub mod Grouped
+pub mod Kept
 pub mod Offsets
 pub mod Rebuilt
 pub mod TextLemmas

@@ -1,20 +1,25 @@
--- Places in a list, gathered slot by slot and then sorted.
-use Rattle.std.proofs.Common.{◌≡◌, ℕ, zero, suc, ◌+◌, ◌-◌, ◌<◌, ◌≤◌, Bool, true, false, not, ◌&&◌, List, [], ◌∷◌, ◌++◌, length, map, filter, refl, sym, ap, subst, ◌∙◌, arith, get_or, append_assoc, append-nil, All}
-use Rattle.std.specs.Prelude.{if◌then◌else◌, ◌==◌, nat_le, nat_lt}
+-- Places of records, sorted by slots: a part of them holds the records of some slots.
+use Rattle.std.proofs.Common.{◌≡◌, ℕ, zero, suc, ◌+◌, ◌-◌, ◌<◌, ◌≤◌, Bool, true, false, not, ◌&&◌, List, [], ◌∷◌, ◌++◌, length, map, filter, refl, sym, ap, subst, ◌∙◌, arith, get_or, take, drop, append_assoc, append-nil, All, inl, inr}
+use Rattle.std.specs.Prelude.{◌⊎◌, ◌==◌, nat_le, nat_lt}
 use Rattle.std.specs.Cmp.{nat_cmp_total, eq_by_cmp_equiv}
 use Rattle.std.specs.FinMap.{nat_cmp-IsAntisymmetric}
-use Rattle.std.specs.List.{flat_map, range_with_len, AllByRecursion, IsDistinct}
-use Rattle.std.specs.List.Sorted.{IsPermutation, IsSorted, IsStrictlySortedBy}
-use Rattle.std.specs.Ordering.{nat_cmp, eq_by_cmp}
+use Rattle.std.specs.List.{AllWithin, flat_map, range_with_len, AllByRecursion, IsDistinct}
+use Rattle.std.specs.List.Sorted.{IsPartitionPoint, IsPermutation, IsSorted, IsStableByKey, IsStrictlySortedBy, ties}
+use Rattle.std.specs.Ordering.{nat_cmp, eq_by_cmp, is_lt}
 use Rattle.std.specs.declared.cmp.Ordering.TheVariants.{Less}
+use Rattle.std.proofs.lemmas.Bool.{cases_lt}
 use Rattle.std.proofs.lemmas.Bool.Decides.{nat_tests}
-use Rattle.std.proofs.lemmas.List.Elements.{filter_agree, All-filter}
+use Rattle.std.proofs.lemmas.List.{map-id}
+use Rattle.std.proofs.lemmas.List.Elements.{filter_agree, All-filter, All-map}
 use Rattle.std.proofs.lemmas.List.FromFn.{length-range_with_len, get_or-range_with_len}
 use Rattle.std.proofs.lemmas.List.Kept.{IsStrictlySortedBy-filter}
-use Rattle.std.proofs.lemmas.List.Sorted.{IsPermutation-refl, IsPermutation-filter_both, IsPermutation-trans, IsPermutation-append_right, list_any-IsPermutation}
+use Rattle.std.proofs.lemmas.List.Sorted.{IsPermutation-refl, IsPermutation-sym, IsPermutation-map, IsPermutation-filter_both, IsPermutation-trans, IsPermutation-append_right, list_any-IsPermutation}
 use Rattle.std.proofs.lemmas.Map.Keys.{IsDistinct-from_sorted, IsDistinct-IsPermutation}
+use Rattle.ebpf_btf.specs.declared.ext_infos.bpf_func_info.{bpf_func_info}
 use Rattle.ebpf_btf.specs.declared.ext_infos.bpf_line_info.{bpf_line_info}
-use Rattle.ebpf_parsing.specs.Records.{is_line_in, line_from, line_at, line_slot}
+use Rattle.ebpf_parsing.specs.Records.{is_func_at, func_from, func_at, func_slot, is_line_in, line_from, line_at, line_slot}
+use Rattle.ebpf_parsing.specs.SlotPlaces.{is_at, is_among, places_with}
+use Rattle.ebpf_parsing.specs.declared.slot_places.Place.{Place}
 use Rattle.ebpf_base.proofs.Sorted.{strictly_sorted, same_keys}
 
 -- ---- tests
@@ -57,60 +62,144 @@ below_end n = λ k d below.
     let here : get_or (range_with_len 0 n) k d ≡ 0 + k = get_or-range_with_len 0 n k d inside in
     omega (arith, here, inside)
 
--- ---- places of slots
+-- ---- a part of a list
 
-module _ (slot : ℕ → ℕ) where
-  abbrev pub place_at : ℕ → ℕ → Bool
-  place_at s i = slot i == s
+module _ {X : Type 0} (p : X → Bool) where
+  none_passes : (xs : List X) → ((k : ℕ) (d : X) → k < length xs → p (get_or xs k d) ≡ false) → filter p xs ≡ []
+  none_passes [] fails = refl
+  none_passes (x ∷ xs) fails = rw (fails 0 x (omega arith)) (none_passes xs (λ k d below. fails (suc k) d (omega arith)))
 
-  abbrev pub place_in : ℕ → ℕ → ℕ → Bool
-  place_in first count i = nat_le first (slot i) && nat_lt (slot i) (first + count)
+  front_passes : (xs : List X) (n : ℕ) → n ≤ length xs → AllWithin (λ x. p x ≡ true) xs 0 n → ((k : ℕ) (d : X) → n ≤ k → k < length xs → p (get_or xs k d) ≡ false) → filter p xs ≡ take n xs
+  front_passes xs zero within passes fails = none_passes xs (λ k d below. fails k d (omega arith) below)
+  front_passes [] (suc n) within passes fails = refl
+  front_passes (x ∷ xs) (suc n) within passes fails =
+      rw (passes 0 x (omega arith) (omega arith))
+      (ap (λ l. x ∷ l) (front_passes xs n (omega arith) (λ k d low high. passes (suc k) d (omega arith) (omega arith)) (λ k d low high. fails (suc k) d (omega arith) (omega arith))))
 
-  none_in : (first i : ℕ) → place_in first 0 i ≡ false
-  none_in first i = bool_same _ _ (λ e. grind (arith, nat_tests)) (λ e. cc)
+  part_passes : (xs : List X) (start n : ℕ) → start + n ≤ length xs
+      → ((k : ℕ) (d : X) → k < start → p (get_or xs k d) ≡ false)
+      → ((k : ℕ) (d : X) → start ≤ k → k < start + n → p (get_or xs k d) ≡ true)
+      → ((k : ℕ) (d : X) → start + n ≤ k → k < length xs → p (get_or xs k d) ≡ false)
+      → filter p xs ≡ take n (drop start xs)
+  part_passes xs zero n within before inside after =
+      front_passes xs n (omega arith) (λ k d low high. inside k d (omega arith) (omega arith)) (λ k d low high. after k d (omega arith) (omega arith))
+  part_passes [] (suc start) n within before inside after = absurd (omega arith)
+  part_passes (x ∷ xs) (suc start) n within before inside after =
+      rw (before 0 x (omega arith))
+      (part_passes xs start n (omega arith) (λ k d high. before (suc k) d (omega arith)) (λ k d low high. inside (suc k) d (omega arith) (omega arith)) (λ k d low high. after (suc k) d (omega arith) (omega arith)))
 
-  first_is_in : (first n i : ℕ) → (place_in first (suc n) i && place_at first i) ≡ place_at first i
-  first_is_in first n i = bool_same _ _ (λ e. grind (arith, nat_tests)) (λ e. grind (arith, nat_tests))
+-- ---- lists that rise by slots
 
-  others_are_in : (first n i : ℕ) → (place_in first (suc n) i && not (place_at first i)) ≡ place_in (first + 1) n i
-  others_are_in first n i = bool_same _ _ (λ e. grind (arith, nat_tests)) (λ e. grind (arith, nat_tests))
+-- sorted and stable by the slots: those of each slot are the same
+is_less : (a b : ℕ) → is_lt (nat_cmp a b) ≡ nat_lt a b
+is_less a b = by_case (nat_lt a b) (a == b) refl refl
+  where
+    by_case : (x y : Bool) → nat_lt a b ≡ x → (a == b) ≡ y → is_lt (nat_cmp a b) ≡ nat_lt a b
+    by_case true y e f = rw e refl
+    by_case false true e f = rw (e, f) refl
+    by_case false false e f = rw (e, f) refl
 
-  -- gathered slot by slot, they only stand in another order
-  gathered : (places : List ℕ) (first count : ℕ) → IsPermutation (filter (place_in first count) places) (flat_map (λ s. filter (place_at s) places) (range_with_len first count))
-  gathered places first zero = subst (λ l. IsPermutation l []) (sym (filter_none (place_in first 0) (none_in first) places)) (IsPermutation-refl [])
-  gathered places first (suc n) =
-      let all = filter (place_in first (suc n)) places in
-      let split : IsPermutation all (filter (place_at first) all ++ filter (λ i. not (place_at first i)) all) = IsPermutation-filter_both (place_at first) (λ i. not (place_at first i)) (λ i. refl) all in
-      let front : filter (place_at first) all ≡ filter (place_at first) places = filter_twice (place_at first) (place_in first (suc n)) places ∙ filter_agree _ _ (first_is_in first n) places in
-      let rest : filter (λ i. not (place_at first i)) all ≡ filter (place_in (first + 1) n) places = filter_twice (λ i. not (place_at first i)) (place_in first (suc n)) places ∙ filter_agree _ _ (others_are_in first n) places in
-      let parts : IsPermutation all (filter (place_at first) places ++ filter (place_in (first + 1) n) places) = subst (λ l. IsPermutation all (l ++ filter (place_in (first + 1) n) places)) front (subst (λ l. IsPermutation all (filter (place_at first) all ++ l)) rest split) in
-      IsPermutation-trans _ _ _ parts (IsPermutation-append_right (filter (place_at first) places) _ _ (gathered places (first + 1) n))
+tied : (slot : ℕ) (p : Place) → ties (λ x y. is_lt (nat_cmp x.slot y.slot)) (record { slot = slot; place = 0 }) p ≡ is_at slot p
+tied slot p = rw (is_less slot p.slot, is_less p.slot slot) (bool_same _ _ (λ e. grind (arith, nat_tests)) (λ e. grind (arith, nat_tests)))
 
-  -- and sorted again they are the places of the slots in order
-  pub places_sorted : (n first count : ℕ) (found sorted : List ℕ) → found ≡ flat_map (λ s. filter (place_at s) (range_with_len 0 n)) (range_with_len first count)
-      → IsPermutation found sorted → IsSorted nat_cmp sorted → sorted ≡ filter (place_in first count) (range_with_len 0 n)
-  places_sorted n first count found sorted here moved up =
-      let wanted = filter (place_in first count) (range_with_len 0 n) in
-      let rising : IsStrictlySortedBy nat_cmp wanted = IsStrictlySortedBy-filter nat_cmp (place_in first count) (range_with_len 0 n) (range_rises 0 n) in
+pub stable_at : (xs ys : List Place) → IsStableByKey (λ p. p.slot) nat_cmp xs ys → (slot : ℕ) → filter (is_at slot) ys ≡ filter (is_at slot) xs
+stable_at xs ys stable slot = sym (filter_agree _ _ (tied slot) ys) ∙ stable (record { slot = slot; place = 0 }) ∙ filter_agree _ _ (tied slot) xs
+
+-- so many stand before a slot
+abbrev pub Cuts : ℕ → List Place → ℕ → Type 0
+Cuts slot xs n = IsPartitionPoint (λ p. p.slot < slot) (λ p. slot ≤ p.slot) xs n
+
+pub cuts_rise : (a b : ℕ) (xs : List Place) (i j : ℕ) → Cuts a xs i → Cuts b xs j → a ≤ b → i ≤ length xs → i ≤ j
+cuts_rise a b [] i j low high up within = omega arith
+cuts_rise a b (x ∷ xs) i j low high up within = by_case (cases_lt j i)
+  where
+    by_case : (j < i) ⊎ (i ≤ j) → i ≤ j
+    by_case (inl past) =
+        let below : (get_or (x ∷ xs) j x).slot < a = low.0 j x (omega arith) past in
+        let above : b ≤ (get_or (x ∷ xs) j x).slot = high.1 j x (omega arith) (omega arith) in
+        absurd (omega arith)
+    by_case (inr here) = here
+
+pub part_among : (first count : ℕ) (xs : List Place) (i j : ℕ) → Cuts first xs i → Cuts (first + count) xs j → i ≤ j → j ≤ length xs → take (j - i) (drop i xs) ≡ filter (is_among first count) xs
+part_among first count xs i j low high up within =
+    sym (part_passes (is_among first count) xs i (j - i) (omega arith)
+    (λ k d before. let below = low.0 k d (omega arith) before in grind (arith, nat_tests, below))
+    (λ k d from to. let above = low.1 k d from (omega arith) in let below = high.0 k d (omega arith) (omega arith) in grind (arith, nat_tests, above, below))
+    (λ k d from to. let above = high.1 k d (omega arith) to in grind (arith, nat_tests, above)))
+
+at_is_among : (slot : ℕ) (p : Place) → is_among slot 1 p ≡ is_at slot p
+at_is_among slot p = bool_same _ _ (λ e. grind (arith, nat_tests)) (λ e. grind (arith, nat_tests))
+
+pub part_at : (slot : ℕ) (xs : List Place) (i j : ℕ) → Cuts slot xs i → Cuts (slot + 1) xs j → i ≤ j → j ≤ length xs → take (j - i) (drop i xs) ≡ filter (is_at slot) xs
+part_at slot xs i j low high up within = part_among slot 1 xs i j low high up within ∙ filter_agree _ _ (at_is_among slot) xs
+
+-- ---- gathered slot by slot, they only stand in another order
+
+module _ {X : Type 0} (slot : X → ℕ) where
+  abbrev pub stands_at : ℕ → X → Bool
+  stands_at s x = slot x == s
+
+  abbrev pub stands_in : ℕ → ℕ → X → Bool
+  stands_in first count x = nat_le first (slot x) && nat_lt (slot x) (first + count)
+
+  none_in : (first : ℕ) (x : X) → stands_in first 0 x ≡ false
+  none_in first x = bool_same _ _ (λ e. grind (arith, nat_tests)) (λ e. cc)
+
+  first_is_in : (first n : ℕ) (x : X) → (stands_in first (suc n) x && stands_at first x) ≡ stands_at first x
+  first_is_in first n x = bool_same _ _ (λ e. grind (arith, nat_tests)) (λ e. grind (arith, nat_tests))
+
+  others_are_in : (first n : ℕ) (x : X) → (stands_in first (suc n) x && not (stands_at first x)) ≡ stands_in (first + 1) n x
+  others_are_in first n x = bool_same _ _ (λ e. grind (arith, nat_tests)) (λ e. grind (arith, nat_tests))
+
+  gathered : (xs : List X) (first count : ℕ) → IsPermutation (filter (stands_in first count) xs) (flat_map (λ s. filter (stands_at s) xs) (range_with_len first count))
+  gathered xs first zero = subst (λ l. IsPermutation l []) (sym (filter_none (stands_in first 0) (none_in first) xs)) (IsPermutation-refl [])
+  gathered xs first (suc n) =
+      let all = filter (stands_in first (suc n)) xs in
+      let split : IsPermutation all (filter (stands_at first) all ++ filter (λ x. not (stands_at first x)) all) = IsPermutation-filter_both (stands_at first) (λ x. not (stands_at first x)) (λ x. refl) all in
+      let front : filter (stands_at first) all ≡ filter (stands_at first) xs = filter_twice (stands_at first) (stands_in first (suc n)) xs ∙ filter_agree _ _ (first_is_in first n) xs in
+      let rest : filter (λ x. not (stands_at first x)) all ≡ filter (stands_in (first + 1) n) xs = filter_twice (λ x. not (stands_at first x)) (stands_in first (suc n)) xs ∙ filter_agree _ _ (others_are_in first n) xs in
+      let parts : IsPermutation all (filter (stands_at first) xs ++ filter (stands_in (first + 1) n) xs) = subst (λ l. IsPermutation all (l ++ filter (stands_in (first + 1) n) xs)) front (subst (λ l. IsPermutation all (filter (stands_at first) all ++ l)) rest split) in
+      IsPermutation-trans _ _ _ parts (IsPermutation-append_right (filter (stands_at first) xs) _ _ (gathered xs (first + 1) n))
+
+  -- two lists with the same at each slot have the same at some slots, in another order
+  same_parts : (xs ys : List X) (first count : ℕ) → ((s : ℕ) → filter (stands_at s) xs ≡ filter (stands_at s) ys) → IsPermutation (filter (stands_in first count) xs) (filter (stands_in first count) ys)
+  same_parts xs ys first count same =
+      let slots = range_with_len first count in
+      let there : flat_map (λ s. filter (stands_at s) ys) slots ≡ flat_map (λ s. filter (stands_at s) xs) slots = λ i. flat_map (λ s. sym (same s) i) slots in
+      IsPermutation-trans _ _ _ (gathered xs first count) (subst (λ l. IsPermutation l (filter (stands_in first count) ys)) there (IsPermutation-sym _ _ (gathered ys first count)))
+
+-- ---- places with the slots of a function
+
+module _ {X Y : Type 0} (t : X → Bool) (h : X → Y) (f : ℕ → X) where
+  kept_more : (i : ℕ) (is : List ℕ) (b : Bool) → t (f i) ≡ b → map h (filter t (map f is)) ≡ map (λ k. h (f k)) (filter (λ k. t (f k)) is)
+      → map h (filter t (map f (i ∷ is))) ≡ map (λ k. h (f k)) (filter (λ k. t (f k)) (i ∷ is))
+  kept_more i is true e rest = rw e (ap (λ l. h (f i) ∷ l) rest)
+  kept_more i is false e rest = rw e rest
+
+  kept_of : (is : List ℕ) → map h (filter t (map f is)) ≡ map (λ k. h (f k)) (filter (λ k. t (f k)) is)
+  kept_of [] = refl
+  kept_of (i ∷ is) = kept_more i is (t (f i)) refl (kept_of is)
+
+numbers_kept : (t : Place → Bool) (slot : ℕ → ℕ) (n : ℕ) → map (λ p. p.place) (filter t (places_with slot n)) ≡ filter (λ i. t (record { slot = slot i; place = i })) (range_with_len 0 n)
+numbers_kept t slot n = kept_of t (λ p. p.place) (λ i. record { slot = slot i; place = i }) (range_with_len 0 n) ∙ map-id _
+
+module _ (slot : ℕ → ℕ) (n first count : ℕ) (places : List Place) (sorted : List ℕ) where
+  -- sorted again they are the places of the slots in order
+  pub in_order : ((q : ℕ) → filter (is_at q) places ≡ filter (is_at q) (places_with slot n))
+      → IsPermutation (map (λ p. p.place) (filter (is_among first count) places)) sorted → IsSorted nat_cmp sorted
+      → sorted ≡ filter (stands_in slot first count) (range_with_len 0 n)
+  in_order by_slot moved up =
+      let wanted = filter (stands_in slot first count) (range_with_len 0 n) in
+      let rising : IsStrictlySortedBy nat_cmp wanted = IsStrictlySortedBy-filter nat_cmp (stands_in slot first count) (range_with_len 0 n) (range_rises 0 n) in
       let apart : IsDistinct (eq_by_cmp nat_cmp) wanted = IsDistinct-from_sorted nat_cmp wanted rising in
-      let all : IsPermutation wanted sorted = IsPermutation-trans _ _ _ (gathered (range_with_len 0 n) first count) (subst (λ l. IsPermutation l sorted) here moved) in
+      let parts : IsPermutation (filter (is_among first count) (places_with slot n)) (filter (is_among first count) places) = same_parts (λ p. p.slot) _ _ first count (λ q. sym (by_slot q)) in
+      let numbers : IsPermutation wanted (map (λ p. p.place) (filter (is_among first count) places)) = subst (λ l. IsPermutation l (map (λ p. p.place) (filter (is_among first count) places))) (numbers_kept (is_among first count) slot n) (IsPermutation-map (λ p. p.place) _ _ parts) in
+      let all : IsPermutation wanted sorted = IsPermutation-trans _ _ _ numbers moved in
       let flips : (x y : ℕ) → eq_by_cmp nat_cmp x y ≡ eq_by_cmp nat_cmp y x = λ x y. (eq_by_cmp_equiv nat_cmp_total).symm x y in
       same_keys nat_cmp_total nat_cmp-IsAntisymmetric sorted wanted
       (strictly_sorted nat_cmp_total sorted up (IsDistinct-IsPermutation (eq_by_cmp nat_cmp) flips wanted sorted all apart))
       rising
       (λ q. sym (list_any-IsPermutation (eq_by_cmp nat_cmp q) wanted sorted all))
-
-  -- one more place in the group of its slot
-  pub place_more : (group group' : List ℕ) (n i q : ℕ) → i < n → group' ≡ (if slot i == q then group ++ i ∷ [] else group)
-      → group' ++ filter (place_at q) (range_with_len (i + 1) (n - (i + 1))) ≡ group ++ filter (place_at q) (range_with_len i (n - i))
-  place_more group group' n i q below e =
-      let left : n - i ≡ suc (n - (i + 1)) = omega arith in
-      ap (λ g. g ++ filter (place_at q) (range_with_len (i + 1) (n - (i + 1)))) e ∙ by_case (slot i == q) (filter (place_at q) (range_with_len (i + 1) (n - (i + 1))))
-      ∙ ap (λ k. group ++ filter (place_at q) (range_with_len i k)) (sym left)
-    where
-      by_case : (b : Bool) (rest : List ℕ) → (if b then group ++ i ∷ [] else group) ++ rest ≡ group ++ (if b then i ∷ rest else rest)
-      by_case true rest = append_assoc group (i ∷ []) rest
-      by_case false rest = refl
 
 -- ---- what stands at the places
 
@@ -135,60 +224,54 @@ module _ {X Y : Type 0} (g : X → Y) (p : X → Bool) where
 
 -- ---- records on lines
 
-module _ (first count : ℕ) (rows : List bpf_line_info) (groups : ℕ → List ℕ) (sorted : List ℕ) where
-  pub in_order : ((q : ℕ) → groups q ≡ filter (λ i. line_slot rows i == q) (range_with_len 0 (length rows)))
-      → IsPermutation (flat_map groups (range_with_len first count)) sorted → IsSorted nat_cmp sorted
-      → sorted ≡ filter (place_in (line_slot rows) first count) (range_with_len 0 (length rows))
-  in_order by_slot moved up = places_sorted (line_slot rows) (length rows) first count _ sorted (λ i. flat_map (λ s. by_slot s i) (range_with_len first count)) moved up
-
-  pub lines_found : (base : ℕ) → ((q : ℕ) → groups q ≡ filter (λ i. line_slot rows i == q) (range_with_len 0 (length rows)))
-      → IsPermutation (flat_map groups (range_with_len first count)) sorted → IsSorted nat_cmp sorted
+module _ (first count : ℕ) (rows : List bpf_line_info) (places : List Place) (sorted : List ℕ) where
+  pub lines_found : (base : ℕ) → ((q : ℕ) → filter (is_at q) places ≡ filter (is_at q) (places_with (line_slot rows) (length rows)))
+      → IsPermutation (map (λ p. p.place) (filter (is_among first count) places)) sorted → IsSorted nat_cmp sorted
       → map (λ i. line_from base (line_at rows i)) sorted ≡ map (line_from base) (filter (is_line_in first count) rows)
   lines_found base by_slot moved up =
-      ap (map (λ i. line_from base (line_at rows i))) (in_order by_slot moved up)
+      ap (map (λ i. line_from base (line_at rows i))) (in_order (line_slot rows) (length rows) first count places sorted by_slot moved up)
       ∙ rows_at_places (line_from base) (is_line_in first count) rows _
 
-  pub lines_inside : ((q : ℕ) → groups q ≡ filter (λ i. line_slot rows i == q) (range_with_len 0 (length rows)))
-      → IsPermutation (flat_map groups (range_with_len first count)) sorted → IsSorted nat_cmp sorted
+  pub lines_inside : ((q : ℕ) → filter (is_at q) places ≡ filter (is_at q) (places_with (line_slot rows) (length rows)))
+      → IsPermutation (map (λ p. p.place) (filter (is_among first count) places)) sorted → IsSorted nat_cmp sorted
       → All (λ i. i < length rows) sorted
   lines_inside by_slot moved up =
-      subst (All (λ i. i < length rows)) (sym (in_order by_slot moved up))
-      (All-filter (place_in (line_slot rows) first count) (λ i. i < length rows) (range_with_len 0 (length rows)) (below_end (length rows)))
+      subst (All (λ i. i < length rows)) (sym (in_order (line_slot rows) (length rows) first count places sorted by_slot moved up))
+      (All-filter (stands_in (line_slot rows) first count) (λ i. i < length rows) (range_with_len 0 (length rows)) (below_end (length rows)))
 
--- one more record in the group of its slot
-pub line_more : (group group' : List ℕ) (rows : List bpf_line_info) (i s q : ℕ) → i < length rows
-    → group' ≡ (if s == q then group ++ i ∷ [] else group) → s ≡ line_slot rows i
-    → group' ++ filter (λ k. line_slot rows k == q) (range_with_len (i + 1) (length rows - (i + 1))) ≡ group ++ filter (λ k. line_slot rows k == q) (range_with_len i (length rows - i))
-line_more group group' rows i s q below e here =
-    place_more (line_slot rows) group group' (length rows) i q below (e ∙ ap (λ t. if t == q then group ++ i ∷ [] else group) here)
+-- ---- records on functions
 
--- at the start no group has any
-pub lines_start : (group : List ℕ) (rows : List bpf_line_info) (q : ℕ) → group ≡ []
-    → group ++ filter (λ k. line_slot rows k == q) (range_with_len 0 (length rows - 0)) ≡ filter (λ k. line_slot rows k == q) (range_with_len 0 (length rows))
-lines_start group rows q none =
-    let all : length rows - 0 ≡ length rows = omega arith in
-    ap (λ g. g ++ filter (λ k. line_slot rows k == q) (range_with_len 0 (length rows - 0))) none
-    ∙ ap (λ n. filter (λ k. line_slot rows k == q) (range_with_len 0 n)) all
+module _ (first : ℕ) (rows : List bpf_func_info) (places part : List Place) where
+  pub funcs_found : (base : ℕ) → part ≡ filter (is_at first) places → filter (is_at first) places ≡ filter (is_at first) (places_with (func_slot rows) (length rows))
+      → map (λ p. func_from base (func_at rows p.place)) part ≡ map (func_from base) (filter (is_func_at first) rows)
+  funcs_found base here same =
+      ap (map (λ p. func_from base (func_at rows p.place))) (here ∙ same)
+      ∙ kept_of (is_at first) (λ p. func_from base (func_at rows p.place)) (λ i. record { slot = func_slot rows i; place = i }) (range_with_len 0 (length rows))
+      ∙ rows_at_places (func_from base) (is_func_at first) rows _
 
-pub lines_none : (group : List ℕ) (rows : List bpf_line_info) (i q : ℕ) → length rows ≤ i
-    → group ++ filter (λ k. line_slot rows k == q) (range_with_len i (length rows - i)) ≡ group
-lines_none group rows i q past =
-    let none : length rows - i ≡ 0 = omega arith in
-    ap (λ n. group ++ filter (λ k. line_slot rows k == q) (range_with_len i n)) none ∙ append-nil group
+  pub funcs_inside : part ≡ filter (is_at first) places → filter (is_at first) places ≡ filter (is_at first) (places_with (func_slot rows) (length rows))
+      → All (λ p. p.place < length rows) part
+  funcs_inside here same =
+      subst (All (λ p. p.place < length rows)) (sym (here ∙ same))
+      (All-filter (is_at first) (λ p. p.place < length rows) (places_with (func_slot rows) (length rows))
+      (All-map (λ p. p.place < length rows) (λ i. record { slot = func_slot rows i; place = i }) (range_with_len 0 (length rows)) (below_end (length rows))))
 
--- ---- lists by number, one after the other
+-- ---- places one after the other
 
-module _ (f : ℕ → List ℕ) where
-  pub numbers_more : (xs : List ℕ) (at stop : ℕ) → at < stop
-      → (xs ++ f at) ++ flat_map f (range_with_len (at + 1) (stop - (at + 1))) ≡ xs ++ flat_map f (range_with_len at (stop - at))
-  numbers_more xs at stop below =
-      let left : stop - at ≡ suc (stop - (at + 1)) = omega arith in
-      append_assoc xs (f at) _ ∙ ap (λ n. xs ++ flat_map f (range_with_len at n)) (sym left)
+pub places_more : (slot : ℕ → ℕ) (xs : List Place) (n i : ℕ) (p : Place) → i < n → p ≡ record { slot = slot i; place = i }
+    → (xs ++ p ∷ []) ++ map (λ k. record { slot = slot k; place = k }) (range_with_len (i + 1) (n - (i + 1))) ≡ xs ++ map (λ k. record { slot = slot k; place = k }) (range_with_len i (n - i))
+places_more slot xs n i p below here =
+    let left : n - i ≡ suc (n - (i + 1)) = omega arith in
+    append_assoc xs (p ∷ []) _
+    ∙ ap (λ q. xs ++ q ∷ map (λ k. record { slot = slot k; place = k }) (range_with_len (i + 1) (n - (i + 1)))) here
+    ∙ ap (λ k. xs ++ map (λ k. record { slot = slot k; place = k }) (range_with_len i k)) (sym left)
 
-  pub numbers_none : (xs : List ℕ) (at stop : ℕ) → stop ≤ at → xs ++ flat_map f (range_with_len at (stop - at)) ≡ xs
-  numbers_none xs at stop past =
-      let none : stop - at ≡ 0 = omega arith in
-      ap (λ n. xs ++ flat_map f (range_with_len at n)) none ∙ append-nil xs
+pub places_start : (slot : ℕ → ℕ) (n : ℕ) → map (λ k. record { slot = slot k; place = k }) (range_with_len 0 (n - 0)) ≡ places_with slot n
+places_start slot n =
+    let all : n - 0 ≡ n = omega arith in
+    ap (λ k. places_with slot k) all
 
-  pub numbers_all : (first count : ℕ) → flat_map f (range_with_len first (first + count - first)) ≡ flat_map f (range_with_len first count)
-  numbers_all first count = let all : first + count - first ≡ count = omega arith in ap (λ n. flat_map f (range_with_len first n)) all
+pub places_none : (slot : ℕ → ℕ) (xs : List Place) (n i : ℕ) → n ≤ i → xs ++ map (λ k. record { slot = slot k; place = k }) (range_with_len i (n - i)) ≡ xs
+places_none slot xs n i past =
+    let none : n - i ≡ 0 = omega arith in
+    ap (λ k. xs ++ map (λ k. record { slot = slot k; place = k }) (range_with_len i k)) none ∙ append-nil xs

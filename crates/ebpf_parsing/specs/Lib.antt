@@ -5,6 +5,7 @@ pub mod Relocations
 pub mod Programs
 pub mod Terms
 pub mod Records
+pub mod SlotPlaces
 pub mod Texts
 pub mod Tiling
 pub mod DataMaps

@@ -48,6 +48,13 @@ slot_of place = place / 8
 abbrev pub is_func_at : ℕ → bpf_func_info → Bool
 is_func_at first r = r.insn_off == first
 
+-- a record of a list, by its place, and the slot that it names
+abbrev pub func_at : List bpf_func_info → ℕ → bpf_func_info
+func_at rows i = slice_index_or rows i (record { insn_off = 0; type_id = 0 })
+
+abbrev pub func_slot : List bpf_func_info → ℕ → ℕ
+func_slot rows i = (func_at rows i).insn_off
+
 -- a record, its slot counted from another one
 abbrev pub func_from : ℕ → bpf_func_info → bpf_func_info
 func_from base r = record r { insn_off = r.insn_off - base }

@@ -1,14 +1,13 @@
 //! What `.BTF.ext` says of the functions of a section.
 
-ghost use Rattle.std.specs.Prelude.{◌≡◌, ◌==◌, ◌+◌, ◌<◌, ◌^◌, ℕ, [], IfOk, IfErr, true, map, filter, length};
+ghost use Rattle.std.specs.Prelude.{◌≡◌, ◌+◌, ◌<◌, ◌^◌, ℕ, IfOk, IfErr, true, map, filter, length};
 ghost use Rattle.ebpf_btf.specs.ExtInfos.{func_info_at, line_info_at, no_func_info, no_line_info};
-ghost use Rattle.std.specs.List.{All, range_with_len};
-ghost use Rattle.ebpf_parsing.specs.Groups.{group_at};
-ghost use Rattle.ebpf_parsing.specs.Records.{Said, is_func_at, is_line_in, func_from, line_from, line_at, line_slot, funcs_at, lines_in};
+ghost use Rattle.std.specs.List.{All};
+ghost use Rattle.ebpf_parsing.specs.Records.{Said, is_func_at, is_line_in, func_at, func_slot, func_from, line_from, line_at, line_slot, funcs_at, lines_in};
+ghost use Rattle.ebpf_parsing.specs.SlotPlaces.{is_at, places_with};
 ghost use Rattle.ebpf_parts.specs.Memory.{is_memory};
 
-use crate::groups::Groups;
-use crate::slot_places::{funcs_by_slot, lines_by_slot, places_of};
+use crate::slot_places::{Place, SlotPlaces, func_places, line_places};
 use ebpf_base::Items;
 use ebpf_btf::{FuncInfo, FuncSecInfo, LineInfo, LineSecInfo, bpf_func_info, bpf_line_info};
 use ebpf_parts::ParseError;
@@ -24,8 +23,8 @@ pub struct FuncRecords<'e> {
     name_offset: u32,
     count: u32,
     records: &'e [bpf_func_info],
-    groups: Groups<bpf_func_info>,
-    ghost grouped: { (q : ℕ) → group_at groups.groups q ≡ filter (is_func_at q) records.now },
+    places: SlotPlaces,
+    ghost grouped: { (q : ℕ) → filter (is_at q) places ≡ filter (is_at q) (places_with (func_slot records.now) (length records.now)) },
 }
 
 impl<'e> Model for FuncRecords<'e> {
@@ -42,8 +41,8 @@ pub struct LineRecords<'e> {
     name_offset: u32,
     count: u32,
     records: &'e [bpf_line_info],
-    groups: Groups<usize>,
-    ghost grouped: { (q : ℕ) → group_at groups.groups q ≡ filter (λ i. line_slot records.now i == q) (range_with_len 0 (length records.now)) },
+    places: SlotPlaces,
+    ghost grouped: { (q : ℕ) → filter (is_at q) places ≡ filter (is_at q) (places_with (line_slot records.now) (length records.now)) },
 }
 
 impl<'e> Model for LineRecords<'e> {
@@ -64,12 +63,12 @@ impl<'e> FuncRecords<'e> {
         ensures info { IfOk result (λ r. r ≡ record { sec_name_offset = name_offset; num_info = count; func_info = records.now }) }
         ensures memory { IfErr result (λ e. is_memory e ≡ true) }
     {
-        let groups = funcs_by_slot(alloc, records)?;
+        let places = SlotPlaces::sorted(func_places(alloc, records)?)?;
         Ok(FuncRecords {
             name_offset,
             count,
             records,
-            groups,
+            places,
         })
     }
 
@@ -102,6 +101,7 @@ impl<'e> FuncRecords<'e> {
     }
 
     /// The records on the function that begins at a slot, their slots counted from another one.
+    #[tactic(auto, using(crate::proofs::Places::funcs_found, crate::proofs::Places::funcs_inside))]
     fn records_at(
         &self,
         alloc: Global,
@@ -111,7 +111,8 @@ impl<'e> FuncRecords<'e> {
         ensures records { IfOk result (λ kept. kept ≡ map (func_from base) (filter (is_func_at first) self.now.func_info)) }
         ensures memory { IfErr result (λ e. is_memory e ≡ true) }
     {
-        funcs_from(alloc, self.groups.of(first), base)
+        let kept = funcs_from(alloc, self.records, self.places.at(first), base)?;
+        Ok(kept)
     }
 
     /// The same with the section's counts.
@@ -138,20 +139,22 @@ fn func_from(base: usize, row: &bpf_func_info) -> bpf_func_info
     }
 }
 
-/// Records, their slots counted from another one.
+/// The records at some places, their slots counted from another one.
 fn funcs_from(
     alloc: Global,
     rows: &[bpf_func_info],
+    places: &[Place],
     base: usize,
 ) -> Result<Items<bpf_func_info>, ParseError>
-    ensures records { IfOk result (λ kept. kept ≡ map (func_from base) rows.now) }
+    requires { All (λ p. p.place < length rows.now) places.now }
+    ensures records { IfOk result (λ kept. kept ≡ map (λ p. func_from base (func_at rows.now p.place)) places.now) }
     ensures memory { IfErr result (λ e. is_memory e ≡ true) }
 {
-    let mut kept = Items::new(alloc);
-    for row in rows {
-        kept.push(func_from(base, row))?;
+    let mut kept = Vec::with_capacity(alloc, places.len())?;
+    for place in places {
+        kept.push(func_from(base, &rows[place.place]))?;
     }
-    Ok(kept)
+    Ok(Items::from_vec(kept))
 }
 
 /// A record, its slot counted from another one.
@@ -177,11 +180,11 @@ fn lines_from(
     ensures records { IfOk result (λ kept. kept ≡ map (λ i. line_from base (line_at rows.now i)) places.now) }
     ensures memory { IfErr result (λ e. is_memory e ≡ true) }
 {
-    let mut kept = Items::new(alloc);
+    let mut kept = Vec::with_capacity(alloc, places.len())?;
     for place in places {
         kept.push(line_from(base, &rows[*place]))?;
     }
-    Ok(kept)
+    Ok(Items::from_vec(kept))
 }
 
 impl<'e> LineRecords<'e> {
@@ -194,12 +197,12 @@ impl<'e> LineRecords<'e> {
         ensures info { IfOk result (λ r. r ≡ record { sec_name_offset = name_offset; num_info = count; line_info = records.now }) }
         ensures memory { IfErr result (λ e. is_memory e ≡ true) }
     {
-        let groups = lines_by_slot(alloc, records)?;
+        let places = SlotPlaces::sorted(line_places(alloc, records)?)?;
         Ok(LineRecords {
             name_offset,
             count,
             records,
-            groups,
+            places,
         })
     }
 
@@ -244,7 +247,7 @@ impl<'e> LineRecords<'e> {
         ensures records { IfOk result (λ kept. kept ≡ map (line_from base) (filter (is_line_in first count) self.now.line_info)) }
         ensures memory { IfErr result (λ e. is_memory e ≡ true) }
     {
-        let places = places_of(alloc, &self.groups, first, count)?;
+        let places = self.places.within(alloc, first, count)?;
         let kept = lines_from(alloc, self.records, &places, base)?;
         Ok(kept)
     }
