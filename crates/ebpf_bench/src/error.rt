@@ -1,7 +1,7 @@
 //! Why nothing was measured.
 
 use ebpf_btf::BtfError;
-use std::alloc::AllocError;
+use std::alloc::{AllocError, AllocFailed};
 use std::io;
 use thiserror::Error;
 
@@ -12,6 +12,14 @@ pub enum BenchError {
     Io(#[from] io::Error),
     #[error("{0}")]
     Types(#[from] BtfError),
+    #[error("the object is refused: {0}")]
+    Refused(&'static str),
     #[error("out of memory")]
     Memory(#[from] AllocError),
+}
+
+impl<T: Drop> From<AllocFailed<T>> for BenchError {
+    fn from(_failed: AllocFailed<T>) -> BenchError {
+        BenchError::Memory(AllocError)
+    }
 }
