@@ -43,6 +43,7 @@ from rows import (
     names,
     order,
     prepared,
+    printed,
     programs,
     records,
     references,
@@ -58,7 +59,7 @@ from rows.case import write_cases
 CRATES = Path(__file__).parents[1] / "crates"
 
 OBJECTS = [small_object, programs, texts, terms, order, maps, declared_maps, externs, type_faults, records, joined]
-OBJECTS += [mapped, known_externs, resolved, prepared, values, names, compiled, references]
+OBJECTS += [mapped, known_externs, resolved, prepared, printed, values, names, compiled, references]
 
 TYPES = [btf_one_int, btf_kinds, btf_added, btf_candidates, btf_fits, btf_ext, btf_ext_faults]
 
@@ -72,8 +73,11 @@ def cases_of(modules):
 
 
 if __name__ == "__main__":
+    objects = cases_of(OBJECTS)
     core = {"core_relo": cases_of(CORE), "core_limits": core_limits.cases()}
-    write_cases(CRATES / "ebpf_rows", cases_of(OBJECTS), **core)
+    for held in [objects, *core.values()]:
+        printed.add_to(held)
+    write_cases(CRATES / "ebpf_rows", objects, **core)
     write_cases(CRATES / "ebpf_btf_rows", cases_of(TYPES))
     write_cases(CRATES / "ebpf_ksyms_rows", kallsyms.cases())
     (CRATES / "ebpf_bench/stdout").write_text("".join(line + "\n" for line in many_types.expected_lines()))

@@ -1,8 +1,7 @@
 //! Runs of the program for tests.
 
-use crate::arguments::Words;
-use crate::link::run_link;
 use ebpf_base::Text;
+use ebpf_commands::{Words, run_link};
 use std::alloc::{AllocError, Global};
 
 /// What a run left: its status and what it wrote.

@@ -1,9 +1,7 @@
 //! What the program prints, and its statuses.
 
-use crate::arguments::{WordsError, read_words};
-use crate::failure::cannot_read;
-use crate::link::run_link;
 use crate::test_runs::{outcome, run, texts};
+use ebpf_commands::{WordsError, cannot_read, read_words, run_link};
 use ebpf_samples::{EXIT, SampleFile, call_object, two_faults_object};
 use std::alloc::{AllocError, Global};
 use std::io::{self, ErrorKind, Write};
@@ -129,12 +127,12 @@ fn says_that_it_cannot_write(rt: HostRuntime) -> Result<(), Fail> {
 #[test]
 fn says_that_it_cannot_read(rt: HostRuntime) -> Result<(), Fail> {
     let mut err = Vec::new(rt.alloc());
-    assert_eq!(rt; cannot_read("no/such.o", &mut err), 1);
+    assert_eq!(rt; cannot_read("ebpf-link", "no/such.o", &mut err), 1);
     assert_eq!(rt;
         err.as_slice(),
         b"ebpf-link: cannot read no/such.o\n".as_slice()
     );
-    assert_eq!(rt; cannot_read("no/such.o", &mut Full), 1);
+    assert_eq!(rt; cannot_read("ebpf-link", "no/such.o", &mut Full), 1);
     Ok(())
 }
 

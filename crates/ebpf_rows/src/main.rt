@@ -1,4 +1,4 @@
-//! Rows over all crates but the linking program: reads cases of files, and prints what each of their actions gives.
+//! Rows over all crates: reads cases of files, and prints what each of their actions gives.
 #![tactic(auto)]
 
 mod adapted;
@@ -14,6 +14,7 @@ mod objects;
 mod outcomes;
 mod patched;
 mod prepared;
+mod printed;
 mod records;
 mod resolved;
 mod sanitized;

@@ -5,6 +5,7 @@ use crate::maps::{map_copy, map_info};
 use crate::names::{kind, map_type, pinning, program_type};
 use crate::objects::on_object;
 use crate::prepared::prepared;
+use crate::printed::{inspected, linked};
 use ebpf_cases::{Action, Files, Outcomes};
 use std::alloc::{AllocError, Global};
 
@@ -29,6 +30,8 @@ impl Outcomes for ObjectOutcomes {
             "prefixes" => prefixes(alloc, files, action),
             "bytes" => bytes(alloc, files, action),
             "prepared" => prepared(alloc, files, action),
+            "link" => linked(alloc, files, action),
+            "inspect" => inspected(alloc, files, action),
             _ => on_object(alloc, files, files.get("object"), action),
         }
     }

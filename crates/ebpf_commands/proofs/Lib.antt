@@ -1,0 +1,4 @@
+pub mod Appending
+pub mod Listing
+pub mod Numbered
+pub mod Refusing

@@ -1,0 +1,17 @@
+use Rattle.std.specs.Option.{option_copied}
+use Rattle.ebpf_commands.proofs.Refusing.{lacking, there}
+use Rattle.ebpf_commands.proofs.link.print_programs.Goals as goal
+
+pub returns-in-Ok-print_object-clause-done : goal.returns-in-Ok-print_object-clause-done
+returns-in-Ok-print_object-clause-done g c =
+    record {
+      object = c.in-Ok.object;
+      linked = c.in-Ok.ensures.linked;
+      named = there c.in-Ok.object (option_copied c.args.program) c.in-Ok-print_object.ensures.there;
+      text = c.in-Ok-print_object.ensures.text;
+    }
+
+pub returns-clause-refused : goal.returns-clause-refused
+returns-clause-refused g c =
+    lacking c.args.file.now (option_copied c.args.btf) (g.K.Read.remaining c.args.kallsyms) c.in-Ok.object c.in-Ok.ensures.linked (option_copied c.args.program) c.in-Err-print_object.failure
+    c.in-Err-print_object.ensures.refused

@@ -1,0 +1,96 @@
+-- The words of the command line `NAME FILE [--btf FILE] [--kallsyms FILE] [--program NAME]`.
+use Rattle.std.specs.Prelude.{ℕ, Bool, true, false, List, [], ◌∷◌, Option, Some, None, nat_eq, if◌then◌else◌, codes}
+use Rattle.std.specs.List.{starts_with}
+use Rattle.std.specs.Str.{bytes_eq}
+use Rattle.ebpf_commands.specs.declared.arguments.Place.{Place}
+use Rattle.ebpf_commands.specs.declared.arguments.Place.TheVariants.{File, Btf, Kallsyms, Program}
+use Rattle.ebpf_commands.specs.declared.arguments.Words.{Words}
+use Rattle.ebpf_commands.specs.declared.arguments.WordsError.{WordsError}
+use Rattle.ebpf_commands.specs.declared.arguments.WordsError.TheVariants.{Usage, OutOfMemory}
+
+abbrev pub is_memory : WordsError → Bool
+is_memory OutOfMemory = true
+is_memory Usage = false
+
+-- the option that a word is
+abbrev pub option_of : List ℕ → Option Place
+option_of word =
+    if bytes_eq word (codes "--btf") then Some Btf else
+    (if bytes_eq word (codes "--kallsyms") then Some Kallsyms else
+    (if bytes_eq word (codes "--program") then Some Program else None))
+
+abbrev pub has_dashes : List ℕ → Bool
+has_dashes word = starts_with nat_eq word (codes "--")
+
+-- an argument: what it is for, and its text
+abbrev pub Argument : Type 0
+Argument = Place × List ℕ
+
+abbrev pub with_front : Argument → Option (List Argument) → Option (List Argument)
+with_front argument None = None
+with_front argument (Some others) = Some (argument ∷ others)
+
+-- What words are after an option that waits for its text, or after none. An option takes the word behind it
+-- whatever it is, and has one; no other word begins with two dashes; each other word is a file.
+abbrev pub arguments : Option Place → List (List ℕ) → Option (List Argument)
+arguments None [] = Some []
+arguments (Some place) [] = None
+arguments (Some place) (word ∷ words) = with_front (place, word) (arguments None words)
+arguments None (word ∷ words) =
+    elim (option_of word) [
+      | Some place ↦ arguments (Some place) words
+      | None ↦ if has_dashes word then None else with_front (File, word) (arguments None words)
+    ]
+
+-- the texts that stand for each
+pub record FoundValue : Type 0 where
+  pub file : Option (List ℕ)
+  pub btf : Option (List ℕ)
+  pub kallsyms : Option (List ℕ)
+  pub program : Option (List ℕ)
+
+abbrev pub nothing : FoundValue
+nothing = record { file = None; btf = None; kallsyms = None; program = None }
+
+-- a text in a place that has none yet
+abbrev pub set_once : Option (List ℕ) → FoundValue → Option FoundValue
+set_once None with_text = Some with_text
+set_once (Some text) with_text = None
+
+unfoldable pub put : FoundValue → Argument → Option FoundValue
+put found (File, text) = set_once found.file (record found { file = Some text })
+put found (Btf, text) = set_once found.btf (record found { btf = Some text })
+put found (Kallsyms, text) = set_once found.kallsyms (record found { kallsyms = Some text })
+put found (Program, text) = set_once found.program (record found { program = Some text })
+
+-- arguments in their places, each at most once
+abbrev pub put_all : FoundValue → List Argument → Option FoundValue
+put_all found [] = Some found
+put_all found (argument ∷ others) = elim (put found argument) [ Some next ↦ put_all next others | None ↦ None ]
+
+abbrev pub put_arguments : FoundValue → Option (List Argument) → Option FoundValue
+put_arguments found None = None
+put_arguments found (Some list) = put_all found list
+
+abbrev pub found_in : List (List ℕ) → Option FoundValue
+found_in words = put_arguments nothing (arguments None words)
+
+-- there is a file
+abbrev pub with_file : FoundValue → Option (List ℕ) → Option Words
+with_file found None = None
+with_file found (Some file) = Some (record { file = file; btf = found.btf; kallsyms = found.kallsyms; program = found.program })
+
+abbrev pub words_in : Option FoundValue → Option Words
+words_in None = None
+words_in (Some found) = with_file found found.file
+
+-- what words ask for, where they are as the line says
+abbrev pub words_of : List (List ℕ) → Option Words
+words_of words = words_in (found_in words)
+
+abbrev pub usage_without : Option Words → Option WordsError
+usage_without None = Some Usage
+usage_without (Some words) = None
+
+abbrev pub words_fault : List (List ℕ) → Option WordsError
+words_fault words = usage_without (words_of words)

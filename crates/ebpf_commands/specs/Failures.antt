@@ -1,0 +1,49 @@
+-- Why a program of the command line prints nothing, or not all.
+use Rattle.std.specs.Prelude.{◌≡◌, ⊤, ℕ, Bool, true, false, List, Option, Some, None, Ok, Err, MatchBool}
+use Rattle.std.specs.FinMap.{get}
+use Rattle.ebpf_btf.specs.Memory as types
+use Rattle.ebpf_btf.specs.TypeInfo.{TypeInfo}
+use Rattle.ebpf_commands.specs.Linked.{kernel_types, asked, IsLinked}
+use Rattle.ebpf_commands.specs.Printed.{function_named}
+use Rattle.ebpf_commands.specs.declared.failure.Failure.{Failure}
+use Rattle.ebpf_commands.specs.declared.failure.Failure.TheVariants.{CannotRead, Btf, Preparing, NoProgram, CannotWrite, Memory}
+use Rattle.ebpf_object.specs.Objects.{object_of}
+use Rattle.ebpf_object.specs.Prepared.{IsFirstFault}
+use Rattle.ebpf_object.specs.Prepared as preparing
+use Rattle.ebpf_object.specs.Steps.{Chosen}
+use Rattle.ebpf_object.specs.declared.object.Object.{Object}
+
+-- memory was refused, or a writer failed: nothing that a file says
+abbrev pub is_outside : Failure → Bool
+is_outside (CannotRead path) = false
+is_outside (Btf e) = types.is_memory e
+is_outside (Preparing e) = preparing.is_memory e
+is_outside (NoProgram name) = false
+is_outside CannotWrite = true
+is_outside Memory = true
+
+-- an object has no program of the name that it refuses
+abbrev pub Lacks : Object → List ℕ → Failure → Type 0
+Lacks o name (NoProgram absent) = (absent.now ≡ name) × (function_named o name ≡ None)
+Lacks o name _ = ⊥
+
+abbrev pub LacksAsked : Object → Option (List ℕ) → Failure → Type 0
+LacksAsked o None f = ⊥
+LacksAsked o (Some name) f = Lacks o name f
+
+-- preparing a file with these passes has this first fault
+abbrev pub CannotPrepare : Chosen → Option (List ℕ) → List ℕ → Failure → Type 0
+CannotPrepare steps lines file (Preparing e) = IsFirstFault steps lines file e
+CannotPrepare steps lines file _ = ⊥
+
+-- What a refusal says of the files is so: the kernel's types can't be read, or, where they can, preparing the file has
+-- this first fault, or, where it has none, no program has the name.
+abbrev pub Stands : List ℕ → Option (List ℕ) → Option (List ℕ) → Option (List ℕ) → Failure → Type 0
+Stands file btf lines program (Btf e) = kernel_types btf ≡ Err e
+Stands file btf lines program (Preparing e) =
+    (kernel : Option TypeInfo) × (kernel_types btf ≡ Ok kernel) × IsFirstFault (asked kernel (object_of file).maps) lines file e
+Stands file btf lines program (NoProgram name) =
+    (o : Object) × IsLinked file btf lines o × (program ≡ Some name.now) × (get o.programs name.now ≡ None)
+Stands file btf lines program (CannotRead path) = ⊥
+Stands file btf lines program CannotWrite = ⊥
+Stands file btf lines program Memory = ⊥

@@ -1,0 +1,76 @@
+-- What `ebpf-inspect` prints of an object's programs.
+use Rattle.std.specs.Prelude.{◌≡◌, ⊤, ℕ, Bool, true, false, List, [], ◌∷◌, ◌++◌, Option, Some, None, Ok, IsSome, MatchOption, codes}
+use Rattle.std.specs.Fmt.{decimal, digits}
+use Rattle.std.specs.Io.KnownBytes.{Appends}
+use Rattle.std.specs.List.{flat_map, find}
+use Rattle.std.specs.Str.{bytes_eq}
+use Rattle.ebpf_btf.specs.TypeInfo.{TypeInfo}
+use Rattle.ebpf_commands.specs.Linked.{kernel_types, asked}
+use Rattle.ebpf_commands.specs.Printed.{head_line}
+use Rattle.ebpf_commands.specs.declared.failure.Failure.{Failure}
+use Rattle.ebpf_commands.specs.declared.failure.Failure.TheVariants.{NoProgram}
+use Rattle.ebpf_inspect.specs.Inspected.{IsInspected}
+use Rattle.ebpf_inspect.specs.declared.report.ProgramReport.{ProgramReport}
+use Rattle.ebpf_object.specs.Objects.{object_of}
+use Rattle.ebpf_reloc.specs.declared.link_map.CodeCopy.{CodeCopy}
+use Rattle.ebpf_linker.specs.declared.link_map.Reference.{Reference}
+
+-- an address, of base 16
+abbrev pub address_text : ℕ → List ℕ
+address_text address = codes "0x" ++ digits 16 false address
+
+-- `copy BASE SLOTS SECTION ADDRESS NAME`
+abbrev pub copy_line : CodeCopy → List ℕ
+copy_line copy =
+    (codes "copy " ++ decimal copy.base ++ codes " " ++ decimal copy.slots ++ codes " " ++ decimal copy.key.0 ++ codes " ")
+    ++ address_text copy.key.1 ++ (codes " " ++ copy.name ++ 10 ∷ [])
+
+abbrev pub word_of : Bool → List ℕ
+word_of true = codes "call"
+word_of false = codes "load"
+
+-- `ref PLACE BASE call` or `ref PLACE BASE load`
+abbrev pub reference_line : Reference → List ℕ
+reference_line r = codes "ref " ++ decimal r.place ++ codes " " ++ decimal r.base ++ codes " " ++ word_of r.is_call ++ 10 ∷ []
+
+-- `program NAME slots N`, and a line for each copy and for each reference
+abbrev pub report_text : ProgramReport → List ℕ
+report_text r = head_line r.name r.slots ++ flat_map copy_line r.copies ++ flat_map reference_line r.references
+
+abbrev pub text_if : Option ProgramReport → List ℕ
+text_if None = []
+text_if (Some r) = report_text r
+
+-- the report of a name
+abbrev pub report_named : List ProgramReport → List ℕ → Option ProgramReport
+report_named reports name = find (λ r. bytes_eq r.name name) reports
+
+-- the program of a name, or all in the order of the reports
+abbrev pub listed : List ProgramReport → Option (List ℕ) → List ℕ
+listed reports (Some name) = text_if (report_named reports name)
+listed reports None = flat_map report_text reports
+
+-- ---- a run
+
+-- what the programs of a file are made of, after all passes
+pub record HasInspected (file : List ℕ) (btf : Option (List ℕ)) (lines : Option (List ℕ)) (reports : List ProgramReport) : Type 0 where
+  pub types : Option TypeInfo
+  pub kernel : kernel_types btf ≡ Ok types
+  pub inspected : IsInspected (asked types (object_of file).maps) lines file reports
+
+-- The file is inspected, it has the program that is asked for, and the writer, whose bytes were these before and are
+-- these now, has got the lines of that program or of all.
+pub record HasListed (file : List ℕ) (btf : Option (List ℕ)) (lines : Option (List ℕ)) (program : Option (List ℕ)) (before now : Option (List ℕ)) : Type 0 where
+  pub reports : List ProgramReport
+  pub inspected : HasInspected file btf lines reports
+  pub named : MatchOption program ⊤ (λ name. IsSome (report_named reports name))
+  pub text : Appends before now (listed reports program)
+
+-- no report has the name that is refused
+abbrev pub LacksReport : List ProgramReport → List ℕ → Failure → Type 0
+LacksReport reports name (NoProgram absent) = (absent.now ≡ name) × (report_named reports name ≡ None)
+LacksReport reports name _ = ⊥
+
+abbrev pub LacksAskedReport : List ProgramReport → Option (List ℕ) → Failure → Type 0
+LacksAskedReport reports None f = ⊥
+LacksAskedReport reports (Some name) f = LacksReport reports name f

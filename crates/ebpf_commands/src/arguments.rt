@@ -1,0 +1,196 @@
+//! The words of the command line.
+
+ghost use Rattle.std.specs.Prelude.{◌≡◌, IfOk, IfErr, Some, None, true, map, string_bytes};
+ghost use Rattle.std.specs.Option.{option_copied};
+ghost use Rattle.ebpf_base.specs.Faults.{Refuses};
+ghost use Rattle.ebpf_commands.specs.Arguments.{FoundValue, nothing, option_of, has_dashes, put, found_in, words_of, words_fault, is_memory};
+
+use ebpf_base::Text;
+use std::alloc::{AllocError, Global};
+use std::marker::Model;
+use thiserror::Error;
+
+/// What the words of a command line ask for.
+#[derive(Debug, Drop)]
+pub struct Words {
+    /// The object's file.
+    pub file: Text,
+    /// The file with the kernel's types.
+    pub btf: Option<Text>,
+    /// The file with the kernel's symbols.
+    pub kallsyms: Option<Text>,
+    /// The one program that is printed.
+    pub program: Option<Text>,
+}
+
+impl Words {
+    /// The name of the one program that is printed.
+    pub fn program(&self) -> Option<&str>
+        ensures { option_copied result ≡ self.now.program }
+    {
+        match &self.program {
+            Some(name) => Some(name.as_str()),
+            None => None,
+        }
+    }
+}
+
+/// Why words can't be read.
+#[derive(Clone, Copy, Debug, Error, PartialEq, Eq)]
+pub enum WordsError {
+    /// They are not as the usage line says.
+    #[error("usage: FILE [--btf FILE] [--kallsyms FILE] [--program NAME]")]
+    Usage,
+    /// Memory was refused.
+    #[error("memory")]
+    OutOfMemory,
+}
+
+impl From<AllocError> for WordsError {
+    ghost use Rattle.ebpf_commands.specs.declared.arguments.WordsError.TheVariants.{OutOfMemory};
+
+    ghost from_gives = { λ _ e. e ≡ OutOfMemory };
+
+    fn from(_error: AllocError) -> WordsError {
+        WordsError::OutOfMemory
+    }
+}
+
+/// What an argument is for.
+#[derive(Clone, Copy, Debug, PartialEq, Eq)]
+enum Place {
+    File,
+    Btf,
+    Kallsyms,
+    Program,
+}
+
+/// The option that a word is.
+fn option_of(word: &str) -> Option<Place>
+    ensures { result ≡ option_of word.now }
+{
+    match word {
+        "--btf" => Some(Place::Btf),
+        "--kallsyms" => Some(Place::Kallsyms),
+        "--program" => Some(Place::Program),
+        _ => None,
+    }
+}
+
+fn has_dashes(word: &str) -> bool
+    ensures { result ≡ has_dashes word.now }
+{
+    word.as_bytes().starts_with(b"--")
+}
+
+/// The texts that words give, lent.
+#[derive(Debug, Drop)]
+struct Found<'a> {
+    file: Option<&'a str>,
+    btf: Option<&'a str>,
+    kallsyms: Option<&'a str>,
+    program: Option<&'a str>,
+}
+
+impl<'a> Model for Found<'a> {
+    ghost Value = { FoundValue };
+
+    ghost view = { λ f. record { file = option_copied f.file; btf = option_copied f.btf; kallsyms = option_copied f.kallsyms; program = option_copied f.program } };
+}
+
+impl<'a> Found<'a> {
+    fn nothing() -> Found<'a>
+        ensures { result ≡ nothing }
+    {
+        Found {
+            file: None,
+            btf: None,
+            kallsyms: None,
+            program: None,
+        }
+    }
+
+    /// Puts a text in a place that has none yet.
+    #[tactic(auto, unfolding(crate::specs::Arguments::put))]
+    fn put(self, place: Place, text: &'a str) -> Option<Found<'a>>
+        ensures { result ≡ put self.entry (place, text.entry.now) }
+    {
+        let text = Some(text);
+        match place {
+            Place::File if self.file.is_none() => Some(Found { file: text, ..self }),
+            Place::Btf if self.btf.is_none() => Some(Found { btf: text, ..self }),
+            Place::Kallsyms if self.kallsyms.is_none() => Some(Found {
+                kallsyms: text,
+                ..self
+            }),
+            Place::Program if self.program.is_none() => Some(Found {
+                program: text,
+                ..self
+            }),
+            _ => None,
+        }
+    }
+}
+
+/// The texts that words give.
+fn find_texts(words: &[String]) -> Option<Found<'_>>
+    ensures { result ≡ found_in (map string_bytes words.now) }
+{
+    let mut found = Found::nothing();
+    let mut waits = None;
+    for word in words {
+        let text = word.as_str();
+        if let Some(place) = waits {
+            found = found.put(place, text)?;
+            waits = None;
+            continue;
+        }
+        waits = option_of(text);
+        if waits.is_some() {
+            continue;
+        }
+        if has_dashes(text) {
+            return None;
+        }
+        found = found.put(Place::File, text)?;
+    }
+    if waits.is_some() {
+        return None;
+    }
+    Some(found)
+}
+
+/// A copy of a text that may be absent.
+fn copied(alloc: Global, text: Option<&str>) -> Result<Option<Text>, WordsError>
+    ensures text { IfOk result (λ copy. copy ≡ option_copied text.entry) }
+    ensures memory { IfErr result (λ e. is_memory e ≡ true) }
+{
+    match text {
+        Some(text) => Ok(Some(Text::from_str(alloc, text)?)),
+        None => Ok(None),
+    }
+}
+
+/// What the words of a command line ask for: one file, and each option at most once, in any order.
+///
+/// # Errors
+///
+/// `Usage` where there is no file or a second one, an option twice or without the word behind it, or
+/// another word that begins with `--`. `OutOfMemory` only where memory was refused.
+pub fn read_words(alloc: Global, words: &[String]) -> Result<Words, WordsError>
+    ensures words { IfOk result (λ asked. words_of (map string_bytes words.now) ≡ Some asked) }
+    ensures fault { Refuses is_memory result (words_fault (map string_bytes words.now)) }
+{
+    let Some(found) = find_texts(words) else {
+        return Err(WordsError::Usage);
+    };
+    let Some(file) = found.file else {
+        return Err(WordsError::Usage);
+    };
+    Ok(Words {
+        file: Text::from_str(alloc, file)?,
+        btf: copied(alloc, found.btf)?,
+        kallsyms: copied(alloc, found.kallsyms)?,
+        program: copied(alloc, found.program)?,
+    })
+}

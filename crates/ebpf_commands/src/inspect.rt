@@ -1,0 +1,189 @@
+//! What `ebpf-inspect` does once its files are open.
+
+ghost use Rattle.std.specs.Prelude.{◌≡◌, ◌≤◌, ⊤, true, Some, None, IfOk, IfErr, OnOk, IsSome, MatchBool, MatchOption};
+ghost use Rattle.std.specs.Io.KnownBytes.{Appends};
+ghost use Rattle.std.specs.Option.{option_copied};
+ghost use Rattle.ebpf_commands.specs.Failures.{is_outside, Stands, CannotPrepare};
+ghost use Rattle.ebpf_commands.specs.Linked.{asked};
+ghost use Rattle.ebpf_commands.specs.Listed.{report_named, listed, HasInspected, HasListed, LacksReport, LacksAskedReport};
+ghost use Rattle.ebpf_inspect.specs.Inspected.{IsInspected};
+
+use crate::arguments::Words;
+use crate::failure::{Failure, report};
+use crate::link::finish;
+use crate::preparation::{all_passes, maps_of, numbered, read_types};
+use crate::report_text::write_report;
+use ebpf_base::{ByName, Items};
+use ebpf_btf::Btf;
+use ebpf_inspect::{ProgramReport, inspect};
+use ebpf_object::maps::Map;
+use ebpf_object::prepare::PrepareError;
+use std::alloc::Global;
+use std::io::{BufRead, Write};
+
+/// The report of the program of a name.
+fn report_named<'a>(reports: &'a [ProgramReport], name: &str) -> Option<&'a ProgramReport>
+    ensures { option_copied result ≡ report_named reports.now name.now }
+{
+    reports.iter().find(|report| report.name.as_str() == name)
+}
+
+/// Writes the report of the program of a name.
+fn write_named<'a, W: Write>(
+    reports: &[ProgramReport],
+    name: &'a str,
+    out: &mut W,
+) -> Result<(), Failure<'a>>
+    ensures text { OnOk result (Appends (W.contents out.old) (W.contents out.new) (listed reports.now (Some name.now))) }
+    ensures there { OnOk result (IsSome (report_named reports.now name.now)) }
+    ensures refused { IfErr result (λ f. MatchBool (is_outside f) ⊤ (LacksReport reports.now name.now f)) }
+{
+    let Some(report) = report_named(reports, name) else {
+        return Err(Failure::NoProgram(name));
+    };
+    match write_report(out, report) {
+        Ok(()) => Ok(()),
+        Err(_) => Err(Failure::CannotWrite),
+    }
+}
+
+/// Writes all reports.
+fn write_all<W: Write>(reports: &[ProgramReport], out: &mut W) -> Result<(), Failure<'static>>
+    ensures text { OnOk result (Appends (W.contents out.old) (W.contents out.new) (listed reports.now None)) }
+    ensures refused { IfErr result (λ f. is_outside f ≡ true) }
+{
+    for report in reports {
+        match write_report(out, report) {
+            Ok(()) => {}
+            Err(_) => return Err(Failure::CannotWrite),
+        }
+    }
+    Ok(())
+}
+
+/// Writes what is asked for: the report of the program of a name, or all.
+fn write_reports<'a, W: Write>(
+    reports: &[ProgramReport],
+    program: Option<&'a str>,
+    out: &mut W,
+) -> Result<(), Failure<'a>>
+    ensures text { OnOk result (Appends (W.contents out.old) (W.contents out.new) (listed reports.now (option_copied program.entry))) }
+    ensures there { OnOk result (MatchOption (option_copied program.entry) ⊤ (λ name. IsSome (report_named reports.now name))) }
+    ensures refused { IfErr result (λ f. MatchBool (is_outside f) ⊤ (LacksAskedReport reports.now (option_copied program.entry) f)) }
+{
+    match program {
+        Some(name) => write_named(reports, name, out),
+        None => write_all(reports, out),
+    }
+}
+
+/// Writes what is asked for, and hands all on.
+#[tactic(auto, using(crate::proofs::Appending::kept))]
+fn print_listed<'a, W: Write>(
+    reports: &[ProgramReport],
+    program: Option<&'a str>,
+    out: &mut W,
+) -> Result<(), Failure<'a>>
+    ensures text { OnOk result (Appends (W.contents out.old) (W.contents out.new) (listed reports.now (option_copied program.entry))) }
+    ensures there { OnOk result (MatchOption (option_copied program.entry) ⊤ (λ name. IsSome (report_named reports.now name))) }
+    ensures refused { IfErr result (λ f. MatchBool (is_outside f) ⊤ (LacksAskedReport reports.now (option_copied program.entry) f)) }
+{
+    match write_reports(reports, program, out) {
+        Ok(()) => {}
+        Err(failure) => return Err(failure),
+    }
+    match finish(out) {
+        Ok(()) => Ok(()),
+        Err(failure) => Err(failure),
+    }
+}
+
+/// Inspects a file after all passes, these maps numbered, and the kernel's types where they are known.
+fn inspect_with<K: BufRead + Drop>(
+    alloc: Global,
+    file: &[u8],
+    types: Option<&Btf>,
+    maps: &ByName<Map>,
+    kallsyms: K,
+) -> Result<Items<ProgramReport>, Failure<'static>>
+    ensures inspected { IfOk result (IsInspected (asked (option_copied types.entry) maps.now) (K.remaining kallsyms) file.now) }
+    ensures refused { IfErr result (λ f. MatchBool (is_outside f) ⊤ (CannotPrepare (asked (option_copied types.entry) maps.now) (K.remaining kallsyms) file.now f)) }
+{
+    let Ok(descriptors) = numbered(alloc, maps) else {
+        return Err(Failure::Memory);
+    };
+    match inspect(alloc, file, &all_passes(types, &descriptors), kallsyms) {
+        Ok(reports) => Ok(reports),
+        Err(error) => Err(Failure::Preparing(error)),
+    }
+}
+
+/// What the programs of a file are made of after all passes: types where the kernel's are known, descriptors of its
+/// own maps, externs, calls.
+fn inspected<K: BufRead + Drop>(
+    alloc: Global,
+    file: &[u8],
+    btf: Option<&[u8]>,
+    kallsyms: K,
+) -> Result<Items<ProgramReport>, Failure<'static>>
+    ensures inspected { IfOk result (HasInspected file.now (option_copied btf.entry) (K.remaining kallsyms)) }
+    ensures refused { IfErr result (λ f. MatchBool (is_outside f) ⊤ (Stands file.now (option_copied btf.entry) (K.remaining kallsyms) None f)) }
+{
+    let types = match read_types(alloc, btf) {
+        Ok(types) => types,
+        Err(error) => return Err(Failure::Btf(error)),
+    };
+    let maps = match maps_of(alloc, file) {
+        Ok(maps) => maps,
+        Err(error) => return Err(Failure::Preparing(PrepareError::Parse(error))),
+    };
+    inspect_with(alloc, file, types.as_ref(), &maps, kallsyms)
+}
+
+/// Inspects a file after all passes, and writes what the programs that are asked for are made of.
+///
+/// # Errors
+///
+/// `Btf` where the kernel's types can't be read; else `Preparing` with the first fault of preparing the file; else
+/// `NoProgram` where no program has the name. `CannotWrite` where the writer fails, `Memory` where memory was refused
+/// between the stages.
+pub fn print_reports<'a, K: BufRead + Drop, W: Write>(
+    alloc: Global,
+    program: Option<&'a str>,
+    file: &[u8],
+    btf: Option<&[u8]>,
+    kallsyms: K,
+    out: &mut W,
+) -> Result<(), Failure<'a>>
+    ensures done { OnOk result (HasListed file.now (option_copied btf.entry) (K.remaining kallsyms) (option_copied program.entry) (W.contents out.old) (W.contents out.new)) }
+    ensures refused { IfErr result (λ f. MatchBool (is_outside f) ⊤ (Stands file.now (option_copied btf.entry) (K.remaining kallsyms) (option_copied program.entry) f)) }
+{
+    let reports = match inspected(alloc, file, btf, kallsyms) {
+        Ok(reports) => reports,
+        Err(failure) => return Err(failure),
+    };
+    match print_listed(reports.as_slice(), program, out) {
+        Ok(()) => Ok(()),
+        Err(failure) => Err(failure),
+    }
+}
+
+/// Inspects a file and prints what its programs are made of, all in byte order of their names or the one that `words`
+/// names. What it is given, the passes and the status are those of `run_link`.
+pub fn run_inspect<K: BufRead + Drop, O: Write, E: Write>(
+    alloc: Global,
+    words: &Words,
+    file: &[u8],
+    btf: Option<&[u8]>,
+    kallsyms: K,
+    out: &mut O,
+    err: &mut E,
+) -> u8
+    ensures status { result ≤ 1 }
+    ensures done { result ≡ 0 → HasListed file.now (option_copied btf.entry) (K.remaining kallsyms) words.now.program (O.contents out.old) (O.contents out.new) }
+{
+    match print_reports(alloc, words.program(), file, btf, kallsyms, out) {
+        Ok(()) => 0,
+        Err(failure) => report("ebpf-inspect", failure, err),
+    }
+}

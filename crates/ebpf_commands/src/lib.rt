@@ -1,0 +1,18 @@
+//! What the programs of the command line do: `ebpf-link`, and what others share with it.
+#![tactic(auto)]
+
+mod arguments;
+mod failure;
+mod inspect;
+mod link;
+mod opened;
+mod preparation;
+mod program_text;
+mod report_text;
+mod variants;
+
+pub use arguments::{Words, WordsError, read_words};
+pub use failure::{Failure, cannot_read, report};
+pub use inspect::{print_reports, run_inspect};
+pub use link::{print_programs, run_link};
+pub use opened::{Command, start};

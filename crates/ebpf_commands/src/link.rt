@@ -1,0 +1,221 @@
+//! What `ebpf-link` does once its files are open.
+
+ghost use Rattle.std.specs.Prelude.{◌≡◌, ◌≤◌, ⊤, true, None, IfOk, IfErr, OnOk, IsSome, MatchBool, MatchOption};
+ghost use Rattle.std.specs.Io.KnownBytes.{Appends, Keeps};
+ghost use Rattle.std.specs.List.{flat_map};
+ghost use Rattle.std.specs.Option.{option_copied};
+ghost use Rattle.ebpf_base.specs.Keys.{lent_bytes};
+ghost use Rattle.ebpf_object.specs.Headline.{Headline};
+ghost use Rattle.ebpf_object.specs.Objects.{object_of};
+ghost use Rattle.ebpf_commands.specs.Done.{HasPrinted};
+ghost use Rattle.ebpf_commands.specs.Failures.{is_outside, Stands, Lacks, LacksAsked, CannotPrepare};
+ghost use Rattle.ebpf_commands.specs.Linked.{asked, IsLinked};
+ghost use Rattle.ebpf_commands.specs.Printed.{function_named, lines_of, printed};
+
+use crate::arguments::Words;
+use crate::failure::{Failure, report};
+use crate::preparation::{all_passes, maps_of, numbered, read_types};
+use crate::program_text::write_program;
+use ebpf_base::ByName;
+use ebpf_btf::Btf;
+use ebpf_object::Object;
+use ebpf_object::maps::Map;
+use ebpf_object::prepare::{PrepareError, prepare};
+use ebpf_reloc::Function;
+use std::alloc::Global;
+use std::io::{BufRead, Write};
+
+/// The function of the program of a name.
+fn function_named<'a>(object: &'a Object, name: &str) -> Option<&'a Function>
+    ensures { option_copied result ≡ function_named object.now name.now }
+{
+    let program = object.programs.get(name)?;
+    object.functions.get(program.function_key())
+}
+
+/// Writes the program of a name.
+fn write_named<'a, W: Write>(object: &Object, name: &'a str, out: &mut W) -> Result<(), Failure<'a>>
+    ensures text { OnOk result (Appends (W.contents out.old) (W.contents out.new) (lines_of object.now name.now)) }
+    ensures there { OnOk result (IsSome (function_named object.now name.now)) }
+    ensures refused { IfErr result (λ f. MatchBool (is_outside f) ⊤ (Lacks object.now name.now f)) }
+{
+    let Some(function) = function_named(object, name) else {
+        return Err(Failure::NoProgram(name));
+    };
+    match write_program(out, name, function.instructions.as_slice()) {
+        Ok(()) => Ok(()),
+        Err(_) => Err(Failure::CannotWrite),
+    }
+}
+
+/// Writes the programs of these names.
+fn write_each<W: Write>(
+    object: &Object,
+    names: &[&str],
+    out: &mut W,
+) -> Result<(), Failure<'static>>
+    ensures text { OnOk result (Appends (W.contents out.old) (W.contents out.new) (flat_map (lines_of object.now) (lent_bytes names.now))) }
+    ensures refused { IfErr result (λ f. is_outside f ≡ true) }
+{
+    for name in names {
+        match write_named(object, name, out) {
+            Ok(()) => {}
+            Err(_) => return Err(Failure::CannotWrite),
+        }
+    }
+    Ok(())
+}
+
+/// Writes all programs of an object, in byte order of their names.
+fn write_all<W: Write>(alloc: Global, object: &Object, out: &mut W) -> Result<(), Failure<'static>>
+    ensures text { OnOk result (Appends (W.contents out.old) (W.contents out.new) (printed object.now None)) }
+    ensures refused { IfErr result (λ f. is_outside f ≡ true) }
+{
+    let Ok(names) = object.programs.names(alloc) else {
+        return Err(Failure::Memory);
+    };
+    write_each(object, &names, out)
+}
+
+/// Writes what is asked for: the program of a name, or all.
+fn write_programs<'a, W: Write>(
+    alloc: Global,
+    object: &Object,
+    program: Option<&'a str>,
+    out: &mut W,
+) -> Result<(), Failure<'a>>
+    ensures text { OnOk result (Appends (W.contents out.old) (W.contents out.new) (printed object.now (option_copied program.entry))) }
+    ensures there { OnOk result (MatchOption (option_copied program.entry) ⊤ (λ name. IsSome (function_named object.now name))) }
+    ensures refused { IfErr result (λ f. MatchBool (is_outside f) ⊤ (LacksAsked object.now (option_copied program.entry) f)) }
+{
+    match program {
+        Some(name) => write_named(object, name, out),
+        None => write_all(alloc, object, out),
+    }
+}
+
+/// Hands on all that was written.
+pub fn finish<W: Write>(out: &mut W) -> Result<(), Failure<'static>>
+    ensures text { OnOk result (Keeps (W.contents out.old) (W.contents out.new)) }
+    ensures refused { IfErr result (λ f. is_outside f ≡ true) }
+{
+    match out.flush() {
+        Ok(()) => Ok(()),
+        Err(_) => Err(Failure::CannotWrite),
+    }
+}
+
+/// Writes what is asked for, and hands all on.
+#[tactic(auto, using(crate::proofs::Appending::kept))]
+fn print_object<'a, W: Write>(
+    alloc: Global,
+    object: &Object,
+    program: Option<&'a str>,
+    out: &mut W,
+) -> Result<(), Failure<'a>>
+    ensures text { OnOk result (Appends (W.contents out.old) (W.contents out.new) (printed object.now (option_copied program.entry))) }
+    ensures there { OnOk result (MatchOption (option_copied program.entry) ⊤ (λ name. IsSome (function_named object.now name))) }
+    ensures refused { IfErr result (λ f. MatchBool (is_outside f) ⊤ (LacksAsked object.now (option_copied program.entry) f)) }
+{
+    match write_programs(alloc, object, program, out) {
+        Ok(()) => {}
+        Err(failure) => return Err(failure),
+    }
+    match finish(out) {
+        Ok(()) => Ok(()),
+        Err(failure) => Err(failure),
+    }
+}
+
+/// Prepares a file with all passes, these maps numbered, and the kernel's types where they are known.
+fn prepare_with<K: BufRead + Drop>(
+    alloc: Global,
+    file: &[u8],
+    types: Option<&Btf>,
+    maps: &ByName<Map>,
+    kallsyms: K,
+) -> Result<Object, Failure<'static>>
+    ensures headline { IfOk result (Headline (asked (option_copied types.entry) maps.now) (K.remaining kallsyms) file.now) }
+    ensures refused { IfErr result (λ f. MatchBool (is_outside f) ⊤ (CannotPrepare (asked (option_copied types.entry) maps.now) (K.remaining kallsyms) file.now f)) }
+{
+    let Ok(descriptors) = numbered(alloc, maps) else {
+        return Err(Failure::Memory);
+    };
+    match prepare(alloc, file, &all_passes(types, &descriptors), kallsyms) {
+        Ok(object) => Ok(object),
+        Err(error) => Err(Failure::Preparing(error)),
+    }
+}
+
+/// The object of a file after all passes: types where the kernel's are known, descriptors of its own maps, externs,
+/// calls.
+fn prepared<K: BufRead + Drop>(
+    alloc: Global,
+    file: &[u8],
+    btf: Option<&[u8]>,
+    kallsyms: K,
+) -> Result<Object, Failure<'static>>
+    ensures linked { IfOk result (IsLinked file.now (option_copied btf.entry) (K.remaining kallsyms)) }
+    ensures refused { IfErr result (λ f. MatchBool (is_outside f) ⊤ (Stands file.now (option_copied btf.entry) (K.remaining kallsyms) None f)) }
+{
+    let types = match read_types(alloc, btf) {
+        Ok(types) => types,
+        Err(error) => return Err(Failure::Btf(error)),
+    };
+    let maps = match maps_of(alloc, file) {
+        Ok(maps) => maps,
+        Err(error) => return Err(Failure::Preparing(PrepareError::Parse(error))),
+    };
+    prepare_with(alloc, file, types.as_ref(), &maps, kallsyms)
+}
+
+/// Prepares the object of a file with all passes, and writes the programs that are asked for.
+///
+/// # Errors
+///
+/// `Btf` where the kernel's types can't be read; else `Preparing` with the first fault of preparing the file; else
+/// `NoProgram` where no program has the name. `CannotWrite` where the writer fails, `Memory` where memory was refused
+/// between the stages.
+pub fn print_programs<'a, K: BufRead + Drop, W: Write>(
+    alloc: Global,
+    program: Option<&'a str>,
+    file: &[u8],
+    btf: Option<&[u8]>,
+    kallsyms: K,
+    out: &mut W,
+) -> Result<(), Failure<'a>>
+    ensures done { OnOk result (HasPrinted file.now (option_copied btf.entry) (K.remaining kallsyms) (option_copied program.entry) (W.contents out.old) (W.contents out.new)) }
+    ensures refused { IfErr result (λ f. MatchBool (is_outside f) ⊤ (Stands file.now (option_copied btf.entry) (K.remaining kallsyms) (option_copied program.entry) f)) }
+{
+    let object = match prepared(alloc, file, btf, kallsyms) {
+        Ok(object) => object,
+        Err(failure) => return Err(failure),
+    };
+    match print_object(alloc, &object, program, out) {
+        Ok(()) => Ok(()),
+        Err(failure) => Err(failure),
+    }
+}
+
+/// Prepares an object and prints its programs, all in byte order of their names or the one that `words` names.
+/// `btf` has the kernel's types, little endian, where they are known, and `kallsyms` the lines of the kernel's
+/// symbols. Functions are adapted to the types where they are known, the object's own maps have the descriptors 1 and
+/// on in byte order of their names, externs are resolved and written, and programs are joined with the functions that
+/// they reach. It gives the status: 0, or 1 with one line on `err`, the failure that `print_programs` gives.
+pub fn run_link<K: BufRead + Drop, O: Write, E: Write>(
+    alloc: Global,
+    words: &Words,
+    file: &[u8],
+    btf: Option<&[u8]>,
+    kallsyms: K,
+    out: &mut O,
+    err: &mut E,
+) -> u8
+    ensures status { result ≤ 1 }
+    ensures done { result ≡ 0 → HasPrinted file.now (option_copied btf.entry) (K.remaining kallsyms) words.now.program (O.contents out.old) (O.contents out.new) }
+{
+    match print_programs(alloc, words.program(), file, btf, kallsyms, out) {
+        Ok(()) => 0,
+        Err(failure) => report("ebpf-link", failure, err),
+    }
+}

@@ -1,0 +1,112 @@
+//! Calls on what an object keeps: its maps, its types and what is said of instructions.
+
+use crate::call::Call;
+use crate::marks::{begin, end};
+use crate::still::still_object;
+use ebpf_btf::BtfExt;
+use ebpf_object::Object;
+use ebpf_parts::maps::Map;
+use std::alloc::Global;
+use std::io;
+
+/// The maps that a map holds.
+fn inner_of(rt: &impl Print, map: &Map) -> io::Result<()> {
+    begin(rt, true)?;
+    let answer = map.inner();
+    end(rt, true)?;
+    println!(rt; "answer: {answer:?}")
+}
+
+/// A copy of a map.
+fn copied_map(rt: &impl Print, map: &Map) -> io::Result<()> {
+    begin(rt, true)?;
+    let answer: Result<_, _> = map.clone();
+    end(rt, true)?;
+    println!(rt; "answer: {answer:?}")
+}
+
+/// A call on the map that the word names.
+fn on_map(rt: &impl Print, map: &Map, call: Call<'_>) -> io::Result<()> {
+    match call.name {
+        "kept_inner" => inner_of(rt, map),
+        "kept_map" => copied_map(rt, map),
+        _ => println!(rt; "no such call"),
+    }
+}
+
+/// What is said of the functions of the section that the word names.
+fn funcs_of(rt: &impl Print, ext: &BtfExt, call: Call<'_>) -> io::Result<()> {
+    begin(rt, true)?;
+    let answer = ext.func_info.get(call.word);
+    end(rt, true)?;
+    println!(rt; "answer: {answer:?}")
+}
+
+/// What is said of the lines of the section that the word names.
+fn lines_of(rt: &impl Print, ext: &BtfExt, call: Call<'_>) -> io::Result<()> {
+    begin(rt, true)?;
+    let answer = ext.line_info.get(call.word);
+    end(rt, true)?;
+    println!(rt; "answer: {answer:?}")
+}
+
+/// The names of the sections of whose functions something is said.
+fn func_names(rt: &impl Print, alloc: Global, ext: &BtfExt) -> io::Result<()> {
+    begin(rt, true)?;
+    let answer = ext.func_info.names(alloc);
+    end(rt, true)?;
+    println!(rt; "answer: {answer:?}")
+}
+
+/// The names of the sections of whose lines something is said.
+fn line_names(rt: &impl Print, alloc: Global, ext: &BtfExt) -> io::Result<()> {
+    begin(rt, true)?;
+    let answer = ext.line_info.names(alloc);
+    end(rt, true)?;
+    println!(rt; "answer: {answer:?}")
+}
+
+/// A copy of all that is said of instructions.
+fn copied_ext(rt: &impl Print, ext: &BtfExt) -> io::Result<()> {
+    begin(rt, true)?;
+    let answer: Result<_, _> = ext.clone();
+    end(rt, true)?;
+    println!(rt; "answer: {answer:?}")
+}
+
+/// A call on what is said of instructions.
+fn on_ext(rt: &impl Print, alloc: Global, ext: &BtfExt, call: Call<'_>) -> io::Result<()> {
+    match call.name {
+        "kept_funcs" => funcs_of(rt, ext, call),
+        "kept_lines" => lines_of(rt, ext, call),
+        "kept_func_names" => func_names(rt, alloc, ext),
+        "kept_line_names" => line_names(rt, alloc, ext),
+        "kept_ext" => copied_ext(rt, ext),
+        _ => println!(rt; "no such call"),
+    }
+}
+
+/// The numbers of the sections that hold functions.
+fn text_sections(rt: &impl Print, alloc: Global, object: &Object) -> io::Result<()> {
+    begin(rt, true)?;
+    let answer = object.text_sections(alloc);
+    end(rt, true)?;
+    println!(rt; "answer: {answer:?}")
+}
+
+/// A call on what an object keeps.
+pub fn on_kept(rt: &impl Print, alloc: Global, object: &Object, call: Call<'_>) -> io::Result<()> {
+    if call.name == "kept_still" {
+        return still_object(rt, alloc, object);
+    }
+    if call.name == "kept_text_sections" {
+        return text_sections(rt, alloc, object);
+    }
+    if let Some(map) = object.maps.get(call.word) {
+        return on_map(rt, map, call);
+    }
+    match &object.btf_ext {
+        Some(ext) => on_ext(rt, alloc, ext, call),
+        None => println!(rt; "no such call"),
+    }
+}

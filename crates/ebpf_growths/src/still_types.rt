@@ -1,0 +1,49 @@
+//! Calls on types that take no memory. What they answer becomes one number.
+
+use crate::marks::{begin, end};
+use crate::still::mixed;
+use ebpf_btf::{Btf, BtfType, types_are_compatible};
+use std::io;
+
+/// What is read of a type.
+fn of_type(seen: u64, ty: &BtfType) -> u64 {
+    let mut seen = mixed(seen, u64::from(ty.name_offset()));
+    seen = mixed(seen, u64::from(ty.size().unwrap_or(0)));
+    seen = mixed(seen, u64::from(ty.btf_type().unwrap_or(0)));
+    seen = mixed(seen, u64::from(ty.is_signed()));
+    seen = mixed(seen, ty.variant_count().unwrap_or(0) as u64);
+    for member in ty.members().unwrap_or(&[]) {
+        seen = mixed(seen, u64::from(ty.member_bit_offset(member)));
+        seen = mixed(seen, u64::from(ty.member_bit_field_size(member)));
+    }
+    seen
+}
+
+/// What is read of the type with an id.
+fn of_id(seen: u64, types: &Btf, id: u32) -> u64 {
+    let resolved = types.resolve_type(id).unwrap_or(0);
+    let size = types.type_size(id).unwrap_or(0);
+    let fits = types_are_compatible(types, id, types, resolved).unwrap_or(false);
+    let seen = mixed(mixed(seen, u64::from(resolved)), u64::from(size));
+    match types.type_by_id(id) {
+        Ok(ty) => of_type(mixed(seen, u64::from(fits)), ty),
+        Err(_) => seen,
+    }
+}
+
+/// What is read of the first types.
+fn of_types(types: &Btf) -> u64 {
+    let mut seen = mixed(0, types.types().len() as u64);
+    for id in 0..100 {
+        seen = of_id(seen, types, id);
+    }
+    seen
+}
+
+/// Reads types.
+pub fn still_types(rt: &impl Print, types: &Btf) -> io::Result<()> {
+    begin(rt, true)?;
+    let answer = of_types(types);
+    end(rt, true)?;
+    println!(rt; "answer: {answer}")
+}

@@ -1,0 +1,4 @@
+pub mod Answering
+pub mod Gathered
+pub mod Joining
+pub mod Reports

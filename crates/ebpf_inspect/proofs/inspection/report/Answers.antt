@@ -1,0 +1,31 @@
+use Rattle.std.proofs.Common.{◌≡◌, true, sym, subst}
+use Rattle.ebpf_inspect.proofs.Gathered.{refused_by, of_calls}
+use Rattle.ebpf_inspect.proofs.Reports.{each_linked, none_refused, reports}
+use Rattle.ebpf_inspect.specs.Inspected.{AreReports}
+use Rattle.ebpf_inspect.specs.Named.{OneRefused}
+use Rattle.ebpf_object.specs.Joined.{linkable_of, programs_in_order, AreJoined}
+use Rattle.ebpf_object.specs.StageFaults.{OfCalls}
+use Rattle.ebpf_object.specs.Stages.{Joins, JoiningFault}
+use Rattle.ebpf_inspect.proofs.inspection.report.Goals as goal
+
+pub returns-in-Err-maps-clause-fault : goal.returns-in-Err-maps-clause-fault
+returns-in-Err-maps-clause-fault c =
+    let o = c.args.object.now in
+    let linked = c.relocate_calls.new.self in
+    let ps = programs_in_order o.programs in
+    let joins : Joins true o linked =
+    (subst (λ sections. AreJoined (linkable_of o sections) ps linked.functions) c.in_ok-text_sections.ensures c.in-Ok.ensures.functions, c.in-Ok.ensures.others_stay)
+    in
+    refused_by (OfCalls (OneRefused o ps)) (OfCalls (JoiningFault true o)) c.in-Err-maps.error
+    (of_calls (OneRefused o ps) (JoiningFault true o) (λ e r. absurd (none_refused o linked e ps (each_linked o linked joins) r)) c.in-Err-maps.error)
+    c.in-Err-maps.ensures.fault
+
+pub returns-clause-reports : goal.returns-clause-reports
+returns-clause-reports c =
+    let o = c.args.object.now in
+    let linked = c.relocate_calls.new.self in
+    let ps = programs_in_order o.programs in
+    let joins : Joins true o linked =
+    (subst (λ sections. AreJoined (linkable_of o sections) ps linked.functions) c.in_ok-text_sections.ensures c.in-Ok.ensures.functions, c.in-Ok.ensures.others_stay)
+    in
+    subst (λ rs. AreReports o linked ps rs) (sym c.in_ok-reports_of.ensures) (reports o linked ps c.in-Ok-maps.maps.items (each_linked o linked joins) c.in-Ok-maps.ensures.maps)

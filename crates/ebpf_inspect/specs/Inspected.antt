@@ -1,0 +1,47 @@
+-- What is told of a file's programs, once they are linked.
+use Rattle.std.specs.Prelude.{◌≡◌, ℕ, true, List, [], ◌∷◌, Option, Some}
+use Rattle.std.specs.FinMap.{get}
+use Rattle.ebpf_inspect.specs.declared.report.ProgramReport.{ProgramReport}
+use Rattle.ebpf_object.specs.Headline.{Headline, linkable, unlinked_object}
+use Rattle.ebpf_object.specs.Joined.{programs_in_order}
+use Rattle.ebpf_object.specs.Prepared.{IsPrepared}
+use Rattle.ebpf_object.specs.Steps.{Chosen}
+use Rattle.ebpf_object.specs.declared.object.Object.{Object}
+use Rattle.ebpf_reloc.specs.LinkMaps.{IsMapped}
+use Rattle.ebpf_reloc.specs.Linking.{ProgramValue, key_of, IsLinked}
+use Rattle.ebpf_reloc.specs.MapLaws.{TellsOf}
+use Rattle.ebpf_reloc.specs.declared.function.Function.{Function}
+use Rattle.ebpf_reloc.specs.declared.link_map.LinkMap.{LinkMap}
+
+-- the chosen passes, and the joining of programs
+abbrev pub joining : Chosen → Chosen
+joining steps = record steps { calls = true }
+
+abbrev pub map_in : ProgramReport → LinkMap
+map_in r = record { copies = r.copies; references = r.references }
+
+-- The report of a program, from the object as linking begins and as it leaves it: its name, the slots of its linked
+-- function, and the map of these. So the copies are the program and each function that it reaches, in order, and have
+-- all slots; and the slot of each reference holds the distance to a listed copy of the function that it refers to.
+pub record IsReport (unlinked linked : Object) (program : ProgramValue) (r : ProgramReport) : Type 0 where
+  pub named : r.name ≡ program.name
+  pub function : Function
+  pub stands : get linked.functions (key_of program) ≡ Some function
+  pub slots : r.slots ≡ function.instructions
+  pub joined : IsLinked (linkable unlinked) (key_of program) function
+  pub mapped : IsMapped (linkable unlinked) (key_of program) (map_in r)
+  pub tells : TellsOf (linkable unlinked) (key_of program) (map_in r) function mapped joined
+
+-- a report of each program
+abbrev pub AreReports : Object → Object → List ProgramValue → List ProgramReport → Type 0
+AreReports unlinked linked [] [] = Unit {0}
+AreReports unlinked linked (p ∷ ps) (r ∷ rs) = IsReport unlinked linked p r × AreReports unlinked linked ps rs
+AreReports unlinked linked [] (r ∷ rs) = ⊥
+AreReports unlinked linked (p ∷ ps) [] = ⊥
+
+-- the reports of a file's programs, in byte order of their names, after the chosen passes and joined
+pub record IsInspected (steps : Chosen) (lines : Option (List ℕ)) (bytes : List ℕ) (reports : List ProgramReport) : Type 0 where
+  pub linked : Object
+  pub headline : Headline (joining steps) lines bytes linked
+  pub prepared : IsPrepared (joining steps) lines bytes linked
+  pub each : AreReports (unlinked_object prepared) linked (programs_in_order linked.programs) reports

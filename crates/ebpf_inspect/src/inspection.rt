@@ -1,0 +1,109 @@
+//! The programs of a file, linked, with what they are made of.
+
+ghost use Rattle.std.specs.Prelude.{◌≡◌, false, true, map, IfOk, IfErr, OnOk};
+ghost use Rattle.ebpf_inspect.specs.Inspected.{joining, AreReports, IsInspected};
+ghost use Rattle.ebpf_inspect.specs.Named.{report_of, slots_at};
+ghost use Rattle.ebpf_object.specs.Joined.{programs_in_order};
+ghost use Rattle.ebpf_object.specs.Prepared.{IsFirstFault, Refuses};
+ghost use Rattle.ebpf_object.specs.StageFaults.{OfCalls};
+ghost use Rattle.ebpf_object.specs.Stages.{Joins, JoiningFault};
+ghost use Rattle.ebpf_object.specs.Steps.{chosen};
+
+use crate::maps::{NamedMap, link_maps};
+use crate::report::ProgramReport;
+use ebpf_base::Items;
+use ebpf_object::Object;
+use ebpf_object::insn::bpf_insn;
+use ebpf_object::prepare::{PrepareError, Steps, prepare};
+use std::alloc::{AllocError, Global};
+use std::io::BufRead;
+
+/// The chosen passes, but for the joining of programs.
+fn without_calls<'a>(steps: &Steps<'a>) -> Steps<'a>
+    ensures { chosen result ≡ record (chosen steps.now) { calls = false } }
+{
+    Steps {
+        target_btf: steps.target_btf,
+        map_fds: steps.map_fds,
+        externs: steps.externs,
+        calls: false,
+    }
+}
+
+/// A copy of the slots of the function at a key.
+fn slots_at(
+    alloc: Global,
+    object: &Object,
+    key: (usize, u64),
+) -> Result<Items<bpf_insn>, AllocError>
+    ensures { IfOk result (λ slots. slots ≡ slots_at object.now key) }
+{
+    match object.functions.get(key) {
+        Some(function) => function.instructions.clone(),
+        None => Ok(Items::new(alloc)),
+    }
+}
+
+/// The reports of programs, by their maps.
+fn reports_of(
+    alloc: Global,
+    object: &Object,
+    maps: Vec<NamedMap>,
+) -> Result<Items<ProgramReport>, AllocError>
+    ensures { IfOk result (λ reports. reports ≡ map (report_of object.now) maps.items) }
+{
+    let mut reports = Vec::with_capacity(alloc, maps.len())?;
+    for named in maps {
+        let slots = slots_at(alloc, object, named.key)?;
+        reports.push(ProgramReport {
+            name: named.name,
+            slots,
+            copies: named.map.copies,
+            references: named.map.references,
+        })?;
+    }
+    Ok(Items::from_vec(reports))
+}
+
+/// Joins the programs of a prepared object, and reports what each is made of.
+fn report(alloc: Global, object: &mut Object) -> Result<Items<ProgramReport>, PrepareError>
+    ensures joined { OnOk result (Joins true object.old object.new) }
+    ensures reports { IfOk result (AreReports object.old object.new (programs_in_order object.old.programs)) }
+    ensures fault { IfErr result (Refuses (OfCalls (JoiningFault true object.old))) }
+{
+    let text_sections = object.text_sections(alloc)?;
+    let maps = link_maps(alloc, object, &text_sections);
+    match object.relocate_calls(&text_sections) {
+        Ok(()) => {}
+        Err(error) => return Err(PrepareError::Calls(error)),
+    }
+    let maps = match maps {
+        Ok(maps) => maps,
+        Err(error) => return Err(error),
+    };
+    Ok(reports_of(alloc, object, maps)?)
+}
+
+/// The programs of a file after the chosen passes, each joined with the functions that it reaches, whatever `steps`
+/// says of that: in byte order of their names, with their slots and what these are made of. `kallsyms` has the lines
+/// of the kernel's symbols.
+///
+/// # Errors
+///
+/// Those of `prepare` with the same steps where it joins programs: the fault of the first pass that has one, in that
+/// pass's own error. `OutOfMemory`, and the passes' own, only where memory was refused.
+pub fn inspect<K: BufRead + Drop>(
+    alloc: Global,
+    bytes: &[u8],
+    steps: &Steps<'_>,
+    kallsyms: K,
+) -> Result<Items<ProgramReport>, PrepareError>
+    ensures reports { IfOk result (IsInspected (chosen steps.now) (K.remaining kallsyms) bytes.now) }
+    ensures fault { IfErr result (Refuses (IsFirstFault (joining (chosen steps.now)) (K.remaining kallsyms) bytes.now)) }
+{
+    let mut object = match prepare(alloc, bytes, &without_calls(steps), kallsyms) {
+        Ok(object) => object,
+        Err(error) => return Err(error),
+    };
+    report(alloc, &mut object)
+}
