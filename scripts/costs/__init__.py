@@ -1,0 +1,1 @@
+"""What files that are made to hurt cost."""

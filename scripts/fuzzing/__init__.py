@@ -1,0 +1,1 @@
+"""Damaged files, and what programs make of them."""

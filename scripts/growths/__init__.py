@@ -1,0 +1,1 @@
+"""What is asked of each call while memory is refused to it."""

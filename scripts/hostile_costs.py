@@ -1,0 +1,82 @@
+#!/usr/bin/env python3
+"""Measures ebpf-link on accepted files that are made to take long: time and memory have to grow as the file does.
+
+usage: hostile_costs.py PROGRAM [--base BYTES] [--seconds N] [WORD..]     WORD: only shapes whose name has it
+       hostile_costs.py --make SHAPE BYTES FILE                           one file
+
+Each shape of costs/shapes.py is made with about BYTES (262144), twice and four times as many. A row fails where the
+program ends otherwise than with status 0, where time grows by more than 6 from the first size to the last (and is more
+than 0.1 s there), or where memory passes 64 bytes for each byte of the file and 16 MiB. What the object itself has to
+own isn't among the shapes: long names of many symbols, functions that overlap, a license for each program, zeros of a
+data map. Ends with 'N passed, M failed'.
+"""
+import argparse
+import os
+import subprocess
+import sys
+import tempfile
+from pathlib import Path
+
+from costs.measure import TIMES, Measured, run
+
+
+def make(name, size, path):
+    """Makes a file, in a process of its own: what is measured is never smaller than the process that starts it."""
+    subprocess.run([sys.executable, "-B", __file__, "--make", name, str(size), path], check=True)
+
+
+def shapes():
+    """The shapes, each with the words that stand behind the file on the command line."""
+    found = subprocess.run([sys.executable, "-B", __file__, "--list"], check=True, capture_output=True, text=True)
+    return [line.split() for line in found.stdout.splitlines()]
+
+
+def measure(program, name, words, base, seconds, folder):
+    """The shape at all sizes."""
+    runs = []
+    for times in TIMES:
+        path = os.path.join(folder, name)
+        make(name, base * times, path)
+        runs.append(run([program, path, *words], seconds))
+        if runs[-1].status != 0:
+            break
+    return Measured(name, runs)
+
+
+def measure_all(asked):
+    passed = failed = 0
+    print(f"{'shape':32}{'KiB':>6}" + "".join(f"{'s':>9}{'MiB':>7}" for _ in TIMES) + f"{'time x':>8}{'B/B':>7}")
+    with tempfile.TemporaryDirectory() as folder:
+        for name, *words in shapes():
+            if asked.words and not any(word in name for word in asked.words):
+                continue
+            found = measure(os.path.abspath(asked.program), name, words, asked.base, asked.seconds, folder)
+            print(found.line(asked.base), flush=True)
+            passed += not found.faults()
+            failed += bool(found.faults())
+    print(f"{passed} passed, {failed} failed")
+    return 1 if failed or not passed else 0
+
+
+def main(words):
+    if words[:1] == ["--list"]:
+        from costs.shapes import SHAPES, WORDS
+
+        for name in SHAPES:
+            print(name, *WORDS.get(name, []))
+        return 0
+    if words[:1] == ["--make"]:
+        from costs.shapes import SHAPES
+
+        Path(words[3]).write_bytes(SHAPES[words[1]](int(words[2])))
+        return 0
+    parser = argparse.ArgumentParser()
+    parser.add_argument("program")
+    parser.add_argument("words", nargs="*")
+    parser.add_argument("--base", type=int, default=262144)
+    parser.add_argument("--seconds", type=int, default=60)
+    return measure_all(parser.parse_intermixed_args(words))
+
+
+if __name__ == "__main__":
+    sys.exit(main(sys.argv[1:]))
