@@ -199,16 +199,16 @@ def small():
     return [
         Case(
             "the small object, printed",
-            {"object": call_object(), "types": b"types"},
+            {"object": call_object(), "no_types": b"types"},
             {
                 "link": done(text),
                 "link program=p": done(text),
                 "link program=q": refused("link", "no program q"),
-                "link types=types": refused("link", "btf: InvalidHeader"),
+                "link types=no_types": refused("link", "btf: InvalidHeader"),
                 "inspect": done(parts),
                 "inspect program=p": done(parts),
                 "inspect program=q": refused("inspect", "no program q"),
-                "inspect types=types": refused("inspect", "btf: InvalidHeader"),
+                "inspect types=no_types": refused("inspect", "btf: InvalidHeader"),
             },
         ),
         Case(
