@@ -22,7 +22,7 @@ class ProgramRow(Row):
         self.said = f"{name}: {said}\n".encode() if said else b""
 
     def asks_again(self):
-        return "--btf" in self.given
+        return True
 
     def ample_fault(self, ample):
         wanted = (1, True, self.said) if self.said else (0, False, b"")
