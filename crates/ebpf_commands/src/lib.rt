@@ -1,4 +1,4 @@
-//! What the programs of the command line do: `ebpf-link`, and what others share with it.
+//! What the programs of the command line do, `ebpf-link` and `ebpf-inspect`, and what they share.
 #![tactic(auto)]
 
 mod arguments;
