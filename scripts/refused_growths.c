@@ -85,7 +85,10 @@ void *calloc(size_t count, size_t size)
 		errno = ENOMEM;
 		return NULL;
 	}
-	block = malloc(bytes);
+	/* not malloc: of that and memset a compiler makes calloc */
+	if (is_refused() || is_huge(bytes))
+		return NULL;
+	block = with_head(__libc_malloc(bytes + sizeof(struct head)), bytes);
 	return block ? memset(block, 0, bytes) : NULL;
 }
 

@@ -23,6 +23,7 @@ def err(error):
 ANSWERS = {
     "parse": [NO_MEMORY],
     "prepare": PREPARED,
+    "inspect": PREPARED,
     "object relocate_btf": [err(TYPES)],
     "object relocate_maps": [err(CALLS)],
     "object resolve_externs": [err(NO_MEMORY)],
@@ -39,6 +40,7 @@ ANSWERS = {
     "object kept_line_names": [err("AllocError")],
     "object kept_ext": [err("AllocError")],
     "object kept_text_sections": [err("AllocError")],
+    "object kept_link_map": [err(CALLS)],
     "code slots": [err(NO_MEMORY)],
     "code program_section": [err(NO_MEMORY)],
     "code section": [err(NO_MEMORY)],

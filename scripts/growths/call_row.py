@@ -3,10 +3,8 @@ from growths.answers import ANSWERS
 from growths.run import GROWTHS, Row
 
 
-# The calls that let std collect the relocations of a section, and those that let it collect what they find in a kernel's
-# types.
-PARSING = ["parse", "prepare"]
-COLLECTING = ["object relocate_btf", "types index"]
+# The calls that let std collect the relocations of a section.
+PARSING = ["parse", "prepare", "inspect"]
 
 
 class Parts:
@@ -34,7 +32,7 @@ class CallRow(Row):
         super().__init__(name, GROWTHS, object_file, types, lines, subject, *calls)
         key = subject if subject in ANSWERS else f"{subject} {calls[-1].partition('=')[0]}"
         self.memory_answers = ANSWERS[key]
-        self.collects = key in PARSING or (key in COLLECTING and types != b"")
+        self.collects = key in PARSING
         self.starts = starts
         if starts is None:
             self.endings = ("",)

@@ -31,6 +31,10 @@ def parsing():
         CallRow("prepare, two calls with records", (inputs.two_calls(), *NOTHING_ELSE), "prepare", "mec"),
         CallRow("prepare, an object of clang", (COUNTER, TASKS, b""), "prepare", "tmec"),
         CallRow("prepare, all kinds of references", ALL, "prepare", "tmec"),
+        CallRow("inspect, the small object", (SMALL, *NOTHING_ELSE), "inspect", "c"),
+        CallRow("inspect, two calls with records", (inputs.two_calls(), *NOTHING_ELSE), "inspect", "mec"),
+        CallRow("inspect, an object of clang", (COUNTER, TASKS, b""), "inspect", "tmec"),
+        CallRow("inspect, all kinds of references", ALL, "inspect", "tmec"),
     ]
 
 
@@ -57,7 +61,7 @@ def copying():
         for name, data in [("the small object", SMALL), ("all kinds of references", REFERENCES), ("clang", COUNTER)]
     ]
     kept = ["kept_inner=tables", "kept_map=tables", "kept_map=.rodata", "kept_funcs=.text", "kept_lines=.text"]
-    kept += ["kept_func_names", "kept_line_names", "kept_ext", "kept_text_sections"]
+    kept += ["kept_func_names", "kept_line_names", "kept_ext", "kept_text_sections", "kept_link_map=on_packet"]
     return rows + [on_file(f"{call}, an object of clang", COUNTER, "object", call) for call in kept]
 
 
@@ -130,6 +134,8 @@ def refused_files():
         no_answer("patch_map_data, another length", [variables, b"", b"\1"], "object", "patch_map_data=a"),
         no_answer("prepare, no map", [no_map], "prepare", "mec", starts="Maps"),
         no_answer("prepare, no record", [no_record], "prepare", "c", starts="Calls"),
+        no_answer("inspect, no record", [no_record], "inspect", "c", starts="Calls"),
+        no_answer("link_map, no record", [no_record], "object", "kept_link_map=p"),
     ]
 
 

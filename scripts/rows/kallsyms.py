@@ -1,5 +1,8 @@
 """Lists of a kernel's addresses, and readers that fail behind them."""
+from make_call_object import call_object
 from rows.case import Case
+from rows.elf import LOAD64, NOTHING, slot
+from rows.resolved import variable_of_void
 
 FAILED = "KallsymsAccessError(Kind(Other))"
 
@@ -102,5 +105,33 @@ def unread():
     ]
 
 
+def whole_files():
+    """A file that is prepared, whose variable is sought behind a reader that may fail."""
+    seeking = variable_of_void("a", slots=[slot(0x18, 1), NOTHING], relocations=[(0, LOAD64)])
+    unseeking = call_object()
+    failed = f"Ksyms({FAILED})"
+    return [
+        Case(
+            "a file whose variable is sought in the lines",
+            {"object": seeking, "kallsyms": GOOD},
+            {
+                "prepared_found": found(a=0x1000),
+                "prepared_failing": answer(failed, []),
+                "prepared_without_memory": answer("Ksyms(OutOfMemory)", []),
+                "prepared_failing_at_each": f"{len(GOOD) + 1}: " + answer(failed, []),
+            },
+        ),
+        Case(
+            "a file that seeks nothing in the lines",
+            {"object": unseeking, "kallsyms": GOOD},
+            {
+                "prepared_found": answer("Ok", [], asked=False),
+                "prepared_failing": answer("Ok", [], asked=False),
+                "prepared_failing_at_each": f"{len(GOOD) + 1}: " + answer("Ok", [], asked=False),
+            },
+        ),
+    ]
+
+
 def cases():
-    return lists() + failures() + unread()
+    return lists() + failures() + unread() + whole_files()

@@ -1,5 +1,5 @@
 -- Maps are equal where they agree at each key, as maps that hash are compared.
-use Rattle.std.proofs.Common.{◌≡◌, ◌⊎◌, inl, inr, ℕ, Bool, true, false, ◌&&◌, nat_eq, cond, List, [], ◌∷◌, Option, Some, None, refl, sym, ap, subst, ◌∙◌}
+use Rattle.std.proofs.Common.{◌≡◌, ℕ, Bool, true, false, ◌&&◌, nat_eq, cond, List, [], ◌∷◌, Option, Some, None, refl, sym, ap, subst, ◌∙◌}
 use Rattle.std.specs.declared.cmp.Ordering.{Ordering}
 use Rattle.std.specs.declared.cmp.Ordering.TheVariants.{Less, Equal, Greater}
 use Rattle.std.specs.Ordering.{is_eq, eq_by_cmp, nat_cmp}
@@ -7,20 +7,14 @@ use Rattle.std.specs.Option.{option_eq, is_some}
 use Rattle.std.specs.Cmp.{IsTotalOrder, eq_by_cmp_equiv, nat_cmp_total, nat_eq_equiv, both_ways}
 use Rattle.std.specs.Cmp.Lexicographic.{pointwise}
 use Rattle.std.specs.List.{IsDistinct, AllByRecursion}
-use Rattle.std.specs.Map.{keys_of, lookup}
+use Rattle.std.specs.Map.{keys_of}
 use Rattle.std.specs.HashMap.{HashMap, hash_map_eq}
 use Rattle.std.specs.HashMap.Eq.{hash_map_eq_from_get, get_from_hash_map_eq}
-use Rattle.std.specs.Str.{bytes_eq}
-use Rattle.std.specs.String.{string_bytes, string_eq, string_eq_equiv}
-use Rattle.std.specs.declared.string.String.{String}
 use Rattle.std.specs.FinMap.{FinMap, IsAntisymmetric, from_entries, get, entries, find, get-entries, contains_key-keys, nat_cmp-IsAntisymmetric}
 use Rattle.std.proofs.lemmas.Map.Keys.{IsDistinct-from_sorted}
-use Rattle.std.proofs.lemmas.Slice.Eq.{bytes_eq-Decides}
 use Rattle.ebpf_base.specs.Copies.{maps_eq}
-use Rattle.ebpf_base.specs.Keys.{text_cmp, text_total, by_bytes}
 use Rattle.ebpf_base.proofs.Maps.{get-number}
 use Rattle.ebpf_base.proofs.Sorted.{entries_rise, same_keys}
-use Rattle.ebpf_base.proofs.TextMaps.{get-text, text_exact}
 
 both_true : (a b : Bool) → (a && b) ≡ true → (a ≡ true) × (b ≡ true)
 both_true true b h = (refl, h)
@@ -95,38 +89,9 @@ module _ {K X : Type 0} {R : K → K → Ordering} (o : IsTotalOrder R) (exact :
       let same : keys_of (entries m) ≡ keys_of (entries n) = same_keys o exact _ _ (entries_rise m) (entries_rise n) (λ q. sym (contains_key-keys m q) ∙ same_variant eq _ _ (agree q) ∙ contains_key-keys n q) in
       equal_from_agree (entries m) (entries n) same (IsDistinct-from_sorted R _ (entries_rise m)) (λ q. rw (← get-entries m q, ← get-entries n q) (agree q))
 
-module _ {X Y : Type 0} where
-  -- bytes are those of a stored text, or none is stored there
-  stored : (q : List ℕ) (es : List (String Y × X)) → (lookup (λ k. bytes_eq q (string_bytes k)) es ≡ None) ⊎ ((k : String Y) × (q ≡ string_bytes k))
-  stored q [] = inl refl
-  stored q (e ∷ es) = step (bytes_eq q (string_bytes e.0)) refl (stored q es)
-    where
-      step : (b : Bool) → bytes_eq q (string_bytes e.0) ≡ b → (lookup (λ k. bytes_eq q (string_bytes k)) es ≡ None) ⊎ ((k : String Y) × (q ≡ string_bytes k)) → (lookup (λ k. bytes_eq q (string_bytes k)) (e ∷ es) ≡ None) ⊎ ((k : String Y) × (q ≡ string_bytes k))
-      step true at later = inr (e.0, (bytes_eq-Decides q (string_bytes e.0)).0 at)
-      step false at (inl none) = inl (rw at none)
-      step false at (inr found) = inr found
-
 module _ {X S : Type 0} (eq : X → X → Bool) where
   -- maps that hash numbers
   pub hashed_numbers : (m n : HashMap ℕ X S) → hash_map_eq nat_eq eq m n ≡ maps_eq {R = nat_cmp} eq (from_entries m.entries) (from_entries n.entries)
   hashed_numbers m n = both_ways _ _
       (λ h. maps_from_agree nat_cmp_total nat_cmp-IsAntisymmetric eq _ _ (λ q. rw (get-number m.entries q, get-number n.entries q) (get_from_hash_map_eq nat_eq eq nat_eq_equiv m n h q)))
       (λ h. hash_map_eq_from_get nat_eq eq m n (λ q. rw (← get-number m.entries q, ← get-number n.entries q) (agree_from_maps nat_cmp_total nat_cmp-IsAntisymmetric eq _ _ h q)))
-
-  module _ {Y : Type 0} where
-    abbrev agrees_at : HashMap (String Y) X S → HashMap (String Y) X S → List ℕ → Type 0
-    agrees_at m n q = option_eq eq (lookup (λ k. bytes_eq q (string_bytes k)) m.entries) (lookup (λ k. bytes_eq q (string_bytes k)) n.entries) ≡ true
-
-    at_bytes : (m n : HashMap (String Y) X S) → ((k : String Y) → agrees_at m n (string_bytes k)) → (q : List ℕ) → agrees_at m n q
-    at_bytes m n agree q = step (stored q m.entries) (stored q n.entries)
-      where
-        step : (lookup (λ k. bytes_eq q (string_bytes k)) m.entries ≡ None) ⊎ ((k : String Y) × (q ≡ string_bytes k)) → (lookup (λ k. bytes_eq q (string_bytes k)) n.entries ≡ None) ⊎ ((k : String Y) × (q ≡ string_bytes k)) → agrees_at m n q
-        step (inr found) other = subst (λ r. agrees_at m n r) (sym found.1) (agree found.0)
-        step (inl none) (inr found) = subst (λ r. agrees_at m n r) (sym found.1) (agree found.0)
-        step (inl none) (inl gone) = rw (none, gone) refl
-
-    -- maps that hash texts
-    pub hashed_texts : (m n : HashMap (String Y) X S) → hash_map_eq string_eq eq m n ≡ maps_eq {R = text_cmp} eq (from_entries (by_bytes m.entries)) (from_entries (by_bytes n.entries))
-    hashed_texts m n = both_ways _ _
-        (λ h. maps_from_agree text_total text_exact eq _ _ (λ q. rw (get-text m.entries q, get-text n.entries q) (at_bytes m n (λ k. get_from_hash_map_eq string_eq eq string_eq_equiv m n h k) q)))
-        (λ h. hash_map_eq_from_get string_eq eq m n (λ k. (λ i. option_eq eq (sym (get-text m.entries (string_bytes k)) i) (sym (get-text n.entries (string_bytes k)) i)) ∙ agree_from_maps text_total text_exact eq _ _ h (string_bytes k)))

@@ -7,20 +7,18 @@ ghost use Rattle.std.specs.FinMap as map;
 ghost use Rattle.ebpf_base.specs.Copies.{AreCopies, maps_eq, maps_eq_laws};
 ghost use Rattle.ebpf_base.specs.Keys.{text_cmp, coded_text, by_bytes, lent_bytes, text_total};
 ghost use Rattle.std.specs.Map.{keys_of};
-ghost use Rattle.std.specs.List.{IsDistinct};
-ghost use Rattle.std.specs.String.{string_eq};
 ghost use Rattle.ebpf_base.specs.contracts.by_name.ByName.{the_row};
 
 use std::alloc::{AllocError, Global};
-use std::collections::HashMap;
+use std::collections::BTreeMap;
 use std::marker::Model;
 use std::mem;
 
-/// Values by name. Contracts see the finite map alone, which says nothing of the order
-/// in which the `HashMap` holds its entries.
+/// Values by name, in the order of the names' bytes. Contracts see the finite map alone. Nothing is
+/// hashed: names come from files, and names made to collide would cost time.
 #[derive(Debug, Drop)]
 pub struct ByName<V> {
-    entries: HashMap<String, V>,
+    entries: BTreeMap<String, V>,
 }
 
 impl<V> Model for ByName<V> {
@@ -40,26 +38,26 @@ impl<V> ByName<V> {
         ensures { result ≡ map.empty }
     {
         ByName {
-            entries: HashMap::new(alloc),
+            entries: BTreeMap::new(alloc),
         }
     }
 
-    /// The map that a `HashMap` holds, without memory.
-    pub fn from_map(entries: HashMap<String, V>) -> Self
+    /// The map that a `BTreeMap` holds, without memory.
+    pub fn from_map(entries: BTreeMap<String, V>) -> Self
         ensures { result ≡ map.from_entries (by_bytes entries.entries) }
     {
         ByName { entries }
     }
 
-    /// The map as a `HashMap`, without memory.
-    pub fn into_map(self) -> HashMap<String, V>
+    /// The map as a `BTreeMap`, without memory.
+    pub fn into_map(self) -> BTreeMap<String, V>
         ensures { map.from_entries (by_bytes result.entries) ≡ self }
     {
         self.entries
     }
 
     /// The map, lent.
-    pub fn as_map(&self) -> &HashMap<String, V>
+    pub fn as_map(&self) -> &BTreeMap<String, V>
         ensures { map.from_entries (by_bytes result.now.entries) ≡ self.now }
     {
         &self.entries
@@ -126,22 +124,12 @@ impl<V> ByName<V> {
     pub fn names(&self, alloc: Global) -> Result<Vec<&str>, AllocError>
         ensures { IfOk result (λ names. lent_bytes names.items ≡ keys_of (map.entries self.now)) }
     {
-        let mut names = names_of(alloc, &self.entries)?;
-        names.sort_unstable();
+        let mut names = Vec::with_capacity(alloc, self.len())?;
+        for name in self.entries.keys() {
+            names.push(name.as_str())?;
+        }
         Ok(names)
     }
-}
-
-// The names as the map has them.
-fn names_of<V>(alloc: Global, entries: &HashMap<String, V>) -> Result<Vec<&str>, AllocError>
-    ensures names { IfOk result (λ names. lent_bytes names.items ≡ keys_of (by_bytes entries.now.entries)) }
-    ensures distinct { IsDistinct string_eq (keys_of entries.now.entries) }
-{
-    let mut names = Vec::with_capacity(alloc, entries.len())?;
-    for name in entries.keys() {
-        names.push(name.as_str())?;
-    }
-    Ok(names)
 }
 
 impl<V: Drop> ByName<V> {
@@ -171,6 +159,6 @@ impl<V: PartialEq> PartialEq for ByName<V> {
     ghost laws = { maps_eq_laws text_total V.PartialEq.laws };
 
     fn eq(&self, other: &Self) -> bool {
-        self.entries == other.entries
+        self.entries.len() == other.entries.len() && self.entries == other.entries
     }
 }

@@ -28,7 +28,7 @@ fn lists(rt: HostRuntime) -> Result<(), Fail> {
 
 #[test]
 fn by_name(rt: HostRuntime) -> Result<(), Fail> {
-    let mut map = ByName::from_map(HashMap::new(rt.alloc()));
+    let mut map = ByName::from_map(BTreeMap::new(rt.alloc()));
     for (name, value) in [("rodata", 1u32), ("bss", 2), ("data", 3)] {
         map.insert(String::from_str(rt.alloc(), name)?, value)?;
     }

@@ -1,7 +1,8 @@
 //! What type information answers.
 
 use crate::error::BenchError;
-use ebpf_btf::{Btf, BtfError, BtfType, TypeIndex};
+use ebpf_btf::{Btf, BtfError, BtfType};
+use ebpf_candidates::TypeIndex;
 use std::alloc::{AllocError, Global};
 
 /// How many candidates the names of each seventh type have together.

@@ -3,7 +3,8 @@
 use crate::error::BenchError;
 use crate::found::{print_counts, print_last};
 use crate::many_types::{KERNEL_GROUPS, many_types};
-use ebpf_btf::{Btf, Endianness, TypeIndex};
+use ebpf_btf::{Btf, Endianness};
+use ebpf_candidates::TypeIndex;
 use std::fs;
 use std::time::Instant;
 

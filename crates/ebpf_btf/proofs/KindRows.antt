@@ -2,14 +2,12 @@
 use Rattle.std.proofs.Common.{◌≡◌, ◌==◌, ℕ, Bool, true, false, cond, Option, Some, None, refl, sym, ap, ◌∙◌, arith}
 use Rattle.std.proofs.lemmas.Bool.Decides.{nat_tests}
 use Rattle.ebpf_btf.specs.declared.kind.BtfKind.TheVariants as kinds
-use Rattle.ebpf_btf.specs.declared.relocation.RelocationKind.TheVariants as asked
 use Rattle.ebpf_btf.specs.Format.{kind_in, kind_number_in}
-use Rattle.ebpf_btf.specs.KindTables.{KindsByNumber, NumbersOfKinds, NumbersOfRelocationKinds, RelocationKindsByNumber}
-use Rattle.ebpf_btf.specs.RelocationKinds.{relocation_kind, relocation_kind_number}
+use Rattle.ebpf_btf.specs.KindTables.{KindsByNumber, NumbersOfKinds}
 use Rattle.ebpf_btf.specs.Types.{kind_number}
 
 -- a row of a table, and what is known of the rows after it
-in_table : {K : Type 0} (n row : ℕ) (there : K) (rest : Option K) (number : K → ℕ) (kind : K) → number there ≡ row
+pub in_table : {K : Type 0} (n row : ℕ) (there : K) (rest : Option K) (number : K → ℕ) (kind : K) → number there ≡ row
     → (rest ≡ Some kind → number kind ≡ n) → cond (n == row) (Some there) rest ≡ Some kind → number kind ≡ n
 in_table {K} n row there rest number kind has others is = by_test (n == row) refl is
   where
@@ -67,35 +65,3 @@ numbers_of_kinds info kinds.Float some is = rw is refl
 numbers_of_kinds info kinds.DeclTag some is = rw is refl
 numbers_of_kinds info kinds.TypeTag some is = rw is refl
 numbers_of_kinds info kinds.Enum64 some is = rw is refl
-
-pub relocation_kinds_by_number : RelocationKindsByNumber
-unfolding relocation_kind relocation_kind_number
-relocation_kinds_by_number n kind is =
-    (in_table n 0 asked.FieldByteOffset _ relocation_kind_number kind refl
-    (in_table n 1 asked.FieldByteSize _ relocation_kind_number kind refl
-    (in_table n 2 asked.FieldExists _ relocation_kind_number kind refl
-    (in_table n 3 asked.FieldSigned _ relocation_kind_number kind refl
-    (in_table n 4 asked.FieldLShift64 _ relocation_kind_number kind refl
-    (in_table n 5 asked.FieldRShift64 _ relocation_kind_number kind refl
-    (in_table n 6 asked.TypeIdLocal _ relocation_kind_number kind refl
-    (in_table n 7 asked.TypeIdTarget _ relocation_kind_number kind refl
-    (in_table n 8 asked.TypeExists _ relocation_kind_number kind refl
-    (in_table n 9 asked.TypeSize _ relocation_kind_number kind refl
-    (in_table n 10 asked.EnumVariantExists _ relocation_kind_number kind refl
-    (in_table n 11 asked.EnumVariantValue _ relocation_kind_number kind refl
-    (λ (none : None ≡ Some kind). cc))))))))))))) is
-
-pub numbers_of_relocation_kinds : NumbersOfRelocationKinds
-unfolding relocation_kind relocation_kind_number
-numbers_of_relocation_kinds asked.FieldByteOffset = refl
-numbers_of_relocation_kinds asked.FieldByteSize = refl
-numbers_of_relocation_kinds asked.FieldExists = refl
-numbers_of_relocation_kinds asked.FieldSigned = refl
-numbers_of_relocation_kinds asked.FieldLShift64 = refl
-numbers_of_relocation_kinds asked.FieldRShift64 = refl
-numbers_of_relocation_kinds asked.TypeIdLocal = refl
-numbers_of_relocation_kinds asked.TypeIdTarget = refl
-numbers_of_relocation_kinds asked.TypeExists = refl
-numbers_of_relocation_kinds asked.TypeSize = refl
-numbers_of_relocation_kinds asked.EnumVariantExists = refl
-numbers_of_relocation_kinds asked.EnumVariantValue = refl

@@ -1,12 +1,13 @@
 //! Types and their strings.
 
-ghost use Rattle.std.specs.Prelude.{◌≡◌, ◌<◌, ◌≤◌, ◌^◌, ◌∷◌, ◌++◌, [], length, slice_get, IfOk, IfErr, OnOk, OnErr, Ok, Some};
+ghost use Rattle.std.specs.Prelude.{◌≡◌, ◌<◌, ◌≤◌, ◌^◌, ◌∷◌, ◌++◌, [], drop, length, slice_get, IfOk, IfErr, OnOk, OnErr, Ok, Err, Some};
 ghost use Rattle.std.specs.Option.{option_copied};
 ghost use Rattle.std.specs.Result.{result_ok};
 ghost use Rattle.std.specs.Cow.{cow_str_bytes};
+ghost use Rattle.std.specs.Str.Lossy.{utf8_lossy};
 ghost use Rattle.ebpf_base.specs.Faults.{Refuses, fault_of};
 ghost use Rattle.ebpf_btf.specs.Memory.{is_memory};
-ghost use Rattle.ebpf_btf.specs.Strings.{text_at};
+ghost use Rattle.ebpf_btf.specs.Strings.{AreReadableBelow, before_zero, text_at};
 ghost use Rattle.ebpf_btf.specs.TypeInfo.{no_types};
 ghost use Rattle.ebpf_btf.specs.Additions.{with_type, with_string, only_first, number_fault};
 ghost use Rattle.ebpf_btf.specs.declared.error.BtfError.TheVariants.{OutOfMemory, UnknownBtfType};
@@ -14,7 +15,8 @@ ghost use Rattle.ebpf_btf.specs.declared.types.BtfType.TheVariants.{Unknown};
 
 use crate::clones::copy_list;
 use crate::error::BtfError;
-use crate::strings::read_text;
+use crate::readable::readable_below;
+use crate::strings::{read_bytes, read_text};
 use crate::types::BtfType;
 use ebpf_base::Items;
 use std::alloc::{AllocError, Global};
@@ -28,10 +30,13 @@ use std::marker::Model;
 pub struct Btf {
     types: Items<BtfType>,
     strings: Vec<u8>,
+    /// A text can be read at the offsets below, and at no others.
+    readable: usize,
 }
 
 impl Model for Btf {
     ghost use Rattle.std.specs.Prelude.{◌≡◌, ◌≤◌, ◌^◌, length, slice_get, Some};
+    ghost use Rattle.ebpf_btf.specs.Strings.{AreReadableBelow};
     ghost use Rattle.ebpf_btf.specs.TypeInfo.{TypeInfo};
     ghost use Rattle.ebpf_btf.specs.declared.types.BtfType.TheVariants.{Unknown};
 
@@ -39,7 +44,7 @@ impl Model for Btf {
 
     ghost view = { λ b. record { types = b.types; strings = b.strings.items } };
 
-    ghost invariant = { λ b. (length b.types ≤ 2 ^ 32) × (slice_get b.types 0 ≡ Some Unknown) };
+    ghost invariant = { λ b. (length b.types ≤ 2 ^ 32) × (slice_get b.types 0 ≡ Some Unknown) × AreReadableBelow b.strings.items b.readable };
 }
 
 impl Btf {
@@ -53,7 +58,7 @@ impl Btf {
         types.push(BtfType::Unknown)?;
         let mut strings = Vec::new(alloc);
         strings.push(0)?;
-        Ok(Btf { types, strings })
+        Ok(Btf::from_parts(types, strings))
     }
 
     /// The types, and the strings that have their names.
@@ -63,7 +68,12 @@ impl Btf {
         ensures types { result.types ≡ types }
         ensures strings { result.strings ≡ strings.items }
     {
-        Btf { types, strings }
+        let readable = readable_below(&strings);
+        Btf {
+            types,
+            strings,
+            readable,
+        }
     }
 
     /// The types in order of their ids, from id 0 on, which is `void`.
@@ -99,10 +109,21 @@ impl Btf {
     }
 
     /// The bytes of the strings.
-    pub(crate) fn strings(&self) -> &[u8]
+    pub fn strings(&self) -> &[u8]
         ensures { result.now ≡ self.now.strings }
     {
-        &self.strings
+        self.strings.as_slice()
+    }
+
+    /// The bytes from an offset of the strings up to the next zero byte, as they stand.
+    ///
+    /// `InvalidStringOffset` where the offset is outside the strings or no zero byte follows.
+    pub fn bytes_at(&self, offset: u32) -> Result<&[u8], BtfError>
+        ensures text { IfOk result (λ bytes. text_at self.now.strings offset ≡ Ok (utf8_lossy bytes.now)) }
+        ensures found { option_copied (result_ok result) ≡ before_zero (drop offset self.now.strings) }
+        ensures fault { IfErr result (λ e. text_at self.now.strings offset ≡ Err e) }
+    {
+        read_bytes(&self.strings, offset)
     }
 
     /// The number of bytes of the strings.
@@ -110,6 +131,13 @@ impl Btf {
         ensures { result ≡ length self.now.strings }
     {
         self.strings.len()
+    }
+
+    /// A text can be read at the offsets below, and at no others.
+    pub(crate) fn readable(&self) -> usize
+        ensures { AreReadableBelow self.now.strings result }
+    {
+        self.readable
     }
 
     /// The memory that the types and strings lie in.
@@ -123,7 +151,11 @@ impl Btf {
     {
         let types = copy_list(&self.types)?;
         let strings = Vec::from_slice(self.allocator(), &self.strings)?;
-        Ok(Btf { types, strings })
+        Ok(Btf {
+            types,
+            strings,
+            readable: self.readable,
+        })
     }
 
     /// Adds a type, and gives its id. `TooLarge` where the id is past 32 bits, `OutOfMemory` where memory is
@@ -153,6 +185,7 @@ impl Btf {
             return Err(BtfError::TooLarge);
         };
         append_text(&mut self.strings, text)?;
+        self.readable = readable_below(&self.strings);
         Ok(offset)
     }
 
@@ -164,6 +197,7 @@ impl Btf {
     {
         self.types.as_vec_mut().truncate(types);
         self.strings.truncate(strings);
+        self.readable = readable_below(&self.strings);
     }
 }
 

@@ -1,58 +1,36 @@
-//! The BTF layer of an eBPF object file.
+//! `.BTF` of an eBPF object file or a kernel: types and their strings.
 #![tactic(auto)]
 
 mod array;
 mod btf;
 mod clones;
-mod compatible_fields;
-mod compatible_types;
 mod endianness;
 mod error;
-mod ext;
-mod ext_clones;
-mod ext_infos;
-mod ext_part;
-mod ext_records;
-mod ext_sections;
 mod fallback;
 mod flavors;
-mod joined_ids;
 mod kind;
 pub mod laws;
 mod lists;
 mod lossy;
 mod members;
-mod name_looks;
-mod nameless;
 mod names;
 pub mod numbers;
-mod pair;
 mod parse;
 mod read_type;
-mod relocation;
-mod rows;
+mod readable;
+pub mod rows;
 mod steps;
 mod strings;
-mod type_index;
-mod type_names;
-mod type_row;
 mod types;
-mod unreadable;
 mod variants;
 
 pub use array::BtfArray;
 pub use btf::Btf;
-pub use compatible_fields::fields_are_compatible;
-pub use compatible_types::types_are_compatible;
 pub use endianness::Endianness;
 pub use error::BtfError;
-pub use ext::BtfExt;
-pub use ext_infos::{FuncInfo, FuncSecInfo, LineInfo, LineSecInfo, bpf_func_info, bpf_line_info};
 pub use fallback::{BoxedFallback, Enum64Fallback};
 pub use flavors::essential_name;
 pub use kind::BtfKind;
 pub use members::{BtfEnum, BtfEnum64, BtfMember, BtfParam, DataSecEntry, Enum64VariantFallback};
-pub use relocation::{Relocation, RelocationKind};
-pub use type_index::TypeIndex;
 pub use types::BtfType;
 pub use variants::BtfVariant;

@@ -13,7 +13,7 @@ use crate::btf::Btf;
 use crate::error::BtfError;
 use crate::flavors::essential_name;
 use crate::kind::BtfKind;
-use crate::lossy::{reads_as, reads_essentially_as};
+use crate::lossy::reads_essentially_as;
 use crate::strings::{is_text_at, read_bytes};
 use crate::types::BtfType;
 use ebpf_base::Text;
@@ -39,16 +39,18 @@ impl Btf {
         self.string_at(ty.name_offset())
     }
 
-    /// Whether the text at an offset of the strings, as `string_at` gives it, is this one. No memory is taken.
+    /// Whether the text at an offset of the strings, as `string_at` gives it, is this one. No memory is taken, and
+    /// at most as many bytes are looked at as the text has, and one.
     ///
     /// `InvalidStringOffset` where the offset is outside the strings or no zero byte follows.
     pub fn is_name_at(&self, offset: u32, text: &str) -> Result<bool, BtfError>
         ensures { result ≡ is_name_at self.now.strings offset text.now }
     {
-        match read_bytes(self.strings(), offset) {
-            Ok(bytes) => Ok(reads_as(bytes, text.as_bytes())),
-            Err(e) => Err(e),
+        let place = offset as usize;
+        if place >= self.readable() {
+            return Err(BtfError::InvalidStringOffset { offset: place });
         }
+        Ok(is_text_at(self.strings(), offset, text))
     }
 
     /// Whether the text at an offset of the strings, as `string_at` gives it, is this one, both taken before their

@@ -1,4 +1,4 @@
-//! Rows of bytes, one after the other.
+//! Rows of bytes, one after the other, for readers that have measured the bytes.
 
 ghost use Rattle.std.specs.Prelude.{◌≡◌, ◌+◌, ◌*◌, ◌<◌, ◌≤◌, ℕ, List, length, IfOk};
 ghost use Rattle.ebpf_btf.specs.Format.{items_at};

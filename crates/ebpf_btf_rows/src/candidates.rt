@@ -2,7 +2,8 @@
 
 use crate::kinds::kind_of;
 use crate::parsed::{fault, types};
-use ebpf_btf::{Btf, BtfKind, TypeIndex};
+use ebpf_btf::{Btf, BtfKind};
+use ebpf_candidates::TypeIndex;
 use ebpf_cases::{Action, Files, no_action};
 use std::alloc::{AllocError, Global};
 

@@ -1,8 +1,9 @@
 //! What `.BTF.ext` says: of functions and lines, and its relocations.
 
 use crate::parsed::{fault, ordered, types};
-use ebpf_btf::{Btf, BtfExt, Endianness, RelocationKind};
+use ebpf_btf::{Btf, Endianness};
 use ebpf_cases::{Action, Files, Tally, no_action};
+use ebpf_ext::{BtfExt, RelocationKind};
 use std::alloc::{AllocError, Global};
 
 /// What an action asks for.

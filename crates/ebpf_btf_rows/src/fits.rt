@@ -1,7 +1,8 @@
 //! What is said of two types: of their fields, or of the types themselves.
 
 use crate::parsed::{fault, target, types};
-use ebpf_btf::{Btf, fields_are_compatible, types_are_compatible};
+use ebpf_btf::Btf;
+use ebpf_candidates::{fields_are_compatible, types_are_compatible};
 use ebpf_cases::{Action, Files, no_action};
 use std::alloc::{AllocError, Global};
 

@@ -1,7 +1,7 @@
 -- Which candidates a local path fits (the kernel's tools/lib/bpf/relo_core.c, bpf_core_spec_match).
 use Rattle.std.specs.Prelude.{ℕ, Bool, List, [], ◌∷◌, Option, Some, None, option_map, unwrap_or, Result, Ok, Err, if◌then◌else◌}
 use Rattle.std.specs.List.{filter_map}
-use Rattle.ebpf_btf.specs.Compatibility.{types_compatible}
+use Rattle.ebpf_candidates.specs.Compatibility.{types_compatible}
 use Rattle.ebpf_btf.specs.declared.error.BtfError.{BtfError as TypeError}
 use Rattle.ebpf_btf.specs.declared.types.BtfType.{BtfType}
 use Rattle.ebpf_btf.specs.declared.variants.BtfVariant.{BtfVariant}

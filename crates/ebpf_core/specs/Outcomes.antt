@@ -4,9 +4,9 @@ use Rattle.std.specs.Prelude.{ℕ, ◌==◌, ◌&&◌, not, nat_eq, Bool, List, 
 use Rattle.std.specs.Option.{option_eq}
 use Rattle.std.specs.Result.{result_ok}
 use Rattle.ebpf_btf.specs.declared.error.BtfError.{BtfError as TypeError}
-use Rattle.ebpf_btf.specs.declared.relocation.Relocation.{Relocation}
-use Rattle.ebpf_btf.specs.declared.relocation.RelocationKind.{RelocationKind}
-use Rattle.ebpf_btf.specs.declared.relocation.RelocationKind.TheVariants.{FieldExists, TypeIdTarget, TypeExists, TypeSize, EnumVariantExists, EnumVariantValue}
+use Rattle.ebpf_ext.specs.declared.relocation.Relocation.{Relocation}
+use Rattle.ebpf_ext.specs.declared.relocation.RelocationKind.{RelocationKind}
+use Rattle.ebpf_ext.specs.declared.relocation.RelocationKind.TheVariants.{FieldExists, TypeIdTarget, TypeExists, TypeSize, EnumVariantExists, EnumVariantValue}
 use Rattle.ebpf_btf.specs.Steps.{size_of}
 use Rattle.ebpf_btf.specs.TypeInfo.{TypeInfo}
 use Rattle.ebpf_core.specs.declared.error.RelocationError.{RelocationError}

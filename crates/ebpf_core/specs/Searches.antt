@@ -1,12 +1,12 @@
 -- The types of a kernel that a local type may stand for, and what a record comes to over them (the kernel's
 -- tools/lib/bpf/libbpf.c, bpf_core_find_cands, and relo_core.c, bpf_core_calc_relo_insn).
 use Rattle.std.specs.Prelude.{ℕ, ◌&&◌, Bool, true, false, List, Option, Some, None, is_some, Result, Ok, Err, if◌then◌else◌}
-use Rattle.ebpf_btf.specs.Candidates.{candidates, candidates_fault, candidates_of_both, candidates_of_both_fault}
+use Rattle.ebpf_candidates.specs.Candidates.{candidates, candidates_fault, candidates_of_both, candidates_of_both_fault}
 use Rattle.ebpf_btf.specs.declared.error.BtfError.{BtfError}
 use Rattle.ebpf_btf.specs.declared.kind.BtfKind.TheVariants as kinds
-use Rattle.ebpf_btf.specs.declared.relocation.Relocation.{Relocation}
-use Rattle.ebpf_btf.specs.declared.relocation.RelocationKind.{RelocationKind}
-use Rattle.ebpf_btf.specs.declared.relocation.RelocationKind.TheVariants.{TypeIdLocal}
+use Rattle.ebpf_ext.specs.declared.relocation.Relocation.{Relocation}
+use Rattle.ebpf_ext.specs.declared.relocation.RelocationKind.{RelocationKind}
+use Rattle.ebpf_ext.specs.declared.relocation.RelocationKind.TheVariants.{TypeIdLocal}
 use Rattle.ebpf_btf.specs.declared.types.BtfType.{BtfType}
 use Rattle.ebpf_btf.specs.Steps.{type_at}
 use Rattle.ebpf_btf.specs.Strings.{type_name}

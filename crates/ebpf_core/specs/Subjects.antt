@@ -1,6 +1,6 @@
 -- What records ask about, by their kinds (the kernel's include/uapi/linux/bpf.h, enum bpf_core_relo_kind).
-use Rattle.ebpf_btf.specs.declared.relocation.RelocationKind.{RelocationKind}
-use Rattle.ebpf_btf.specs.declared.relocation.RelocationKind.TheVariants.{FieldByteOffset, FieldByteSize, FieldExists, FieldSigned, FieldLShift64, FieldRShift64, TypeIdLocal, TypeIdTarget, TypeExists, TypeSize, EnumVariantExists, EnumVariantValue}
+use Rattle.ebpf_ext.specs.declared.relocation.RelocationKind.{RelocationKind}
+use Rattle.ebpf_ext.specs.declared.relocation.RelocationKind.TheVariants.{FieldByteOffset, FieldByteSize, FieldExists, FieldSigned, FieldLShift64, FieldRShift64, TypeIdLocal, TypeIdTarget, TypeExists, TypeSize, EnumVariantExists, EnumVariantValue}
 use Rattle.ebpf_core.specs.declared.subject.Subject.{Subject}
 use Rattle.ebpf_core.specs.declared.subject.Subject.TheVariants.{Field, WholeType, Variant}
 

@@ -24,7 +24,11 @@ fn part_of(piece: &str) -> Option<usize>
 fn pieces_of(alloc: Global, access: &str) -> Result<Vec<&str>, AllocError>
     ensures { IfOk result (λ pieces. map (λ piece. piece.now) pieces.items ≡ slice_split (λ b. b == 58) access.now) }
 {
-    access.split(':').collect(alloc)
+    let mut pieces = Vec::new(alloc);
+    for piece in access.split(':') {
+        pieces.push(piece)?;
+    }
+    Ok(pieces)
 }
 
 /// The parts that pieces write, where each writes one.

@@ -5,7 +5,8 @@ ghost use Rattle.ebpf_core.specs.Answers.{of_type_error};
 ghost use Rattle.ebpf_core.specs.declared.error.RelocationError.TheVariants.{OutOfMemory};
 
 use ebpf_base::{Items, Text};
-use ebpf_btf::{BtfError, RelocationKind};
+use ebpf_btf::BtfError;
+use ebpf_ext::RelocationKind;
 use std::alloc::{AllocError, AllocFailed};
 use thiserror::Error;
 

@@ -7,7 +7,7 @@ ghost use Rattle.ebpf_core.specs.declared.error.RelocationError.TheVariants as e
 use crate::error::RelocationError;
 use crate::wording::relocation_words;
 use ebpf_base::Text;
-use ebpf_btf::RelocationKind;
+use ebpf_ext::RelocationKind;
 use std::alloc::Global;
 
 /// `InvalidAccessString` of an access string.

@@ -6,7 +6,8 @@ ghost use Rattle.ebpf_btf.specs.Steps.{size_of};
 ghost use Rattle.ebpf_core.specs.Fields.{asked, class_of, element_value, field_value, laid, loaded_as, member_at, member_value, shift, value_at, value_of_member, value_with};
 
 use crate::extent::{Extent, bit_field_extent, plain_extent};
-use ebpf_btf::{Btf, BtfError, BtfMember, BtfType, RelocationKind};
+use ebpf_btf::{Btf, BtfError, BtfMember, BtfType};
+use ebpf_ext::RelocationKind;
 use ebpf_places::{Place, PlaceEnd};
 
 /// What a load of a field of another size goes by.

@@ -11,7 +11,8 @@ use crate::error::RelocationError;
 use crate::faults::too_nested;
 use crate::paths::NamedPath;
 use ebpf_base::{Items, Text};
-use ebpf_btf::{Btf, BtfError, BtfType, types_are_compatible};
+use ebpf_btf::{Btf, BtfError, BtfType};
+use ebpf_candidates::types_are_compatible;
 use ebpf_places::{Place, PlaceFault, Step, place_in};
 use std::alloc::Global;
 

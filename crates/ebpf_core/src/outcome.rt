@@ -13,7 +13,8 @@ use crate::paths::{LocalPath, NamedPath};
 use crate::values::{MatchValue, match_values};
 use crate::wording::path_words;
 use ebpf_base::{Items, Text};
-use ebpf_btf::{Btf, Relocation, RelocationKind};
+use ebpf_btf::Btf;
+use ebpf_ext::{Relocation, RelocationKind};
 use ebpf_places::{Place, Step};
 use std::alloc::Global;
 

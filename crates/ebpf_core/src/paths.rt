@@ -12,7 +12,8 @@ use crate::local_walk::field_path;
 use crate::subject::{Subject, subject_of};
 use crate::wording::{Request, kind_words};
 use ebpf_base::{Items, Text};
-use ebpf_btf::{Btf, BtfType, BtfVariant, Relocation};
+use ebpf_btf::{Btf, BtfType, BtfVariant};
+use ebpf_ext::Relocation;
 use ebpf_places::{Place, Step};
 use std::alloc::Global;
 

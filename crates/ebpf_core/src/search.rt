@@ -10,7 +10,9 @@ use crate::error::RelocationError;
 use crate::outcome::{Outcome, outcome_among};
 use crate::paths::local_path;
 use ebpf_base::{ByIndex, Items};
-use ebpf_btf::{Btf, BtfError, BtfKind, BtfType, Relocation, RelocationKind, TypeIndex};
+use ebpf_btf::{Btf, BtfError, BtfKind, BtfType};
+use ebpf_candidates::TypeIndex;
+use ebpf_ext::{Relocation, RelocationKind};
 use std::alloc::{AllocError, Global};
 use std::marker::Model;
 

@@ -3,7 +3,7 @@
 ghost use Rattle.std.specs.Prelude.{◌≡◌};
 ghost use Rattle.ebpf_core.specs.Subjects.{subject_of};
 
-use ebpf_btf::RelocationKind;
+use ebpf_ext::RelocationKind;
 
 /// What a record asks about.
 #[derive(Clone, Copy, Debug, PartialEq, Eq)]

@@ -10,7 +10,8 @@ use crate::error::RelocationError;
 use crate::field::{LoadedField, field_value};
 use crate::matches::{Found, Match};
 use ebpf_base::Items;
-use ebpf_btf::{Btf, BtfError, RelocationKind};
+use ebpf_btf::{Btf, BtfError};
+use ebpf_ext::RelocationKind;
 use ebpf_places::Place;
 use std::alloc::Global;
 

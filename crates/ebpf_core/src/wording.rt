@@ -1,7 +1,8 @@
 //! Words of errors, for people to read.
 
 use ebpf_base::Text;
-use ebpf_btf::{BtfKind, RelocationKind};
+use ebpf_btf::BtfKind;
+use ebpf_ext::RelocationKind;
 use ebpf_places::Step;
 use std::alloc::{AllocError, Global};
 

@@ -8,7 +8,7 @@ use Rattle.ebpf_base.specs.Keys.{key_cmp}
 use Rattle.ebpf_btf.specs.Next.{if_some}
 use Rattle.ebpf_btf.specs.Strings.{text_at}
 use Rattle.ebpf_btf.specs.declared.error.BtfError.{BtfError}
-use Rattle.ebpf_btf.specs.declared.relocation.Relocation.{Relocation}
+use Rattle.ebpf_ext.specs.declared.relocation.Relocation.{Relocation}
 use Rattle.ebpf_core.specs.declared.error.RelocationError.{RelocationError}
 use Rattle.ebpf_core.specs.declared.error.RelocationError.TheVariants as errors
 use Rattle.ebpf_core_relo.proofs.OneRecord.{IsSound, applied_puts, has_slot, ok_parts, others_stay, put_carries, slots_before, slots_now, sound_after}

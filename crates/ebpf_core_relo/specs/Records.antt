@@ -4,7 +4,7 @@ use Rattle.std.specs.Prelude.{ℕ, ◌-◌, ◌/◌, List, [], ◌∷◌, ◌++�
 use Rattle.std.specs.FinMap.{FinMap, empty, get, insert}
 use Rattle.std.specs.Fmt.{decimal}
 use Rattle.ebpf_base.specs.Keys.{key_cmp, text_cmp}
-use Rattle.ebpf_btf.specs.declared.relocation.Relocation.{Relocation}
+use Rattle.ebpf_ext.specs.declared.relocation.Relocation.{Relocation}
 use Rattle.ebpf_btf.specs.Next.{if_some}
 use Rattle.ebpf_btf.specs.Strings.{text_at}
 use Rattle.ebpf_btf.specs.TypeInfo.{TypeInfo}

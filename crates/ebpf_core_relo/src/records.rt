@@ -12,8 +12,8 @@ use crate::scene::Places;
 use crate::section_spans::span_in;
 use crate::spans::{SLOT, Span};
 use ebpf_base::{ByKey, Items};
-use ebpf_btf::Relocation;
 use ebpf_core::{CoreSearch, Outcome, RelocationError};
+use ebpf_ext::Relocation;
 use ebpf_parts::insn::bpf_insn;
 use std::alloc::{AllocError, Global};
 

@@ -14,8 +14,9 @@ use crate::error::BtfRelocationError;
 use crate::records::apply_records;
 use crate::scene::Places;
 use ebpf_base::{ByKey, Items, Text};
-use ebpf_btf::{Btf, BtfError, Relocation};
+use ebpf_btf::{Btf, BtfError};
 use ebpf_core::{CoreSearch, RelocationError};
+use ebpf_ext::Relocation;
 use ebpf_parts::insn::bpf_insn;
 use std::alloc::Global;
 

@@ -4,3 +4,4 @@ pub mod Beginnings
 pub mod LaterMembers
 pub mod Put
 pub mod Said
+pub mod KnownStructs

@@ -6,3 +6,4 @@ pub mod MapMembers
 pub mod Maps
 pub mod Placeholders
 pub mod Sayings
+pub mod KnownStructs

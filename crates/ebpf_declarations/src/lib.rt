@@ -5,6 +5,7 @@ mod data_sections;
 mod definitions;
 mod error;
 mod externs;
+mod known_structs;
 pub mod laws;
 mod map_member;
 mod map_sayings;

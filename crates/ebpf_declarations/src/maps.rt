@@ -4,20 +4,21 @@ ghost use Rattle.std.specs.Prelude.{◌≡◌, ◌++◌, OnOk, IfOk};
 ghost use Rattle.std.specs.FinMap as map;
 ghost use Rattle.ebpf_base.specs.Faults.{Gives, Refuses};
 ghost use Rattle.ebpf_btf.specs.Memory.{is_memory as is_btf_memory};
+ghost use Rattle.ebpf_declarations.specs.KnownStructs.{Knows};
 ghost use Rattle.ebpf_declarations.specs.Maps.{variable, declared, map_of, entries_maps, entries_fault, type_maps, type_fault, btf_maps, btf_maps_fault};
 ghost use Rattle.ebpf_parts.specs.Memory.{is_memory};
 
 use crate::data_sections::section_entries;
 use crate::definitions::MapDefinitions;
 use crate::error::parse_error;
-use crate::map_sayings::definitions;
-use crate::map_structs::resolved_struct;
+use crate::known_structs::said_by_struct;
 use crate::map_types::unexpected;
 use ebpf_base::{ByName, Items, Text};
 use ebpf_btf::{Btf, BtfError, BtfType, DataSecEntry};
 use ebpf_parts::maps::{BtfMap, Map};
 use ebpf_parts::{ParseError, Section};
 use std::alloc::Global;
+use std::collections::BTreeMap;
 
 /// The id of the type that a VAR holds.
 #[tactic(auto, unfolding(crate::specs::Maps::variable))]
@@ -35,17 +36,19 @@ fn variable(ty: &BtfType) -> Option<u32>
 fn declared(
     alloc: Global,
     btf: &Btf,
+    known: &mut BTreeMap<u32, MapDefinitions>,
     entry: &DataSecEntry,
 ) -> Result<(Text, MapDefinitions), BtfError>
-    ensures { Gives is_btf_memory result (declared btf.now entry.now) }
+    requires { Knows btf.now known.old }
+    ensures declared { Gives is_btf_memory result (declared btf.now entry.now) }
+    ensures known { OnOk result (Knows btf.now known.new) }
 {
     let ty = btf.type_by_id(entry.btf_type)?;
     let Some(held) = variable(ty) else {
         return Err(unexpected(ty));
     };
     let name = Text::from_str(alloc, btf.type_name(ty)?.as_str())?;
-    let members = resolved_struct(btf, held)?;
-    let definitions = definitions(alloc, btf, name.as_str(), members)?;
+    let definitions = said_by_struct(alloc, btf, known, name.as_str(), held)?;
     Ok((name, definitions))
 }
 
@@ -54,13 +57,16 @@ fn declared(
 fn map_of(
     alloc: Global,
     btf: &Btf,
+    known: &mut BTreeMap<u32, MapDefinitions>,
     section: &Section<'_>,
     symbols: &ByName<usize>,
     entry: &DataSecEntry,
 ) -> Result<(Text, Map), ParseError>
-    ensures { Gives is_memory result (map_of btf.now (map.get symbols.now) section.now.index.0 entry.now) }
+    requires { Knows btf.now known.old }
+    ensures map { Gives is_memory result (map_of btf.now (map.get symbols.now) section.now.index.0 entry.now) }
+    ensures known { OnOk result (Knows btf.now known.new) }
 {
-    let (name, definitions) = match declared(alloc, btf, entry) {
+    let (name, definitions) = match declared(alloc, btf, known, entry) {
         Ok(declared) => declared,
         Err(error) => return Err(parse_error(error)),
     };
@@ -83,15 +89,18 @@ fn add_entries(
     alloc: Global,
     found: &mut Items<(Text, Map)>,
     btf: &Btf,
+    known: &mut BTreeMap<u32, MapDefinitions>,
     section: &Section<'_>,
     symbols: &ByName<usize>,
     entries: &[DataSecEntry],
 ) -> Result<(), ParseError>
+    requires { Knows btf.now known.old }
+    ensures known { OnOk result (Knows btf.now known.new) }
     ensures added { OnOk result (found.new ≡ found.old ++ entries_maps btf.now (map.get symbols.now) section.now.index.0 entries.now) }
     ensures fault { Refuses is_memory result (entries_fault btf.now (map.get symbols.now) section.now.index.0 entries.now) }
 {
     for entry in entries {
-        found.push(map_of(alloc, btf, section, symbols, entry)?)?;
+        found.push(map_of(alloc, btf, known, section, symbols, entry)?)?;
     }
     Ok(())
 }
@@ -102,22 +111,25 @@ fn add_type(
     alloc: Global,
     found: &mut Items<(Text, Map)>,
     btf: &Btf,
+    known: &mut BTreeMap<u32, MapDefinitions>,
     section: &Section<'_>,
     symbols: &ByName<usize>,
     ty: &BtfType,
 ) -> Result<(), ParseError>
+    requires { Knows btf.now known.old }
+    ensures known { OnOk result (Knows btf.now known.new) }
     ensures added { OnOk result (found.new ≡ found.old ++ type_maps btf.now (map.get symbols.now) section.now.index.0 section.now.name ty.now) }
     ensures fault { Refuses is_memory result (type_fault btf.now (map.get symbols.now) section.now.index.0 section.now.name ty.now) }
 {
     match section_entries(btf, section.name, ty) {
-        Ok(Some(entries)) => add_entries(alloc, found, btf, section, symbols, entries),
+        Ok(Some(entries)) => add_entries(alloc, found, btf, known, section, symbols, entries),
         Ok(None) => Ok(()),
         Err(error) => Err(parse_error(error)),
     }
 }
 
 /// The maps that types declare in a section, with their names: DATASEC by DATASEC of the section's name, and of each
-/// its entries in order. `symbols` has the numbers of the section's symbols by name, of equal names the greatest.
+/// its entries in order. What a struct says is read once. `symbols` has the numbers of the section's symbols by name, of equal names the greatest.
 ///
 /// Faults in that order: `BtfError` of a DATASEC's name; of each entry `BtfError` where its type is no VAR, where
 /// its name can't be read, where its type stands for no STRUCT, and of each member; `SymbolNotFound` where the
@@ -133,8 +145,9 @@ pub fn collect_btf_maps(
     ensures fault { Refuses is_memory result (btf_maps_fault btf.now (map.get symbols.now) section.now.index.0 section.now.name) }
 {
     let mut found = Items::new(alloc);
+    let mut known = BTreeMap::new(alloc);
     for ty in btf.types() {
-        add_type(alloc, &mut found, btf, section, symbols, ty)?;
+        add_type(alloc, &mut found, btf, &mut known, section, symbols, ty)?;
     }
     Ok(found)
 }

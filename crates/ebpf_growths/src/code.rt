@@ -2,8 +2,9 @@
 
 use crate::call::Call;
 use crate::marks::{begin, end};
-use ebpf_btf::{Btf, BtfError, BtfExt};
+use ebpf_btf::{Btf, BtfError};
 use ebpf_elf::{ElfFile, ElfSection};
+use ebpf_ext::BtfExt;
 use ebpf_parts::insn::copy_instructions;
 use ebpf_parts::{ProgramSection, Section};
 use std::alloc::Global;

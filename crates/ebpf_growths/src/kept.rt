@@ -1,9 +1,10 @@
-//! Calls on what an object keeps: its maps, its types and what is said of instructions.
+//! Calls on what an object keeps: its maps, its types, what is said of instructions, and its programs.
 
 use crate::call::Call;
+use crate::inspected::link_map;
 use crate::marks::{begin, end};
 use crate::still::still_object;
-use ebpf_btf::BtfExt;
+use ebpf_ext::BtfExt;
 use ebpf_object::Object;
 use ebpf_parts::maps::Map;
 use std::alloc::Global;
@@ -101,6 +102,9 @@ pub fn on_kept(rt: &impl Print, alloc: Global, object: &Object, call: Call<'_>) 
     }
     if call.name == "kept_text_sections" {
         return text_sections(rt, alloc, object);
+    }
+    if call.name == "kept_link_map" {
+        return link_map(rt, alloc, object, call.word);
     }
     if let Some(map) = object.maps.get(call.word) {
         return on_map(rt, map, call);

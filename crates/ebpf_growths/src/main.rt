@@ -9,6 +9,7 @@
 mod call;
 mod code;
 mod given;
+mod inspected;
 mod kept;
 mod marks;
 mod object;

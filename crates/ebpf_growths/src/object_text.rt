@@ -1,6 +1,7 @@
 //! All of an object, line by line.
 
-use ebpf_btf::{Btf, BtfExt};
+use ebpf_btf::Btf;
+use ebpf_ext::BtfExt;
 use ebpf_object::Object;
 use std::alloc::{AllocError, Global};
 use std::io;

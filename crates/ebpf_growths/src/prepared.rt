@@ -10,7 +10,7 @@ use std::alloc::Global;
 use std::io;
 
 /// The descriptors of maps that are given, some of which objects of tests have.
-const DESCRIPTORS: [(&'static str, i32); 8] = [
+pub const DESCRIPTORS: [(&'static str, i32); 8] = [
     (".bss", 1),
     (".data", 2),
     (".rodata", 3),
@@ -22,7 +22,7 @@ const DESCRIPTORS: [(&'static str, i32); 8] = [
 ];
 
 /// The steps whose first letters a word has.
-fn steps<'a>(kernel: Kernel<'a>, word: &str, given: &'a [(&'a str, i32)]) -> Steps<'a> {
+pub fn steps<'a>(kernel: Kernel<'a>, word: &str, given: &'a [(&'a str, i32)]) -> Steps<'a> {
     Steps {
         target_btf: if word.contains('t') {
             kernel.types

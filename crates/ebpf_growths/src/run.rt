@@ -3,6 +3,7 @@
 use crate::call::Call;
 use crate::code::on_code;
 use crate::given::{Files, Kernel};
+use crate::inspected::inspected;
 use crate::object::{on_object, parsed};
 use crate::prepared::prepared;
 use crate::small::on_small;
@@ -35,6 +36,7 @@ fn with_kernel(
     match subject.as_str() {
         "parse" => parsed(rt, alloc, object),
         "prepare" => prepared(rt, alloc, object, kernel, last),
+        "inspect" => inspected(rt, alloc, object, kernel, last),
         "object" => on_object(rt, alloc, object, kernel, calls),
         "code" => on_code(rt, alloc, object, last),
         "file" => on_file(rt, object, last),

@@ -1,7 +1,7 @@
 //! Numbers and what they stand for, which takes no memory.
 
 use crate::marks::{begin, end};
-use ebpf_btf::RelocationKind;
+use ebpf_ext::RelocationKind;
 use ebpf_parts::maps::{PinningType, bpf_map_type};
 use ebpf_parts::programs::{XdpAttachType, bpf_attach_type, bpf_prog_type};
 use std::io;

@@ -2,7 +2,8 @@
 
 use crate::marks::{begin, end};
 use crate::still::mixed;
-use ebpf_btf::{Btf, BtfType, types_are_compatible};
+use ebpf_btf::{Btf, BtfType};
+use ebpf_candidates::types_are_compatible;
 use std::io;
 
 /// What is read of a type.

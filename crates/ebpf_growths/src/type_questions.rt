@@ -4,10 +4,8 @@ use crate::call::Call;
 use crate::marks::{begin, end};
 use crate::still_types::still_types;
 use ebpf_base::Items;
-use ebpf_btf::{
-    BoxedFallback, Btf, BtfError, BtfKind, BtfType, Enum64Fallback, TypeIndex,
-    fields_are_compatible,
-};
+use ebpf_btf::{BoxedFallback, Btf, BtfError, BtfKind, BtfType, Enum64Fallback};
+use ebpf_candidates::{TypeIndex, fields_are_compatible};
 use std::alloc::Global;
 use std::io;
 

@@ -4,16 +4,17 @@ ghost use Rattle.std.specs.Prelude.{◌≡◌, ◌++◌, List, IfOk, IfErr, OnOk
 ghost use Rattle.std.specs.List.{flat_map};
 ghost use Rattle.ebpf_base.specs.Keys.{lent_bytes};
 ghost use Rattle.ebpf_inspect.specs.Named.{AreMaps, OneRefused};
+ghost use Rattle.ebpf_object.specs.Headline.{linkable};
 ghost use Rattle.ebpf_object.specs.Joined.{program_with, programs_in_order};
 ghost use Rattle.ebpf_object.specs.Prepared.{Refuses};
 ghost use Rattle.ebpf_object.specs.StageFaults.{OfCalls};
 ghost use Rattle.ebpf_object.specs.TextSections.{has_function_in};
-ghost use Rattle.ebpf_reloc.specs.Places.{sections_in};
+ghost use Rattle.ebpf_reloc.specs.Places.{sections_in, read};
 
 use ebpf_base::Text;
 use ebpf_object::Object;
 use ebpf_object::prepare::PrepareError;
-use ebpf_object::relocation::LinkMap;
+use ebpf_object::relocation::{LinkMap, ProgramMaps};
 use std::alloc::Global;
 use std::collections::HashSet;
 
@@ -33,10 +34,11 @@ fn add_map(
     alloc: Global,
     maps: &mut Vec<NamedMap>,
     object: &Object,
-    text_sections: &HashSet<usize>,
+    of: &ProgramMaps<'_>,
     name: &str,
 ) -> Result<(), PrepareError>
-    requires sections { sections_in text_sections.now ≡ has_function_in object.now.functions }
+    requires object { of.now.object.now ≡ object.now }
+    requires parts { read of.now.functions.parts ≡ linkable object.now }
     ensures maps { OnOk result ((added : List NamedMap) × (maps.new.items ≡ maps.old.items ++ added) × AreMaps object.now (program_with object.now.programs name.now) added) }
     ensures fault { IfErr result (Refuses (OfCalls (OneRefused object.now (program_with object.now.programs name.now)))) }
 {
@@ -44,7 +46,7 @@ fn add_map(
         return Ok(());
     };
     let key = program.function_key();
-    let map = match object.link_map(name, text_sections) {
+    let map = match of.of(name) {
         Ok(Some(map)) => map,
         Ok(None) => return Ok(()),
         Err(error) => return Err(PrepareError::Calls(error)),
@@ -60,16 +62,17 @@ fn add_map(
 fn maps_named(
     alloc: Global,
     object: &Object,
-    text_sections: &HashSet<usize>,
+    of: &ProgramMaps<'_>,
     names: &[&str],
 ) -> Result<Vec<NamedMap>, PrepareError>
-    requires sections { sections_in text_sections.now ≡ has_function_in object.now.functions }
+    requires object { of.now.object.now ≡ object.now }
+    requires parts { read of.now.functions.parts ≡ linkable object.now }
     ensures maps { IfOk result (λ maps. AreMaps object.now (flat_map (program_with object.now.programs) (lent_bytes names.now)) maps.items) }
     ensures fault { IfErr result (Refuses (OfCalls (OneRefused object.now (flat_map (program_with object.now.programs) (lent_bytes names.now))))) }
 {
     let mut maps = Vec::with_capacity(alloc, names.len())?;
     for name in names {
-        add_map(alloc, &mut maps, object, text_sections, name)?;
+        add_map(alloc, &mut maps, object, of, name)?;
     }
     Ok(maps)
 }
@@ -85,5 +88,9 @@ pub fn link_maps(
     ensures fault { IfErr result (Refuses (OfCalls (OneRefused object.now (programs_in_order object.now.programs)))) }
 {
     let names = object.programs.names(alloc)?;
-    maps_named(alloc, object, text_sections, &names)
+    let of = match object.program_maps(text_sections) {
+        Ok(of) => of,
+        Err(refusal) => return Err(PrepareError::Calls(refusal)),
+    };
+    maps_named(alloc, object, &of, &names)
 }

@@ -1,7 +1,7 @@
 -- What the kernel has for an extern with a type.
 use Rattle.std.specs.Prelude.{ℕ, Bool, true, false, List, Option, Some, None, Result, Ok, Err, if◌then◌else◌, unwrap_or}
 use Rattle.ebpf_base.specs.Faults.{fault_of}
-use Rattle.ebpf_btf.specs.Compatibility.{types_compatible}
+use Rattle.ebpf_candidates.specs.Compatibility.{types_compatible}
 use Rattle.ebpf_btf.specs.EssentialNames.{essential_name}
 use Rattle.ebpf_btf.specs.Next.{if_ok}
 use Rattle.ebpf_btf.specs.Steps.{resolved, type_at}

@@ -18,7 +18,8 @@ use crate::ids::{Ids, id_at, ids_in};
 use crate::named::Named;
 use crate::sought::{Sort, Sought, sought_by};
 use ebpf_base::Text;
-use ebpf_btf::{Btf, BtfError, BtfType, types_are_compatible};
+use ebpf_btf::{Btf, BtfError, BtfType};
+use ebpf_candidates::types_are_compatible;
 use ebpf_reloc::ExternDesc;
 use std::alloc::{AllocError, Global};
 

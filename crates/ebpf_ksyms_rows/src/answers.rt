@@ -1,4 +1,4 @@
-//! What seeking the addresses of externs answers, line by line.
+//! What is asked of the lines that a reader gives, and what seeking the addresses of externs answers.
 
 use crate::failing_reader::FailingReader;
 use ebpf_base::ByName;
@@ -6,6 +6,12 @@ use ebpf_btf::Btf;
 use ebpf_ksyms::{KsymsError, resolve_externs};
 use ebpf_reloc::ExternDesc;
 use std::alloc::{AllocError, Global};
+
+/// What is asked of the lines that a reader gives.
+pub trait Question {
+    /// The answer, line by line.
+    fn answer(&self, alloc: Global, reader: &mut FailingReader<'_>) -> Result<String, AllocError>;
+}
 
 /// The externs of an object, and its types.
 #[derive(Drop)]
@@ -15,7 +21,7 @@ pub struct Sought {
 }
 
 /// A line for each extern, in byte order of their names.
-fn put_externs(
+pub fn put_externs(
     alloc: Global,
     text: &mut String,
     externs: &ByName<ExternDesc>,
@@ -40,25 +46,13 @@ fn put_answer(
     }
 }
 
-/// The answer, and the externs then: those before, where it is a refusal.
-fn said(
-    alloc: Global,
-    sought: &Sought,
-    answer: &Result<ByName<ExternDesc>, KsymsError>,
-) -> Result<String, AllocError> {
-    let mut text = String::new(alloc);
-    put_answer(&mut text, answer)?;
-    let after = answer.as_ref().unwrap_or(&sought.externs);
-    put_externs(alloc, &mut text, after)?;
-    Ok(text)
-}
-
-/// What is answered where the lines come from a reader, and the externs then.
-pub fn answer_of(
-    alloc: Global,
-    sought: &Sought,
-    reader: &mut FailingReader<'_>,
-) -> Result<String, AllocError> {
-    let answer = resolve_externs(alloc, Some(&sought.types), &sought.externs, None, reader);
-    said(alloc, sought, &answer)
+impl Question for Sought {
+    /// The answer, and the externs then: those before, where it is a refusal.
+    fn answer(&self, alloc: Global, reader: &mut FailingReader<'_>) -> Result<String, AllocError> {
+        let answer = resolve_externs(alloc, Some(&self.types), &self.externs, None, reader);
+        let mut text = String::new(alloc);
+        put_answer(&mut text, &answer)?;
+        put_externs(alloc, &mut text, answer.as_ref().unwrap_or(&self.externs))?;
+        Ok(text)
+    }
 }

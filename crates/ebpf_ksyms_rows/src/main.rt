@@ -6,6 +6,7 @@ mod answers;
 mod failing_reader;
 mod given;
 mod outcomes;
+mod prepared;
 
 use crate::outcomes::LineOutcomes;
 use ebpf_cases::run_cases;

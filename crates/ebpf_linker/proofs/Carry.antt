@@ -2,8 +2,8 @@
 use Rattle.std.proofs.Common.{◌≡◌, ◌≢◌, ℕ, ◌+◌, ◌<◌, Bool, true, false, List, [], ◌∷◌, ◌++◌, map, length, Option, Some, None, refl, sym, ap, ◌∙◌, subst, inl, inr, arith}
 use Rattle.std.specs.Prelude.{slice_get, pos, ◌-ℤ◌, Result, Ok, Err, if◌then◌else◌, ◌||◌}
 use Rattle.ebpf_base.specs.Faults.{first_of}
-use Rattle.ebpf_btf.specs.declared.ext_infos.bpf_func_info.{bpf_func_info}
-use Rattle.ebpf_btf.specs.declared.ext_infos.bpf_line_info.{bpf_line_info}
+use Rattle.ebpf_ext.specs.declared.ext_infos.bpf_func_info.{bpf_func_info}
+use Rattle.ebpf_ext.specs.declared.ext_infos.bpf_line_info.{bpf_line_info}
 use Rattle.ebpf_parts.specs.declared.insn.bpf_insn.{bpf_insn}
 use Rattle.ebpf_linker.specs.declared.body.LinkedProgram.{LinkedProgram}
 use Rattle.ebpf_linker.specs.Slots.{relinked}

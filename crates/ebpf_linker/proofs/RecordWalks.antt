@@ -2,8 +2,8 @@
 use Rattle.std.proofs.Common.{◌≡◌, ℕ, suc, ◌+◌, ◌<◌, ◌≤◌, Bool, true, false, List, [], ◌∷◌, ◌++◌, map, length, drop, refl, sym, ap, ◌∙◌, subst, arith, get_or, append_assoc}
 use Rattle.std.proofs.lemmas.Bool.{ne_eqb}
 use Rattle.std.specs.Prelude.{◌||◌, ◌==◌, not}
-use Rattle.ebpf_btf.specs.declared.ext_infos.bpf_func_info.{bpf_func_info}
-use Rattle.ebpf_btf.specs.declared.ext_infos.bpf_line_info.{bpf_line_info}
+use Rattle.ebpf_ext.specs.declared.ext_infos.bpf_func_info.{bpf_func_info}
+use Rattle.ebpf_ext.specs.declared.ext_infos.bpf_line_info.{bpf_line_info}
 use Rattle.ebpf_linker.specs.declared.body.Body.{Body}
 use Rattle.ebpf_linker.specs.Functions.{Content}
 use Rattle.ebpf_linker.specs.Faults.{has_some, has_stray, first_line}

@@ -1,7 +1,7 @@
 -- Functions by their keys, what their slots refer to, and what a linked program is.
 use Rattle.std.specs.Prelude.{◌≡◌, ◌≢◌, ℕ, ◌+◌, ◌<◌, pos, ◌-ℤ◌, ◌⊎◌, List, [], ◌∷◌, length, Option, Some, None, slice_get}
-use Rattle.ebpf_btf.specs.declared.ext_infos.bpf_func_info.{bpf_func_info}
-use Rattle.ebpf_btf.specs.declared.ext_infos.bpf_line_info.{bpf_line_info}
+use Rattle.ebpf_ext.specs.declared.ext_infos.bpf_func_info.{bpf_func_info}
+use Rattle.ebpf_ext.specs.declared.ext_infos.bpf_line_info.{bpf_line_info}
 use Rattle.ebpf_parts.specs.declared.insn.bpf_insn.{bpf_insn}
 use Rattle.ebpf_linker.specs.Slots.{relinked}
 

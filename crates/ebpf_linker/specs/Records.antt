@@ -1,7 +1,7 @@
 -- The records on functions and on lines of a linked program.
 use Rattle.std.specs.Prelude.{ℕ, ◌+◌, ◌-◌, ◌%◌, ◌^◌, Bool, false, ◌||◌, if◌then◌else◌, List, [], ◌∷◌, ◌++◌, map, length, Option, Some, None}
-use Rattle.ebpf_btf.specs.declared.ext_infos.bpf_func_info.{bpf_func_info}
-use Rattle.ebpf_btf.specs.declared.ext_infos.bpf_line_info.{bpf_line_info}
+use Rattle.ebpf_ext.specs.declared.ext_infos.bpf_func_info.{bpf_func_info}
+use Rattle.ebpf_ext.specs.declared.ext_infos.bpf_line_info.{bpf_line_info}
 use Rattle.ebpf_linker.specs.Functions.{Functions, content_at, body}
 use Rattle.ebpf_linker.specs.Faults.{has_some, first_line}
 

@@ -1,7 +1,7 @@
 //! What linking reads of a function, and what it makes of a program.
 
 use ebpf_base::Items;
-use ebpf_btf::{bpf_func_info, bpf_line_info};
+use ebpf_ext::{bpf_func_info, bpf_line_info};
 use ebpf_parts::insn::bpf_insn;
 
 /// A function as linking needs it.

@@ -7,7 +7,7 @@ ghost use Rattle.ebpf_linker.specs.Numbered.{functions};
 ghost use Rattle.ebpf_linker.specs.Records.{func_moved, line_moved, linked_func_info, linked_line_info, has_lines, count_if};
 
 use crate::body::Body;
-use ebpf_btf::{bpf_func_info, bpf_line_info};
+use ebpf_ext::{bpf_func_info, bpf_line_info};
 use std::alloc::{AllocError, Global};
 
 // A record on a line, moved from where its function's lines begin to a base.

@@ -9,7 +9,7 @@ ghost use Rattle.ebpf_linker.specs.declared.reference.Fault.TheVariants.{Program
 
 use crate::body::Body;
 use crate::reference::{Call, Fault, Target};
-use ebpf_btf::bpf_line_info;
+use ebpf_ext::bpf_line_info;
 use std::alloc::{AllocError, Global};
 
 /// A function whose references are being followed: its place in the order, its number, and the next reference.

@@ -4,7 +4,7 @@ use crate::test_functions::{
     CALLS, CALLS_TWICE, ENDS, EXIT, LOAD, NOTHING, Reference, linked, lists, plain,
 };
 use crate::{Body, Call, Fault, Target};
-use ebpf_btf::{bpf_func_info, bpf_line_info};
+use ebpf_ext::{bpf_func_info, bpf_line_info};
 use ebpf_parts::insn::bpf_insn;
 use std::alloc::{AllocError, Global};
 use std::test::Fail;

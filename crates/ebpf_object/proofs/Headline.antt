@@ -7,9 +7,9 @@ use Rattle.std.specs.FinMap.{FinMap, get, entries, find, get-entries}
 use Rattle.std.specs.List.{list_any}
 use Rattle.std.specs.Ordering.{eq_by_cmp}
 use Rattle.ebpf_base.specs.Keys.{text_cmp, key_cmp, key_total}
-use Rattle.ebpf_btf.specs.ExtReading.{ExtInfo}
+use Rattle.ebpf_ext.specs.ExtReading.{ExtInfo}
 use Rattle.ebpf_btf.specs.TypeInfo.{TypeInfo}
-use Rattle.ebpf_btf.specs.declared.relocation.Relocation.{Relocation}
+use Rattle.ebpf_ext.specs.declared.relocation.Relocation.{Relocation}
 use Rattle.ebpf_core_relo.proofs.RecordRuns.{put_slots_stand, records_alone_are_carried}
 use Rattle.ebpf_core_relo.specs.Alone.{placed_records, Touches, Carries}
 use Rattle.ebpf_core_relo.specs.Records.{Written, own_slots, slots_at, slots_written, with_slots}

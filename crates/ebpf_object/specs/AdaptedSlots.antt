@@ -2,7 +2,7 @@
 use Rattle.std.specs.Prelude.{◌≡◌, ℕ, Option, Some, None, Result, Ok}
 use Rattle.std.specs.FinMap.{FinMap, empty, get}
 use Rattle.ebpf_base.specs.Keys.{key_cmp}
-use Rattle.ebpf_btf.specs.ExtReading.{ExtInfo}
+use Rattle.ebpf_ext.specs.ExtReading.{ExtInfo}
 use Rattle.ebpf_btf.specs.TypeInfo.{TypeInfo}
 use Rattle.ebpf_core_relo.specs.declared.error.BtfRelocationError.{BtfRelocationError}
 use Rattle.ebpf_core_relo.specs.Records.{Written, scene_between, slots_written, with_slots}

@@ -4,7 +4,8 @@ ghost use Rattle.std.specs.Prelude.{◌≡◌, IfOk};
 
 use crate::object::Object;
 use ebpf_base::{ByIndex, ByKey, ByName, ByOffset, BySection};
-use ebpf_btf::{Btf, BtfExt};
+use ebpf_btf::Btf;
+use ebpf_ext::BtfExt;
 use ebpf_parsing::{Parts, Shared};
 use ebpf_parts::Relocation;
 use std::alloc::AllocError;

@@ -1,44 +1,93 @@
 //! What the linked programs of an object are made of.
 
-ghost use Rattle.std.specs.Prelude.{◌≡◌, IfOk, IfErr, ⊤, MatchBool, MatchOption, Ok, None};
+ghost use Rattle.std.specs.Prelude.{◌≡◌, true, IfOk, IfErr, ⊤, MatchBool, MatchOption, Ok, None};
 ghost use Rattle.std.specs.FinMap as map;
 ghost use Rattle.ebpf_object.specs.Joined.{linkable_of, with_name};
 ghost use Rattle.ebpf_object.specs.ProgramMaps.{MapsProgram};
 ghost use Rattle.ebpf_reloc.specs.LinkMaps.{IsMapped};
 ghost use Rattle.ebpf_reloc.specs.Linking.{key_of, IsRefused};
 ghost use Rattle.ebpf_reloc.specs.Memory.{is_memory_at, NamesNoneForMemory};
-ghost use Rattle.ebpf_reloc.specs.Places.{sections_in};
+ghost use Rattle.ebpf_reloc.specs.Places.{sections_in, read};
 
 use crate::object::Object;
 use ebpf_parsing::Program;
-use ebpf_reloc::{EbpfRelocationError, LinkMap, Linkable, ProgramKey, program_map};
+use ebpf_reloc::{
+    EbpfRelocationError, LinkMap, Linkable, NumberedFunctions, ProgramKey, number_functions,
+};
 use std::collections::HashSet;
 
-impl Object {
+/// An object whose functions have numbers, for what each of its linked programs is made of.
+#[derive(Drop)]
+pub struct ProgramMaps<'a> {
+    /// The object.
+    pub object: &'a Object,
+    /// Its functions, with their calls.
+    pub functions: NumberedFunctions<'a>,
+}
+
+impl ProgramMaps<'_> {
     /// What a program with this name is made of once it is linked.
-    fn map_of(
-        &self,
-        name: &str,
-        program: &Program,
-        text_sections: &HashSet<usize>,
-    ) -> Result<LinkMap, EbpfRelocationError>
-        ensures mapped { IfOk result (λ m. IsMapped (linkable_of self.now (sections_in text_sections.now)) (key_of (with_name name.now program.now)) m) }
-        ensures fault { IfErr result (λ e. MatchBool (is_memory_at e) ⊤ (IsRefused (linkable_of self.now (sections_in text_sections.now)) (with_name name.now program.now) e)) }
+    fn map_of(&self, name: &str, program: &Program) -> Result<LinkMap, EbpfRelocationError>
+        ensures mapped { IfOk result (λ m. IsMapped (read self.now.functions.parts) (key_of (with_name name.now program.now)) m) }
+        ensures fault { IfErr result (λ e. MatchBool (is_memory_at e) ⊤ (IsRefused (read self.now.functions.parts) (with_name name.now program.now) e)) }
         ensures memory { IfErr result NamesNoneForMemory }
     {
-        let alloc = *self.license.as_vec().allocator();
+        let alloc = *self.object.license.as_vec().allocator();
         let key = ProgramKey {
             name,
             section_index: program.section_index,
             address: program.address,
         };
+        self.functions.program_map(alloc, &key)
+    }
+
+    /// What the program with this name is made of, as `Object::link_map` gives it.
+    ///
+    /// # Errors
+    ///
+    /// Those of `Object::link_map`.
+    pub fn of(&self, name: &str) -> Result<Option<LinkMap>, EbpfRelocationError>
+        ensures program { MatchOption (map.get self.now.object.now.programs name.now) (result ≡ Ok None) (λ p. MapsProgram (read self.now.functions.parts) (with_name name.now p) result) }
+        ensures memory { IfErr result NamesNoneForMemory }
+    {
+        let Some(program) = self.object.programs.get(name) else {
+            return Ok(None);
+        };
+        match self.map_of(name, program) {
+            Ok(map) => Ok(Some(map)),
+            Err(error) => Err(error),
+        }
+    }
+}
+
+impl Object {
+    /// The object with numbers for its functions, whose calls are found once for the maps of all programs.
+    /// `text_sections` has the numbers of the sections whose symbols are functions.
+    ///
+    /// # Errors
+    ///
+    /// `OutOfMemory`, with the empty name, only where memory was refused.
+    pub fn program_maps<'a>(
+        &'a self,
+        text_sections: &'a HashSet<usize>,
+    ) -> Result<ProgramMaps<'a>, EbpfRelocationError>
+        ensures object { IfOk result (λ m. m.object.now ≡ self.now) }
+        ensures parts { IfOk result (λ m. read m.functions.parts ≡ linkable_of self.now (sections_in text_sections.now)) }
+        ensures memory { IfErr result (λ e. is_memory_at e ≡ true) }
+        ensures unnamed { IfErr result NamesNoneForMemory }
+    {
+        let alloc = *self.license.as_vec().allocator();
         let parts = Linkable {
             functions: &self.functions,
             symbols: &self.symbol_table,
             relocations: &self.relocations,
             text_sections,
         };
-        program_map(alloc, &key, &parts)
+        let functions = number_functions(alloc, &parts)?;
+        Ok(ProgramMaps {
+            object: self,
+            functions,
+        })
     }
 
     /// What the program with this name is made of once `relocate_calls` has joined it: its own function, at base 0,
@@ -46,7 +95,7 @@ impl Object {
     /// at which they begin and their numbers of slots; and the references of all copies, in the order of their
     /// places, with the places at which the copies begin that they lead to. `None` exactly where no program has
     /// the name. Nothing is joined, and no slot is written. `text_sections` has the numbers of the sections whose
-    /// symbols are functions.
+    /// symbols are functions. For several programs `program_maps` looks the functions over once.
     ///
     /// # Errors
     ///
@@ -62,12 +111,10 @@ impl Object {
         ensures program { MatchOption (map.get self.now.programs name.now) (result ≡ Ok None) (λ p. MapsProgram (linkable_of self.now (sections_in text_sections.now)) (with_name name.now p) result) }
         ensures memory { IfErr result NamesNoneForMemory }
     {
-        let Some(program) = self.programs.get(name) else {
+        if !self.programs.contains_key(name) {
             return Ok(None);
-        };
-        match self.map_of(name, program, text_sections) {
-            Ok(map) => Ok(Some(map)),
-            Err(error) => Err(error),
         }
+        let maps = self.program_maps(text_sections)?;
+        maps.of(name)
     }
 }

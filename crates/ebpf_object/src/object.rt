@@ -7,8 +7,9 @@ ghost use Rattle.ebpf_parsing.specs.FileTypes.{has_relocations};
 ghost use Rattle.ebpf_parts.specs.Memory.{is_memory};
 
 use ebpf_base::{ByIndex, ByKey, ByName, ByOffset, BySection, Items};
-use ebpf_btf::{Btf, BtfExt, Endianness};
+use ebpf_btf::{Btf, Endianness};
 use ebpf_elf::SectionIndex;
+use ebpf_ext::BtfExt;
 use ebpf_parsing::{Contents, Program};
 use ebpf_parts::maps::Map;
 use ebpf_parts::{ParseError, Relocation};

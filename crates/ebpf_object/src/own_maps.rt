@@ -1,6 +1,6 @@
 //! The descriptors of an object's own maps.
 
-ghost use Rattle.std.specs.Prelude.{◌≡◌, map, None, Some, OnOk, IfOk, IfErr, MatchBool};
+ghost use Rattle.std.specs.Prelude.{◌≡◌, map, None, Some, OnOk, OnErr, IfOk, IfErr, MatchBool};
 ghost use Rattle.ebpf_object.specs.Prepared.{Refuses};
 ghost use Rattle.ebpf_object.specs.StageFaults.{OfMaps};
 ghost use Rattle.ebpf_object.specs.Stages.{own_maps, described, describing_fault};
@@ -52,6 +52,7 @@ fn relocate_listed(
     ensures ok { OnOk result (object.new ≡ with_maps object.old (sections_in text_sections.now) (map given_by maps.entry.items)) }
     ensures sound { OnOk result (maps_fault object.old (sections_in text_sections.now) (map given_by maps.entry.items) ≡ None) }
     ensures fault { IfErr result (λ e. MatchBool (is_memory_at e) (e ≡ out_of_memory) (maps_fault object.old (sections_in text_sections.now) (map given_by maps.entry.items) ≡ Some e)) }
+    ensures unchanged { OnErr result (object.new ≡ object.old) }
 {
     object.relocate_maps(maps.into_iter(), text_sections)
 }
@@ -66,6 +67,7 @@ fn relocate_some(
     ensures ok { OnOk result (object.new ≡ with_maps object.old (has_function_in object.old.functions) (own_maps maps.now (map descriptor_of descriptors.now))) }
     ensures sound { OnOk result (maps_fault object.old (has_function_in object.old.functions) (own_maps maps.now (map descriptor_of descriptors.now)) ≡ None) }
     ensures fault { IfErr result (Refuses (OfMaps (maps_fault object.old (has_function_in object.old.functions) (own_maps maps.now (map descriptor_of descriptors.now))))) }
+    ensures unchanged { OnErr result (object.new ≡ object.old) }
 {
     let own = own_maps(alloc, maps, descriptors)?;
     let sections = object.text_sections(alloc)?;
@@ -75,7 +77,13 @@ fn relocate_some(
     }
 }
 
-/// Writes the descriptors of the object's own maps, which are taken out for it and put back.
+/// Writes the descriptors of the object's own maps by name, as `Object::relocate_maps` does. A name that the object lacks
+/// is passed over; of maps of one symbol or one section the later one counts. The maps are taken out for it and put back.
+///
+/// # Errors
+///
+/// `Maps` with that of `Object::relocate_maps`. `OutOfMemory`, and the pass's own, only where memory was refused. After a
+/// refusal the object is as it was.
 pub fn relocate_own_maps(
     alloc: Global,
     object: &mut Object,
@@ -84,6 +92,7 @@ pub fn relocate_own_maps(
     ensures ok { OnOk result (object.new ≡ described (Some (map descriptor_of descriptors.now)) object.old) }
     ensures sound { OnOk result (describing_fault (Some (map descriptor_of descriptors.now)) object.old ≡ None) }
     ensures fault { IfErr result (Refuses (OfMaps (describing_fault (Some (map descriptor_of descriptors.now)) object.old))) }
+    ensures unchanged { OnErr result (object.new ≡ object.old) }
 {
     let maps = mem::replace(&mut object.maps, ByName::new(alloc));
     let answer = relocate_some(alloc, object, &maps, descriptors);

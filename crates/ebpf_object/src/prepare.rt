@@ -8,6 +8,7 @@ ghost use Rattle.ebpf_object.specs.Prepared.{IsPrepared, IsFirstFault, Refuses};
 ghost use Rattle.ebpf_object.specs.Steps.{chosen};
 
 use crate::object::Object;
+pub use crate::own_maps::relocate_own_maps;
 pub use crate::prepare_error::PrepareError;
 use crate::stages::run_stages;
 use ebpf_btf::Btf;

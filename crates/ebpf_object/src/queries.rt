@@ -1,28 +1,29 @@
 //! Whether the externs of an object need the kernel's types.
 
 ghost use Rattle.std.specs.Prelude.{◌≡◌, not, ◌&&◌};
-ghost use Rattle.std.specs.List.{IsDistinct, list_any};
+ghost use Rattle.std.specs.List.{list_any};
+ghost use Rattle.std.specs.List.Sorted.{IsStrictlySortedBy};
 ghost use Rattle.std.specs.Map.{keys_of, values_of};
-ghost use Rattle.std.specs.String.{string_eq};
+ghost use Rattle.std.specs.String.{string_cmp};
 ghost use Rattle.ebpf_object.specs.TypedExterns.{has_extern, has_typed, has_strong_typed};
 
 use crate::object::Object;
 use ebpf_base::ByName;
 use ebpf_reloc::ExternDesc;
-use std::collections::HashMap;
+use std::collections::BTreeMap;
 
-// The externs as they lie in the map.
-fn typed_among(externs: &HashMap<String, ExternDesc>) -> bool
+// The externs in the order of their names.
+fn typed_among(externs: &BTreeMap<String, ExternDesc>) -> bool
     ensures found { result ≡ list_any (λ x. x.is_typed) (values_of externs.now.entries) }
-    ensures distinct { IsDistinct string_eq (keys_of externs.now.entries) }
+    ensures rising { IsStrictlySortedBy string_cmp (keys_of externs.now.entries) }
 {
     externs.values().any(|x| x.is_typed)
 }
 
-// The externs as they lie in the map.
-fn strong_typed_among(externs: &HashMap<String, ExternDesc>) -> bool
+// The externs in the order of their names.
+fn strong_typed_among(externs: &BTreeMap<String, ExternDesc>) -> bool
     ensures found { result ≡ list_any (λ x. x.is_typed && not x.is_weak) (values_of externs.now.entries) }
-    ensures distinct { IsDistinct string_eq (keys_of externs.now.entries) }
+    ensures rising { IsStrictlySortedBy string_cmp (keys_of externs.now.entries) }
 {
     externs.values().any(|x| x.is_typed && !x.is_weak)
 }

@@ -10,7 +10,10 @@ pub mod Places
 pub mod Tiles
 pub mod TypeErrors
 pub mod Words
+pub mod LastData
 pub mod LastEntries
+pub mod LastPrograms
+pub mod Lasts
 pub mod OffsetOrder
 pub mod TextKeys
 pub mod SectionTables

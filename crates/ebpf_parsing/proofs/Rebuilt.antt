@@ -8,9 +8,9 @@ use Rattle.std.specs.Ordering.{eq_by_cmp}
 use Rattle.std.proofs.lemmas.Map.Views.{tells_apart}
 use Rattle.ebpf_base.specs.Keys.{text_cmp, text_total}
 use Rattle.ebpf_base.proofs.TextMaps.{text_exact}
-use Rattle.ebpf_btf.specs.ExtInfos.{func_info_at, line_info_at, no_func_info, no_line_info}
-use Rattle.ebpf_btf.specs.declared.ext_infos.FuncSecInfo.{FuncSecInfo}
-use Rattle.ebpf_btf.specs.declared.ext_infos.LineSecInfo.{LineSecInfo}
+use Rattle.ebpf_ext.specs.ExtInfos.{func_info_at, line_info_at, no_func_info, no_line_info}
+use Rattle.ebpf_ext.specs.declared.ext_infos.FuncSecInfo.{FuncSecInfo}
+use Rattle.ebpf_ext.specs.declared.ext_infos.LineSecInfo.{LineSecInfo}
 
 module _ {X : Type 0} (d : X) (M : FinMap text_cmp X) where
   abbrev pub there : List ℕ → X

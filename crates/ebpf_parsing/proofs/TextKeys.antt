@@ -9,7 +9,7 @@ use Rattle.std.proofs.lemmas.Map.Lookups.{exact_pairs, exact_unsigned}
 use Rattle.ebpf_base.specs.Faults.{first_some}
 use Rattle.ebpf_base.specs.Keys.{key_cmp, key_total}
 use Rattle.ebpf_base.proofs.Faults.{both_None}
-use Rattle.ebpf_btf.specs.ExtReading.{ExtInfo}
+use Rattle.ebpf_ext.specs.ExtReading.{ExtInfo}
 use Rattle.ebpf_parsing.specs.Programs.{placed, program_function, is_program_symbol}
 use Rattle.ebpf_parsing.specs.OfSection.{functions_by, functions_in}
 use Rattle.ebpf_parsing.specs.Records.{Said, said_of}

@@ -5,7 +5,7 @@ use Rattle.std.specs.Result.{result_ok}
 use Rattle.ebpf_base.specs.Faults.{or_else, fault_of}
 use Rattle.ebpf_base.specs.Keyed.{put_all}
 use Rattle.ebpf_base.specs.Keys.{text_cmp}
-use Rattle.ebpf_btf.specs.ExtReading.{ExtInfo, read_ext}
+use Rattle.ebpf_ext.specs.ExtReading.{ExtInfo, read_ext}
 use Rattle.ebpf_btf.specs.Reading.{type_info_of}
 use Rattle.ebpf_btf.specs.TypeInfo.{TypeInfo}
 use Rattle.ebpf_btf.specs.declared.endianness.Endianness.{Endianness}

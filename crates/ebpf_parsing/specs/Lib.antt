@@ -9,6 +9,7 @@ pub mod SlotPlaces
 pub mod Texts
 pub mod Tiling
 pub mod DataMaps
+pub mod LastData
 pub mod LegacyMaps
 pub mod SymbolNames
 pub mod DeclaredMaps

@@ -1,6 +1,10 @@
 -- The programs of a Program section, and their functions.
-use Rattle.std.specs.Prelude.{ℕ, ◌+◌, ◌-◌, Bool, not, ◌&&◌, ◌||◌, List, [], ◌∷◌, length, map, filter, Option, Some, None, ◌==◌, nat_lt, slice_range}
-use Rattle.ebpf_base.specs.Faults.{first_in, first_some}
+use Rattle.std.specs.Prelude.{ℕ, ◌+◌, ◌-◌, Bool, not, ◌&&◌, ◌||◌, List, [], ◌∷◌, length, map, filter, Option, Some, None, ◌==◌, nat_lt, slice_range, if◌then◌else◌}
+use Rattle.std.specs.FinMap.{FinMap, empty}
+use Rattle.std.specs.List.{flat_map}
+use Rattle.std.specs.Ordering.{nat_cmp}
+use Rattle.ebpf_base.specs.Keyed.{put_all}
+use Rattle.ebpf_base.specs.Faults.{Row, first_in, first_some}
 use Rattle.ebpf_parsing.specs.Records.{Said, slot_of, funcs_at, lines_in}
 use Rattle.ebpf_parsing.specs.Symbols.{SymbolValue, is_text}
 use Rattle.ebpf_parsing.specs.declared.program.Program.{Program}
@@ -37,12 +41,13 @@ program_function said s y = record {
   line_info_rec_size = said.line_size;
 }
 
+-- a symbol whose bytes are not all in the section
+abbrev pub range_faults : SectionValue → SymbolValue → List (Row ParseError)
+range_faults s y = (nat_lt y.address s.address || nat_lt (length s.bytes) (y.address + y.size), InvalidSymbol y.index (Some y.name)) ∷ []
+
 -- why a symbol's program can't be read
 unfoldable pub program_fault : SectionValue → SymbolValue → Option ParseError
-program_fault s y = first_in (
-    ((nat_lt y.address s.address || nat_lt (length s.bytes) (y.address + y.size), InvalidSymbol y.index (Some y.name)) ∷ [])
-    ∷ code_faults (program_bytes s y)
-    ∷ [])
+program_fault s y = first_in (range_faults s y ∷ code_faults (program_bytes s y) ∷ [])
 
 -- the functions of a section's programs, by symbol, and the first fault among them
 abbrev pub program_functions : Said → SectionValue → List SymbolValue → List Function
@@ -63,3 +68,11 @@ program_of license version s kind y = (y.name, record { license = license; kerne
 abbrev pub programs_of : List ℕ → Option ℕ → SectionValue → List SymbolValue → Option ProgramSection → List (List ℕ × Program)
 programs_of license version s symbols None = []
 programs_of license version s symbols (Some kind) = map (program_of license version s kind) (filter is_program_symbol symbols)
+
+-- the number of a program's symbol, by its address
+abbrev pub program_row : SymbolValue → List (ℕ × ℕ)
+program_row y = if is_program_symbol y then (y.address, y.index) ∷ [] else []
+
+-- the number of the last program's symbol at each address
+abbrev pub last_programs : List SymbolValue → FinMap nat_cmp ℕ
+last_programs symbols = put_all empty (flat_map program_row symbols)

@@ -2,12 +2,12 @@
 use Rattle.std.specs.Prelude.{ℕ, ◌+◌, ◌-◌, ◌/◌, ◌&&◌, Bool, List, map, filter, Option, Some, None, ◌==◌, nat_le, nat_lt, slice_index_or}
 use Rattle.std.specs.FinMap.{FinMap, empty}
 use Rattle.ebpf_base.specs.Keys.{text_cmp}
-use Rattle.ebpf_btf.specs.ExtInfos.{func_info_at, line_info_at}
-use Rattle.ebpf_btf.specs.ExtReading.{ExtInfo}
-use Rattle.ebpf_btf.specs.declared.ext_infos.bpf_func_info.{bpf_func_info}
-use Rattle.ebpf_btf.specs.declared.ext_infos.bpf_line_info.{bpf_line_info}
-use Rattle.ebpf_btf.specs.declared.ext_infos.FuncSecInfo.{FuncSecInfo}
-use Rattle.ebpf_btf.specs.declared.ext_infos.LineSecInfo.{LineSecInfo}
+use Rattle.ebpf_ext.specs.ExtInfos.{func_info_at, line_info_at}
+use Rattle.ebpf_ext.specs.ExtReading.{ExtInfo}
+use Rattle.ebpf_ext.specs.declared.ext_infos.bpf_func_info.{bpf_func_info}
+use Rattle.ebpf_ext.specs.declared.ext_infos.bpf_line_info.{bpf_line_info}
+use Rattle.ebpf_ext.specs.declared.ext_infos.FuncSecInfo.{FuncSecInfo}
+use Rattle.ebpf_ext.specs.declared.ext_infos.LineSecInfo.{LineSecInfo}
 
 -- what is said of a section, and the sizes of the records in the file
 pub record Said : Type 0 where

@@ -3,9 +3,11 @@
 ghost use Rattle.std.specs.Prelude.{◌≡◌, IfOk, IfErr, OnOk, true};
 ghost use Rattle.ebpf_base.specs.Faults.{Refuses};
 ghost use Rattle.ebpf_base.specs.Keyed.{put_all};
+ghost use Rattle.ebpf_parsing.specs.LastData.{last_maps};
 ghost use Rattle.ebpf_parsing.specs.DataMaps.{data_bytes, data_flags, data_definition, data_map, data_maps, data_map_fault};
 ghost use Rattle.ebpf_parts.specs.Memory.{is_memory};
 
+use crate::last_data::is_number;
 use ebpf_base::{ByName, Items, Text};
 use ebpf_parts::maps::{LegacyMap, Map, PinningType, bpf_map_def};
 use ebpf_parts::{EbpfSectionKind, ParseError, Section};
@@ -69,15 +71,32 @@ fn data_map(alloc: Global, section: &Section<'_>) -> Result<Map, ParseError>
     }))
 }
 
-/// Puts the map of a data section by the section's name.
+/// The fault of a data section, whose map is not made.
+#[tactic(auto, unfolding(crate::specs::DataMaps::data_map_fault))]
+fn check_data_map(alloc: Global, section: &Section<'_>) -> Result<(), ParseError>
+    ensures fault { Refuses is_memory result (data_map_fault section.now) }
+{
+    if section.size > u64::from(u32::MAX) {
+        return Err(ParseError::InvalidMapDefinition {
+            name: Text::from_str(alloc, section.name)?,
+        });
+    }
+    Ok(())
+}
+
+/// Puts the map of a data section by the section's name, where the section is the last one of data with that name.
 pub fn put_data_map(
     alloc: Global,
     maps: &mut ByName<Map>,
+    last: &ByName<usize>,
     section: &Section<'_>,
 ) -> Result<(), ParseError>
-    ensures put { OnOk result (maps.new ≡ put_all maps.old (data_maps section.now)) }
+    ensures put { OnOk result (maps.new ≡ put_all maps.old (last_maps last.now section.now)) }
     ensures fault { Refuses is_memory result (data_map_fault section.now) }
 {
+    if !is_number(section.index.0, last.get(section.name)) {
+        return check_data_map(alloc, section);
+    }
     let map = data_map(alloc, section)?;
     maps.insert(String::from_str(alloc, section.name)?, map)?;
     Ok(())

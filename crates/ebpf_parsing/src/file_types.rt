@@ -4,18 +4,20 @@ ghost use Rattle.std.specs.Prelude.{◌≡◌, IfOk, OnOk, IfErr, true, Some, op
 ghost use Rattle.std.specs.Result.{result_ok};
 ghost use Rattle.ebpf_base.specs.Faults.{Refuses, fault_of};
 ghost use Rattle.ebpf_base.specs.Keyed.{put_all};
-ghost use Rattle.ebpf_btf.specs.ExtReading.{read_ext};
+ghost use Rattle.ebpf_ext.specs.ExtReading.{read_ext};
 ghost use Rattle.ebpf_btf.specs.Reading.{type_info_of};
 ghost use Rattle.ebpf_elf.specs.File.{order_of};
+ghost use Rattle.ebpf_parsing.specs.Contents.{is_type_information};
 ghost use Rattle.ebpf_parsing.specs.FileTypes.{btf_of, btf_fault, ext_of, ext_fault, ext_beside, ext_fault_beside, ext_names_beside, said_in, said_fault_in, said_section, names_in, type_names, names_met, file_types_fault};
 ghost use Rattle.ebpf_parsing.specs.OfSection.{name_in};
 ghost use Rattle.ebpf_parts.specs.Memory.{is_memory};
 ghost use Rattle.ebpf_parts.specs.declared.error.ParseError.TheVariants.{BtfError as TypeFault};
 
 use ebpf_base::ByName;
-use ebpf_btf::{Btf, BtfExt, Endianness};
+use ebpf_btf::{Btf, Endianness};
 use ebpf_declarations::parse_error;
-use ebpf_elf::{ElfFile, SectionIndex};
+use ebpf_elf::{ElfFile, ElfSection, SectionIndex};
+use ebpf_ext::BtfExt;
 use ebpf_parts::{ParseError, Section};
 use std::alloc::Global;
 
@@ -45,6 +47,16 @@ fn said_in(
     match BtfExt::parse(alloc, bytes, order, types) {
         Ok(said) => Ok(said),
         Err(error) => Err(parse_error(error)),
+    }
+}
+
+/// Whether a section holds type information, which is read by name and not with the others.
+pub fn is_type_information(section: &ElfSection<'_>) -> bool
+    ensures { result ≡ is_type_information section.now }
+{
+    match section.name() {
+        Ok(name) => name == ".BTF" || name == ".BTF.ext",
+        Err(_) => false,
     }
 }
 

@@ -7,6 +7,7 @@ mod declared_maps;
 mod externs;
 mod file_types;
 mod groups;
+mod last_data;
 pub mod laws;
 mod legacy_maps;
 mod license;

@@ -8,8 +8,9 @@ ghost use Rattle.ebpf_elf.specs.Relocations.{relocation_sections, target_of, rel
 ghost use Rattle.ebpf_parsing.specs.DataMaps.{data_maps, data_map_fault};
 ghost use Rattle.ebpf_parsing.specs.FileSymbols.{file_symbols};
 ghost use Rattle.ebpf_parsing.specs.Groups.{group_at};
+ghost use Rattle.ebpf_parsing.specs.LastData.{added_last, last_data, last_maps};
 ghost use Rattle.ebpf_parsing.specs.LegacyMaps.{legacy_maps, legacy_maps_fault};
-ghost use Rattle.ebpf_parsing.specs.Contents.{is_type_information, read_fault, sections_fault};
+ghost use Rattle.ebpf_parsing.specs.Contents.{object_sections, read_fault, sections_fault};
 ghost use Rattle.ebpf_parsing.specs.OfSection.{fault_in, program_section_fault};
 ghost use Rattle.ebpf_parsing.specs.Parts.{added, parts_of, parts_from};
 ghost use Rattle.ebpf_parsing.specs.Programs.{programs_of, placed, program_functions};
@@ -23,8 +24,9 @@ ghost use Rattle.ebpf_parts.specs.Sections.{section_of, section_fault};
 
 use crate::data_maps::put_data_map;
 use crate::declared_maps::put_declared_maps;
-use crate::file_types::remember;
+use crate::file_types::{is_type_information, remember};
 use crate::groups::Groups;
+use crate::last_data::last_data_sections;
 use crate::legacy_maps::put_legacy_maps;
 use crate::program::Program;
 use crate::program_functions::{put_functions, put_programs};
@@ -48,16 +50,6 @@ pub struct Parts {
     pub functions: ByKey<Function>,
     pub relocations: BySection<ByOffset<Relocation>>,
     pub section_infos: ByName<SectionIndex>,
-}
-
-/// Whether a section holds type information, which is read by name and not with the others.
-fn is_type_information(section: &ElfSection<'_>) -> bool
-    ensures { result ≡ is_type_information section.now }
-{
-    match section.name() {
-        Ok(name) => name == ".BTF" || name == ".BTF.ext",
-        Err(_) => false,
-    }
 }
 
 /// Puts the relocations of a section that has some.
@@ -158,16 +150,17 @@ impl Parts {
         &mut self,
         alloc: Global,
         context: &Context<'_>,
+        last: &ByName<usize>,
         section: &Section<'_>,
         symbols: &[NamedSymbol<'_>],
     ) -> Result<(), ParseError>
-        ensures put { OnOk result (record self.new { section_infos = put_all self.new.section_infos ((section.now.name, section.now.index) ∷ []) } ≡ added context.now self.old section.now symbols.now) }
+        ensures put { OnOk result (record self.new { section_infos = put_all self.new.section_infos ((section.now.name, section.now.index) ∷ []) } ≡ added_last last.now context.now self.old section.now symbols.now) }
         ensures fault { Refuses is_memory result (fault_in context.now.btf section.now symbols.now) }
     {
         match section.kind {
             EbpfSectionKind::Program => self.add_programs(alloc, context, section, symbols),
             EbpfSectionKind::Data | EbpfSectionKind::Rodata | EbpfSectionKind::Bss => {
-                put_data_map(alloc, &mut self.maps, section)
+                put_data_map(alloc, &mut self.maps, last, section)
             }
             EbpfSectionKind::Maps => put_legacy_maps(alloc, &mut self.maps, section, symbols),
             EbpfSectionKind::BtfMaps => {
@@ -183,29 +176,33 @@ impl Parts {
         &mut self,
         alloc: Global,
         context: &Context<'_>,
+        last: &ByName<usize>,
         section: &ElfSection<'_>,
         tables: &[ElfRelocationSection<'_>],
         symbols: &[NamedSymbol<'_>],
     ) -> Result<(), ParseError>
         requires { tables.now ≡ filter (λ r. target_of r == section.now.index) (relocation_sections section.now.file) }
-        ensures put { OnOk result (self.new ≡ added context.now self.old (section_of section.now) symbols.now) }
+        ensures put { OnOk result (self.new ≡ added_last last.now context.now self.old (section_of section.now) symbols.now) }
         ensures fault { Refuses is_memory result (or_else (section_fault section.now) (fault_in context.now.btf (section_of section.now) symbols.now)) }
     {
         let section = read_section(alloc, section, tables)?;
-        self.add_kind(alloc, context, &section, symbols)?;
+        self.add_kind(alloc, context, last, &section, symbols)?;
         remember(alloc, &mut self.section_infos, &section)
     }
 }
 
-/// What the sections of a file give, each with its relocations and its symbols.
-pub fn read_sections(
+/// What the sections of a file give, each with its relocations and its symbols, by the last section of data of each
+/// name.
+fn read_by_last(
     alloc: Global,
     shared: &Shared,
     section_infos: ByName<SectionIndex>,
     file: &ElfFile<'_>,
     symbols: &Groups<NamedSymbol<'_>>,
+    last: &ByName<usize>,
 ) -> Result<Parts, ParseError>
     requires grouped { (q : ℕ) → group_at symbols.now.groups q ≡ symbols_of (file_symbols file.now) q }
+    requires last { last.now ≡ last_data (object_sections file.now) }
     ensures parts { IfOk result (λ p. p ≡ parts_of shared.now section_infos file.now) }
     ensures fault { Refuses is_memory result (sections_fault shared.now.btf file.now) }
 {
@@ -221,10 +218,27 @@ pub fn read_sections(
         parts.add_section(
             alloc,
             &context,
+            last,
             &section,
             tables.of(index),
             symbols.of(index),
         )?;
     }
     Ok(parts)
+}
+
+/// What the sections of a file give, each with its relocations and its symbols.
+pub fn read_sections(
+    alloc: Global,
+    shared: &Shared,
+    section_infos: ByName<SectionIndex>,
+    file: &ElfFile<'_>,
+    symbols: &Groups<NamedSymbol<'_>>,
+) -> Result<Parts, ParseError>
+    requires grouped { (q : ℕ) → group_at symbols.now.groups q ≡ symbols_of (file_symbols file.now) q }
+    ensures parts { IfOk result (λ p. p ≡ parts_of shared.now section_infos file.now) }
+    ensures fault { Refuses is_memory result (sections_fault shared.now.btf file.now) }
+{
+    let last = last_data_sections(alloc, file)?;
+    read_by_last(alloc, shared, section_infos, file, symbols, &last)
 }

@@ -1,7 +1,7 @@
 //! What `.BTF.ext` says of the functions of a section.
 
 ghost use Rattle.std.specs.Prelude.{◌≡◌, ◌+◌, ◌<◌, ◌^◌, ℕ, IfOk, IfErr, true, map, filter, length};
-ghost use Rattle.ebpf_btf.specs.ExtInfos.{func_info_at, line_info_at, no_func_info, no_line_info};
+ghost use Rattle.ebpf_ext.specs.ExtInfos.{func_info_at, line_info_at, no_func_info, no_line_info};
 ghost use Rattle.std.specs.List.{All};
 ghost use Rattle.ebpf_parsing.specs.Records.{Said, is_func_at, is_line_in, func_at, func_slot, func_from, line_from, line_at, line_slot, funcs_at, lines_in};
 ghost use Rattle.ebpf_parsing.specs.SlotPlaces.{is_at, places_with};
@@ -9,7 +9,7 @@ ghost use Rattle.ebpf_parts.specs.Memory.{is_memory};
 
 use crate::slot_places::{Place, SlotPlaces, func_places, line_places};
 use ebpf_base::Items;
-use ebpf_btf::{FuncInfo, FuncSecInfo, LineInfo, LineSecInfo, bpf_func_info, bpf_line_info};
+use ebpf_ext::{FuncInfo, FuncSecInfo, LineInfo, LineSecInfo, bpf_func_info, bpf_line_info};
 use ebpf_parts::ParseError;
 use std::alloc::Global;
 use std::marker::Model;
@@ -28,7 +28,7 @@ pub struct FuncRecords<'e> {
 }
 
 impl<'e> Model for FuncRecords<'e> {
-    ghost use Rattle.ebpf_btf.specs.declared.ext_infos.FuncSecInfo.{FuncSecInfo};
+    ghost use Rattle.ebpf_ext.specs.declared.ext_infos.FuncSecInfo.{FuncSecInfo};
 
     ghost Value = { FuncSecInfo };
 
@@ -46,7 +46,7 @@ pub struct LineRecords<'e> {
 }
 
 impl<'e> Model for LineRecords<'e> {
-    ghost use Rattle.ebpf_btf.specs.declared.ext_infos.LineSecInfo.{LineSecInfo};
+    ghost use Rattle.ebpf_ext.specs.declared.ext_infos.LineSecInfo.{LineSecInfo};
 
     ghost Value = { LineSecInfo };
 

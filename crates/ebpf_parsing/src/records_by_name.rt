@@ -3,14 +3,14 @@
 ghost use Rattle.std.specs.Prelude.{◌≡◌, IfOk, IfErr, true, fold};
 ghost use Rattle.std.specs.FinMap as finite;
 ghost use Rattle.ebpf_base.specs.Keys.{lent_bytes};
-ghost use Rattle.ebpf_btf.specs.ExtInfos.{func_info_at, line_info_at, no_func_info, no_line_info};
+ghost use Rattle.ebpf_ext.specs.ExtInfos.{func_info_at, line_info_at, no_func_info, no_line_info};
 ghost use Rattle.ebpf_parsing.specs.Records.{Gathered, gathered_of, said_at};
 ghost use Rattle.ebpf_parts.specs.Memory.{is_memory};
 
 use crate::records::{FuncRecords, LineRecords, SectionRecords};
 use crate::shared::Shared;
 use ebpf_base::ByName;
-use ebpf_btf::{BtfExt, FuncInfo, LineInfo};
+use ebpf_ext::{BtfExt, FuncInfo, LineInfo};
 use ebpf_parts::ParseError;
 use std::alloc::Global;
 use std::marker::Model;
@@ -30,8 +30,8 @@ pub struct RecordsByName<'e> {
 
 impl<'e> Model for RecordsByName<'e> {
     ghost use Rattle.ebpf_base.specs.Keys.{coded_text, text_cmp};
-    ghost use Rattle.ebpf_btf.specs.contracts.ext_infos.FuncSecInfo as func_rows;
-    ghost use Rattle.ebpf_btf.specs.contracts.ext_infos.LineSecInfo as line_rows;
+    ghost use Rattle.ebpf_ext.specs.contracts.ext_infos.FuncSecInfo as func_rows;
+    ghost use Rattle.ebpf_ext.specs.contracts.ext_infos.LineSecInfo as line_rows;
     ghost use Rattle.std.specs.Coded.{codes};
     ghost use Rattle.std.specs.FinMap as map;
     ghost use Rattle.ebpf_parsing.specs.Records.{Gathered};

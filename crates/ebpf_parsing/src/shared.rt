@@ -1,7 +1,8 @@
 //! What programs and functions carry of their object.
 
 use ebpf_base::Items;
-use ebpf_btf::{Btf, BtfExt};
+use ebpf_btf::Btf;
+use ebpf_ext::BtfExt;
 
 /// What programs and functions carry of their object.
 #[derive(Drop)]

@@ -10,7 +10,7 @@ ghost use Rattle.ebpf_parsing.specs.Records.{func_slot, line_slot};
 ghost use Rattle.ebpf_parsing.specs.SlotPlaces.{is_at, is_among, places_with};
 ghost use Rattle.ebpf_parts.specs.Memory.{is_memory};
 
-use ebpf_btf::{bpf_func_info, bpf_line_info};
+use ebpf_ext::{bpf_func_info, bpf_line_info};
 use ebpf_parts::ParseError;
 use std::alloc::Global;
 use std::marker::Model;

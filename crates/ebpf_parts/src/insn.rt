@@ -10,7 +10,9 @@ use ebpf_btf::Endianness;
 use ebpf_btf::numbers::{read_u16, read_u32};
 use std::alloc::Global;
 
-/// A slot of eight bytes: an instruction, or the second half of a 16-byte load (RFC 9669, section 3).
+/// A slot of eight bytes: an instruction, or the second half of a 16-byte load (RFC 9669, section 3). It lies in memory
+/// as the kernel's struct of this name.
+#[repr(C)]
 #[derive(Clone, Copy, Debug, Default, PartialEq, Eq)]
 pub struct bpf_insn {
     /// The operation: the class in the low three bits.

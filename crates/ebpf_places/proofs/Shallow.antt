@@ -2,7 +2,7 @@
 use Rattle.std.proofs.Common.{◌≡◌, ℕ, ltb, ◌==◌, Bool, true, false, if◌then◌else◌, List, Result, Ok, Err, refl}
 use Rattle.std.proofs.lemmas.Bool.{ltb-true}
 use Rattle.ebpf_btf.specs.declared.error.BtfError.{BtfError}
-use Rattle.ebpf_btf.specs.Compatibility.{fields_compatible}
+use Rattle.ebpf_candidates.specs.Compatibility.{fields_compatible}
 use Rattle.ebpf_btf.specs.Steps.{resolved}
 use Rattle.ebpf_btf.specs.Strings.{is_name_at}
 use Rattle.ebpf_btf.specs.TypeInfo.{TypeInfo}

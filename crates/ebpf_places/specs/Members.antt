@@ -6,7 +6,7 @@ use Rattle.std.specs.Option.{option_map_or}
 use Rattle.ebpf_btf.specs.declared.error.BtfError.{BtfError}
 use Rattle.ebpf_btf.specs.declared.members.BtfMember.{BtfMember}
 use Rattle.ebpf_btf.specs.declared.types.BtfType.{BtfType}
-use Rattle.ebpf_btf.specs.Compatibility.{fields_compatible}
+use Rattle.ebpf_candidates.specs.Compatibility.{fields_compatible}
 use Rattle.ebpf_btf.specs.Steps.{resolved}
 use Rattle.ebpf_btf.specs.Strings.{is_name_at}
 use Rattle.ebpf_btf.specs.TypeInfo.{TypeInfo}

@@ -6,7 +6,8 @@ ghost use Rattle.ebpf_places.specs.Members.{named_role, role, unnamed_role};
 ghost use Rattle.ebpf_places.specs.Memory.{is_memory};
 
 use crate::fault::PlaceFault;
-use ebpf_btf::{Btf, BtfMember, fields_are_compatible};
+use ebpf_btf::{Btf, BtfMember};
+use ebpf_candidates::fields_are_compatible;
 
 /// Inside how many unnamed members another unnamed one is looked into at most.
 pub const UNNAMED_LEVELS: u32 = 64;

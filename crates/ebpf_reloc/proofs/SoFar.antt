@@ -55,6 +55,37 @@ module _ (parts : LinkableValue) (programs : List ProgramValue) where
       pub first_fault : (e : EbpfRelocationError) → IsRefused parts program e → IsFirstFault parts programs e
       first_fault e refused = record { place = i; program = program; at = at_here; refused = refused; before = so_far.before }
 
+      module _ (has : contains_key linked (key_of program) ≡ true) where
+        keys_same : (a b c d : Bool) → (b ≡ true → a ≡ true) → (a || (b || c)) ≡ d → (a || c) ≡ d
+        keys_same true b c d within h = h
+        keys_same false true c d within h = let e = within refl in cc
+        keys_same false false c d within h = h
+
+        within : (key : Key) → eq_by_cmp key_cmp key (key_of program) ≡ true → contains_key linked key ≡ true
+        within key at = ap (contains_key linked) (key_exact key (key_of program) (is_equal _ at)) ∙ has
+
+        value : (o : Option Function) → get linked (key_of program) ≡ o → is_some o ≡ true → (g : Function) × IsLinked parts (key_of program) g
+        value None at e = cc
+        value (Some g) at e = (g, so_far.each (key_of program) g at)
+
+        -- a program at a key that is linked
+        pub linked_before : SoFar parts programs (i + 1) linked
+        linked_before = record {
+          keys = λ key.
+              let rest : list_any (has_key key) (drop i programs) ≡ (has_key key program || list_any (has_key key) (drop (i + 1) programs)) = ap (list_any (has_key key)) (rest_more programs i program below here) in
+              keys_same (contains_key linked key) (has_key key program) (list_any (has_key key) (drop (i + 1) programs)) (list_any (has_key key) programs) (within key)
+              (ap (λ (b : Bool). contains_key linked key || b) (sym rest) ∙ so_far.keys key);
+          each = so_far.each;
+          before = λ k earlier lt at. ⊎_elim
+              (λ (low : k < i). so_far.before k earlier low at)
+              (λ (high : i ≤ k).
+              let place : k ≡ i = omega arith in
+              let same : Some earlier ≡ Some program = sym at ∙ ap (slice_get programs) place ∙ at_here in
+              let equal : earlier ≡ program = cc in
+              subst (λ (p : ProgramValue). (x : Function) × IsLinked parts (key_of p) x) (sym equal) (value (get linked (key_of program)) refl has))
+              (cases_lt k i);
+        }
+
       module _ (g : Function) (is : IsLinked parts (key_of program) g) where
         keys_more : (a b c d : Bool) (h : (a || (b || c)) ≡ d) → (is_some (cond b (Some g) (cond a (Some g) None)) || c) ≡ d
         keys_more true true c d h = h
@@ -105,6 +136,10 @@ module _ (parts : LinkableValue) (programs : List ProgramValue) (i : ℕ) (linke
   -- the program at a place is linked
   pub step_more : (g : Function) → IsLinked other (key_of program) g → (after : FinMap key_cmp Function) → after ≡ insert linked (key_of program) g → SoFar parts programs (i + 1) after
   step_more g is after e = linked_more parts programs i linked so_far program below stands g (subst (λ (p : LinkableValue). IsLinked p (key_of program) g) same is) after e
+
+  -- the program at a place is at a key that is linked
+  pub step_same : contains_key linked (key_of program) ≡ true → SoFar parts programs (i + 1) linked
+  step_same has = linked_before parts programs i linked so_far program below stands has
 
   -- the program at a place can't be linked
   pub refused_here : (e : EbpfRelocationError) → MatchBool (is_memory_at e) ⊤ (IsRefused other program e) → MatchBool (is_memory_at e) ⊤ (IsFirstFault parts programs e)

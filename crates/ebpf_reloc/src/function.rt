@@ -3,8 +3,8 @@
 ghost use Rattle.std.specs.Prelude.{◌≡◌, IfOk};
 
 use ebpf_base::{Items, Text};
-use ebpf_btf::{FuncSecInfo, LineSecInfo};
 use ebpf_elf::SectionIndex;
+use ebpf_ext::{FuncSecInfo, LineSecInfo};
 use ebpf_parts::insn::bpf_insn;
 use std::alloc::AllocError;
 

@@ -24,6 +24,7 @@ pub use function::Function;
 pub use kept_relocations::KeptRelocations;
 pub use link_map::{CodeCopy, LinkMap, Reference, program_map};
 pub use linkable::Linkable;
-pub use linking::{ProgramKey, relocate_calls};
+pub use linking::{ProgramKey, numbered as number_functions, relocate_calls};
+pub use numbered::NumberedFunctions;
 pub use numbered_relocations::NumberedRelocations;
 pub use symbol::Symbol;

@@ -146,13 +146,36 @@ impl<'a> NumberedFunctions<'a> {
     }
 }
 
-/// What a program is made of once it is linked, as `relocate_calls` links it: the copies of functions, and the
-/// references with the places that they lead to. Nothing is linked.
+impl NumberedFunctions<'_> {
+    /// What a program is made of once it is linked, as `relocate_calls` links it: the copies of functions, and the
+    /// references with the places that they lead to. Nothing is linked. The functions keep their numbers for further
+    /// programs.
+    ///
+    /// # Errors
+    ///
+    /// Those of `relocate_calls` for this program alone.
+    #[tactic(auto, using(crate::proofs::Finished::with_name))]
+    pub fn program_map(
+        &self,
+        alloc: Global,
+        program: &ProgramKey<'_>,
+    ) -> Result<LinkMap, EbpfRelocationError>
+        ensures mapped { IfOk result (λ m. IsMapped (read self.now.parts) (key_of program.now) m) }
+        ensures fault { IfErr result (λ e. MatchBool (is_memory_at e) ⊤ (IsRefused (read self.now.parts) program.now e)) }
+        ensures memory { IfErr result NamesNoneForMemory }
+    {
+        match self.map_at(alloc, program.section_index, program.address) {
+            Ok(map) => Ok(map),
+            Err(error) => Err(EbpfRelocationError::named(alloc, program.name, error)),
+        }
+    }
+}
+
+/// What one program is made of once it is linked, where the functions have no numbers yet.
 ///
 /// # Errors
 ///
 /// Those of `relocate_calls` for this program alone.
-#[tactic(auto, using(crate::proofs::Finished::with_name))]
 pub fn program_map(
     alloc: Global,
     program: &ProgramKey<'_>,
@@ -163,8 +186,5 @@ pub fn program_map(
     ensures memory { IfErr result NamesNoneForMemory }
 {
     let functions = numbered(alloc, parts)?;
-    match functions.map_at(alloc, program.section_index, program.address) {
-        Ok(map) => Ok(map),
-        Err(error) => Err(EbpfRelocationError::named(alloc, program.name, error)),
-    }
+    functions.program_map(alloc, program)
 }

@@ -16,7 +16,7 @@ use crate::linkable::Linkable;
 use crate::numbered::{NumberedFunctions, told};
 use crate::numbers::number_in;
 use ebpf_base::ByKey;
-use ebpf_btf::{FuncSecInfo, LineSecInfo};
+use ebpf_ext::{FuncSecInfo, LineSecInfo};
 use ebpf_linker::{Fault, LinkedProgram};
 use std::alloc::{AllocError, Global};
 use std::marker::Model;
@@ -176,7 +176,7 @@ fn put(
 }
 
 /// The functions of programs, each followed by every function that it reaches, by the keys of the programs.
-/// Each is linked from the functions as they are.
+/// Each is linked from the functions as they are, and programs at one key are linked once.
 ///
 /// # Errors
 ///
@@ -198,6 +198,9 @@ pub fn relocate_calls(
     let functions = numbered(alloc, parts)?;
     let mut linked = ByKey::new(alloc);
     for program in programs {
+        if linked.contains_key(program.key()) {
+            continue;
+        }
         let function = match functions.linked_program(alloc, program) {
             Ok(function) => function,
             Err(error) => return Err(error),

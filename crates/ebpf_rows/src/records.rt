@@ -1,6 +1,7 @@
 //! What type information says of instructions, line by line.
 
-use ebpf_btf::{Btf, Relocation};
+use ebpf_btf::Btf;
+use ebpf_ext::Relocation;
 use ebpf_object::Object;
 use std::alloc::{AllocError, Global};
 

@@ -1,9 +1,10 @@
-use Rattle.std.proofs.Common.{lit<}
-use Rattle.std.proofs.lemmas.Iterator.Consumers.{map_from_collect}
+use Rattle.std.proofs.Common.{◌∙◌, ap, lit<, map}
+use Rattle.std.proofs.lemmas.Iterator.Consumers.{YieldsList-at, YieldsList-end}
 use Rattle.std.proofs.lemmas.Iterator.Splits.{YieldsList-from_str_split}
 use Rattle.ebpf_core.proofs.access.pieces_of.Goals as goal
 
 pub returns : goal.returns
 returns c =
-    map_from_collect _ c.collect.ensures.ran
-    (YieldsList-from_str_split 58 c.args.access.now (lit< tt) c.split.ensures.text c.split.ensures.has_more c.split.ensures.pattern)
+    let split = YieldsList-from_str_split 58 c.args.access.now (lit< tt) c.split-piece-items.ensures.text c.split-piece-items.ensures.has_more c.split-piece-items.ensures.pattern in
+    let all = YieldsList-end (YieldsList-at c.into_iter-piece-iterator.ensures.into_iter_gives split) c.loop-piece.yielded _ c.loop-piece.yielded_by c.next.result _ c.in-None.is c.next.ensures.steps in
+    ap (map (λ piece. piece.now)) c.loop-piece.invariant ∙ all.0

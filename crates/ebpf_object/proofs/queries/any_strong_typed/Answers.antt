@@ -7,5 +7,5 @@ use Rattle.ebpf_object.proofs.queries.any_strong_typed.Goals as goal
 pub returns : goal.returns
 returns c =
     c.strong_typed_among.ensures.found
-    ∙ sym (any_text (λ (x : ExternDesc). x.is_typed && not x.is_weak) c.as_map.result.now.entries c.strong_typed_among.ensures.distinct)
+    ∙ sym (any_text (λ (x : ExternDesc). x.is_typed && not x.is_weak) c.as_map.result.now.entries c.strong_typed_among.ensures.rising)
     ∙ ap (has_extern (λ (x : ExternDesc). x.is_typed && not x.is_weak)) c.as_map.ensures

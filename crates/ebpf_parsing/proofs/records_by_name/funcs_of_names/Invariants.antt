@@ -2,7 +2,7 @@ use Rattle.std.proofs.Common.{◌≡◌, drop}
 use Rattle.std.specs.Prelude.{fold}
 use Rattle.std.specs.FinMap.{insert, empty}
 use Rattle.ebpf_base.specs.Keys.{lent_bytes}
-use Rattle.ebpf_btf.specs.ExtInfos.{func_info_at}
+use Rattle.ebpf_ext.specs.ExtInfos.{func_info_at}
 use Rattle.ebpf_parsing.proofs.records_by_name.funcs_of_names.Given as goal
 
 -- what is left to gather from here gives what all gives from the start

@@ -1,0 +1,10 @@
+pub mod HandleWords
+pub mod LooseWords
+pub mod Named
+pub mod NamedMaps
+pub mod Objects
+pub mod OneMore
+pub mod OneValue
+pub mod Refusing
+pub mod Rows
+pub mod Texts

@@ -1,0 +1,26 @@
+use Rattle.std.proofs.Common.{◌≡◌, Some, inr, ap, ◌∙◌, sym, subst}
+use Rattle.std.specs.Prelude.{⊤, MatchBool}
+use Rattle.ebpf_object.specs.PatchValues.{globals_of}
+use Rattle.ebpf_object.specs.Patches.{all_patched, patches_of, patches_fault}
+use Rattle.ebpf_parts.specs.Memory.{is_memory}
+use Rattle.ebpf_c.specs.Settings.{one_value}
+use Rattle.ebpf_c.proofs.Rows.{text_same}
+use Rattle.ebpf_c.proofs.values.set_value.Goals as goal
+
+pub returns-in-Ok-patch_map_data-clause-ok : goal.returns-in-Ok-patch_map_data-clause-ok
+returns-in-Ok-patch_map_data-clause-ok c =
+    let o = c.args.object.now in
+    let same = text_same c.args.name.now c.in-Some.name.now c.in-Some.ensures in
+    let one : globals_of c.in-Ok.globals.entries ≡ one_value c.args.name.now c.args.value.now c.args.must_exist = c.in-Ok.ensures ∙ ap (λ n. one_value n c.args.value.now c.args.must_exist) same in
+    record {
+      text = sym c.in-Some.ensures ∙ ap Some same;
+      maps = c.in-Ok-patch_map_data.ensures.maps ∙ ap (λ g. all_patched o.maps (patches_of o.symbol_table o.maps g)) one;
+      others_stay = c.in-Ok-patch_map_data.ensures.others_stay;
+    }
+
+pub returns-in-Err-clause-why : goal.returns-in-Err-clause-why
+returns-in-Err-clause-why c =
+    let o = c.args.object.now in
+    let same = text_same c.args.name.now c.in-Some.name.now c.in-Some.ensures in
+    let one : globals_of c.in-Ok.globals.entries ≡ one_value c.args.name.now c.args.value.now c.args.must_exist = c.in-Ok.ensures ∙ ap (λ n. one_value n c.args.value.now c.args.must_exist) same in
+    inr (inr (c.in-Err.error, subst (λ g. MatchBool (is_memory c.in-Err.error) ⊤ (patches_fault o.symbol_table o.maps g ≡ Some c.in-Err.error)) one c.in-Err.ensures.fault, c.parse_refusal.ensures.refusal))

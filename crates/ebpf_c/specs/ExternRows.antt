@@ -1,0 +1,19 @@
+-- What C reads of externs.
+use Rattle.std.specs.Prelude.{ℕ, is_some}
+use Rattle.ebpf_reloc.specs.declared.extern_desc.ExternDesc.{ExternDesc}
+use Rattle.ebpf_c.specs.Flags.{flag, or_zero}
+use Rattle.ebpf_c.specs.declared.externs.ebpf_extern.{ebpf_extern}
+
+-- the row of an extern whose name begins at a place of the text and has a length
+abbrev pub extern_row : ExternDesc → ℕ → ℕ → ebpf_extern
+extern_row x name_at name_len = record {
+  name_at = name_at;
+  name_len = name_len;
+  address = or_zero x.ksym_addr;
+  type_id = x.btf_id;
+  kernel_type_id = or_zero x.kernel_btf_id;
+  is_typed = flag x.is_typed;
+  is_weak = flag x.is_weak;
+  is_resolved = flag x.is_resolved;
+  has_address = flag (is_some x.ksym_addr);
+}

@@ -1,0 +1,15 @@
+-- What a call of the crate found, as what is stated.
+use Rattle.std.specs.Prelude.{ℕ, List, Result, Ok, Err}
+use Rattle.ebpf_c.specs.Answers.{Listed}
+use Rattle.ebpf_c.specs.declared.listing.Listing.{Listing}
+use denote.Ref.{Bor}
+
+-- a list that is lent
+abbrev pub found_list : {X : Type 0} → Result (Bor (List X)) ℕ → Result (List X) ℕ
+found_list (Err number) = Err number
+found_list (Ok xs) = Ok xs.now
+
+-- rows and their text
+abbrev pub found_listing : {R : Type 0} → Result (Listing R) ℕ → Result (Listed R) ℕ
+found_listing (Err number) = Err number
+found_listing (Ok listing) = Ok (listing.rows.items, listing.text.items)

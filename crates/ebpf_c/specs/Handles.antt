@@ -1,0 +1,28 @@
+-- What a call leaves of a handle, and why it refuses.
+use Rattle.std.specs.Prelude.{◌≡◌, ◌⊎◌, ℕ, List, Option, Some, None}
+use Rattle.ebpf_c.specs.Refusal.{plain, IsTold}
+use Rattle.ebpf_c.specs.declared.codes.TheConstants.{CLOSED, MEMORY}
+use Rattle.ebpf_c.specs.declared.refusal.Refusal.{Refusal}
+use Rattle.ebpf_object.specs.declared.object.Object.{Object}
+
+-- the refusal for a want of memory, or for an error that stands
+abbrev pub IsRefusal : {E : Type 0} → (E → Type 0) → (E → Refusal) → Refusal → Type 0
+IsRefusal {E = E} Stands refusal r = (r ≡ plain MEMORY) ⊎ ((e : E) × Stands e × (r ≡ refusal e))
+
+-- the refusal of what an open handle holds; a closed one is refused as such
+abbrev pub WhyHeld : Option Object → (Object → Refusal → Type 0) → Refusal → Type 0
+WhyHeld None Why r = r ≡ plain CLOSED
+WhyHeld (Some o) Why r = Why o r
+
+-- an open handle holds another object than before
+abbrev pub Changes : (Object → Object → Type 0) → Option Object → Option Object → Type 0
+Changes Change None after = ⊥
+Changes Change (Some old) None = ⊥
+Changes Change (Some old) (Some new) = Change old new
+
+-- a call refuses for a reason: the handle is as it was, and C is told
+pub record IsRefused (Why : Refusal → Type 0) (answer : ℕ) (before after : Option Object) (about_before about_after : List ℕ) (about_count : ℕ) : Type 0 where
+  pub stays : after ≡ before
+  pub refusal : Refusal
+  pub why : Why refusal
+  pub told : IsTold refusal answer about_before about_after about_count

@@ -1,0 +1,23 @@
+-- What an object is, in numbers.
+use Rattle.std.specs.Prelude.{Bool, true, false, is_some}
+use Rattle.ebpf_btf.specs.declared.endianness.Endianness.{Endianness}
+use Rattle.ebpf_btf.specs.declared.endianness.Endianness.TheVariants.{Little, Big}
+use Rattle.ebpf_object.specs.TypedExterns.{has_typed}
+use Rattle.ebpf_object.specs.declared.object.Object.{Object}
+use Rattle.ebpf_parsing.specs.FileTypes.{has_relocations}
+use Rattle.ebpf_c.specs.Flags.{flag, or_zero}
+use Rattle.ebpf_c.specs.declared.info.ebpf_object_info.{ebpf_object_info}
+
+abbrev pub is_big : Endianness → Bool
+is_big Little = false
+is_big Big = true
+
+abbrev pub info_of : Object → ebpf_object_info
+info_of o = record {
+  is_big_endian = flag (is_big o.endianness);
+  has_kernel_version = flag (is_some o.kernel_version);
+  kernel_version = or_zero o.kernel_version;
+  has_types = flag (is_some o.btf);
+  has_relocations = flag (has_relocations o.btf_ext);
+  has_typed_externs = flag (has_typed o.btf o.externs);
+}

@@ -1,0 +1,153 @@
+-- The numbers and names of refusals, by the stage that refuses.
+use Rattle.std.specs.Prelude.{ℕ, ◌+◌, List, Option, Some, None}
+use Rattle.ebpf_btf.specs.declared.error.BtfError.{BtfError}
+use Rattle.ebpf_btf.specs.declared.error.BtfError.TheVariants as types
+use Rattle.ebpf_core.specs.declared.error.RelocationError.{RelocationError as RecordError}
+use Rattle.ebpf_core.specs.declared.error.RelocationError.TheVariants as record_fault
+use Rattle.ebpf_core_relo.specs.declared.error.BtfRelocationError.{BtfRelocationError}
+use Rattle.ebpf_elf.specs.declared.error.ElfReadError.{ElfReadError}
+use Rattle.ebpf_elf.specs.declared.error.ElfReadError.TheVariants as file
+use Rattle.ebpf_ksyms.specs.declared.error.KsymsError.{KsymsError}
+use Rattle.ebpf_ksyms.specs.declared.error.KsymsError.TheVariants as ksyms
+use Rattle.ebpf_object.specs.declared.prepare_error.PrepareError.{PrepareError}
+use Rattle.ebpf_object.specs.declared.prepare_error.PrepareError.TheVariants as stage
+use Rattle.ebpf_parts.specs.declared.error.ParseError.{ParseError}
+use Rattle.ebpf_parts.specs.declared.error.ParseError.TheVariants as parse
+use Rattle.ebpf_reloc.specs.declared.error.EbpfRelocationError.{EbpfRelocationError}
+use Rattle.ebpf_reloc.specs.declared.error.RelocationError.{RelocationError}
+use Rattle.ebpf_reloc.specs.declared.error.RelocationError.TheVariants as slot
+use Rattle.ebpf_c.specs.Refusal.{plain, named}
+use Rattle.ebpf_c.specs.declared.codes.TheConstants.{MEMORY}
+use Rattle.ebpf_c.specs.declared.refusal.Refusal.{Refusal}
+
+-- why a file, or a part of it, can't be read
+abbrev pub file_fault : ElfReadError → ℕ
+file_fault file.TooShort = 0
+file_fault file.BadMagic = 1
+file_fault file.NotElf64 = 2
+file_fault file.BadByteOrder = 3
+file_fault file.BadSectionTable = 4
+file_fault file.BadSectionRange = 5
+file_fault file.BadStringTable = 6
+file_fault file.BadSymbolTable = 7
+file_fault file.BadRelocationTable = 8
+file_fault file.ExtendedNumbering = 9
+
+-- why types can't be read, where the first of the faults has a number
+abbrev pub type_number : ℕ → BtfError → ℕ
+type_number first types.InvalidHeader = first
+type_number first types.InvalidTypeInfo = first + 1
+type_number first types.InvalidInfo = first + 2
+type_number first (types.InvalidStringOffset _) = first + 3
+type_number first (types.InvalidRelocationKind _) = first + 4
+type_number first (types.UnexpectedBtfType _) = first + 5
+type_number first (types.UnknownBtfType _) = first + 6
+type_number first (types.UnknownBtfTypeName _) = first + 7
+type_number first (types.MaximumTypeDepth _) = first + 8
+type_number first types.InvalidDatasec = first + 9
+type_number first types.InvalidSymbolName = first + 10
+type_number first (types.InnerMapCannotBePinned _) = first + 11
+type_number first (types.MultiLevelMapInMapNotSupported _) = first + 12
+type_number first (types.InvalidValuesSpec _) = first + 13
+type_number first types.TooLarge = first + 14
+type_number first types.OutOfMemory = MEMORY
+
+-- the type or the map that such a fault is about
+abbrev pub type_name : BtfError → Option (List ℕ)
+type_name (types.UnknownBtfTypeName name) = Some name
+type_name (types.InnerMapCannotBePinned name) = Some name
+type_name (types.MultiLevelMapInMapNotSupported name) = Some name
+type_name (types.InvalidValuesSpec name) = Some name
+type_name _ = None
+
+abbrev pub type_refusal : ℕ → BtfError → Refusal
+type_refusal first e = record { number = type_number first e; name = type_name e }
+
+-- ---- 100 to 199: the file, and the values of variables
+
+abbrev pub parse_refusal : ParseError → Refusal
+parse_refusal (parse.ElfError e) = plain (100 + file_fault e)
+parse_refusal (parse.SectionError _ e) = plain (110 + file_fault e)
+parse_refusal (parse.BtfError e) = type_refusal 120 e
+parse_refusal (parse.MissingLicenseNullTerminator _) = plain 140
+parse_refusal (parse.InvalidLicense _) = plain 141
+parse_refusal (parse.InvalidKernelVersion _) = plain 142
+parse_refusal parse.UnsupportedRelocationTarget = plain 143
+parse_refusal (parse.InvalidProgramSection section) = named 144 section
+parse_refusal parse.InvalidProgramCode = plain 145
+parse_refusal (parse.InvalidMapDefinition name) = named 146 name
+parse_refusal (parse.SymbolTableConflict _ _) = plain 147
+parse_refusal (parse.UnknownSymbol _ _) = plain 148
+parse_refusal (parse.InvalidSymbol _ name) = record { number = 149; name = name }
+parse_refusal (parse.InvalidGlobalData name _ _) = named 150 name
+parse_refusal (parse.SymbolNotFound name) = named 151 name
+parse_refusal (parse.MapNotFound _) = plain 152
+parse_refusal (parse.MapSymbolNameNotFound _) = plain 153
+parse_refusal (parse.NoSymbolsForSection section) = named 154 section
+parse_refusal parse.NoBTF = plain 155
+parse_refusal parse.OutOfMemory = plain MEMORY
+
+-- ---- 200 to 299: types; of a record about its section
+
+abbrev pub record_number : RecordError → ℕ
+record_number (record_fault.BtfError e) = type_number 220 e
+record_number record_fault.SectionNotFound = 240
+record_number record_fault.FunctionNotFound = 241
+record_number (record_fault.InvalidAccessString _) = 242
+record_number (record_fault.InvalidInstructionIndex _ _ _) = 243
+record_number (record_fault.ConflictingCandidates _ _) = 244
+record_number (record_fault.MaximumNestingLevelReached _) = 245
+record_number (record_fault.InvalidAccessIndex _ _ _ _ _) = 246
+record_number (record_fault.InvalidRelocationKindForType _ _ _ _) = 247
+record_number (record_fault.InvalidInstruction _ _ _) = 248
+record_number (record_fault.MissingTargetDefinition _ _ _) = 249
+record_number record_fault.OutOfMemory = MEMORY
+
+abbrev pub types_refusal : BtfRelocationError → Refusal
+types_refusal e = named (record_number e.error) e.section
+
+-- ---- 300, 500 and 600 on: slots, about the function or the program
+
+abbrev pub slot_number : ℕ → RelocationError → ℕ
+slot_number first (slot.UnknownSymbol _) = first
+slot_number first (slot.SectionNotFound _ _ _) = first + 1
+slot_number first (slot.UnknownFunction _ _) = first + 2
+slot_number first (slot.FunctionInfoMismatch _) = first + 3
+slot_number first (slot.UnknownProgram _ _) = first + 4
+slot_number first (slot.InvalidRelocationOffset _ _) = first + 5
+slot_number first (slot.ExternNotFound _) = first + 6
+slot_number first (slot.UnresolvableSymbol _) = first + 7
+slot_number first (slot.UnsupportedTextSymbol _) = first + 8
+slot_number first (slot.InvalidLineInfo _) = first + 9
+slot_number first (slot.ProgramTooLong _) = first + 10
+slot_number first (slot.MapAddressOverflow _) = first + 11
+slot_number first slot.OutOfMemory = MEMORY
+
+abbrev pub slot_refusal : ℕ → EbpfRelocationError → Refusal
+slot_refusal first e = named (slot_number first e.error) e.function
+
+-- ---- 400 to 499: finding externs, about the extern
+
+abbrev pub ksyms_refusal : KsymsError → Refusal
+ksyms_refusal ksyms.TypedKsymRequiresKernelBtf = plain 400
+ksyms_refusal (ksyms.VariableNotFound name) = named 401 name
+ksyms_refusal (ksyms.IncompatibleFunctionSignature name) = named 402 name
+ksyms_refusal (ksyms.IncompatibleVariableType name) = named 403 name
+ksyms_refusal (ksyms.InvalidExternType name) = named 404 name
+ksyms_refusal (ksyms.AmbiguousResolution name _ _) = named 405 name
+ksyms_refusal (ksyms.KallsymsAccessError _) = plain 406
+ksyms_refusal (ksyms.KallsymsParseError text) = named 407 text
+ksyms_refusal (ksyms.FunctionNotFound name) = named 408 name
+ksyms_refusal (ksyms.BtfError e) = type_refusal 420 e
+ksyms_refusal ksyms.OutOfMemory = plain MEMORY
+
+-- ---- of all stages
+
+abbrev pub prepare_refusal : PrepareError → Refusal
+prepare_refusal (stage.Parse e) = parse_refusal e
+prepare_refusal (stage.Types e) = types_refusal e
+prepare_refusal (stage.Maps e) = slot_refusal 300 e
+prepare_refusal (stage.Ksyms e) = ksyms_refusal e
+prepare_refusal (stage.Externs e) = slot_refusal 500 e
+prepare_refusal (stage.Calls e) = slot_refusal 600 e
+prepare_refusal stage.OutOfMemory = plain MEMORY

@@ -1,0 +1,73 @@
+-- What a pass over an object leaves of it, and why it refuses.
+use Rattle.std.specs.Prelude.{◌≡◌, ◌⊎◌, ⊤, ℕ, List, [], Option, Some, None, Ok, Err, MatchBool}
+use Rattle.std.specs.FinMap.{get}
+use Rattle.ebpf_btf.specs.TypeInfo.{TypeInfo}
+use Rattle.ebpf_core_relo.specs.Answers as adapting
+use Rattle.ebpf_ksyms.specs.Faults as resolving
+use Rattle.ebpf_ksyms.specs.Readers.{IsRefusedIn, IsResolvedIn}
+use Rattle.ebpf_object.specs.AdaptedSlots.{adapted_slots, AreAdapted}
+use Rattle.ebpf_object.specs.Joined.{linkable_of, programs_in_order, AreJoined}
+use Rattle.ebpf_object.specs.TextSections.{has_function_in}
+use Rattle.ebpf_object.specs.WrittenSlots.{with_externs, externs_fault}
+use Rattle.ebpf_object.specs.declared.object.Object.{Object}
+use Rattle.ebpf_reloc.specs.Linking.{IsFirstFault}
+use Rattle.ebpf_reloc.specs.Memory as relocating
+use Rattle.ebpf_c.specs.Handles.{IsRefusal}
+use Rattle.ebpf_c.specs.Numbers.{ksyms_refusal, slot_refusal, types_refusal}
+use Rattle.ebpf_c.specs.TargetTypes.{types_in, types_if, CannotRead}
+use Rattle.ebpf_c.specs.declared.refusal.Refusal.{Refusal}
+
+-- ---- types
+
+-- adapted to a kernel whose types the bytes spell; all else of the object is as before
+pub record HasAdapted (bytes : List ℕ) (old new : Object) : Type 0 where
+  pub target : TypeInfo
+  pub spelled : types_in bytes ≡ Ok target
+  pub adapted : AreAdapted old target new.functions
+  pub others_stay : new ≡ record old { functions = new.functions }
+
+-- a record can't be applied
+pub record HasBadRecord (bytes : List ℕ) (o : Object) (r : Refusal) : Type 0 where
+  pub target : TypeInfo
+  pub spelled : types_in bytes ≡ Ok target
+  pub refusal : IsRefusal (λ e. MatchBool (adapting.is_memory_at e) (e.section ≡ []) (adapted_slots o target ≡ Err (adapting.told_at e))) types_refusal r
+
+abbrev pub CannotAdapt : List ℕ → Object → Refusal → Type 0
+CannotAdapt bytes o r = CannotRead bytes r ⊎ HasBadRecord bytes o r
+
+-- ---- externs
+
+-- sought in the types that the bytes spell, if there are any, and in the text of a kernel's symbols; all else is as before
+pub record HasResolved (bytes symbols : List ℕ) (old new : Object) : Type 0 where
+  pub kernel : Option TypeInfo
+  pub spelled : types_if bytes ≡ Ok kernel
+  pub resolved : IsResolvedIn symbols old.btf kernel old.externs new.externs
+  pub others_stay : new ≡ record old { externs = new.externs }
+
+-- an extern can't be found
+pub record HasLostExtern (bytes symbols : List ℕ) (o : Object) (r : Refusal) : Type 0 where
+  pub kernel : Option TypeInfo
+  pub spelled : types_if bytes ≡ Ok kernel
+  pub refusal : IsRefusal (λ e. MatchBool (resolving.is_memory e) ⊤ (IsRefusedIn symbols o.btf kernel o.externs e)) ksyms_refusal r
+
+abbrev pub CannotResolve : List ℕ → List ℕ → Object → Refusal → Type 0
+CannotResolve bytes symbols o r = CannotRead bytes r ⊎ HasLostExtern bytes symbols o r
+
+-- an extern can't be written
+abbrev pub CannotWriteExterns : Object → Refusal → Type 0
+CannotWriteExterns o = IsRefusal (λ e. MatchBool (relocating.is_memory_at e) ⊤ (externs_fault o ≡ Some e)) (slot_refusal 500)
+
+-- written into the slots that refer to them
+abbrev pub HasWrittenExterns : Object → Object → Type 0
+HasWrittenExterns old new = new ≡ with_externs old
+
+-- ---- calls
+
+-- each program joined with the functions that it reaches; all else is as before
+pub record HasJoined (old new : Object) : Type 0 where
+  pub joined : AreJoined (linkable_of old (has_function_in old.functions)) (programs_in_order old.programs) new.functions
+  pub others_stay : new ≡ record old { functions = new.functions }
+
+-- a program can't be joined
+abbrev pub CannotJoin : Object → Refusal → Type 0
+CannotJoin o = IsRefusal (λ e. MatchBool (relocating.is_memory_at e) ⊤ (IsFirstFault (linkable_of o (has_function_in o.functions)) (programs_in_order o.programs) e)) (slot_refusal 600)

@@ -1,0 +1,91 @@
+-- What C reads of an object: lists, or the number of the refusal.
+use Rattle.std.specs.Prelude.{ℕ, List, Option, Some, None, Result, Ok, Err}
+use Rattle.std.specs.FinMap.{FinMap, get}
+use Rattle.ebpf_base.specs.Keys.{key_cmp}
+use Rattle.ebpf_ext.specs.declared.ext_infos.bpf_func_info.{bpf_func_info}
+use Rattle.ebpf_ext.specs.declared.ext_infos.bpf_line_info.{bpf_line_info}
+use Rattle.ebpf_object.specs.declared.object.Object.{Object}
+use Rattle.ebpf_parsing.specs.declared.program.Program.{Program}
+use Rattle.ebpf_parts.specs.Maps.{bytes_of}
+use Rattle.ebpf_parts.specs.declared.insn.bpf_insn.{bpf_insn}
+use Rattle.ebpf_reloc.specs.declared.function.Function.{Function}
+use Rattle.ebpf_c.specs.Answers.{Listed}
+use Rattle.ebpf_c.specs.Entries.{named}
+use Rattle.ebpf_c.specs.ExternRows.{extern_row}
+use Rattle.ebpf_c.specs.Listing.{listed}
+use Rattle.ebpf_c.specs.MapRows.{map_row}
+use Rattle.ebpf_c.specs.ProgramRows.{program_row}
+use Rattle.ebpf_c.specs.SectionRows.{section_row}
+use Rattle.ebpf_c.specs.declared.codes.TheConstants.{CLOSED, NO_MAP, NO_PROGRAM}
+use Rattle.ebpf_c.specs.declared.externs.ebpf_extern.{ebpf_extern}
+use Rattle.ebpf_c.specs.declared.maps.ebpf_map.{ebpf_map}
+use Rattle.ebpf_c.specs.declared.programs.ebpf_program.{ebpf_program}
+use Rattle.ebpf_c.specs.declared.sections.ebpf_section.{ebpf_section}
+
+-- what a call on a handle gives, which may be closed
+abbrev pub of_open : {X : Type 0} → (Object → Result X ℕ) → Option Object → Result X ℕ
+of_open f None = Err CLOSED
+of_open f (Some o) = f o
+
+-- what a thing gives, or a number where there is none
+abbrev pub or_number : {X Y : Type 0} → ℕ → (X → Y) → Option X → Result Y ℕ
+or_number number f None = Err number
+or_number number f (Some x) = Ok (f x)
+
+-- ---- lists of named things
+
+abbrev pub programs_of : Object → Listed ebpf_program
+programs_of o = listed (program_row o.functions) o.programs
+
+abbrev pub maps_of : Object → Listed ebpf_map
+maps_of o = listed map_row o.maps
+
+abbrev pub externs_of : Object → Listed ebpf_extern
+externs_of o = listed extern_row o.externs
+
+-- of two sections with one name the later one
+abbrev pub sections_of : Object → Listed ebpf_section
+sections_of o = listed section_row o.section_infos
+
+-- ---- what a program has, as it stands
+
+-- the function of a program
+abbrev pub function_of : FinMap key_cmp Function → Option Program → Option Function
+function_of functions None = None
+function_of functions (Some p) = get functions (p.section_index, p.address)
+
+-- that of the program that some bytes name
+abbrev pub function_named : Object → List ℕ → Option Function
+function_named o name = function_of o.functions (named o.programs name)
+
+abbrev pub slots_of : List ℕ → Object → Result (List bpf_insn) ℕ
+slots_of name o = or_number NO_PROGRAM (λ f. f.instructions) (function_named o name)
+
+abbrev pub func_infos_of : List ℕ → Object → Result (List bpf_func_info) ℕ
+func_infos_of name o = or_number NO_PROGRAM (λ f. f.func_info.func_info) (function_named o name)
+
+abbrev pub line_infos_of : List ℕ → Object → Result (List bpf_line_info) ℕ
+line_infos_of name o = or_number NO_PROGRAM (λ f. f.line_info.line_info) (function_named o name)
+
+-- ---- bytes
+
+-- the data that the map that some bytes name begins with
+abbrev pub map_data_of : List ℕ → Object → Result (List ℕ) ℕ
+map_data_of name o = or_number NO_MAP bytes_of (named o.maps name)
+
+abbrev pub license_of : Object → Result (List ℕ) ℕ
+license_of o = Ok o.license
+
+-- ---- the same of a handle, whose object may be none
+
+abbrev pub programs_in : Option Object → Result (Listed ebpf_program) ℕ
+programs_in = of_open (λ o. Ok (programs_of o))
+
+abbrev pub maps_in : Option Object → Result (Listed ebpf_map) ℕ
+maps_in = of_open (λ o. Ok (maps_of o))
+
+abbrev pub externs_in : Option Object → Result (Listed ebpf_extern) ℕ
+externs_in = of_open (λ o. Ok (externs_of o))
+
+abbrev pub sections_in : Option Object → Result (Listed ebpf_section) ℕ
+sections_in = of_open (λ o. Ok (sections_of o))

@@ -1,0 +1,58 @@
+-- What is set of an object before its relocation.
+use Rattle.std.specs.Prelude.{◌≡◌, ◌⊎◌, ⊤, ℕ, Bool, List, [], ◌∷◌, Option, Some, None, MatchBool, MatchOption}
+use Rattle.std.specs.FinMap.{FinMap, empty, insert}
+use Rattle.ebpf_base.specs.Keys.{text_cmp}
+use Rattle.ebpf_object.specs.OlderHelpers.{AreSanitized}
+use Rattle.ebpf_object.specs.Patches.{all_patched, patches_of, patches_fault}
+use Rattle.ebpf_object.specs.declared.object.Object.{Object}
+use Rattle.ebpf_parts.specs.Memory.{is_memory}
+use Rattle.ebpf_parts.specs.declared.maps.either.Map.{Map}
+use Rattle.ebpf_c.specs.Entries.{named}
+use Rattle.ebpf_c.specs.Handles.{IsRefusal}
+use Rattle.ebpf_c.specs.Numbers.{parse_refusal}
+use Rattle.ebpf_c.specs.Refusal.{plain}
+use Rattle.ebpf_c.specs.Descriptors.{text_of}
+use Rattle.ebpf_c.specs.declared.codes.TheConstants.{BAD_NAME, DONE, NO_MAP}
+use Rattle.ebpf_c.specs.declared.refusal.Refusal.{Refusal}
+
+-- ---- maps
+
+-- the map of a name is another one, or no map has the name
+abbrev pub IsSet : (Map → Map) → List ℕ → FinMap text_cmp Map → ℕ → FinMap text_cmp Map → Type 0
+IsSet set name before number after =
+    MatchOption (named before name) ((number ≡ NO_MAP) × (after ≡ before)) (λ m. (number ≡ DONE) × (after ≡ insert before name (set m)))
+
+-- the same of an object; all else is as before
+pub record HasSet (set : Map → Map) (name : List ℕ) (old new : Object) : Type 0 where
+  pub found : Map
+  pub there : named old.maps name ≡ Some found
+  pub is : new ≡ record old { maps = insert old.maps name (set found) }
+
+abbrev pub LacksMap : List ℕ → Option Object → Type 0
+LacksMap name None = ⊥
+LacksMap name (Some o) = named o.maps name ≡ None
+
+-- ---- variables
+
+-- one variable's value, and whether the object has to have it
+abbrev pub one_value : List ℕ → List ℕ → Bool → FinMap text_cmp (List ℕ × Bool)
+one_value name value must_exist = insert empty name (value, must_exist)
+
+-- a variable's value, written into the data of the map that holds it; all else is as before
+pub record HasPatched (name value : List ℕ) (must_exist : Bool) (old new : Object) : Type 0 where
+  pub text : text_of name ≡ Some name
+  pub maps : new.maps ≡ all_patched old.maps (patches_of old.symbol_table old.maps (one_value name value must_exist))
+  pub others_stay : new ≡ record old { maps = new.maps }
+
+-- it can't be written
+abbrev pub CannotPatch : List ℕ → List ℕ → Bool → Object → Refusal → Type 0
+CannotPatch name value must_exist o r =
+    ((text_of name ≡ None) × (r ≡ plain BAD_NAME))
+    ⊎ IsRefusal (λ e. MatchBool (is_memory e) ⊤ (patches_fault o.symbol_table o.maps (one_value name value must_exist) ≡ Some e)) parse_refusal r
+
+-- ---- helper functions
+
+-- made fit for a kernel that has the newer helper functions, or has them not
+pub record HasSanitized (has_newer : Bool) (old new : Object) : Type 0 where
+  pub functions : AreSanitized (λ answer. answer ≡ has_newer) old.functions new.functions
+  pub others_stay : new ≡ record old { functions = new.functions }

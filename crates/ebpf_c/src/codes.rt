@@ -1,0 +1,16 @@
+//! The numbers that calls answer.
+
+/// All is done and written.
+pub const DONE: u32 = 0;
+/// A buffer is too small. Its count says how much is needed.
+pub const ROOM: u32 = 1;
+/// No memory was found.
+pub const MEMORY: u32 = 2;
+/// The handle is closed.
+pub const CLOSED: u32 = 3;
+/// No program has the name.
+pub const NO_PROGRAM: u32 = 4;
+/// No map has the name.
+pub const NO_MAP: u32 = 5;
+/// A name is no text, or is not inside the text that it is said to stand in.
+pub const BAD_NAME: u32 = 6;

@@ -1,0 +1,71 @@
+//! Things with their names, in the order of the names.
+
+ghost use Rattle.std.specs.Prelude.{◌≡◌, IfOk};
+ghost use Rattle.std.specs.FinMap.{entries, get};
+ghost use Rattle.std.specs.List.{flat_map};
+ghost use Rattle.ebpf_base.specs.Keys.{lent_bytes};
+ghost use Rattle.ebpf_c.specs.Entries.{entry_if, named};
+ghost use Rattle.std.specs.Option.{option_copied};
+
+use ebpf_base::ByName;
+use std::alloc::{AllocError, Global};
+use std::marker::Model;
+
+/// A thing and its name, lent.
+#[derive(Drop)]
+pub struct Entry<'a, V> {
+    /// The name.
+    pub name: &'a str,
+    /// The thing.
+    pub value: &'a V,
+}
+
+impl<'a, V> Model for Entry<'a, V> {
+    ghost use Rattle.std.specs.Prelude.{ℕ, List};
+    ghost use Rattle.std.specs.Coded.{coded×};
+    ghost use Rattle.ebpf_base.specs.Keys.{coded_text};
+
+    ghost Value = { List ℕ × V };
+
+    ghost coded = { coded× coded_text V.code };
+
+    ghost view = { λ e. (e.name.now, e.value.now) };
+}
+
+/// The things of some names, in their order.
+fn entries_named<'a, V>(
+    alloc: Global,
+    values: &'a ByName<V>,
+    names: &[&'a str],
+) -> Result<Vec<Entry<'a, V>>, AllocError>
+    ensures { IfOk result (λ all. all.items ≡ flat_map (λ name. entry_if name (get values.now name)) (lent_bytes names.now)) }
+{
+    let mut all = Vec::with_capacity(alloc, names.len())?;
+    for name in names {
+        let Some(value) = values.get(name) else {
+            continue;
+        };
+        all.push(Entry { name, value })?;
+    }
+    Ok(all)
+}
+
+/// The things in the order of the bytes of their names.
+pub fn entries_of<V>(alloc: Global, values: &ByName<V>) -> Result<Vec<Entry<'_, V>>, AllocError>
+    ensures { IfOk result (λ all. all.items ≡ entries values.now) }
+{
+    let names = values.names(alloc)?;
+    let all = entries_named(alloc, values, &names)?;
+    Ok(all)
+}
+
+/// The thing that some bytes name. Bytes that are no text name none.
+
+pub fn named<'a, V>(values: &'a ByName<V>, name: &[u8]) -> Option<&'a V>
+    ensures { option_copied result ≡ named values.now name.now }
+{
+    match str::from_utf8(name) {
+        Ok(name) => values.get(name),
+        Err(_) => None,
+    }
+}

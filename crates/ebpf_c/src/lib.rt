@@ -1,0 +1,41 @@
+//! What C calls.
+#![tactic(auto)]
+
+mod adapting;
+mod buffers;
+mod codes;
+mod describing;
+mod descriptors;
+mod entries;
+mod externs;
+mod fault_names;
+mod file_fault;
+mod flags;
+mod handle;
+mod info;
+mod joining;
+mod ksyms_refusal;
+mod list_calls;
+mod listing;
+mod lists;
+mod loose;
+mod map_settings;
+mod maps;
+mod names;
+mod opening;
+mod parse_refusal;
+mod prepare_refusal;
+mod preparing;
+mod program_kind;
+mod programs;
+mod read_calls;
+mod reads;
+mod refusal;
+mod resolving;
+mod sanitizing;
+mod sections;
+mod slot_refusal;
+mod target_types;
+mod type_fault;
+mod types_refusal;
+mod values;

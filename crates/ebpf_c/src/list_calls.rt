@@ -1,0 +1,128 @@
+//! The calls that list what an object has.
+
+ghost use Rattle.std.specs.Prelude.{◌≡◌};
+ghost use Rattle.ebpf_c.specs.Answers.{answer_listed, counts_of, filled_rows, filled_text, or_memory};
+ghost use Rattle.ebpf_c.specs.Reads.{externs_in, maps_in, programs_in, sections_in};
+
+use crate::buffers::ebpf_counts;
+use crate::codes::CLOSED;
+use crate::externs::ebpf_extern;
+use crate::handle::ebpf_handle;
+use crate::lists::write_all;
+use crate::maps::ebpf_map;
+use crate::programs::ebpf_program;
+use crate::sections::ebpf_section;
+use std::alloc::Global;
+
+/// Lists the programs of an object: a row each in byte order of their names,
+/// and the names in `text`, a zero byte behind each.
+///
+/// # Answers
+///
+/// 0; 1 where not all fits; 2; 3. The buffers are then as they were, and `counts` too but for 1.
+#[unsafe(no_mangle)]
+pub extern "C" fn ebpf_programs(
+    alloc: Global,
+    handle: &mut ebpf_handle,
+    rows: &mut [ebpf_program],
+    text: &mut [u8],
+    counts: &mut ebpf_counts,
+) -> u32
+    ensures stays { handle.new.object ≡ handle.old.object }
+    ensures answer { result ≡ answer_listed (or_memory result (programs_in handle.old.object)) rows.old text.old }
+    ensures rows { rows.new ≡ filled_rows (or_memory result (programs_in handle.old.object)) rows.old text.old }
+    ensures text { text.new ≡ filled_text (or_memory result (programs_in handle.old.object)) rows.old text.old }
+    ensures counts { counts.new ≡ counts_of (or_memory result (programs_in handle.old.object)) counts.old }
+{
+    let Some(object) = handle.take(alloc) else {
+        return CLOSED;
+    };
+    let functions = &object.functions;
+    let number = write_all(alloc, functions, &object.programs, rows, text, counts);
+    handle.put(alloc, object);
+    number
+}
+
+/// Lists the maps of an object: a row each in byte order of their names,
+/// and the names in `text`, a zero byte behind each.
+///
+/// # Answers
+///
+/// 0; 1 where not all fits; 2; 3. The buffers are then as they were, and `counts` too but for 1.
+#[unsafe(no_mangle)]
+pub extern "C" fn ebpf_maps(
+    alloc: Global,
+    handle: &mut ebpf_handle,
+    rows: &mut [ebpf_map],
+    text: &mut [u8],
+    counts: &mut ebpf_counts,
+) -> u32
+    ensures stays { handle.new.object ≡ handle.old.object }
+    ensures answer { result ≡ answer_listed (or_memory result (maps_in handle.old.object)) rows.old text.old }
+    ensures rows { rows.new ≡ filled_rows (or_memory result (maps_in handle.old.object)) rows.old text.old }
+    ensures text { text.new ≡ filled_text (or_memory result (maps_in handle.old.object)) rows.old text.old }
+    ensures counts { counts.new ≡ counts_of (or_memory result (maps_in handle.old.object)) counts.old }
+{
+    let Some(object) = handle.take(alloc) else {
+        return CLOSED;
+    };
+    let number = write_all(alloc, &(), &object.maps, rows, text, counts);
+    handle.put(alloc, object);
+    number
+}
+
+/// Lists the externs of an object: a row each in byte order of their names,
+/// and the names in `text`, a zero byte behind each.
+///
+/// # Answers
+///
+/// 0; 1 where not all fits; 2; 3. The buffers are then as they were, and `counts` too but for 1.
+#[unsafe(no_mangle)]
+pub extern "C" fn ebpf_externs(
+    alloc: Global,
+    handle: &mut ebpf_handle,
+    rows: &mut [ebpf_extern],
+    text: &mut [u8],
+    counts: &mut ebpf_counts,
+) -> u32
+    ensures stays { handle.new.object ≡ handle.old.object }
+    ensures answer { result ≡ answer_listed (or_memory result (externs_in handle.old.object)) rows.old text.old }
+    ensures rows { rows.new ≡ filled_rows (or_memory result (externs_in handle.old.object)) rows.old text.old }
+    ensures text { text.new ≡ filled_text (or_memory result (externs_in handle.old.object)) rows.old text.old }
+    ensures counts { counts.new ≡ counts_of (or_memory result (externs_in handle.old.object)) counts.old }
+{
+    let Some(object) = handle.take(alloc) else {
+        return CLOSED;
+    };
+    let number = write_all(alloc, &(), &object.externs, rows, text, counts);
+    handle.put(alloc, object);
+    number
+}
+
+/// Lists the named sections of an object's file: a row each in byte order of their names,
+/// and the names in `text`, a zero byte behind each.
+///
+/// # Answers
+///
+/// 0; 1 where not all fits; 2; 3. The buffers are then as they were, and `counts` too but for 1.
+#[unsafe(no_mangle)]
+pub extern "C" fn ebpf_sections(
+    alloc: Global,
+    handle: &mut ebpf_handle,
+    rows: &mut [ebpf_section],
+    text: &mut [u8],
+    counts: &mut ebpf_counts,
+) -> u32
+    ensures stays { handle.new.object ≡ handle.old.object }
+    ensures answer { result ≡ answer_listed (or_memory result (sections_in handle.old.object)) rows.old text.old }
+    ensures rows { rows.new ≡ filled_rows (or_memory result (sections_in handle.old.object)) rows.old text.old }
+    ensures text { text.new ≡ filled_text (or_memory result (sections_in handle.old.object)) rows.old text.old }
+    ensures counts { counts.new ≡ counts_of (or_memory result (sections_in handle.old.object)) counts.old }
+{
+    let Some(object) = handle.take(alloc) else {
+        return CLOSED;
+    };
+    let number = write_all(alloc, &(), &object.section_infos, rows, text, counts);
+    handle.put(alloc, object);
+    number
+}

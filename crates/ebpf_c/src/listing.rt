@@ -1,0 +1,81 @@
+//! Lists of named things as C reads them: a row for each, and a text with their names.
+
+ghost use Rattle.std.specs.Prelude.{◌≡◌, ◌++◌, ℕ, List, [], ◌∷◌, IfOk, IfErr, OnOk, length};
+ghost use Rattle.ebpf_c.specs.Listing.{ended, listed, rows_from, text_of};
+
+use crate::codes::MEMORY;
+use crate::entries::{Entry, entries_of};
+use ebpf_base::ByName;
+use std::alloc::{AllocError, Global};
+
+/// What C reads of a named thing `V` that stands in a `C`.
+pub trait Row<V, C>: Copy {
+    /// The row of a thing whose name begins at a place of the text and has a length.
+    ghost row_of: { C → V → ℕ → ℕ → Self };
+
+    /// The row of a thing whose name begins at a place of the text and has a length.
+    fn row(context: &C, value: &V, name_at: usize, name_len: usize) -> Self
+        ensures { result ≡ row_of context.now value.now name_at name_len };
+}
+
+/// Rows, and the text with their names.
+#[derive(Drop)]
+pub struct Listing<R> {
+    pub rows: Vec<R>,
+    pub text: Vec<u8>,
+}
+
+/// Adds the row and the name of a thing.
+fn add_entry<V, C, R: Row<V, C>>(
+    listing: &mut Listing<R>,
+    context: &C,
+    entry: &Entry<'_, V>,
+) -> Result<(), AllocError>
+    ensures rows { OnOk result (listing.new.rows.items ≡ listing.old.rows.items ++ R.row_of context.now entry.now.1 (length listing.old.text.items) (length entry.now.0) ∷ []) }
+    ensures text { OnOk result (listing.new.text.items ≡ listing.old.text.items ++ ended entry.now.0) }
+{
+    let name = entry.name.as_bytes();
+    let row = R::row(context, entry.value, listing.text.len(), name.len());
+    listing.rows.push(row)?;
+    listing.text.extend_from_slice(name)?;
+    listing.text.push(0)?;
+    Ok(())
+}
+
+/// The rows and the names of things.
+#[tactic(auto, using(crate::proofs::OneMore::one_row, crate::proofs::OneMore::one_text, ebpf_parts::proofs::Walks::rest_none))]
+fn list_entries<V, C, R: Row<V, C>>(
+    alloc: Global,
+    context: &C,
+    entries: &[Entry<'_, V>],
+) -> Result<Listing<R>, AllocError>
+    ensures rows { IfOk result (λ l. l.rows.items ≡ rows_from (R.row_of context.now) 0 entries.now) }
+    ensures text { IfOk result (λ l. l.text.items ≡ text_of entries.now) }
+{
+    let mut listing = Listing {
+        rows: Vec::new(alloc),
+        text: Vec::new(alloc),
+    };
+    for entry in entries {
+        add_entry(&mut listing, context, entry)?;
+    }
+    Ok(listing)
+}
+
+/// The rows and the names of all things of a map, in byte order of the names. `MEMORY` where memory is refused.
+pub fn list<V, C, R: Row<V, C>>(
+    alloc: Global,
+    context: &C,
+    values: &ByName<V>,
+) -> Result<Listing<R>, u32>
+    ensures listed { IfOk result (λ l. (l.rows.items, l.text.items) ≡ listed (R.row_of context.now) values.now) }
+    ensures memory { IfErr result (λ number. number ≡ MEMORY) }
+{
+    let Ok(entries) = entries_of(alloc, values) else {
+        return Err(MEMORY);
+    };
+    match list_entries(alloc, context, &entries) {
+        Ok(listing) => Ok(listing),
+        Err(_) => Err(MEMORY),
+    }
+}

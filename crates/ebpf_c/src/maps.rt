@@ -1,0 +1,167 @@
+//! Maps as C reads them.
+
+ghost use Rattle.std.specs.Prelude.{◌≡◌};
+ghost use Rattle.ebpf_c.specs.MapRows.{key_type_of, map_row, no_shape, pinning_number, section_kind_number, shape_if, shape_of, value_type_of};
+ghost use Rattle.ebpf_parts.specs.Maps.{inner_of};
+ghost use Rattle.std.specs.Option.{option_copied};
+
+use crate::flags::flag;
+use crate::listing::Row;
+use ebpf_parts::EbpfSectionKind;
+use ebpf_parts::maps::{Map, PinningType};
+
+/// What is said of a map, each number as the kernel takes it.
+#[repr(C)]
+#[derive(Clone, Copy)]
+pub struct ebpf_map_shape {
+    /// What the map's type asks further.
+    pub extra: u64,
+    /// The number of the map's type.
+    pub type_: u32,
+    /// The size of a key in bytes.
+    pub key_size: u32,
+    /// The size of a value in bytes.
+    pub value_size: u32,
+    /// The number of entries that the map holds at most.
+    pub max_entries: u32,
+    /// The flags of the map's creation.
+    pub flags: u32,
+    /// 1 where the map is pinned by its name, else 0.
+    pub pinning: u32,
+    /// The id of the key's type, 0 where there is none.
+    pub key_type_id: u32,
+    /// The id of the value's type, 0 where there is none.
+    pub value_type_id: u32,
+}
+
+/// A map.
+#[repr(C)]
+#[derive(Clone, Copy)]
+pub struct ebpf_map {
+    /// Where its name begins in the text.
+    pub name_at: usize,
+    /// How many bytes its name has.
+    pub name_len: usize,
+    /// The number of its section.
+    pub section: usize,
+    /// How many bytes of data it begins with.
+    pub data_len: usize,
+    /// What that section is for.
+    pub section_kind: u32,
+    /// 1 where it is a map of maps, else 0.
+    pub has_inner: u32,
+    /// What is said of it.
+    pub shape: ebpf_map_shape,
+    /// What is said of the maps that it holds, all zero where it is no map of maps.
+    pub inner: ebpf_map_shape,
+}
+
+fn pinning_number(pinning: PinningType) -> u32
+    ensures { result ≡ pinning_number pinning }
+{
+    match pinning {
+        PinningType::None => 0,
+        PinningType::ByName => 1,
+    }
+}
+
+fn section_kind_number(kind: EbpfSectionKind) -> u32
+    ensures { result ≡ section_kind_number kind }
+{
+    match kind {
+        EbpfSectionKind::Undefined => 0,
+        EbpfSectionKind::Maps => 1,
+        EbpfSectionKind::BtfMaps => 2,
+        EbpfSectionKind::Program => 3,
+        EbpfSectionKind::Data => 4,
+        EbpfSectionKind::Rodata => 5,
+        EbpfSectionKind::Bss => 6,
+        EbpfSectionKind::Text => 7,
+        EbpfSectionKind::Btf => 8,
+        EbpfSectionKind::BtfExt => 9,
+        EbpfSectionKind::License => 10,
+        EbpfSectionKind::Version => 11,
+    }
+}
+
+fn key_type_of(map: &Map) -> u32
+    ensures { result ≡ key_type_of map.now }
+{
+    match map {
+        Map::Legacy(_) => 0,
+        Map::Btf(map) => map.def.btf_key_type_id,
+    }
+}
+
+fn value_type_of(map: &Map) -> u32
+    ensures { result ≡ value_type_of map.now }
+{
+    match map {
+        Map::Legacy(_) => 0,
+        Map::Btf(map) => map.def.btf_value_type_id,
+    }
+}
+
+fn shape_of(map: &Map) -> ebpf_map_shape
+    ensures { result ≡ shape_of map.now }
+{
+    ebpf_map_shape {
+        extra: map.map_extra(),
+        type_: map.map_type(),
+        key_size: map.key_size(),
+        value_size: map.value_size(),
+        max_entries: map.max_entries(),
+        flags: map.map_flags(),
+        pinning: pinning_number(map.pinning()),
+        key_type_id: key_type_of(map),
+        value_type_id: value_type_of(map),
+    }
+}
+
+/// What is said of a map, all zero where there is none.
+fn shape_if(map: Option<&Map>) -> ebpf_map_shape
+    ensures { result ≡ shape_if (option_copied map.entry) }
+{
+    match map {
+        Some(map) => shape_of(map),
+        None => ebpf_map_shape {
+            extra: 0,
+            type_: 0,
+            key_size: 0,
+            value_size: 0,
+            max_entries: 0,
+            flags: 0,
+            pinning: 0,
+            key_type_id: 0,
+            value_type_id: 0,
+        },
+    }
+}
+
+/// The map that a map of maps holds.
+fn inner_of(map: &Map) -> Option<Map>
+    ensures { result ≡ inner_of map.now }
+{
+    match map.inner() {
+        Ok(inner) => inner,
+        Err(_) => None,
+    }
+}
+
+impl Row<Map, ()> for ebpf_map {
+    ghost row_of = { λ _ m name_at name_len. map_row m name_at name_len };
+
+    fn row(_context: &(), value: &Map, name_at: usize, name_len: usize) -> ebpf_map {
+        let inner = inner_of(value);
+        ebpf_map {
+            name_at,
+            name_len,
+            section: value.section_index(),
+            data_len: value.data().len(),
+            section_kind: section_kind_number(value.section_kind()),
+            has_inner: flag(inner.is_some()),
+            shape: shape_of(value),
+            inner: shape_if(inner.as_ref()),
+        }
+    }
+}

@@ -1,0 +1,97 @@
+//! Objects that C opens, copies and closes.
+
+ghost use Rattle.std.specs.Prelude.{◌≡◌, ◌⊎◌, ◌<◌, IfOk, IfErr, None, Some};
+ghost use Rattle.ebpf_c.specs.Handles.{IsRefused};
+ghost use Rattle.ebpf_c.specs.Opened.{CannotOpen};
+ghost use Rattle.ebpf_object.specs.Objects.{object_of, parse_fault};
+
+use crate::codes::{CLOSED, DONE, MEMORY};
+use crate::handle::ebpf_handle;
+use crate::parse_refusal::parse_refusal;
+use crate::refusal::{Refusal, tell};
+use ebpf_object::Object;
+use std::alloc::{AllocError, Global};
+
+/// The object of a file, in a box.
+fn open_object(alloc: Global, file: &[u8]) -> Result<Box<Object>, Refusal>
+    ensures object { IfOk result (λ b. b.value ≡ object_of file.now) }
+    ensures sound { IfOk result (λ _. parse_fault file.now ≡ None) }
+    ensures why { IfErr result (CannotOpen file.now) }
+    ensures refuses { IfErr result (λ r. 0 < r.number) }
+{
+    let object = match Object::parse(alloc, file) {
+        Ok(object) => object,
+        Err(error) => return Err(parse_refusal(error)),
+    };
+    match Box::new(alloc, object) {
+        Ok(object) => Ok(object),
+        Err(_) => Err(Refusal::plain(MEMORY)),
+    }
+}
+
+/// Opens the object of a file. What the handle held before is closed.
+///
+/// # Answers
+///
+/// 0; 2, and 100 to 199 for the fault of the file. The handle is then as it was.
+#[unsafe(no_mangle)]
+pub extern "C" fn ebpf_open(
+    alloc: Global,
+    file: &[u8],
+    handle: &mut ebpf_handle,
+    about: &mut [u8],
+    about_len: &mut usize,
+) -> u32
+    ensures opened { result ≡ DONE → (handle.new.object ≡ Some (object_of file.now)) × (parse_fault file.now ≡ None) }
+    ensures quiet { result ≡ DONE → (about.new ≡ about.old) × (about_len.new ≡ about_len.old) }
+    ensures refused { ¬ (result ≡ DONE) → IsRefused (CannotOpen file.now) result handle.old.object handle.new.object about.old about.new about_len.new }
+{
+    match open_object(alloc, file) {
+        Ok(object) => {
+            handle.put(alloc, object);
+            DONE
+        }
+        Err(refusal) => tell(&refusal, about, about_len),
+    }
+}
+
+/// A copy of an object, in a box of its own.
+fn copy_of(object: &Box<Object>) -> Result<Box<Object>, AllocError>
+    ensures { IfOk result (λ copy. copy.value ≡ object.now.value) }
+{
+    object.clone()
+}
+
+/// Makes `copy` hold a copy of what `handle` holds. What `copy` held before is closed.
+///
+/// # Answers
+///
+/// 0; 2; 3 where `handle` is closed. `copy` is then as it was.
+#[unsafe(no_mangle)]
+pub extern "C" fn ebpf_clone(alloc: Global, handle: &mut ebpf_handle, copy: &mut ebpf_handle) -> u32
+    ensures stays { handle.new.object ≡ handle.old.object }
+    ensures copied { result ≡ DONE → copy.new.object ≡ handle.old.object }
+    ensures refused { ¬ (result ≡ DONE) → copy.new.object ≡ copy.old.object }
+    ensures why { (result ≡ DONE) ⊎ (result ≡ MEMORY) ⊎ ((result ≡ CLOSED) × (handle.old.object ≡ None)) }
+{
+    let Some(object) = handle.take(alloc) else {
+        return CLOSED;
+    };
+    let copied = copy_of(&object);
+    handle.put(alloc, object);
+    match copied {
+        Ok(object) => {
+            copy.put(alloc, object);
+            DONE
+        }
+        Err(_) => MEMORY,
+    }
+}
+
+/// Frees what a handle holds, and leaves it closed.
+#[unsafe(no_mangle)]
+pub extern "C" fn ebpf_close(alloc: Global, handle: &mut ebpf_handle)
+    ensures { handle.new.object ≡ None }
+{
+    let _object = handle.take(alloc);
+}

@@ -1,0 +1,115 @@
+//! A file, prepared in one call.
+
+ghost use Rattle.std.specs.Prelude.{◌≡◌, ◌<◌, map, true, Some, IfOk, IfErr};
+ghost use Rattle.std.specs.Option.{option_copied};
+ghost use Rattle.ebpf_c.specs.Handles.{IsRefused};
+ghost use Rattle.ebpf_c.specs.Preparing.{given, CannotPrepare, HasPrepared, IsPreparedIn};
+ghost use Rattle.ebpf_object.specs.Steps.{chosen, descriptor_of};
+
+use crate::codes::{DONE, MEMORY};
+use crate::descriptors::{ebpf_descriptor, read_descriptors};
+use crate::handle::ebpf_handle;
+use crate::prepare_refusal::prepare_refusal;
+use crate::refusal::{Refusal, tell};
+use crate::target_types::read_types_if;
+use ebpf_btf::Btf;
+use ebpf_object::Object;
+use ebpf_object::prepare::{Steps, prepare};
+use std::alloc::Global;
+
+/// All passes, types where a kernel's are known.
+fn all_passes<'a>(kernel: Option<&'a Btf>, descriptors: &'a [(&'a str, i32)]) -> Steps<'a>
+    ensures { chosen result ≡ record { target = option_copied kernel.entry; descriptors = Some (map descriptor_of descriptors.now); kernel = Some (option_copied kernel.entry); calls = true } }
+{
+    Steps {
+        target_btf: kernel,
+        map_fds: Some(descriptors),
+        externs: Some(kernel),
+        calls: true,
+    }
+}
+
+/// The object of a file after all passes.
+fn prepare_object(
+    alloc: Global,
+    file: &[u8],
+    types: &[u8],
+    rows: &[ebpf_descriptor],
+    text: &[u8],
+    symbols: &[u8],
+) -> Result<Object, Refusal>
+    ensures prepared { IfOk result (HasPrepared (given file.now types.now rows.now text.now symbols.now)) }
+    ensures why { IfErr result (CannotPrepare (given file.now types.now rows.now text.now symbols.now)) }
+    ensures refuses { IfErr result (λ r. 0 < r.number) }
+{
+    let kernel = match read_types_if(alloc, types) {
+        Ok(kernel) => kernel,
+        Err(refusal) => return Err(refusal),
+    };
+    let descriptors = match read_descriptors(alloc, rows, text) {
+        Ok(descriptors) => descriptors,
+        Err(refusal) => return Err(refusal),
+    };
+    let steps = all_passes(kernel.as_ref(), &descriptors);
+    match prepare(alloc, file, &steps, symbols) {
+        Ok(object) => Ok(object),
+        Err(error) => Err(prepare_refusal(error)),
+    }
+}
+
+/// The object of a file after all passes, in a box.
+fn prepare_box(
+    alloc: Global,
+    file: &[u8],
+    types: &[u8],
+    rows: &[ebpf_descriptor],
+    text: &[u8],
+    symbols: &[u8],
+) -> Result<Box<Object>, Refusal>
+    ensures prepared { IfOk result (λ b. HasPrepared (given file.now types.now rows.now text.now symbols.now) b.value) }
+    ensures why { IfErr result (CannotPrepare (given file.now types.now rows.now text.now symbols.now)) }
+    ensures refuses { IfErr result (λ r. 0 < r.number) }
+{
+    let object = match prepare_object(alloc, file, types, rows, text, symbols) {
+        Ok(object) => object,
+        Err(refusal) => return Err(refusal),
+    };
+    match Box::new(alloc, object) {
+        Ok(object) => Ok(object),
+        Err(_) => Err(Refusal::plain(MEMORY)),
+    }
+}
+
+/// Opens the object of a file, and runs the passes over it: functions are adapted to a kernel's types, descriptors of
+/// maps are written, externs are found and written, programs are joined with the functions that they reach. Where there
+/// are no bytes of types, functions are not adapted, and externs are sought in the symbols alone. What the handle held
+/// before is closed.
+///
+/// # Answers
+///
+/// 0; 2; 200 to 214 where the types can't be read; then 6 where a row's name is not inside the text or is no text; then
+/// the number of the fault of the first stage that has one, as of the calls for the stages. The handle is then as it was.
+#[unsafe(no_mangle)]
+pub extern "C" fn ebpf_prepare(
+    alloc: Global,
+    file: &[u8],
+    types: &[u8],
+    rows: &[ebpf_descriptor],
+    text: &[u8],
+    symbols: &[u8],
+    handle: &mut ebpf_handle,
+    about: &mut [u8],
+    about_len: &mut usize,
+) -> u32
+    ensures prepared { result ≡ DONE → IsPreparedIn (given file.now types.now rows.now text.now symbols.now) handle.new.object }
+    ensures quiet { result ≡ DONE → (about.new ≡ about.old) × (about_len.new ≡ about_len.old) }
+    ensures refused { ¬ (result ≡ DONE) → IsRefused (CannotPrepare (given file.now types.now rows.now text.now symbols.now)) result handle.old.object handle.new.object about.old about.new about_len.new }
+{
+    match prepare_box(alloc, file, types, rows, text, symbols) {
+        Ok(object) => {
+            handle.put(alloc, object);
+            DONE
+        }
+        Err(refusal) => tell(&refusal, about, about_len),
+    }
+}

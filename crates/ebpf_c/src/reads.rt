@@ -1,0 +1,63 @@
+//! What an object has by a name, lent.
+
+ghost use Rattle.std.specs.Prelude.{◌≡◌};
+ghost use Rattle.std.specs.Option.{option_copied};
+ghost use Rattle.ebpf_c.specs.Found.{found_list};
+ghost use Rattle.ebpf_c.specs.Reads.{func_infos_of, function_named, line_infos_of, map_data_of, slots_of};
+
+use crate::codes::{NO_MAP, NO_PROGRAM};
+use crate::entries::named;
+use ebpf_ext::{bpf_func_info, bpf_line_info};
+use ebpf_object::Object;
+use ebpf_parts::insn::bpf_insn;
+use ebpf_reloc::Function;
+
+/// The function of the program that some bytes name.
+fn function_named<'a>(object: &'a Object, name: &[u8]) -> Option<&'a Function>
+    ensures { option_copied result ≡ function_named object.now name.now }
+{
+    match named(&object.programs, name) {
+        Some(program) => object.functions.get(program.function_key()),
+        None => None,
+    }
+}
+
+/// The slots of the program that some bytes name, as they stand.
+pub fn slots_of<'a>(object: &'a Object, name: &[u8]) -> Result<&'a [bpf_insn], u32>
+    ensures { found_list result ≡ slots_of name.now object.now }
+{
+    match function_named(object, name) {
+        Some(function) => Ok(function.instructions.as_slice()),
+        None => Err(NO_PROGRAM),
+    }
+}
+
+/// What is said of that program's functions, by slot.
+pub fn func_infos_of<'a>(object: &'a Object, name: &[u8]) -> Result<&'a [bpf_func_info], u32>
+    ensures { found_list result ≡ func_infos_of name.now object.now }
+{
+    match function_named(object, name) {
+        Some(function) => Ok(function.func_info.func_info.as_slice()),
+        None => Err(NO_PROGRAM),
+    }
+}
+
+/// What is said of that program's lines, by slot.
+pub fn line_infos_of<'a>(object: &'a Object, name: &[u8]) -> Result<&'a [bpf_line_info], u32>
+    ensures { found_list result ≡ line_infos_of name.now object.now }
+{
+    match function_named(object, name) {
+        Some(function) => Ok(function.line_info.line_info.as_slice()),
+        None => Err(NO_PROGRAM),
+    }
+}
+
+/// The data that the map that some bytes name begins with.
+pub fn map_data_of<'a>(object: &'a Object, name: &[u8]) -> Result<&'a [u8], u32>
+    ensures { found_list result ≡ map_data_of name.now object.now }
+{
+    match named(&object.maps, name) {
+        Some(map) => Ok(map.data()),
+        None => Err(NO_MAP),
+    }
+}

@@ -1,0 +1,161 @@
+-- The candidates by the rows of the types.
+use Rattle.std.proofs.Common.{◌≡◌, ◌+◌, ◌-◌, ◌==◌, ◌++◌, take, drop, ℕ, zero, suc, Bool, true, false, ◌&&◌, cond, List, [], ◌∷◌, map, Option, Some, None, Result, Ok, Err, refl, sym, ap, ◌∙◌, append_assoc, arith, add-one}
+use Rattle.std.specs.Prelude.{option_map, slice_get, slice_range}
+use Rattle.std.specs.List.{enumerate_from, filter}
+use Rattle.std.specs.List.Sorted.{IsStableBy}
+use Rattle.std.proofs.lemmas.Bool.Decides.{nat_tests}
+use Rattle.std.proofs.lemmas.List.{take-map, drop-map}
+use Rattle.std.proofs.lemmas.Slice.Eq.{bytes_eq-Decides}
+use Rattle.std.specs.Ordering.{is_eq, nat_cmp, ordering_then}
+use Rattle.std.specs.Str.{bytes_eq}
+use Rattle.std.specs.Cmp.Lexicographic.{texts_ties}
+use Rattle.std.specs.Cmp.{unsigned_ties}
+use Rattle.std.specs.declared.cmp.Ordering.{Ordering}
+use Rattle.std.specs.declared.cmp.Ordering.TheVariants.{Less, Equal, Greater}
+use Rattle.ebpf_base.specs.Keys.{text_cmp}
+use Rattle.ebpf_btf.specs.declared.error.BtfError.{BtfError}
+use Rattle.ebpf_btf.specs.declared.kind.BtfKind.{BtfKind}
+use Rattle.ebpf_btf.specs.declared.types.BtfType.{BtfType}
+use Rattle.ebpf_candidates.specs.declared.type_row.TypeRow.{TypeRow}
+use Rattle.ebpf_candidates.specs.Candidates.{candidates, is_candidate}
+use Rattle.ebpf_btf.specs.EssentialNames.{essential_name}
+use Rattle.ebpf_btf.specs.Strings.{type_name}
+use Rattle.ebpf_btf.specs.TypeInfo.{TypeInfo}
+use Rattle.ebpf_candidates.specs.TypeRows.{Key, is_before, key_cmp, key_hash, named_row, place_cmp, place_of, place_total, readable_name, rows, rows_from, sought}
+use Rattle.ebpf_btf.specs.Types.{kind_number, kind_of, is_kind}
+use Rattle.ebpf_candidates.proofs.RowRange.{filter_sorted}
+
+is_eq-then : (a b : Ordering) → is_eq (ordering_then a b) ≡ (is_eq a && is_eq b)
+is_eq-then Less b = refl
+is_eq-then Equal b = refl
+is_eq-then Greater b = refl
+
+is_eq-nat : (m n : ℕ) → is_eq (nat_cmp m n) ≡ (m == n)
+is_eq-nat m n = sym (unsigned_ties m n)
+
+is_eq-key : (a b : Key) → is_eq (key_cmp a b) ≡ ((a.kind == b.kind) && bytes_eq a.name b.name)
+is_eq-key a b =
+    is_eq-then (nat_cmp a.kind b.kind) (text_cmp a.name b.name) ∙ ap (λ p. p && is_eq (text_cmp a.name b.name)) (is_eq-nat a.kind b.kind)
+    ∙ ap (λ p. (a.kind == b.kind) && p) (sym (texts_ties a.name b.name))
+
+never : (b : Bool) → (b && false) ≡ false
+never true = refl
+never false = refl
+
+-- equal kinds and names have one hash
+same_hash : (k l : ℕ) (a b : List ℕ) → ((key_hash k a == key_hash l b) && ((k == l) && bytes_eq a b)) ≡ ((k == l) && bytes_eq a b)
+same_hash k l a b = by_kinds (k == l) refl (bytes_eq a b) refl
+  where
+    by_kinds : (p : Bool) → (k == l) ≡ p → (q : Bool) → bytes_eq a b ≡ q → ((key_hash k a == key_hash l b) && (p && q)) ≡ (p && q)
+    by_kinds true d true e =
+        let names : a ≡ b = (bytes_eq-Decides a b).0 e in
+        let kinds : k ≡ l = grind (arith, nat_tests) in
+        let hash : key_hash k a ≡ key_hash l b = λ i. key_hash (kinds i) (names i) in
+        let yes : (key_hash k a == key_hash l b) ≡ true = grind (arith, nat_tests) in
+        rw yes refl
+    by_kinds true d false e = never (key_hash k a == key_hash l b)
+    by_kinds false d q e = never (key_hash k a == key_hash l b)
+
+-- a place is the one that is sought where its kind and name are
+is_sought : (kind other : ℕ) (name text : List ℕ)
+    → is_eq (place_cmp (key_hash kind text, record { kind = kind; name = text }) (sought other name)) ≡ ((kind == other) && bytes_eq text name)
+is_sought kind other name text =
+    let mine : Key = record { kind = kind; name = text } in
+    let theirs : Key = record { kind = other; name = name } in
+    is_eq-then (nat_cmp (key_hash kind text) (key_hash other name)) (key_cmp mine theirs)
+    ∙ ap (λ p. p && is_eq (key_cmp mine theirs)) (is_eq-nat (key_hash kind text) (key_hash other name))
+    ∙ ap (λ p. (key_hash kind text == key_hash other name) && p) (is_eq-key mine theirs)
+    ∙ same_hash kind other text name
+
+cond_step : (b c : Bool) (r : TypeRow) (rest : List TypeRow) (e : ℕ × BtfType) (others : List (ℕ × BtfType)) → b ≡ c → r.id ≡ e.0
+    → map (λ x. x.id) rest ≡ map (λ x. x.0) others → map (λ x. x.id) (cond b (r ∷ rest) rest) ≡ map (λ x. x.0) (cond c (e ∷ others) others)
+cond_step true true r rest e others same id more = cc
+cond_step true false r rest e others same id more = cc
+cond_step false true r rest e others same id more = cc
+cond_step false false r rest e others same id more = more
+
+get_front : {X : Type 0} (id : ℕ) (all : List X) (t : X) (ts : List X) → drop id all ≡ t ∷ ts → slice_get all id ≡ Some t
+get_front zero [] t ts is = cc
+get_front zero (x ∷ xs) t ts is = cc
+get_front (suc id) [] t ts is = cc
+get_front (suc id) (x ∷ xs) t ts is = get_front id xs t ts is
+
+drop_front : {X : Type 0} (id : ℕ) (all : List X) (t : X) (ts : List X) → drop id all ≡ t ∷ ts → drop (suc id) all ≡ ts
+drop_front zero [] t ts is = cc
+drop_front zero (x ∷ xs) t ts is = cc
+drop_front (suc id) [] t ts is = cc
+drop_front (suc id) (x ∷ xs) t ts is = drop_front id xs t ts is
+
+-- the rows with a kind and an essential name are those of the candidates
+module _ (info : TypeInfo) (kind : BtfKind) (name : List ℕ) (first : ℕ) (others : List ℕ) (named : essential_name name ≡ first ∷ others) where
+  abbrev has : TypeRow → Bool
+  has r = is_eq (place_cmp (place_of info r) (sought (kind_number kind) (first ∷ others)))
+
+  abbrev Same : ℕ → List BtfType → Type 0
+  Same id ts = map (λ r. r.id) (filter has (rows_from info id ts)) ≡ map (λ e. e.0) (filter (λ e. is_candidate info kind name e.1) (enumerate_from id ts))
+
+  -- of a type whose name was read
+  by_text : (id : ℕ) (t : BtfType) (ts : List BtfType) (text : List ℕ) → slice_get info.types id ≡ Some t → type_name info t ≡ Ok text → Same (id + 1) ts
+      → (essential : List ℕ) → essential_name text ≡ essential → Same id (t ∷ ts)
+  by_text id t ts text here is rest [] e = rw (is, e, named, never (is_kind kind t)) rest
+  by_text id t ts text here is rest (x ∷ xs) e =
+      let row : TypeRow = record { hash = key_hash (kind_number (kind_of t)) (x ∷ xs); id = id } in
+      let place : place_of info row ≡ (key_hash (kind_number (kind_of t)) (x ∷ xs), record { kind = kind_number (kind_of t); name = x ∷ xs }) = rw (here, is, e) refl in
+      let test : has row ≡ (is_kind kind t && bytes_eq (x ∷ xs) (first ∷ others)) =
+      ap (λ p. is_eq (place_cmp p (sought (kind_number kind) (first ∷ others)))) place ∙ is_sought (kind_number (kind_of t)) (kind_number kind) (first ∷ others) (x ∷ xs) in
+      rw (is, e, named) (cond_step (has row) _ row _ (id, t) _ test refl rest)
+
+  by_name : (id : ℕ) (t : BtfType) (ts : List BtfType) → slice_get info.types id ≡ Some t → Same (id + 1) ts
+      → (r : Result (List ℕ) BtfError) → type_name info t ≡ r → Same id (t ∷ ts)
+  by_name id t ts here rest (Err e) is = rw (is, never (is_kind kind t)) rest
+  by_name id t ts here rest (Ok text) is = by_text id t ts text here is rest (essential_name text) refl
+
+  pub rows_found : (id : ℕ) (ts : List BtfType) → drop id info.types ≡ ts → Same id ts
+  rows_found id [] at = refl
+  rows_found id (t ∷ ts) at =
+      by_name id t ts (get_front id info.types t ts at) (rows_found (id + 1) ts (rw (add-one id) (drop_front id info.types t ts at))) (type_name info t) refl
+
+-- the ids of the part of the sorted rows that has the key
+pub candidates_found : (info : TypeInfo) (kind : BtfKind) (name : List ℕ) (sorted : List TypeRow) (ids : List ℕ) (low high number : ℕ) (first : ℕ) (others : List ℕ)
+    → number ≡ kind_number kind → essential_name name ≡ first ∷ others → IsStableBy (is_before info) (rows info) sorted → ids ≡ map (λ r. r.id) sorted
+    → filter (λ r. is_eq (place_cmp (place_of info r) (sought number (first ∷ others)))) sorted ≡ slice_range sorted low high
+    → take (high - low) (drop low ids) ≡ candidates info kind name
+candidates_found info kind name sorted ids low high number first others same_kind named stable same_ids part =
+    let k = sought (kind_number kind) (first ∷ others) in
+    let there : filter (λ r. is_eq (place_cmp (place_of info r) k)) sorted ≡ slice_range sorted low high = rw (← same_kind) part in
+    let sorting : filter (λ r. is_eq (place_cmp (place_of info r) k)) sorted ≡ filter (λ r. is_eq (place_cmp (place_of info r) k)) (rows info) =
+    filter_sorted place_total (place_of info) (rows info) sorted k stable in
+    rw same_ids (
+    ap (take (high - low)) (drop-map (λ (r : TypeRow). r.id) low sorted)
+    ∙ take-map (λ (r : TypeRow). r.id) (high - low) (drop low sorted)
+    ∙ ap (λ rs. map (λ (r : TypeRow). r.id) rs) (sym there ∙ sorting)
+    ∙ rows_found info kind name first others named 0 info.types refl)
+
+-- the same of a text that is not empty
+pub candidates_named : (info : TypeInfo) (kind : BtfKind) (name : List ℕ) (sorted : List TypeRow) (ids : List ℕ) (low high number : ℕ) (text : List ℕ)
+    → number ≡ kind_number kind → text ≡ essential_name name → ((text ≡ []) → ⊥) → IsStableBy (is_before info) (rows info) sorted → ids ≡ map (λ r. r.id) sorted
+    → filter (λ r. is_eq (place_cmp (place_of info r) (sought number text))) sorted ≡ slice_range sorted low high
+    → take (high - low) (drop low ids) ≡ candidates info kind name
+candidates_named info kind name sorted ids low high number [] same_kind named some stable same_ids part = absurd (some refl)
+candidates_named info kind name sorted ids low high number (x ∷ xs) same_kind named some stable same_ids part =
+    candidates_found info kind name sorted ids low high number x xs same_kind (sym named) stable same_ids part
+
+-- ---- one pass over the types
+
+pub absent : {A B : Type 0} (f : A → B) (o : Option A) (r : Option B) → option_map f o ≡ r → ((x : A) → o ≡ Some x → ⊥) → r ≡ None
+absent f None r is missing = sym is
+absent f (Some x) r is missing = absurd (missing x refl)
+
+-- a type without a row is passed over
+pub rows_skip : (info : TypeInfo) (types : List BtfType) (i : ℕ) (t : BtfType) → drop i types ≡ t ∷ drop (i + 1) types
+    → named_row (kind_number (kind_of t)) i (readable_name info t) ≡ None → rows_from info (i + 1) (drop (i + 1) types) ≡ rows_from info i (drop i types)
+rows_skip info types i t here none = rw (here, none) refl
+
+-- and a row is the next
+pub rows_more : (info : TypeInfo) (types : List BtfType) (i : ℕ) (t : BtfType) (front : List TypeRow) (row : TypeRow) → drop i types ≡ t ∷ drop (i + 1) types
+    → named_row (kind_number (kind_of t)) i (readable_name info t) ≡ Some row → (front ++ row ∷ []) ++ rows_from info (i + 1) (drop (i + 1) types) ≡ front ++ rows_from info i (drop i types)
+rows_more info types i t front row here some = rw (here, some) (append_assoc front (row ∷ []) (rows_from info (i + 1) (drop (i + 1) types)))
+
+pub named : (kind i : ℕ) (name : List ℕ) → ((name ≡ []) → ⊥) → named_row kind i (Some name) ≡ Some (record { hash = key_hash kind name; id = i })
+named kind i [] some = absurd (some refl)
+named kind i (x ∷ xs) some = refl

@@ -1,0 +1,19 @@
+//! The types of a kernel that may stand for one of an object: those of its name, and whether they are compatible.
+#![tactic(auto)]
+
+mod compatible_fields;
+mod compatible_types;
+mod joined_ids;
+mod kinds;
+pub mod laws;
+mod name_looks;
+mod nameless;
+mod pair;
+mod type_index;
+mod type_names;
+mod type_row;
+mod unreadable;
+
+pub use compatible_fields::fields_are_compatible;
+pub use compatible_types::types_are_compatible;
+pub use type_index::TypeIndex;

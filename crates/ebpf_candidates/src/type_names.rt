@@ -1,0 +1,142 @@
+//! The names of types without their flavor, by the types' ids.
+
+ghost use Rattle.std.specs.Prelude.{◌≡◌, ◌<◌, ℕ, All, Some, IfOk, slice_get};
+ghost use Rattle.std.specs.Bool.{OnTrue};
+ghost use Rattle.std.specs.FinMap.{get};
+ghost use Rattle.std.specs.Option.{option_copied};
+ghost use Rattle.ebpf_candidates.specs.OddNames.{odd_at, odd_name};
+ghost use Rattle.ebpf_candidates.specs.TypeRows.{key_at, readable_name};
+
+use crate::kinds::kind_number;
+use crate::name_looks::essential_at;
+use ebpf_base::{ByOffset, Text};
+use ebpf_btf::{Btf, BtfType, essential_name};
+use std::alloc::{AllocError, Global};
+use std::marker::Model;
+
+/// Whether all bytes are below 128. The greatest is sought, which takes less time than a test of each.
+fn is_ascii(bytes: &[u8]) -> bool
+    ensures { OnTrue result (All (λ b. b < 128) bytes.now) }
+{
+    let mut greatest = 0u8;
+    for byte in bytes {
+        if *byte > greatest {
+            greatest = *byte;
+        }
+    }
+    greatest < 128
+}
+
+/// The text that a type's name is read as, where the name is not UTF-8.
+#[tactic(auto, using(crate::proofs::OddTexts::odd_utf8, crate::proofs::OddTexts::odd_other))]
+fn odd_name(alloc: Global, btf: &Btf, ty: &BtfType) -> Result<Option<Text>, AllocError>
+    ensures { IfOk result (λ name. name ≡ odd_name btf.now ty.now) }
+{
+    let Ok(bytes) = btf.bytes_at(ty.name_offset()) else {
+        return Ok(None);
+    };
+    match str::from_utf8(bytes) {
+        Ok(_) => Ok(None),
+        Err(_) => {
+            let text = String::from_utf8_lossy(alloc, bytes)?;
+            Ok(Some(Text::from_string(text)))
+        }
+    }
+}
+
+/// These texts by the types' ids.
+fn gather_odd_names(alloc: Global, btf: &Btf) -> Result<ByOffset<Text>, AllocError>
+    ensures { IfOk result (λ odd. (id : ℕ) → get odd id ≡ odd_at btf.now id) }
+{
+    let mut odd = ByOffset::new(alloc);
+    for (id, ty) in btf.types().iter().enumerate() {
+        let Some(name) = odd_name(alloc, btf, ty)? else {
+            continue;
+        };
+        odd.insert(id as u64, name)?;
+    }
+    Ok(odd)
+}
+
+/// The same. Where all strings are ASCII no name is looked at.
+#[tactic(auto, using(crate::proofs::OddTexts::odd_ascii))]
+fn odd_names(alloc: Global, btf: &Btf) -> Result<ByOffset<Text>, AllocError>
+    ensures { IfOk result (λ odd. (id : ℕ) → get odd id ≡ odd_at btf.now id) }
+{
+    if is_ascii(btf.strings()) {
+        return Ok(ByOffset::new(alloc));
+    }
+    gather_odd_names(alloc, btf)
+}
+
+/// The names of some types without their flavor, copies of those that are not UTF-8.
+///
+/// Contracts see the type information that it was made for.
+#[derive(Drop)]
+pub struct TypeNames<'a> {
+    btf: &'a Btf,
+    odd: ByOffset<Text>,
+}
+
+impl<'a> Model for TypeNames<'a> {
+    ghost use Rattle.std.specs.Prelude.{◌≡◌, ℕ};
+    ghost use Rattle.std.specs.FinMap.{get};
+    ghost use Rattle.ebpf_candidates.specs.OddNames.{odd_at};
+    ghost use Rattle.ebpf_btf.specs.TypeInfo.{TypeInfo};
+
+    ghost Value = { TypeInfo };
+
+    ghost view = { λ x. x.btf.now };
+
+    ghost invariant = { λ x. (id : ℕ) → get x.odd id ≡ odd_at x.btf.now id };
+}
+
+impl<'a> TypeNames<'a> {
+    /// The names of some types.
+    pub fn new(alloc: Global, btf: &'a Btf) -> Result<TypeNames<'a>, AllocError>
+        ensures { IfOk result (λ names. names ≡ btf.now) }
+    {
+        let odd = odd_names(alloc, btf)?;
+        Ok(TypeNames { btf, odd })
+    }
+
+    /// The types.
+    pub fn btf(&self) -> &'a Btf
+        ensures { result.now ≡ self.now }
+    {
+        self.btf
+    }
+
+    /// The essential name of the type with an id. None where it can't be read.
+    #[tactic(auto, using(crate::proofs::OddTexts::odd_some, crate::proofs::OddTexts::odd_none))]
+    pub fn name(&self, id: usize, ty: &BtfType) -> Option<&[u8]>
+        requires { slice_get self.now.types id ≡ Some ty.now }
+        ensures { option_copied result ≡ readable_name self.now ty.now }
+    {
+        if self.odd.is_empty() {
+            return essential_at(self.btf.strings(), ty.name_offset());
+        }
+        let Ok(bytes) = self.btf.bytes_at(ty.name_offset()) else {
+            return None;
+        };
+        match self.odd.get(id as u64) {
+            Some(text) => Some(essential_name(text.as_str().as_bytes())),
+            None => Some(essential_name(bytes)),
+        }
+    }
+
+    /// The number of the kind and the essential name of the type with an id.
+    pub fn key(&self, id: u32) -> (u8, &[u8])
+        ensures kind { result.0 ≡ (key_at self.now id).kind }
+        ensures name { result.1.now ≡ (key_at self.now id).name }
+    {
+        let Some(ty) = self.btf.types().get(id as usize) else {
+            return (0, &[]);
+        };
+        let kind = kind_number(ty.kind());
+        match self.name(id as usize, ty) {
+            Some(name) => (kind, name),
+            None => (kind, &[]),
+        }
+    }
+}

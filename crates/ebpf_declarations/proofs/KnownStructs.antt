@@ -1,0 +1,110 @@
+-- What a struct says of a map does not rest on the map's name.
+use Rattle.std.proofs.Common.{◌≡◌, ℕ, Bool, true, false, cond, List, [], ◌∷◌, Option, Some, None, Result, Ok, Err, refl, sym, ap, ◌∙◌}
+use Rattle.std.specs.Prelude.{◌==◌, if◌then◌else◌}
+use Rattle.std.specs.BTreeMap.{BTreeMap, get, is_at, Updates}
+use Rattle.std.specs.Ordering.{nat_cmp}
+use Rattle.std.proofs.lemmas.Bool.Decides.{nat_tests}
+use Rattle.std.proofs.Common.{arith}
+use Rattle.ebpf_btf.specs.Next.{if_some, if_ok}
+use Rattle.ebpf_btf.specs.TypeInfo.{TypeInfo}
+use Rattle.ebpf_btf.specs.Types.{array_of}
+use Rattle.ebpf_btf.specs.Steps.{type_at}
+use Rattle.ebpf_btf.specs.declared.error.BtfError.{BtfError}
+use Rattle.ebpf_btf.specs.declared.error.BtfError.TheVariants.{InvalidValuesSpec}
+use Rattle.ebpf_btf.specs.declared.members.BtfMember.{BtfMember}
+use Rattle.ebpf_declarations.specs.Attempts.{all_given}
+use Rattle.ebpf_declarations.specs.KnownStructs.{struct_says, Knows}
+use Rattle.ebpf_declarations.specs.MapMembers.{unexpected, resolved_struct, pointed_struct, held_struct, member_at}
+use Rattle.ebpf_declarations.specs.Maps.{with_members, inner_saying_of, inner_saying, inner_definition, saying_of, saying, definitions}
+use Rattle.ebpf_declarations.specs.Sayings.{no_definitions, with_all}
+use Rattle.ebpf_declarations.specs.declared.definitions.MapDefinitions.{MapDefinitions}
+use Rattle.ebpf_declarations.specs.declared.map_member.MapMember.{MapMember}
+use Rattle.ebpf_declarations.specs.declared.map_member.MapMember.TheVariants.{Number, Pinning, Key, Value, Values, Other}
+use Rattle.ebpf_declarations.specs.declared.saying.Saying.{Saying}
+use Rattle.ebpf_declarations.specs.declared.saying.Saying.TheVariants as said
+use Rattle.ebpf_parts.specs.declared.maps.definition.BtfMapDef.{BtfMapDef}
+
+module _ {X Y : Type 0} where
+  -- an answer that goes on from an answer, where each step still gives what it gave
+  via : (r s : Result X BtfError) (f g : X → Result Y BtfError) (y : Y) → ((x : X) → r ≡ Ok x → s ≡ Ok x) → ((x : X) → f x ≡ Ok y → g x ≡ Ok y) → if_ok r f ≡ Ok y → if_ok s g ≡ Ok y
+  via (Ok x) s f g y first next h = ap (λ t. if_ok t g) (first x refl) ∙ next x h
+  via (Err e) s f g y first next h = cc
+
+module _ {X : Type 0} where
+  chosen : (b : Bool) (r : Result X BtfError) (e d : BtfError) (x : X) → (if b then r else Err e) ≡ Ok x → (if b then r else Err d) ≡ Ok x
+  chosen true r e d x h = h
+  chosen false r e d x h = cc
+
+  where_some : {A : Type 0} (a : Option A) (test : A → Bool) (f : A → Result X BtfError) (e d u : BtfError) (x : X)
+      → if_some a (λ y. if test y then f y else Err e) (Err u) ≡ Ok x → if_some a (λ y. if test y then f y else Err d) (Err u) ≡ Ok x
+  where_some None test f e d u x h = h
+  where_some (Some y) test f e d u x h = chosen (test y) (f y) e d x h
+
+all_same : (says other : BtfMember → Result Saying BtfError) → ((m : BtfMember) (s : Saying) → says m ≡ Ok s → other m ≡ Ok s) → (ms : List BtfMember) (all : List Saying) → all_given says ms ≡ Ok all → all_given other ms ≡ Ok all
+all_same says other same [] all h = h
+all_same says other same (m ∷ ms) all h =
+    via (says m) (other m) (λ x. if_ok (all_given says ms) (λ xs. Ok (x ∷ xs))) (λ x. if_ok (all_given other ms) (λ xs. Ok (x ∷ xs))) all (same m)
+    (λ x g. via (all_given says ms) (all_given other ms) (λ xs. Ok (x ∷ xs)) (λ xs. Ok (x ∷ xs)) all (all_same says other same ms) (λ xs k. k) g) h
+
+with_same : (says other : BtfMember → Result Saying BtfError) → ((m : BtfMember) (s : Saying) → says m ≡ Ok s → other m ≡ Ok s) → (d e : MapDefinitions) (ms : List BtfMember) → with_members says d ms ≡ Ok e → with_members other d ms ≡ Ok e
+with_same says other same d e ms h = via (all_given says ms) (all_given other ms) (λ all. Ok (with_all d all)) (λ all. Ok (with_all d all)) e (all_same says other same ms) (λ all k. k) h
+
+module _ (info : TypeInfo) (n o : List ℕ) where
+  inner_of : (about : MapMember) (id : ℕ) (s : Saying) → inner_saying_of info n about id ≡ Ok s → inner_saying_of info o about id ≡ Ok s
+  unfolding inner_saying_of
+  inner_of (Number of) id s h = h
+  inner_of Pinning id s h = cc
+  inner_of Key id s h = h
+  inner_of Value id s h = h
+  inner_of Values id s h = cc
+  inner_of Other id s h = h
+
+  inner_same : (m : BtfMember) (s : Saying) → inner_saying info n m ≡ Ok s → inner_saying info o m ≡ Ok s
+  unfolding inner_saying
+  inner_same m s h = via (member_at info.strings m) (member_at info.strings m) _ _ s (λ x k. k) (λ about k. inner_of about m.btf_type s k) h
+
+  inner_definition_same : (ms : List BtfMember) (d : BtfMapDef) → inner_definition info n ms ≡ Ok d → inner_definition info o ms ≡ Ok d
+  inner_definition_same ms d h =
+      via (with_members (inner_saying info n) no_definitions ms) (with_members (inner_saying info o) no_definitions ms) (λ e. Ok e.def) (λ e. Ok e.def) d
+      (λ e k. with_same (inner_saying info n) (inner_saying info o) inner_same no_definitions e ms k) (λ e k. k) h
+
+  held_same : (id : ℕ) (ms : List BtfMember) → held_struct info.types n id ≡ Ok ms → held_struct info.types o id ≡ Ok ms
+  unfolding held_struct
+  held_same id ms h =
+      via (type_at info.types id) (type_at info.types id) _ _ ms (λ t k. k)
+      (λ t k. where_some (array_of t) (λ array. array.len == 0) (λ array. pointed_struct info.types array.element_type) (InvalidValuesSpec n) (InvalidValuesSpec o) (unexpected t) ms k) h
+
+  saying_of_same : (about : MapMember) (id : ℕ) (s : Saying) → saying_of info n about id ≡ Ok s → saying_of info o about id ≡ Ok s
+  unfolding saying_of
+  saying_of_same (Number of) id s h = h
+  saying_of_same Pinning id s h = h
+  saying_of_same Key id s h = h
+  saying_of_same Value id s h = h
+  saying_of_same Values id s h =
+      via (held_struct info.types n id) (held_struct info.types o id) (λ held. if_ok (inner_definition info n held) (λ inner. Ok (said.Values inner))) (λ held. if_ok (inner_definition info o held) (λ inner. Ok (said.Values inner))) s (held_same id)
+      (λ held k. via (inner_definition info n held) (inner_definition info o held) (λ inner. Ok (said.Values inner)) (λ inner. Ok (said.Values inner)) s (inner_definition_same held) (λ inner g. g) k) h
+  saying_of_same Other id s h = h
+
+  saying_same : (m : BtfMember) (s : Saying) → saying info n m ≡ Ok s → saying info o m ≡ Ok s
+  unfolding saying
+  saying_same m s h = via (member_at info.strings m) (member_at info.strings m) _ _ s (λ x k. k) (λ about k. saying_of_same about m.btf_type s k) h
+
+  says_same : (id : ℕ) (d : MapDefinitions) → struct_says info n id ≡ Ok d → struct_says info o id ≡ Ok d
+  says_same id d h =
+      via (resolved_struct info.types id) (resolved_struct info.types id) (λ ms. definitions info n ms) (λ ms. definitions info o ms) d (λ ms k. k)
+      (λ ms k. with_same (saying info n) (saying info o) saying_same no_definitions d ms k) h
+
+equal_numbers : (k q : ℕ) → is_at (nat_cmp k) q ≡ true → k ≡ q
+equal_numbers k q h = grind (arith, nat_tests)
+
+-- one more struct is remembered
+pub one_more : (info : TypeInfo) (m n : BTreeMap ℕ MapDefinitions) (name : List ℕ) (id : ℕ) (d : MapDefinitions) → Knows info m → struct_says info name id ≡ Ok d → Updates nat_cmp m n id (Some d) → Knows info n
+one_more info m n name id d knows says updates = record { said = λ q e at o. step q e o (is_at (nat_cmp id) q) refl (sym (updates.0 q) ∙ at) }
+  where
+    step : (q : ℕ) (e : MapDefinitions) (o : List ℕ) (b : Bool) → is_at (nat_cmp id) q ≡ b → cond (is_at (nat_cmp id) q) (Some d) (get nat_cmp m q) ≡ Some e → struct_says info o q ≡ Ok e
+    step q e o true is at =
+        let place : id ≡ q = equal_numbers id q is in
+        let value : Some d ≡ Some e = sym (ap (λ b. cond b (Some d) (get nat_cmp m q)) is) ∙ at in
+        let same : d ≡ e = cc in
+        ap (struct_says info o) (sym place) ∙ says_same info name o id d says ∙ ap Ok same
+    step q e o false is at = knows.said q e (sym (ap (λ b. cond b (Some d) (get nat_cmp m q)) is) ∙ at) o

@@ -1,0 +1,5 @@
+pub mod ExtSections
+pub mod ExtSpelled
+pub mod LastSections
+pub mod RelocationLists
+pub mod RelocationRows

@@ -1,0 +1,189 @@
+//! What `.BTF.ext` says of functions and lines.
+
+ghost use Rattle.std.specs.Prelude.{◌≡◌, IfOk};
+ghost use Rattle.std.specs.FinMap as map;
+ghost use Rattle.std.specs.Map.{keys_of};
+ghost use Rattle.std.specs.Option.{option_copied};
+ghost use Rattle.ebpf_base.specs.Copies.{maps_eq, maps_eq_laws};
+ghost use Rattle.ebpf_base.specs.Keys.{lent_bytes, text_total};
+ghost use Rattle.ebpf_ext.specs.ExtInfos.{func_info_at, line_info_at};
+
+use ebpf_base::{ByName, Items};
+use std::alloc::{AllocError, Global};
+use std::marker::Model;
+
+/// What is said of a function. It lies in memory as the kernel's `struct bpf_func_info`.
+#[repr(C)]
+#[allow(non_camel_case_types)]
+#[derive(Clone, Copy, Debug, PartialEq, Eq)]
+pub struct bpf_func_info {
+    /// The number of the function's first slot of 8 bytes in its section.
+    pub insn_off: u32,
+    /// The id of the function's type.
+    pub type_id: u32,
+}
+
+/// What is said of a line. It lies in memory as the kernel's `struct bpf_line_info`.
+#[repr(C)]
+#[allow(non_camel_case_types)]
+#[derive(Clone, Copy, Debug, PartialEq, Eq)]
+pub struct bpf_line_info {
+    /// The number of the line's first slot of 8 bytes in its section.
+    pub insn_off: u32,
+    /// The offset of the file's name in the strings.
+    pub file_name_off: u32,
+    /// The offset of the line's text in the strings.
+    pub line_off: u32,
+    /// The number of the line in bits 10 to 31, that of the column in bits 0 to 9.
+    pub line_col: u32,
+}
+
+/// What is said of the functions of a section (`struct btf_ext_info_sec`).
+#[derive(Debug, Drop, PartialEq)]
+pub struct FuncSecInfo {
+    /// The offset of the section's name in the strings.
+    pub sec_name_offset: u32,
+    /// The number of records.
+    pub num_info: u32,
+    /// The records, in order.
+    pub func_info: Items<bpf_func_info>,
+}
+
+/// What is said of the lines of a section (`struct btf_ext_info_sec`).
+#[derive(Debug, Drop, PartialEq)]
+pub struct LineSecInfo {
+    /// The offset of the section's name in the strings.
+    pub sec_name_offset: u32,
+    /// The number of records.
+    pub num_info: u32,
+    /// The records, in order.
+    pub line_info: Items<bpf_line_info>,
+}
+
+/// What is said of functions, by the names of their sections. Contracts see a finite map.
+#[derive(Debug, Drop)]
+pub struct FuncInfo {
+    pub(crate) sections: ByName<FuncSecInfo>,
+    /// The memory that empty lists name.
+    pub(crate) alloc: Global,
+}
+
+/// What is said of lines, by the names of their sections. Contracts see a finite map.
+#[derive(Debug, Drop)]
+pub struct LineInfo {
+    pub(crate) sections: ByName<LineSecInfo>,
+    /// The memory that empty lists name.
+    pub(crate) alloc: Global,
+}
+
+impl Model for FuncInfo {
+    ghost use Rattle.std.specs.FinMap as map;
+    ghost use Rattle.ebpf_base.specs.Keys.{coded_text, text_cmp};
+    ghost use Rattle.ebpf_ext.specs.contracts.ext_infos.FuncSecInfo.{the_row};
+    ghost use Rattle.ebpf_ext.specs.declared.ext_infos.FuncSecInfo.{FuncSecInfo};
+
+    ghost Value = { map.FinMap text_cmp FuncSecInfo };
+
+    ghost coded = { map.code {R = text_cmp} coded_text the_row.coded };
+
+    ghost view = { λ f. f.sections };
+}
+
+impl Model for LineInfo {
+    ghost use Rattle.std.specs.FinMap as map;
+    ghost use Rattle.ebpf_base.specs.Keys.{coded_text, text_cmp};
+    ghost use Rattle.ebpf_ext.specs.contracts.ext_infos.LineSecInfo.{the_row};
+    ghost use Rattle.ebpf_ext.specs.declared.ext_infos.LineSecInfo.{LineSecInfo};
+
+    ghost Value = { map.FinMap text_cmp LineSecInfo };
+
+    ghost coded = { map.code {R = text_cmp} coded_text the_row.coded };
+
+    ghost view = { λ f. f.sections };
+}
+
+impl FuncInfo {
+    /// A copy of what is said of the functions of a section; where nothing is said an empty list, with the count
+    /// and the offset 0.
+    pub fn get(&self, name: &str) -> Result<FuncSecInfo, AllocError>
+        ensures { IfOk result (λ info. info ≡ func_info_at self.now name.now) }
+    {
+        match self.section(name) {
+            Some(funcs) => funcs.clone(),
+            None => Ok(FuncSecInfo {
+                sec_name_offset: 0,
+                num_info: 0,
+                func_info: Items::new(self.alloc),
+            }),
+        }
+    }
+
+    /// What is said of the functions of a section, lent.
+    pub fn section(&self, name: &str) -> Option<&FuncSecInfo>
+        ensures { option_copied result ≡ map.get self.now name.now }
+    {
+        self.sections.get(name)
+    }
+
+    /// The names of the sections of whose functions something is said, in the order of their bytes.
+    pub fn names(&self, alloc: Global) -> Result<Vec<&str>, AllocError>
+        ensures { IfOk result (λ names. lent_bytes names.items ≡ keys_of (map.entries self.now)) }
+    {
+        self.sections.names(alloc)
+    }
+}
+
+impl LineInfo {
+    /// A copy of what is said of the lines of a section; where nothing is said an empty list, with the count and
+    /// the offset 0.
+    pub fn get(&self, name: &str) -> Result<LineSecInfo, AllocError>
+        ensures { IfOk result (λ info. info ≡ line_info_at self.now name.now) }
+    {
+        match self.section(name) {
+            Some(lines) => lines.clone(),
+            None => Ok(LineSecInfo {
+                sec_name_offset: 0,
+                num_info: 0,
+                line_info: Items::new(self.alloc),
+            }),
+        }
+    }
+
+    /// What is said of the lines of a section, lent.
+    pub fn section(&self, name: &str) -> Option<&LineSecInfo>
+        ensures { option_copied result ≡ map.get self.now name.now }
+    {
+        self.sections.get(name)
+    }
+
+    /// The names of the sections of whose lines something is said, in the order of their bytes.
+    pub fn names(&self, alloc: Global) -> Result<Vec<&str>, AllocError>
+        ensures { IfOk result (λ names. lent_bytes names.items ≡ keys_of (map.entries self.now)) }
+    {
+        self.sections.names(alloc)
+    }
+}
+
+impl PartialEq for FuncInfo {
+    ghost use Rattle.ebpf_ext.specs.contracts.ext_infos.FuncSecInfoPartialEq.TheImpl.Laws.{laws-law};
+
+    ghost eq = { maps_eq ⟦<FuncSecInfo as PartialEq>⟧.eq };
+
+    ghost laws = { maps_eq_laws text_total laws-law };
+
+    fn eq(&self, other: &Self) -> bool {
+        self.sections == other.sections
+    }
+}
+
+impl PartialEq for LineInfo {
+    ghost use Rattle.ebpf_ext.specs.contracts.ext_infos.LineSecInfoPartialEq.TheImpl.Laws.{laws-law};
+
+    ghost eq = { maps_eq ⟦<LineSecInfo as PartialEq>⟧.eq };
+
+    ghost laws = { maps_eq_laws text_total laws-law };
+
+    fn eq(&self, other: &Self) -> bool {
+        self.sections == other.sections
+    }
+}

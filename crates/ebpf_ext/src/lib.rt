@@ -1,0 +1,15 @@
+//! `.BTF.ext` of an eBPF object file: what is said of functions and lines, and the CO-RE relocations.
+#![tactic(auto)]
+
+mod ext;
+mod ext_clones;
+mod ext_infos;
+mod ext_part;
+mod ext_records;
+mod ext_sections;
+pub mod laws;
+mod relocation;
+
+pub use ext::BtfExt;
+pub use ext_infos::{FuncInfo, FuncSecInfo, LineInfo, LineSecInfo, bpf_func_info, bpf_line_info};
+pub use relocation::{Relocation, RelocationKind};

@@ -1,0 +1,52 @@
+-- Sections of data with one name, of which the map of the last one stands.
+use Rattle.std.specs.Prelude.{ℕ, Bool, true, false, ◌==◌, List, [], ◌∷◌, Option, Some, None, if◌then◌else◌}
+use Rattle.std.specs.FinMap.{FinMap, empty, get}
+use Rattle.std.specs.List.{flat_map}
+use Rattle.ebpf_base.specs.Keyed.{put_all}
+use Rattle.ebpf_base.specs.Keys.{text_cmp}
+use Rattle.ebpf_btf.specs.TypeInfo.{TypeInfo}
+use Rattle.ebpf_parsing.specs.DataMaps.{data_maps}
+use Rattle.ebpf_parsing.specs.OfSection.{maps_by}
+use Rattle.ebpf_parsing.specs.Parts.{added}
+use Rattle.ebpf_parsing.specs.Symbols.{SymbolValue}
+use Rattle.ebpf_parsing.specs.declared.parts.Parts.{Parts}
+use Rattle.ebpf_parsing.specs.declared.shared.Shared.{Shared}
+use Rattle.ebpf_parts.specs.Sections.{SectionValue}
+use Rattle.ebpf_parts.specs.declared.maps.either.Map.{Map}
+use Rattle.ebpf_parts.specs.declared.section_kind.EbpfSectionKind.{EbpfSectionKind}
+use Rattle.ebpf_parts.specs.declared.section_kind.EbpfSectionKind.TheVariants.{Maps, BtfMaps, Data, Rodata, Bss}
+
+abbrev pub is_data : EbpfSectionKind → Bool
+is_data Data = true
+is_data Rodata = true
+is_data Bss = true
+is_data _ = false
+
+-- the number of a section of data, by its name
+abbrev pub data_row : SectionValue → List (List ℕ × ℕ)
+data_row s = if is_data s.kind then (s.name, s.index.0) ∷ [] else []
+
+-- the number of the last section of data of each name
+abbrev pub last_data : List SectionValue → FinMap text_cmp ℕ
+last_data sections = put_all empty (flat_map data_row sections)
+
+abbrev pub is_number : ℕ → Option ℕ → Bool
+is_number i None = true
+is_number i (Some j) = i == j
+
+-- the map of a section of data, where it is the last of its name
+abbrev pub last_maps : FinMap text_cmp ℕ → SectionValue → List (List ℕ × Map)
+last_maps last s = if is_number s.index.0 (get last s.name) then data_maps s else []
+
+-- the maps that a section gives, where it is no section of data before the last of its name
+abbrev pub put_by : EbpfSectionKind → FinMap text_cmp ℕ → Option TypeInfo → SectionValue → List SymbolValue → List (List ℕ × Map)
+put_by Data last types s symbols = last_maps last s
+put_by Rodata last types s symbols = last_maps last s
+put_by Bss last types s symbols = last_maps last s
+put_by Maps last types s symbols = maps_by Maps types s symbols
+put_by BtfMaps last types s symbols = maps_by BtfMaps types s symbols
+put_by _ last types s symbols = []
+
+-- what a section adds, but for maps that others of its name replace
+abbrev pub added_last : FinMap text_cmp ℕ → Shared → Parts → SectionValue → List SymbolValue → Parts
+added_last last shared p s symbols = record (added shared p s symbols) { maps = put_all p.maps (put_by s.kind last shared.btf s symbols) }

@@ -1,0 +1,10 @@
+//! A safe wrapper of the C interface of ebpf-object: eBPF object files made ready to load.
+mod error;
+mod object;
+mod raw;
+mod rows;
+
+pub use error::{Error, Refusal};
+pub use object::{Info, Object, Target};
+pub use raw::{FuncInfo, Insn, LineInfo, MapShape};
+pub use rows::{Extern, Map, Program, Section};

@@ -1,0 +1,361 @@
+//! An object.
+use crate::error::Error;
+use crate::raw::{self, Counts, Descriptor, FuncInfo, Handle, Insn, LineInfo};
+use crate::rows::{Extern, Map, Program, Row, Section};
+use std::cell::UnsafeCell;
+
+/// How many bytes are kept of the name that a refusal is about.
+const ABOUT: usize = 256;
+
+/// What an ELF file with eBPF programs holds. It stays on its thread.
+pub struct Object {
+    // The library takes each handle by a pointer without const, and leaves it as it is where it only lists.
+    handle: UnsafeCell<Handle>,
+}
+
+/// A kernel, and the maps that are made in it.
+#[derive(Clone, Copy, Default)]
+pub struct Target<'a> {
+    /// Its types, as /sys/kernel/btf/vmlinux has them; none: functions aren't adapted to it.
+    pub types: &'a [u8],
+    /// Its symbols, as /proc/kallsyms has them.
+    pub symbols: &'a [u8],
+    /// Names of maps with their descriptors.
+    pub maps: &'a [(&'a str, i32)],
+}
+
+/// What an object says of itself.
+#[derive(Clone, Copy, Debug, PartialEq, Eq)]
+pub struct Info {
+    pub is_big_endian: bool,
+    pub kernel_version: Option<u32>,
+    pub has_types: bool,
+    pub has_relocations: bool,
+    pub has_typed_externs: bool,
+}
+
+/// Names one after the other, and a row for each.
+fn described(maps: &[(&str, i32)]) -> (Vec<Descriptor>, String) {
+    let (mut rows, mut text) = (Vec::new(), String::new());
+    for (name, descriptor) in maps {
+        rows.push(Descriptor {
+            name_at: text.len(),
+            name_len: name.len(),
+            descriptor: *descriptor,
+        });
+        text.push_str(name);
+    }
+    (rows, text)
+}
+
+/// A call that may say what its refusal is about.
+fn telling(call: impl FnOnce(*mut u8, usize, *mut usize) -> u32) -> Result<(), Error> {
+    let (mut about, mut len) = ([0u8; ABOUT], 0);
+    match call(about.as_mut_ptr(), about.len(), &mut len) {
+        0 => Ok(()),
+        number => {
+            let name = String::from_utf8_lossy(&about[..len.min(ABOUT)]).into_owned();
+            Err(Error::of(number, (len > 0).then_some(name)))
+        }
+    }
+}
+
+fn plain(number: u32) -> Result<(), Error> {
+    match number {
+        0 => Ok(()),
+        number => Err(Error::of(number, None)),
+    }
+}
+
+/// A call that writes so many values, asked again until there is room.
+fn filled<T: Copy + Default>(mut call: impl FnMut(*mut T, usize, *mut usize) -> u32) -> Result<Vec<T>, Error> {
+    let mut values = Vec::new();
+    loop {
+        let mut count = 0;
+        match call(values.as_mut_ptr(), values.len(), &mut count) {
+            0 => {
+                values.truncate(count);
+                return Ok(values);
+            }
+            1 => values.resize(count, T::default()),
+            number => return Err(Error::of(number, None)),
+        }
+    }
+}
+
+type List<R> = unsafe extern "C" fn(*mut Handle, *mut R, usize, *mut u8, usize, *mut Counts) -> u32;
+
+impl Object {
+    /// The object of a file.
+    pub fn open(file: &[u8]) -> Result<Object, Error> {
+        let mut handle = Handle {
+            at: std::ptr::null_mut(),
+        };
+        telling(|about, room, len| {
+            // SAFETY: the slices are borrowed for the call, and a handle of zeros is a closed one.
+            unsafe { raw::ebpf_open(file.as_ptr(), file.len(), &mut handle, about, room, len) }
+        })?;
+        Ok(Object {
+            handle: UnsafeCell::new(handle),
+        })
+    }
+
+    /// The object of a file after all passes over it.
+    pub fn prepare(file: &[u8], target: &Target<'_>) -> Result<Object, Error> {
+        let mut handle = Handle {
+            at: std::ptr::null_mut(),
+        };
+        let (rows, text) = described(target.maps);
+        let (types, symbols) = (target.types, target.symbols);
+        telling(|about, room, len| {
+            // SAFETY: the slices are borrowed for the call, and a handle of zeros is a closed one.
+            unsafe {
+                raw::ebpf_prepare(
+                    file.as_ptr(),
+                    file.len(),
+                    types.as_ptr(),
+                    types.len(),
+                    rows.as_ptr(),
+                    rows.len(),
+                    text.as_ptr(),
+                    text.len(),
+                    symbols.as_ptr(),
+                    symbols.len(),
+                    &mut handle,
+                    about,
+                    room,
+                    len,
+                )
+            }
+        })?;
+        Ok(Object {
+            handle: UnsafeCell::new(handle),
+        })
+    }
+
+    /// A copy that later calls on this one leave as it is.
+    pub fn try_clone(&self) -> Result<Object, Error> {
+        let mut handle = Handle {
+            at: std::ptr::null_mut(),
+        };
+        // SAFETY: an `Object` is open, and a handle of zeros is a closed one.
+        plain(unsafe { raw::ebpf_clone(self.handle.get(), &mut handle) })?;
+        Ok(Object {
+            handle: UnsafeCell::new(handle),
+        })
+    }
+
+    /// What the object says of itself.
+    pub fn info(&self) -> Result<Info, Error> {
+        let mut info = raw::Info::default();
+        // SAFETY: an `Object` is open.
+        plain(unsafe { raw::ebpf_info(self.handle.get(), &mut info) })?;
+        Ok(Info {
+            is_big_endian: info.is_big_endian != 0,
+            kernel_version: (info.has_kernel_version != 0).then_some(info.kernel_version),
+            has_types: info.has_types != 0,
+            has_relocations: info.has_relocations != 0,
+            has_typed_externs: info.has_typed_externs != 0,
+        })
+    }
+
+    /// The license of the programs.
+    pub fn license(&self) -> Result<Vec<u8>, Error> {
+        // SAFETY: an `Object` is open, and the buffer is ours.
+        filled(|text, room, len| unsafe { raw::ebpf_license(self.handle.get(), text, room, len) })
+    }
+
+    fn listed<R: Row>(&self, list: List<R>) -> Result<Vec<R::Value>, Error> {
+        let (mut rows, mut text): (Vec<R>, Vec<u8>) = (Vec::new(), Vec::new());
+        let mut counts = Counts::default();
+        loop {
+            let (rows_room, text_room) = (rows.len(), text.len());
+            let text_at = text.as_mut_ptr();
+            // SAFETY: an `Object` is open, and the buffers are ours.
+            match unsafe {
+                list(
+                    self.handle.get(),
+                    rows.as_mut_ptr(),
+                    rows_room,
+                    text_at,
+                    text_room,
+                    &mut counts,
+                )
+            } {
+                0 => break,
+                1 => {
+                    rows.resize(counts.rows, R::default());
+                    text.resize(counts.text, 0);
+                }
+                number => return Err(Error::of(number, None)),
+            }
+        }
+        let value = |row: &R| {
+            let (at, len) = row.name();
+            row.value(String::from_utf8_lossy(&text[at..at + len]).into_owned())
+        };
+        Ok(rows[..counts.rows].iter().map(value).collect())
+    }
+
+    /// The programs, in byte order of their names.
+    pub fn programs(&self) -> Result<Vec<Program>, Error> {
+        self.listed(raw::ebpf_programs)
+    }
+
+    /// The maps, in byte order of their names.
+    pub fn maps(&self) -> Result<Vec<Map>, Error> {
+        self.listed(raw::ebpf_maps)
+    }
+
+    /// The externs, in byte order of their names.
+    pub fn externs(&self) -> Result<Vec<Extern>, Error> {
+        self.listed(raw::ebpf_externs)
+    }
+
+    /// The named sections of the file, in byte order of their names.
+    pub fn sections(&self) -> Result<Vec<Section>, Error> {
+        self.listed(raw::ebpf_sections)
+    }
+
+    /// The data that a map begins with.
+    pub fn map_data(&self, map: &str) -> Result<Vec<u8>, Error> {
+        // SAFETY: an `Object` is open, the name is borrowed for the call, and the buffer is ours.
+        filled(|data, room, len| unsafe {
+            raw::ebpf_map_data(self.handle.get(), map.as_ptr(), map.len(), data, room, len)
+        })
+    }
+
+    /// The slots of a program as they stand.
+    pub fn slots(&self, program: &str) -> Result<Vec<Insn>, Error> {
+        // SAFETY: an `Object` is open, the name is borrowed for the call, and the buffer is ours.
+        filled(|slots, room, count| unsafe {
+            raw::ebpf_slots(self.handle.get(), program.as_ptr(), program.len(), slots, room, count)
+        })
+    }
+
+    /// What is said of a program's functions, by slot.
+    pub fn func_infos(&self, program: &str) -> Result<Vec<FuncInfo>, Error> {
+        // SAFETY: an `Object` is open, the name is borrowed for the call, and the buffer is ours.
+        filled(|rows, room, count| unsafe {
+            raw::ebpf_func_infos(self.handle.get(), program.as_ptr(), program.len(), rows, room, count)
+        })
+    }
+
+    /// What is said of a program's lines, by slot.
+    pub fn line_infos(&self, program: &str) -> Result<Vec<LineInfo>, Error> {
+        // SAFETY: an `Object` is open, the name is borrowed for the call, and the buffer is ours.
+        filled(|rows, room, count| unsafe {
+            raw::ebpf_line_infos(self.handle.get(), program.as_ptr(), program.len(), rows, room, count)
+        })
+    }
+
+    /// Writes the value of a variable. Where the object has none of the name and `must_exist` is false, all stays.
+    pub fn set_value(&mut self, variable: &str, value: &[u8], must_exist: bool) -> Result<(), Error> {
+        let handle = self.handle.get_mut();
+        telling(|about, room, len| {
+            // SAFETY: an `Object` is open, and the slices are borrowed for the call.
+            unsafe {
+                raw::ebpf_set_value(
+                    handle,
+                    variable.as_ptr(),
+                    variable.len(),
+                    value.as_ptr(),
+                    value.len(),
+                    must_exist.into(),
+                    about,
+                    room,
+                    len,
+                )
+            }
+        })
+    }
+
+    /// Sets how many entries a map holds at most.
+    pub fn set_max_entries(&mut self, map: &str, entries: u32) -> Result<(), Error> {
+        // SAFETY: an `Object` is open, and the name is borrowed for the call.
+        plain(unsafe { raw::ebpf_set_max_entries(self.handle.get_mut(), map.as_ptr(), map.len(), entries) })
+    }
+
+    /// Sets the size of a map's values, in bytes.
+    pub fn set_value_size(&mut self, map: &str, size: u32) -> Result<(), Error> {
+        // SAFETY: an `Object` is open, and the name is borrowed for the call.
+        plain(unsafe { raw::ebpf_set_value_size(self.handle.get_mut(), map.as_ptr(), map.len(), size) })
+    }
+
+    /// Where the kernel lacks the helper functions 112 to 115, puts older ones in their place.
+    pub fn sanitize(&mut self, has_newer: bool) -> Result<(), Error> {
+        // SAFETY: an `Object` is open.
+        plain(unsafe { raw::ebpf_sanitize(self.handle.get_mut(), has_newer.into()) })
+    }
+
+    /// Adapts the functions to a kernel's types.
+    pub fn relocate_types(&mut self, types: &[u8]) -> Result<(), Error> {
+        let handle = self.handle.get_mut();
+        telling(|about, room, len| {
+            // SAFETY: an `Object` is open, and the slice is borrowed for the call.
+            unsafe { raw::ebpf_relocate_types(handle, types.as_ptr(), types.len(), about, room, len) }
+        })
+    }
+
+    /// Writes descriptors of maps into the slots that refer to them.
+    pub fn relocate_maps(&mut self, maps: &[(&str, i32)]) -> Result<(), Error> {
+        let handle = self.handle.get_mut();
+        let (rows, text) = described(maps);
+        telling(|about, room, len| {
+            // SAFETY: an `Object` is open, and the slices are borrowed for the call.
+            unsafe {
+                raw::ebpf_relocate_maps(
+                    handle,
+                    rows.as_ptr(),
+                    rows.len(),
+                    text.as_ptr(),
+                    text.len(),
+                    about,
+                    room,
+                    len,
+                )
+            }
+        })
+    }
+
+    /// Finds the externs in a kernel's types (empty: it isn't asked) and in its symbols.
+    pub fn resolve_externs(&mut self, types: &[u8], symbols: &[u8]) -> Result<(), Error> {
+        let handle = self.handle.get_mut();
+        telling(|about, room, len| {
+            // SAFETY: an `Object` is open, and the slices are borrowed for the call.
+            unsafe {
+                raw::ebpf_resolve_externs(
+                    handle,
+                    types.as_ptr(),
+                    types.len(),
+                    symbols.as_ptr(),
+                    symbols.len(),
+                    about,
+                    room,
+                    len,
+                )
+            }
+        })
+    }
+
+    /// Writes what is known of the externs into the slots that refer to them.
+    pub fn relocate_externs(&mut self) -> Result<(), Error> {
+        let handle = self.handle.get_mut();
+        // SAFETY: an `Object` is open.
+        telling(|about, room, len| unsafe { raw::ebpf_relocate_externs(handle, about, room, len) })
+    }
+
+    /// Joins each program with the functions that it reaches.
+    pub fn relocate_calls(&mut self) -> Result<(), Error> {
+        let handle = self.handle.get_mut();
+        // SAFETY: an `Object` is open.
+        telling(|about, room, len| unsafe { raw::ebpf_relocate_calls(handle, about, room, len) })
+    }
+}
+
+impl Drop for Object {
+    fn drop(&mut self) {
+        // SAFETY: an `Object` is open, and this is its last use.
+        unsafe { raw::ebpf_close(self.handle.get_mut()) }
+    }
+}

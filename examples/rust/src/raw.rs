@@ -1,0 +1,272 @@
+//! include/ebpf.h as Rust has it.
+
+/// `struct ebpf_handle`.
+#[repr(C)]
+pub struct Handle {
+    pub at: *mut u8,
+}
+
+/// `struct ebpf_counts`.
+#[repr(C)]
+#[derive(Clone, Copy, Default)]
+pub struct Counts {
+    pub rows: usize,
+    pub text: usize,
+}
+
+/// `struct ebpf_descriptor`.
+#[repr(C)]
+pub struct Descriptor {
+    pub name_at: usize,
+    pub name_len: usize,
+    pub descriptor: i32,
+}
+
+/// `struct ebpf_info`.
+#[repr(C)]
+#[derive(Clone, Copy, Default)]
+pub struct Info {
+    pub is_big_endian: u32,
+    pub has_kernel_version: u32,
+    pub kernel_version: u32,
+    pub has_types: u32,
+    pub has_relocations: u32,
+    pub has_typed_externs: u32,
+}
+
+/// `struct ebpf_program`.
+#[repr(C)]
+#[derive(Clone, Copy, Default)]
+pub struct Program {
+    pub name_at: usize,
+    pub name_len: usize,
+    pub section: usize,
+    pub address: u64,
+    pub slots: usize,
+    pub kind: u32,
+    pub flags: u32,
+    pub program_type: u32,
+    pub attach_type: u32,
+}
+
+/// `struct ebpf_map_shape`: what is said of a map; each number as `BPF_MAP_CREATE` takes it.
+#[repr(C)]
+#[derive(Clone, Copy, Debug, Default, PartialEq, Eq)]
+pub struct MapShape {
+    pub extra: u64,
+    pub map_type: u32,
+    pub key_size: u32,
+    pub value_size: u32,
+    pub max_entries: u32,
+    pub flags: u32,
+    pub pinning: u32,
+    pub key_type_id: u32,
+    pub value_type_id: u32,
+}
+
+/// `struct ebpf_map`.
+#[repr(C)]
+#[derive(Clone, Copy, Default)]
+pub struct Map {
+    pub name_at: usize,
+    pub name_len: usize,
+    pub section: usize,
+    pub data_len: usize,
+    pub section_kind: u32,
+    pub has_inner: u32,
+    pub shape: MapShape,
+    pub inner: MapShape,
+}
+
+/// `struct ebpf_extern`.
+#[repr(C)]
+#[derive(Clone, Copy, Default)]
+pub struct Extern {
+    pub name_at: usize,
+    pub name_len: usize,
+    pub address: u64,
+    pub type_id: u32,
+    pub kernel_type_id: u32,
+    pub is_typed: u32,
+    pub is_weak: u32,
+    pub is_resolved: u32,
+    pub has_address: u32,
+}
+
+/// `struct ebpf_section`.
+#[repr(C)]
+#[derive(Clone, Copy, Default)]
+pub struct Section {
+    pub name_at: usize,
+    pub name_len: usize,
+    pub number: usize,
+}
+
+/// `struct ebpf_insn`, laid out as the kernel's `struct bpf_insn`.
+#[repr(C)]
+#[derive(Clone, Copy, Debug, Default, PartialEq, Eq)]
+pub struct Insn {
+    pub code: u8,
+    /// The destination in the low four bits, the source in the high four.
+    pub regs: u8,
+    pub off: i16,
+    pub imm: i32,
+}
+
+/// `struct ebpf_func_info`.
+#[repr(C)]
+#[derive(Clone, Copy, Debug, Default, PartialEq, Eq)]
+pub struct FuncInfo {
+    pub insn_off: u32,
+    pub type_id: u32,
+}
+
+/// `struct ebpf_line_info`.
+#[repr(C)]
+#[derive(Clone, Copy, Debug, Default, PartialEq, Eq)]
+pub struct LineInfo {
+    pub insn_off: u32,
+    pub file_name_off: u32,
+    pub line_off: u32,
+    pub line_col: u32,
+}
+
+extern "C" {
+    pub fn ebpf_number_name(number: u32, text: *mut u8, room: usize, len: *mut usize) -> u32;
+    pub fn ebpf_open(
+        file: *const u8,
+        file_len: usize,
+        handle: *mut Handle,
+        about: *mut u8,
+        about_room: usize,
+        about_len: *mut usize,
+    ) -> u32;
+    pub fn ebpf_clone(handle: *mut Handle, copy: *mut Handle) -> u32;
+    pub fn ebpf_close(handle: *mut Handle);
+    pub fn ebpf_info(handle: *mut Handle, info: *mut Info) -> u32;
+    pub fn ebpf_license(handle: *mut Handle, text: *mut u8, room: usize, len: *mut usize) -> u32;
+    pub fn ebpf_programs(
+        handle: *mut Handle,
+        rows: *mut Program,
+        rows_room: usize,
+        text: *mut u8,
+        text_room: usize,
+        counts: *mut Counts,
+    ) -> u32;
+    pub fn ebpf_maps(
+        handle: *mut Handle,
+        rows: *mut Map,
+        rows_room: usize,
+        text: *mut u8,
+        text_room: usize,
+        counts: *mut Counts,
+    ) -> u32;
+    pub fn ebpf_map_data(
+        handle: *mut Handle,
+        name: *const u8,
+        name_len: usize,
+        data: *mut u8,
+        room: usize,
+        len: *mut usize,
+    ) -> u32;
+    pub fn ebpf_externs(
+        handle: *mut Handle,
+        rows: *mut Extern,
+        rows_room: usize,
+        text: *mut u8,
+        text_room: usize,
+        counts: *mut Counts,
+    ) -> u32;
+    pub fn ebpf_sections(
+        handle: *mut Handle,
+        rows: *mut Section,
+        rows_room: usize,
+        text: *mut u8,
+        text_room: usize,
+        counts: *mut Counts,
+    ) -> u32;
+    pub fn ebpf_slots(
+        handle: *mut Handle,
+        name: *const u8,
+        name_len: usize,
+        slots: *mut Insn,
+        room: usize,
+        count: *mut usize,
+    ) -> u32;
+    pub fn ebpf_func_infos(
+        handle: *mut Handle,
+        name: *const u8,
+        name_len: usize,
+        rows: *mut FuncInfo,
+        room: usize,
+        count: *mut usize,
+    ) -> u32;
+    pub fn ebpf_line_infos(
+        handle: *mut Handle,
+        name: *const u8,
+        name_len: usize,
+        rows: *mut LineInfo,
+        room: usize,
+        count: *mut usize,
+    ) -> u32;
+    pub fn ebpf_set_value(
+        handle: *mut Handle,
+        name: *const u8,
+        name_len: usize,
+        value: *const u8,
+        value_len: usize,
+        must_exist: u32,
+        about: *mut u8,
+        about_room: usize,
+        about_len: *mut usize,
+    ) -> u32;
+    pub fn ebpf_set_max_entries(handle: *mut Handle, name: *const u8, name_len: usize, entries: u32) -> u32;
+    pub fn ebpf_set_value_size(handle: *mut Handle, name: *const u8, name_len: usize, size: u32) -> u32;
+    pub fn ebpf_sanitize(handle: *mut Handle, has_newer: u32) -> u32;
+    pub fn ebpf_relocate_types(
+        handle: *mut Handle,
+        types: *const u8,
+        types_len: usize,
+        about: *mut u8,
+        about_room: usize,
+        about_len: *mut usize,
+    ) -> u32;
+    pub fn ebpf_relocate_maps(
+        handle: *mut Handle,
+        rows: *const Descriptor,
+        rows_len: usize,
+        text: *const u8,
+        text_len: usize,
+        about: *mut u8,
+        about_room: usize,
+        about_len: *mut usize,
+    ) -> u32;
+    pub fn ebpf_resolve_externs(
+        handle: *mut Handle,
+        types: *const u8,
+        types_len: usize,
+        symbols: *const u8,
+        symbols_len: usize,
+        about: *mut u8,
+        about_room: usize,
+        about_len: *mut usize,
+    ) -> u32;
+    pub fn ebpf_relocate_externs(handle: *mut Handle, about: *mut u8, about_room: usize, about_len: *mut usize) -> u32;
+    pub fn ebpf_relocate_calls(handle: *mut Handle, about: *mut u8, about_room: usize, about_len: *mut usize) -> u32;
+    pub fn ebpf_prepare(
+        file: *const u8,
+        file_len: usize,
+        types: *const u8,
+        types_len: usize,
+        rows: *const Descriptor,
+        rows_len: usize,
+        text: *const u8,
+        text_len: usize,
+        symbols: *const u8,
+        symbols_len: usize,
+        handle: *mut Handle,
+        about: *mut u8,
+        about_room: usize,
+        about_len: *mut usize,
+    ) -> u32;
+}

@@ -1,0 +1,79 @@
+//! The wrapper over files of the repository.
+use ebpf_c_wrapper::{Error, Object, Target};
+use std::path::PathBuf;
+
+fn file(name: &str) -> Vec<u8> {
+    let path = PathBuf::from(env!("CARGO_MANIFEST_DIR"))
+        .join("../../crates")
+        .join(name);
+    std::fs::read(path).expect("a file of the repository")
+}
+
+fn small() -> Object {
+    Object::open(&file("ebpf_link/data/call.o")).expect("an object")
+}
+
+#[test]
+fn programs_are_joined() {
+    let mut object = small();
+    let copy = object.try_clone().expect("a copy");
+    assert_eq!(object.slots("p").expect("slots").len(), 2);
+    object.relocate_calls().expect("joined");
+    let slots = object.slots("p").expect("slots");
+    assert_eq!((slots.len(), slots[0].imm), (3, 1));
+    assert_eq!(copy.slots("p").expect("slots").len(), 2);
+    assert_eq!(object.programs().expect("programs")[0].slots, 3);
+}
+
+#[test]
+fn one_call_does_all() {
+    let target = Target {
+        maps: &[("none", 7)],
+        ..Target::default()
+    };
+    let object = Object::prepare(&file("ebpf_link/data/call.o"), &target).expect("prepared");
+    assert_eq!(object.slots("p").expect("slots").len(), 3);
+    assert_eq!(object.license().expect("a license"), b"GPL");
+}
+
+#[test]
+fn maps_are_listed_and_described() {
+    let mut object = Object::open(&file("ebpf_rows/data/counter.o")).expect("an object");
+    let maps = object.maps().expect("maps");
+    let names: Vec<&str> = maps.iter().map(|map| map.name.as_str()).collect();
+    assert_eq!(names, [".bss", ".rodata", "counts", "tables"]);
+    assert_eq!(maps[2].shape.max_entries, 64);
+    assert!(maps[3].inner.is_some());
+    let sections = object.sections().expect("sections");
+    assert!(sections
+        .iter()
+        .any(|section| section.name == "xdp" && section.number == 6));
+    object
+        .set_value("wanted", &42u32.to_le_bytes(), true)
+        .expect("a variable");
+    assert_eq!(object.map_data(".rodata").expect("data"), [42, 0, 0, 0]);
+    object
+        .relocate_maps(&[("counts", 5), (".bss", 6), (".rodata", 7), ("tables", 8)])
+        .expect("described");
+    assert_eq!(
+        object
+            .slots("on_packet")
+            .expect("slots")
+            .iter()
+            .filter(|slot| slot.imm == 8)
+            .count(),
+        1
+    );
+}
+
+#[test]
+fn refusals_have_names() {
+    let refused = Object::open(b"no object").err().expect("a refusal");
+    assert!(matches!(&refused, Error::Parse(refusal) if refusal.number == 100 && refusal.about.is_none()));
+    let mut object = small();
+    assert_eq!(object.slots("q"), Err(Error::NoProgram));
+    assert_eq!(object.set_max_entries("m", 1), Err(Error::NoMap));
+    let refused = object.set_value("none", &[1], true).expect_err("no variable");
+    assert!(matches!(&refused, Error::Parse(refusal) if refusal.about.as_deref() == Some("none")));
+    assert!(!refused.to_string().is_empty());
+}

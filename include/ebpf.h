@@ -1,0 +1,454 @@
+/*
+ * eBPF object files made ready to load: the C interface of ebpf-object.
+ *
+ * Link libebpf.a, which has the library and the functions by which it takes memory (scripts/c_interface.sh builds
+ * it). docs/C.md goes from a file to a running program.
+ *
+ * What a caller upholds, in one place. No call checks these, and no call asks for more:
+ *  - Each pointer is non-null and aligned for its type, also where its count is 0 (any address of the caller's own
+ *    serves), and its count is no greater than what lies there.
+ *  - What a call may write (each pointer without const) overlaps nothing else that the call is given, and no other
+ *    thread touches it during the call. What is const does not change during the call.
+ *  - What lies behind each pointer is initialised, also where the call writes it (calloc, or = {0}).
+ *  - A handle is all zero (EBPF_CLOSED_HANDLE), which is closed, or holds what a call left in it. It is moved and
+ *    never copied: of two copies of an open one, one alone is used from then on. It stays on the thread that opened
+ *    it, and one call at a time uses it. ebpf_close is what frees it.
+ *  - malloc, realloc and free are of one allocator and align as the C standard says. No call is made from a signal
+ *    handler, nor in the child that a process with threads forked.
+ * Beyond these anything may be passed: any bytes as a file, types, symbols, names or values, a handle that is closed,
+ * any numbers.
+ *
+ * What a call answers is its number. 0 (EBPF_DONE): all is done and written, exactly as the call's text says. Any
+ * other number: handles and buffers are as they were, but for what is said here of counts and of `about`.
+ *
+ * Counts: where the answer is 0 or 1 (EBPF_ROOM), a call's counts (*len, *count, *counts) say how much there is, and
+ * so how much room is needed. With any other number they are as they were.
+ *
+ * about: a call that can refuse by a name has `char *about, size_t about_room, size_t *about_len`. Where it answers
+ * another number than 0, the name of the function, the program, the map, the section, the symbol or the variable that
+ * the refusal is about stands at the front of about, cut to about_room, and *about_len says how many of its bytes stand
+ * there: 0 where it is about none. With the number 0 both are as they were.
+ *
+ * Texts are UTF-8 with a length. Names are compared byte by byte. Lists are in byte order of their names. Each call
+ * that writes into a buffer writes to its front and leaves the rest.
+ */
+#ifndef EBPF_H
+#define EBPF_H
+
+#include <stddef.h>
+#include <stdint.h>
+
+#ifdef __cplusplus
+extern "C" {
+#endif
+
+/* ---- numbers of answers; they stay as they are, and new ones get numbers that were free */
+
+enum ebpf_number {
+	EBPF_DONE = 0,
+	EBPF_ROOM = 1,	     /* a buffer is too small; the counts say how much is needed */
+	EBPF_MEMORY = 2,     /* no memory was found */
+	EBPF_CLOSED = 3,     /* the handle is closed */
+	EBPF_NO_PROGRAM = 4, /* no program has the name */
+	EBPF_NO_MAP = 5,     /* no map has the name */
+	EBPF_BAD_NAME = 6,   /* a name that is given is no UTF-8, or a row's name is not inside the text beside it */
+
+	/* 100 to 199: the file can't be parsed, or an object can't be changed by values */
+	EBPF_PARSE_FILE = 100,	  /* + ebpf_file_fault: the file is no ELF64 object */
+	EBPF_PARSE_SECTION = 110, /* + ebpf_file_fault: a section can't be read */
+	EBPF_PARSE_TYPES = 120,	  /* + ebpf_type_fault: the object's own types can't be read */
+	EBPF_PARSE_LICENSE_NOT_TERMINATED = 140,
+	EBPF_PARSE_LICENSE = 141,
+	EBPF_PARSE_KERNEL_VERSION = 142,
+	EBPF_PARSE_RELOCATION_TARGET = 143, /* a relocation without a target */
+	EBPF_PARSE_PROGRAM_SECTION = 144,   /* about the section */
+	EBPF_PARSE_PROGRAM_CODE = 145,
+	EBPF_PARSE_MAP_DEFINITION = 146, /* about the map */
+	EBPF_PARSE_SYMBOL_CONFLICT = 147,
+	EBPF_PARSE_UNKNOWN_SYMBOL = 148,
+	EBPF_PARSE_INVALID_SYMBOL = 149, /* about the symbol, where it has a name */
+	EBPF_PARSE_GLOBAL_DATA = 150,	 /* about the variable: its value has another size, or passes its map's data */
+	EBPF_PARSE_SYMBOL_NOT_FOUND = 151, /* about the variable */
+	EBPF_PARSE_MAP_NOT_FOUND = 152,
+	EBPF_PARSE_MAP_SYMBOL_NAME = 153, /* kept, never answered */
+	EBPF_PARSE_NO_SYMBOLS = 154,	  /* about the section */
+	EBPF_PARSE_NO_TYPES = 155,
+
+	/* 200 to 299: types. About the section, from 220 on */
+	EBPF_TYPES_READ = 200,	/* + ebpf_type_fault: the kernel's types can't be read */
+	EBPF_TYPES_FAULT = 220, /* + ebpf_type_fault: a type that a record needs can't be read */
+	EBPF_TYPES_SECTION_NOT_FOUND = 240,
+	EBPF_TYPES_FUNCTION_NOT_FOUND = 241,
+	EBPF_TYPES_ACCESS_STRING = 242,
+	EBPF_TYPES_INSTRUCTION_INDEX = 243,
+	EBPF_TYPES_CONFLICTING_CANDIDATES = 244,
+	EBPF_TYPES_NESTING = 245,
+	EBPF_TYPES_ACCESS_INDEX = 246,
+	EBPF_TYPES_KIND_FOR_TYPE = 247,
+	EBPF_TYPES_INSTRUCTION = 248,
+	EBPF_TYPES_NO_TARGET = 249, /* kept, never answered */
+
+	/* 300 to 399: descriptors of maps. About the function */
+	EBPF_MAPS = 300, /* + ebpf_slot_fault */
+
+	/* 400 to 499: finding externs. About the extern, where one is named */
+	EBPF_KSYMS_NO_KERNEL_TYPES = 400,
+	EBPF_KSYMS_VARIABLE_NOT_FOUND = 401,
+	EBPF_KSYMS_FUNCTION_SIGNATURE = 402,
+	EBPF_KSYMS_VARIABLE_TYPE = 403,
+	EBPF_KSYMS_EXTERN_TYPE = 404,
+	EBPF_KSYMS_AMBIGUOUS = 405,
+	EBPF_KSYMS_LINE_ACCESS = 406, /* a line is no UTF-8 */
+	EBPF_KSYMS_LINE = 407,	      /* about what is wrong with the line */
+	EBPF_KSYMS_FUNCTION_NOT_FOUND = 408,
+	EBPF_KSYMS_TYPES = 420, /* + ebpf_type_fault */
+
+	/* 500 to 599: writing externs. About the function */
+	EBPF_EXTERNS = 500, /* + ebpf_slot_fault */
+
+	/* 600 to 699: joining programs with the functions that they reach. About the program */
+	EBPF_CALLS = 600, /* + ebpf_slot_fault */
+};
+
+/* why a file, or a part of it, can't be read */
+enum ebpf_file_fault {
+	EBPF_FILE_TOO_SHORT = 0,
+	EBPF_FILE_MAGIC = 1,
+	EBPF_FILE_NOT_64_BIT = 2,
+	EBPF_FILE_BYTE_ORDER = 3,
+	EBPF_FILE_SECTION_TABLE = 4,
+	EBPF_FILE_SECTION_RANGE = 5,
+	EBPF_FILE_STRING_TABLE = 6,
+	EBPF_FILE_SYMBOL_TABLE = 7,
+	EBPF_FILE_RELOCATION_TABLE = 8,
+	EBPF_FILE_EXTENDED_NUMBERING = 9,
+};
+
+/* why types can't be read */
+enum ebpf_type_fault {
+	EBPF_TYPE_HEADER = 0,
+	EBPF_TYPE_INFO = 1,
+	EBPF_TYPE_EXT_INFO = 2,
+	EBPF_TYPE_STRING_OFFSET = 3,
+	EBPF_TYPE_RELOCATION_KIND = 4,
+	EBPF_TYPE_UNEXPECTED = 5,
+	EBPF_TYPE_UNKNOWN = 6,
+	EBPF_TYPE_UNKNOWN_NAME = 7,
+	EBPF_TYPE_DEPTH = 8,
+	EBPF_TYPE_DATASEC = 9,
+	EBPF_TYPE_SYMBOL_NAME = 10,
+	EBPF_TYPE_INNER_PINNED = 11,
+	EBPF_TYPE_MULTI_LEVEL = 12,
+	EBPF_TYPE_VALUES = 13,
+	EBPF_TYPE_TOO_LARGE = 14,
+};
+
+/* why slots can't be relocated */
+enum ebpf_slot_fault {
+	EBPF_SLOT_UNKNOWN_SYMBOL = 0,
+	EBPF_SLOT_SECTION_NOT_FOUND = 1, /* no map has the symbol or its section */
+	EBPF_SLOT_UNKNOWN_FUNCTION = 2,
+	EBPF_SLOT_FUNCTION_INFO = 3,
+	EBPF_SLOT_UNKNOWN_PROGRAM = 4,
+	EBPF_SLOT_OFFSET = 5,
+	EBPF_SLOT_EXTERN_NOT_FOUND = 6,
+	EBPF_SLOT_UNRESOLVED = 7,
+	EBPF_SLOT_TEXT_SYMBOL = 8,
+	EBPF_SLOT_LINE_INFO = 9,
+	EBPF_SLOT_TOO_LONG = 10,
+	EBPF_SLOT_MAP_ADDRESS = 11,
+};
+
+/*
+ * The name of a number, as "parse: BadMagic": the stage and the fault. It is empty where no call answers the number.
+ * 64 bytes hold each. Numbers: 1.
+ */
+uint32_t ebpf_number_name(uint32_t number, char *text, size_t room, size_t *len);
+
+/* ---- handles */
+
+struct ebpf_handle {
+	void *at; /* the library's */
+};
+
+#define EBPF_CLOSED_HANDLE { 0 }
+
+/*
+ * Opens the object of a file. An object that the handle held before is closed where the answer is 0.
+ * Numbers: 2, 100 to 199.
+ */
+uint32_t ebpf_open(const uint8_t *file, size_t file_len, struct ebpf_handle *handle, char *about, size_t about_room,
+		   size_t *about_len);
+
+/* Makes `copy` hold a copy of what `handle` holds; what `copy` held before is closed. Numbers: 2, 3. */
+uint32_t ebpf_clone(struct ebpf_handle *handle, struct ebpf_handle *copy);
+
+/* Frees what the handle holds, and leaves it closed. A closed one stays so. */
+void ebpf_close(struct ebpf_handle *handle);
+
+/* ---- what an object has */
+
+struct ebpf_info {
+	uint32_t is_big_endian;	     /* 1 or 0: the byte order of the file */
+	uint32_t has_kernel_version; /* 1 or 0 */
+	uint32_t kernel_version;     /* 0 where the file states none */
+	uint32_t has_types;	     /* 1 or 0: whether the file has .BTF */
+	uint32_t has_relocations;    /* 1 or 0: whether it has CO-RE relocations */
+	uint32_t has_typed_externs;  /* 1 or 0: whether some extern's type is compared with the kernel's */
+};
+
+/* Numbers: 3. */
+uint32_t ebpf_info(struct ebpf_handle *handle, struct ebpf_info *info);
+
+/* The license, without its zero byte. *len is its length. Numbers: 1, 3. */
+uint32_t ebpf_license(struct ebpf_handle *handle, char *text, size_t room, size_t *len);
+
+/*
+ * How many rows a list has, and how many bytes its text. In the text stand the names one after the other, each with a
+ * zero byte behind it that name_len does not count: text + row.name_at is a C string.
+ */
+struct ebpf_counts {
+	size_t rows;
+	size_t text;
+};
+
+/* what a program's section name says, in the order of the library's list */
+enum ebpf_program_kind {
+	EBPF_KIND_KRETPROBE = 0,
+	EBPF_KIND_KPROBE = 1,
+	EBPF_KIND_UPROBE = 2,
+	EBPF_KIND_URETPROBE = 3,
+	EBPF_KIND_TRACEPOINT = 4,
+	EBPF_KIND_SOCKET_FILTER = 5,
+	EBPF_KIND_XDP = 6,
+	EBPF_KIND_SK_MSG = 7,
+	EBPF_KIND_SK_SKB = 8,
+	EBPF_KIND_SOCK_OPS = 9,
+	EBPF_KIND_SCHED_CLS = 10,
+	EBPF_KIND_CGROUP_SKB = 11,
+	EBPF_KIND_CGROUP_SOCK_ADDR = 12,
+	EBPF_KIND_CGROUP_SYSCTL = 13,
+	EBPF_KIND_CGROUP_SOCKOPT = 14,
+	EBPF_KIND_LIRC_MODE2 = 15,
+	EBPF_KIND_PERF_EVENT = 16,
+	EBPF_KIND_RAW_TRACEPOINT = 17,
+	EBPF_KIND_LSM = 18,
+	EBPF_KIND_LSM_CGROUP = 19,
+	EBPF_KIND_BTF_TRACEPOINT = 20,
+	EBPF_KIND_FENTRY = 21,
+	EBPF_KIND_FEXIT = 22,
+	EBPF_KIND_FLOW_DISSECTOR = 23,
+	EBPF_KIND_EXTENSION = 24,
+	EBPF_KIND_SK_LOOKUP = 25,
+	EBPF_KIND_SK_REUSEPORT = 26,
+	EBPF_KIND_CGROUP_SOCK = 27,
+	EBPF_KIND_CGROUP_DEVICE = 28,
+	EBPF_KIND_ITER = 29,
+};
+
+/* flags of a program */
+enum ebpf_program_flag {
+	EBPF_SLEEPABLE = 1,
+	EBPF_MULTI = 2,
+	EBPF_FRAGS = 4,
+};
+
+/* in the place of an attach type: a program of the kind is loaded with none (0 for BPF_PROG_LOAD) */
+#define EBPF_NO_ATTACH_TYPE 0xffffffffu
+
+struct ebpf_program {
+	size_t name_at, name_len; /* its name's place in the text */
+	size_t section;		  /* the number of its section */
+	uint64_t address;	  /* its address there, as its symbol states it */
+	size_t slots;		  /* how many slots it has as it stands, joined or not */
+	uint32_t kind;		  /* enum ebpf_program_kind */
+	uint32_t flags;		  /* of enum ebpf_program_flag, added up */
+	uint32_t program_type;	  /* the kernel's enum bpf_prog_type for the kind */
+	uint32_t attach_type;	  /* the kernel's enum bpf_attach_type for the kind, else EBPF_NO_ATTACH_TYPE */
+};
+
+/* Lists the programs: a row each, their names one after the other in text. Numbers: 1, 2, 3. */
+uint32_t ebpf_programs(struct ebpf_handle *handle, struct ebpf_program *rows, size_t rows_room, char *text,
+		       size_t text_room, struct ebpf_counts *counts);
+
+/* what the section that declares a map is for */
+enum ebpf_section_kind {
+	EBPF_SECTION_NONE = 0,
+	EBPF_SECTION_MAPS = 1,
+	EBPF_SECTION_BTF_MAPS = 2,
+	EBPF_SECTION_DATA = 4,
+	EBPF_SECTION_RODATA = 5,
+	EBPF_SECTION_BSS = 6,
+};
+
+/* what is said of a map; each number as BPF_MAP_CREATE takes it */
+struct ebpf_map_shape {
+	uint64_t extra;
+	uint32_t type;
+	uint32_t key_size;
+	uint32_t value_size;
+	uint32_t max_entries;
+	uint32_t flags;
+	uint32_t pinning;	/* 1: by name; 0: not */
+	uint32_t key_type_id;	/* 0: none */
+	uint32_t value_type_id; /* 0: none */
+};
+
+struct ebpf_map {
+	size_t name_at, name_len; /* its name's place in the text */
+	size_t section;		  /* the number of its section */
+	size_t data_len;	  /* how many bytes of data it begins with */
+	uint32_t section_kind;	  /* enum ebpf_section_kind */
+	uint32_t has_inner;	  /* 1 or 0: whether `inner` says something */
+	struct ebpf_map_shape shape;
+	struct ebpf_map_shape inner; /* of the maps that a map of maps holds; all zero where there are none */
+};
+
+/* Lists the maps: a row each, their names one after the other in text. Numbers: 1, 2, 3. */
+uint32_t ebpf_maps(struct ebpf_handle *handle, struct ebpf_map *rows, size_t rows_room, char *text, size_t text_room,
+		   struct ebpf_counts *counts);
+
+/* The data that a map begins with. *len is its length. Numbers: 1, 3, 5. */
+uint32_t ebpf_map_data(struct ebpf_handle *handle, const char *name, size_t name_len, uint8_t *data, size_t room,
+		       size_t *len);
+
+struct ebpf_extern {
+	size_t name_at, name_len; /* its name's place in the text */
+	uint64_t address;	  /* in the kernel; 0 where it is not known */
+	uint32_t type_id;	  /* in the object's types */
+	uint32_t kernel_type_id;  /* in the kernel's types; 0 where it is not known */
+	uint32_t is_typed;	  /* 1 or 0: whether the kernel's type is compared with its own */
+	uint32_t is_weak;	  /* 1 or 0: whether it may stay unresolved */
+	uint32_t is_resolved;	  /* 1 or 0: whether the kernel has it */
+	uint32_t has_address;	  /* 1 or 0: whether `address` is known */
+};
+
+/* Lists the externs: a row each, their names one after the other in text. Numbers: 1, 2, 3. */
+uint32_t ebpf_externs(struct ebpf_handle *handle, struct ebpf_extern *rows, size_t rows_room, char *text,
+		      size_t text_room, struct ebpf_counts *counts);
+
+struct ebpf_section {
+	size_t name_at, name_len; /* its name's place in the text */
+	size_t number;
+};
+
+/*
+ * Lists the named sections of the file: a row each, their names one after the other in text. A program's section tells
+ * by its name what it is attached to. Of two sections with one name the later one is listed. Numbers: 1, 2, 3.
+ */
+uint32_t ebpf_sections(struct ebpf_handle *handle, struct ebpf_section *rows, size_t rows_room, char *text,
+		       size_t text_room, struct ebpf_counts *counts);
+
+/*
+ * ---- what a loader hands to the kernel, laid out as its own structs
+ *
+ * The object's own types are read and never written as bytes, so no call gives a .BTF: a loader that hands the kernel
+ * records on functions and lines takes the section from the file, and completes its data sections.
+ */
+
+/* struct bpf_insn */
+struct ebpf_insn {
+	uint8_t code;
+	uint8_t regs; /* the destination in the low four bits, the source in the high four */
+	int16_t off;
+	int32_t imm;
+};
+
+/* struct bpf_func_info; the place is counted in slots, as BPF_PROG_LOAD takes it */
+struct ebpf_func_info {
+	uint32_t insn_off;
+	uint32_t type_id;
+};
+
+/* struct bpf_line_info; the place is counted in slots, as BPF_PROG_LOAD takes it */
+struct ebpf_line_info {
+	uint32_t insn_off;
+	uint32_t file_name_off;
+	uint32_t line_off;
+	uint32_t line_col;
+};
+
+/* The slots of a program as they stand. *count is how many. Numbers: 1, 3, 4. */
+uint32_t ebpf_slots(struct ebpf_handle *handle, const char *name, size_t name_len, struct ebpf_insn *slots,
+		    size_t room, size_t *count);
+
+/* What is said of a program's functions, by slot. *count is how many. Numbers: 1, 3, 4. */
+uint32_t ebpf_func_infos(struct ebpf_handle *handle, const char *name, size_t name_len, struct ebpf_func_info *rows,
+			 size_t room, size_t *count);
+
+/* What is said of a program's lines, by slot. *count is how many. Numbers: 1, 3, 4. */
+uint32_t ebpf_line_infos(struct ebpf_handle *handle, const char *name, size_t name_len, struct ebpf_line_info *rows,
+			 size_t room, size_t *count);
+
+/* ---- what is done to an object, before and beside its relocation */
+
+/*
+ * Writes the value of a variable into the data of the map that holds it. Of symbols with the name the one with the
+ * greatest number counts. Where there is none, `must_exist` 0 leaves all as it is, with the number 0.
+ * Numbers: 2, 3, 6, 150 to 152.
+ */
+uint32_t ebpf_set_value(struct ebpf_handle *handle, const char *name, size_t name_len, const uint8_t *value,
+			size_t value_len, uint32_t must_exist, char *about, size_t about_room, size_t *about_len);
+
+/* Sets how many entries a map holds at most. Numbers: 3, 5. */
+uint32_t ebpf_set_max_entries(struct ebpf_handle *handle, const char *name, size_t name_len, uint32_t entries);
+
+/* Sets the size of a map's values, in bytes. Numbers: 3, 5. */
+uint32_t ebpf_set_value_size(struct ebpf_handle *handle, const char *name, size_t name_len, uint32_t size);
+
+/*
+ * Where has_newer is 0: puts the helper function 4 (probe_read) in the place of 112 and 113 (probe_read_user,
+ * probe_read_kernel), and 45 (probe_read_str) in that of 114 and 115, in every function. Numbers: 3.
+ */
+uint32_t ebpf_sanitize(struct ebpf_handle *handle, uint32_t has_newer);
+
+/* ---- relocation, a pass at a time, in this order */
+
+/*
+ * A map's name, a place in the text that is given beside the rows, and its descriptor. A name that the object lacks
+ * is passed over; of two maps that share a symbol or a section the later row counts.
+ */
+struct ebpf_descriptor {
+	size_t name_at, name_len;
+	int32_t descriptor;
+};
+
+/*
+ * Adapts the functions to a kernel whose types are given, as raw BTF in the byte order that its magic number tells.
+ * Numbers: 2, 3, 200 to 299.
+ */
+uint32_t ebpf_relocate_types(struct ebpf_handle *handle, const uint8_t *types, size_t types_len, char *about,
+			     size_t about_room, size_t *about_len);
+
+/* Writes descriptors of maps into the slots that refer to them. Numbers: 2, 3, 6, 300 to 399. */
+uint32_t ebpf_relocate_maps(struct ebpf_handle *handle, const struct ebpf_descriptor *rows, size_t rows_len,
+			    const char *text, size_t text_len, char *about, size_t about_room, size_t *about_len);
+
+/*
+ * Finds the externs in a kernel's types and in its symbols, which are given as the text of /proc/kallsyms. Types of
+ * length 0 are none. Numbers: 2, 3, 200 to 219, 400 to 499.
+ */
+uint32_t ebpf_resolve_externs(struct ebpf_handle *handle, const uint8_t *types, size_t types_len,
+			      const uint8_t *symbols, size_t symbols_len, char *about, size_t about_room,
+			      size_t *about_len);
+
+/* Writes what is known of the externs into the slots that refer to them. Numbers: 2, 3, 500 to 599. */
+uint32_t ebpf_relocate_externs(struct ebpf_handle *handle, char *about, size_t about_room, size_t *about_len);
+
+/* Joins each program with the functions that it reaches. Numbers: 2, 3, 600 to 699. */
+uint32_t ebpf_relocate_calls(struct ebpf_handle *handle, char *about, size_t about_room, size_t *about_len);
+
+/*
+ * Opens the object of a file and runs all of these passes over it. Where types_len is 0, functions are not adapted
+ * and externs are sought in the symbols alone. An object that the handle held before is closed where the answer is 0.
+ * The types are read before the file. Numbers: 2, 6, 100 to 199, 200 to 299, .., 600 to 699.
+ */
+uint32_t ebpf_prepare(const uint8_t *file, size_t file_len, const uint8_t *types, size_t types_len,
+		      const struct ebpf_descriptor *rows, size_t rows_len, const char *text, size_t text_len,
+		      const uint8_t *symbols, size_t symbols_len, struct ebpf_handle *handle, char *about,
+		      size_t about_room, size_t *about_len);
+
+#ifdef __cplusplus
+}
+#endif
+#endif

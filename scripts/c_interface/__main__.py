@@ -1,0 +1,125 @@
+"""Runs what is asked of the C interface; c_interface.sh says how it is called."""
+import multiprocessing
+import os
+import sys
+from pathlib import Path
+
+import make_rows
+from c_interface import builds, examples, growth_rows, more_rows, rows_of_objects
+from c_interface.runs import Files, run
+from growths.inputs import COUNTER, KERNEL, LINES, REFERENCES, SMALL
+from growths.run import Runner
+from rows import core_limits, printed
+
+# How many faults of a part are printed.
+SHOWN = 20
+
+HELD = {}
+
+
+class Count:
+    """How many passed, and the faults of the others."""
+
+    def __init__(self):
+        self.passed = self.failed = 0
+        self.of_parts = {}
+
+    def add(self, part, name, fault, times=1):
+        if fault is None:
+            self.passed += times
+            return
+        self.failed += 1
+        self.of_parts[part] = self.of_parts.get(part, 0) + 1
+        if self.of_parts[part] <= SHOWN:
+            print(f"FAILED {part}: {name}: {fault}", flush=True)
+
+
+def all_rows():
+    objects = make_rows.cases_of(make_rows.OBJECTS)
+    core = make_rows.cases_of(make_rows.CORE)
+    limits = core_limits.cases()
+    for held in (objects, core, limits):
+        printed.add_to(held)
+    rows = [row for case in [*objects, *core, *limits] for row in rows_of_objects.rows_of(case)]
+    return rows + more_rows.rows()
+
+
+def begin(folder):
+    """Each process has files and a runner of its own."""
+    HELD["files"] = Files(folder)
+    HELD["runner"] = Runner(folder)
+
+
+def judge_calls(pair):
+    """The program and the number of a row."""
+    program, number = pair
+    row = HELD["rows"][number]
+    return program.name, row.fault(program, HELD["files"])
+
+
+def judge_growths(number):
+    return HELD["growths"][number].judge(HELD["runner"])
+
+
+def said_of_bounds(program, folder):
+    """What `bounds` says, as (passed, fault)."""
+    files = Files(folder)
+    words = [str(program), *(files.path(data) for data in (SMALL, COUNTER, REFERENCES, KERNEL, LINES))]
+    status, lines, err = run(words)
+    counts = lines[-1].split() if lines else []
+    if status == 0 and not err and counts[1:3] == ["passed,", "0"]:
+        return int(counts[0]), None
+    return 0, f"status {status}, {lines[-12:]}, {err[:1500]}"
+
+
+def of_calls(folder, count, made):
+    """The rows by each compiler's program, the growths by the first."""
+    names = [f"calls-{compiler}" for compiler in builds.compilers()]
+    names.append(f"calls-{builds.compilers()[0]}-sanitized")
+    HELD["rows"] = all_rows()
+    HELD["growths"] = growth_rows.rows(made[names[0]].path)
+    pairs = [(made[name].path, number) for name in names for number in range(len(HELD["rows"]))]
+    with multiprocessing.Pool(os.cpu_count(), begin, [folder]) as pool:
+        for name, fault in pool.imap(judge_calls, pairs, 16):
+            count.add("rows", name, fault)
+        for tally in pool.imap(judge_growths, range(len(HELD["growths"]))):
+            count.add("growths", tally.row, None, tally.passed)
+            for fault in tally.faults:
+                count.add("growths", tally.row, fault)
+
+
+def of_kernel(folder, count, made):
+    """The loader, where the kernel lets it."""
+    why = examples.is_allowed(made[f"loader-{builds.compilers()[0]}"].path, folder)
+    if why:
+        print(f"nothing is loaded into the kernel here: {why}")
+        return
+    for name in [name for name in made if name.startswith("loader")]:
+        for what, fault in examples.loads(made[name].path, folder):
+            count.add("the kernel", what, fault)
+
+
+def main(folder, library, words):
+    count, made = Count(), {}
+    for what, fault in builds.header_faults():
+        count.add("the header", what, fault)
+    for build in builds.programs(folder, library):
+        count.add("builds", build.name, build.fault)
+        made[build.path.name] = build
+    if count.failed:
+        print(f"{count.passed} passed, {count.failed} failed")
+        return 1
+    for name in [name for name in made if name.startswith("bounds")]:
+        passed, fault = said_of_bounds(made[name].path, folder)
+        count.add("bounds", name, fault, passed)
+    of_calls(folder, count, made)
+    for what, fault in [*examples.rust(folder, library), *examples.python(folder, library)]:
+        count.add("examples", what, fault)
+    if "--no-kernel" not in words:
+        of_kernel(folder, count, made)
+    print(f"{count.passed} passed, {count.failed} failed")
+    return 1 if count.failed else 0
+
+
+if __name__ == "__main__":
+    sys.exit(main(Path(sys.argv[1]), Path(sys.argv[2]), sys.argv[3:]))

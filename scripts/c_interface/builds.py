@@ -1,0 +1,73 @@
+"""Builds the test programs and the examples with each compiler that is there."""
+import re
+import shutil
+import subprocess
+from pathlib import Path
+
+TOP = Path(__file__).parents[2]
+HERE = Path(__file__).parent
+EXAMPLES = TOP / "examples"
+
+STRICT = ["-std=c11", "-Wall", "-Wextra", "-Werror", f"-I{TOP / 'include'}"]
+
+# The library is not built with the sanitizers, so they see the test programs, and each block that the library takes.
+SANITIZED = ["-g", "-fsanitize=address,undefined", "-fno-sanitize-recover=all"]
+
+# Programs with their sources.
+PROGRAMS = {
+    "calls": [HERE / "calls.c", HERE / "listed.c"],
+    "bounds": [HERE / "bounds.c", HERE / "listed.c"],
+    "loader": [EXAMPLES / "loader.c"],
+}
+
+
+class Build:
+    """A program that was built, or what was said instead."""
+
+    def __init__(self, name, path, fault):
+        self.name, self.path, self.fault = name, path, fault
+
+
+def compilers():
+    """The C compilers that are there."""
+    return [name for name in ("gcc", "clang") if shutil.which(name)]
+
+
+def compiled(folder, name, compiler, flags, sources, library):
+    path = folder / name
+    words = [compiler, *STRICT, *flags, *map(str, sources), str(library), "-o", str(path), "-lpthread"]
+    done = subprocess.run(words, capture_output=True, text=True)
+    return Build(f"{name} by {compiler}", path, done.stderr[:2000] if done.returncode else None)
+
+
+def programs(folder, library):
+    """Each program by each compiler, as it is shipped and with the sanitizers."""
+    for compiler in compilers():
+        for name, sources in PROGRAMS.items():
+            yield compiled(folder, f"{name}-{compiler}", compiler, ["-O2"], sources, library)
+            yield compiled(folder, f"{name}-{compiler}-sanitized", compiler, ["-O1", *SANITIZED], sources, library)
+
+
+def numbers_of_header():
+    """The numbers that the header states, each with its fault where it is the first of some."""
+    text = (TOP / "include/ebpf.h").read_text()
+    enums = dict(re.findall(r"enum (ebpf_\w+) \{(.*?)\n\};", text, re.DOTALL))
+    faults = {name: len(re.findall(r"EBPF_\w+ = \d+", body)) for name, body in enums.items()}
+    found = set()
+    for first, fault in re.findall(r"EBPF_\w+ = (\d+),\s*(?:/\* \+ (ebpf_\w+))?", enums["ebpf_number"]):
+        found |= set(range(int(first), int(first) + faults.get(fault, 1)))
+    return found
+
+
+def header_faults():
+    """What is wrong with the header alone, as C99, as C11 and as C++."""
+    header = TOP / "include/ebpf.h"
+    readings = [("c", "c99"), ("c", "c11"), ("c++", "c++11")]
+    for compiler in compilers():
+        for language, standard in readings:
+            words = [compiler, "-x", language, f"-std={standard}", "-Wall", "-Wextra", "-pedantic", "-Werror"]
+            done = subprocess.run([*words, "-fsyntax-only", str(header)], capture_output=True, text=True)
+            # a compiler without C++ says so of its own program
+            if language == "c++" and ("cc1plus" in done.stderr or "cannot find" in done.stderr):
+                continue
+            yield f"{compiler}, {standard}", done.stderr[:2000] if done.returncode else None

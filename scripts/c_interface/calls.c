@@ -1,0 +1,284 @@
+/*
+ * Makes calls of the C interface one after the other on one handle, and prints what they answer.
+ *
+ * usage: calls [-m] OBJECT TYPES SYMBOLS ACTION..      an empty file of types is none
+ *
+ * An action is a name, and words behind `=` with colons between them where it asks for some:
+ *	open prepare clone types maps maps=NAME:N,.. resolve externs calls value=NAME:must|may:DIGITS entries=NAME:N
+ *	size=NAME:N sanitize=N               change what the handle holds, and print `NAME NUMBER ABOUT`
+ *	programs listed declared sections info slots records     list what it holds
+ *	ask=CALL ask=CALL:NAME               asks one of the calls that list, with ample room, and prints its number
+ *	names                                lists the numbers that have a name
+ * With -m the last action stands between the lines "== begin" and "== end" and its answer behind them; what the handle
+ * holds stands before, and behind where the number is not 0.
+ */
+#include "listed.h"
+#include "shared.h"
+#include <unistd.h>
+
+static struct bytes file, types, symbols;
+static struct ebpf_handle object = EBPF_CLOSED_HANDLE;
+static char about[128];
+static size_t about_len;
+
+/* The part of a word in front of a separator; the rest begins behind it. */
+static char *cut(char **rest, char separator)
+{
+	char *front = *rest, *end = front ? strchr(front, separator) : NULL;
+
+	*rest = end ? end + 1 : NULL;
+	if (end)
+		*end = 0;
+	return front;
+}
+
+/* Descriptors for the next call that takes some. */
+static struct {
+	struct ebpf_descriptor *rows;
+	char *text;
+	size_t count, text_len;
+} given;
+
+/* The maps NAME:N,.. as rows. */
+static void describe_words(char *rest)
+{
+	given.rows = zeros(strlen(rest), sizeof(*given.rows));
+	given.text = zeros(strlen(rest), 1);
+	while (rest) {
+		char *pair = cut(&rest, ','), *name = cut(&pair, ':');
+
+		given.rows[given.count++] =
+			(struct ebpf_descriptor){ given.text_len, strlen(name), (int32_t)strtol(pair, NULL, 0) };
+		memcpy(given.text + given.text_len, name, strlen(name));
+		given.text_len += strlen(name);
+	}
+}
+
+/* What a call of this name is to be given; else the object's own maps are 1, 2, .. in the order of the list. */
+static void describe(const char *name, char *rest)
+{
+	struct ebpf_handle held = EBPF_CLOSED_HANDLE;
+	int prepares = !strcmp(name, "prepare");
+
+	free(given.rows);
+	free(given.text);
+	memset(&given, 0, sizeof(given));
+	if (prepares)
+		ebpf_open(file.at, file.len, &held, about, sizeof(about), &about_len);
+	if (!strcmp(name, "maps") && rest)
+		describe_words(rest);
+	else if (prepares && held.at)
+		given.count = number_maps(&held, &given.rows, &given.text, &given.text_len);
+	else if (!prepares && object.at)
+		given.count = number_maps(&object, &given.rows, &given.text, &given.text_len);
+	if (!given.rows) {
+		given.rows = zeros(0, sizeof(*given.rows));
+		given.text = zeros(0, 1);
+	}
+	ebpf_close(&held);
+}
+
+static uint32_t set_value(char *rest)
+{
+	char *name = cut(&rest, ':'), *must = cut(&rest, ':');
+	uint8_t value[64] = { 0 };
+	size_t len = 0;
+
+	while (len < sizeof(value) && sscanf(rest + 2 * len, "%2hhx", &value[len]) == 1)
+		len++;
+	return ebpf_set_value(&object, name, strlen(name), value, len, !strcmp(must, "must"), about, sizeof(about),
+			      &about_len);
+}
+
+static uint32_t copy(void)
+{
+	struct ebpf_handle copied = EBPF_CLOSED_HANDLE;
+	uint32_t number = ebpf_clone(&object, &copied);
+
+	if (number == EBPF_DONE) {
+		ebpf_close(&object);
+		object = copied; /* moved */
+	}
+	return number;
+}
+
+static uint32_t change(const char *name, char *rest)
+{
+	char *map;
+
+	if (!strcmp(name, "open"))
+		return ebpf_open(file.at, file.len, &object, about, sizeof(about), &about_len);
+	if (!strcmp(name, "prepare"))
+		return ebpf_prepare(file.at, file.len, types.at, types.len, given.rows, given.count, given.text,
+				    given.text_len, symbols.at, symbols.len, &object, about, sizeof(about), &about_len);
+	if (!strcmp(name, "clone"))
+		return copy();
+	if (!strcmp(name, "types"))
+		return ebpf_relocate_types(&object, types.at, types.len, about, sizeof(about), &about_len);
+	if (!strcmp(name, "maps"))
+		return ebpf_relocate_maps(&object, given.rows, given.count, given.text, given.text_len, about,
+					  sizeof(about), &about_len);
+	if (!strcmp(name, "resolve"))
+		return ebpf_resolve_externs(&object, types.at, types.len, symbols.at, symbols.len, about, sizeof(about),
+					    &about_len);
+	if (!strcmp(name, "externs"))
+		return ebpf_relocate_externs(&object, about, sizeof(about), &about_len);
+	if (!strcmp(name, "calls"))
+		return ebpf_relocate_calls(&object, about, sizeof(about), &about_len);
+	if (!strcmp(name, "value"))
+		return set_value(rest);
+	if (!strcmp(name, "sanitize"))
+		return ebpf_sanitize(&object, (uint32_t)strtoul(rest, NULL, 0));
+	map = cut(&rest, ':');
+	if (!strcmp(name, "entries"))
+		return ebpf_set_max_entries(&object, map, strlen(map), (uint32_t)strtoul(rest, NULL, 0));
+	if (!strcmp(name, "size"))
+		return ebpf_set_value_size(&object, map, strlen(map), (uint32_t)strtoul(rest, NULL, 0));
+	errx(3, "no action %s", name);
+}
+
+#define ROOM 65536
+
+/* The number of a call that lists, with ample room; it leaves the room as it was where it refuses. */
+static uint32_t ask(char *rest)
+{
+	static _Alignas(16) uint8_t rows[ROOM], text[ROOM];
+	char *call = cut(&rest, ':'), *name = rest ? rest : "";
+	struct ebpf_counts counts = { 7, 7 };
+	size_t len = strlen(name), count = 7, row = ROOM / 128;
+	uint32_t number = 3;
+
+	memset(rows, 0x55, sizeof(rows));
+	memset(text, 0x55, sizeof(text));
+	if (!strcmp(call, "programs"))
+		number = ebpf_programs(&object, (void *)rows, row, (char *)text, ROOM, &counts);
+	if (!strcmp(call, "maps"))
+		number = ebpf_maps(&object, (void *)rows, row, (char *)text, ROOM, &counts);
+	if (!strcmp(call, "externs"))
+		number = ebpf_externs(&object, (void *)rows, row, (char *)text, ROOM, &counts);
+	if (!strcmp(call, "sections"))
+		number = ebpf_sections(&object, (void *)rows, row, (char *)text, ROOM, &counts);
+	if (!strcmp(call, "license"))
+		number = ebpf_license(&object, (char *)text, ROOM, &count);
+	if (!strcmp(call, "map_data"))
+		number = ebpf_map_data(&object, name, len, text, ROOM, &count);
+	if (!strcmp(call, "slots"))
+		number = ebpf_slots(&object, name, len, (void *)rows, row, &count);
+	if (!strcmp(call, "func_infos"))
+		number = ebpf_func_infos(&object, name, len, (void *)rows, row, &count);
+	if (!strcmp(call, "line_infos"))
+		number = ebpf_line_infos(&object, name, len, (void *)rows, row, &count);
+	for (size_t at = 0; number != EBPF_DONE && at < ROOM; at++)
+		if (rows[at] != 0x55 || text[at] != 0x55)
+			errx(3, "%s writes before it refuses", call);
+	if (number != EBPF_DONE && (count != 7 || counts.rows != 7 || counts.text != 7))
+		errx(3, "%s counts before it refuses", call);
+	return number;
+}
+
+static void put_names(void)
+{
+	for (uint32_t number = 0; number < 1000; number++) {
+		char name[64] = { 0 };
+		size_t len = 0;
+
+		if (ebpf_number_name(number, name, sizeof(name), &len) != EBPF_DONE)
+			errx(3, "the name of %u is long", number);
+		if (len)
+			printf("%u %.*s\n", number, (int)len, name);
+	}
+}
+
+static int lists(const char *name)
+{
+	if (!strcmp(name, "programs"))
+		put_programs(&object);
+	else if (!strcmp(name, "listed"))
+		put_maps(&object);
+	else if (!strcmp(name, "declared"))
+		put_externs(&object);
+	else if (!strcmp(name, "sections"))
+		put_sections(&object);
+	else if (!strcmp(name, "info"))
+		put_info(&object);
+	else if (!strcmp(name, "slots"))
+		put_slots(&object);
+	else if (!strcmp(name, "records"))
+		put_records(&object);
+	else if (!strcmp(name, "names"))
+		put_names();
+	else
+		return 0;
+	return 1;
+}
+
+static void put_all(void)
+{
+	if (!object.at) {
+		printf("closed\n");
+		return;
+	}
+	put_info(&object);
+	put_programs(&object);
+	put_maps(&object);
+	put_externs(&object);
+	put_sections(&object);
+	put_slots(&object);
+	put_records(&object);
+}
+
+static void mark(const char *line, int is_marked)
+{
+	fflush(stdout);
+	if (is_marked && write(1, line, strlen(line)) < 0)
+		err(3, "cannot write");
+}
+
+static void act(char *word, int is_marked)
+{
+	char *rest = word, *name = cut(&rest, '=');
+	uint32_t number;
+
+	if (lists(name))
+		return;
+	if (!strcmp(name, "maps") || !strcmp(name, "prepare"))
+		describe(name, rest);
+	if (is_marked) {
+		printf("before:\n");
+		put_all();
+	}
+	about_len = 0;
+	mark("== begin\n", is_marked);
+	number = strcmp(name, "ask") ? change(name, rest) : ask(rest);
+	mark("== end\n", is_marked);
+	printf("%s %u", is_marked ? "answer:" : name, number);
+	if (about_len)
+		printf(" %.*s", (int)about_len, about);
+	printf("\n");
+	if (is_marked && number != EBPF_DONE) {
+		printf("after:\n");
+		put_all();
+	}
+}
+
+int main(int words, char **word)
+{
+	int is_marked = words > 1 && !strcmp(word[1], "-m");
+
+	words -= is_marked;
+	word += is_marked;
+	if (words < 5)
+		errx(2, "usage: calls [-m] OBJECT TYPES SYMBOLS ACTION..");
+	file = read_file(word[1]);
+	types = read_file(word[2]);
+	symbols = read_file(word[3]);
+	for (int at = 4; at < words; at++)
+		act(word[at], is_marked && at == words - 1);
+	ebpf_close(&object);
+	free(given.rows);
+	free(given.text);
+	free(file.at);
+	free(types.at);
+	free(symbols.at);
+	return 0;
+}

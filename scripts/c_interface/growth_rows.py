@@ -1,0 +1,71 @@
+"""Calls of the C interface with each growth of memory refused in turn."""
+from growths import inputs
+from growths.call_row import Parts
+from growths.inputs import COUNTER, KERNEL, LINES, REFERENCES, SMALL, TASKS
+from growths.run import Row
+from rows.elf import File
+
+MEMORY = "2"
+
+# Calls that let std collect items.
+COLLECTING = ["open", "prepare", "types", "resolve"]
+
+ALL = REFERENCES, KERNEL, LINES
+
+
+class GrowthRow(Row):
+    """Actions of `calls` on files; the last is refused memory. With memory its answer is `answer`."""
+
+    def __init__(self, program, name, files, *actions, answer="0"):
+        super().__init__(f"growths: {name}", program, "-m", *files, *actions)
+        self.answer, self.last = answer, actions[-1].partition("=")[0]
+
+    def asks_again(self):
+        return self.last in COLLECTING
+
+    def ample_fault(self, ample):
+        parts = Parts(ample.out)
+        if ample.status != 0 or ample.err or not parts.is_whole or parts.answer != self.answer:
+            return f"status {ample.status}, {ample.err[:200]!r}, {parts.answer[:200]!r}"
+        return None
+
+    def refused_fault(self, ample, run):
+        parts, with_memory = Parts(run.out), Parts(ample.out)
+        if run.status != 0 or run.err or not parts.is_whole:
+            return f"status {run.status}, {run.err[:200]!r}, {run.out[-300:]!r}"
+        if parts.answer != MEMORY and (self.answer == "0" or parts.answer != self.answer):
+            return f"answers {parts.answer[:300]!r}"
+        if parts.front != with_memory.front:
+            return "another object before the call"
+        if parts.after != parts.before:
+            return "another object behind the call"
+        return None
+
+
+def rows(program):
+    two = inputs.two_calls()
+    no_kind = File().code("nothing/p", bytes(8)).symbol("p", 0x12, 3, 0, 8).bytes()
+    passes = ["open", "types", "maps", "resolve", "externs", "calls"]
+    opened = [("the small object", SMALL), ("two calls", two), ("counter.o", COUNTER), ("references.o", REFERENCES)]
+    value = "value=wanted:must:2a000000"
+    found = [GrowthRow(program, f"ebpf_open, {name}", (data, b"", b""), "open") for name, data in opened]
+    found += [GrowthRow(program, f"ebpf_clone, {name}", (data, b"", b""), "open", "clone") for name, data in opened]
+    found += [
+        GrowthRow(program, "ebpf_open, no kind", (no_kind, b"", b""), "open", answer="144 nothing/p"),
+        GrowthRow(program, "ebpf_open over another", (SMALL, b"", b""), "open", "open"),
+        GrowthRow(program, "ebpf_prepare, the small object", (SMALL, b"", b""), "prepare"),
+        GrowthRow(program, "ebpf_prepare, counter.o", (COUNTER, TASKS, b""), "prepare"),
+        GrowthRow(program, "ebpf_prepare, references.o", ALL, "prepare"),
+        GrowthRow(program, "ebpf_relocate_types, counter.o", (COUNTER, TASKS, b""), "open", "types"),
+        GrowthRow(program, "ebpf_set_value", (COUNTER, b"", b""), "open", value),
+        GrowthRow(program, "no variable", (COUNTER, b"", b""), "open", "value=no:must:2a", answer="151 no"),
+        GrowthRow(program, "ebpf_set_max_entries", (COUNTER, b"", b""), "open", "entries=counts:9"),
+        GrowthRow(program, "ebpf_set_value_size", (COUNTER, b"", b""), "open", "size=counts:9"),
+        GrowthRow(program, "ebpf_sanitize", (COUNTER, b"", b""), "open", "sanitize=0"),
+    ]
+    for count in range(3, 1 + len(passes)):
+        found.append(GrowthRow(program, f"{passes[count - 1]}, references.o", ALL, *passes[:count]))
+    asked = ["programs", "maps", "externs", "sections", "license", "map_data:.data", "slots:on_enter"]
+    for call in [*asked, "func_infos:on_enter", "line_infos:on_exit"]:
+        found.append(GrowthRow(program, f"ebpf_{call}, references.o", ALL, "open", f"ask={call}"))
+    return found

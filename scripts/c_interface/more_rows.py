@@ -1,0 +1,134 @@
+"""Rows of the C interface that the other test programs don't have as they are asked here."""
+from growths.inputs import COUNTER, KERNEL, LINES, REFERENCES, SMALL, TASKS
+from rows import values
+from rows.btf import btf, datasec, function, integer, prototype, struct_of, variable
+from rows.elf import CALL, CALL32, EXIT, FUNCTION, File, changed
+from rows.names import cases as cases_of_names
+from rows.resolved import GLOBAL, function_of, variable_of_void, with_extern
+
+from c_interface import builds
+from c_interface.kinds import numbers_of
+from c_interface.runs import CallsRow
+
+
+# Names of sections that are no programs' sections.
+OTHERS = ["", "license", ".text"]
+
+
+def kinds():
+    """A program in a section of each name that says a kind, and of names that say none."""
+    for case in cases_of_names():
+        for action, text in case.gives.items():
+            word, *rest = action.split(" ", 1)
+            name = rest[0] if rest else ""
+            if word != "kind" or name in OTHERS:
+                continue
+            files = File().code(name, EXIT).symbol("p", FUNCTION, 3, 0, 8).bytes(), b"", b""
+            if text.startswith("invalid program section"):
+                wanted = [f"open 144 {name}"]
+            else:
+                wanted = ["open 0", f"program p {numbers_of(text)} section 3 address 0"]
+            yield CallsRow(f"the section {name}", files, ["open", "programs"][: len(wanted)], wanted)
+
+
+def small_object():
+    """The small object's first bytes, and a byte of it changed: what reads them all says the same of each."""
+    data = SMALL.read_bytes()
+    for end in range(len(data)):
+        wanted = "open 100" if end < 64 else "open 104"
+        yield CallsRow(f"the first {end} bytes", (data[:end], b"", b""), ["open"], [wanted])
+    yield CallsRow("another class", (changed(data, 4, b"\1"), b"", b""), ["open"], ["open 102"])
+    yield CallsRow("another order", (changed(data, 5, b"\3"), b"", b""), ["open"], ["open 103"])
+    yield CallsRow("no magic number", (changed(data, 0, b"\0"), b"", b""), ["open"], ["open 101"])
+
+
+def numbers():
+    """Refusals of each stage that no other row has."""
+    typed, void = function_of("f", GLOBAL), variable_of_void("v")
+    struct = struct_of("s", 4, ("a", 1, 0))
+    held = with_extern("v", GLOBAL, integer("int", 4), struct, variable("v", 2), datasec(".ksyms", 3))
+    called = variable_of_void("v", slots=[CALL, EXIT], relocations=[(0, CALL32)])
+    other = btf(integer("int", 4), prototype(1), function("f", 2), variable("v", 1))
+    resolve, adapt = ["open", "resolve"], ["open", "types"]
+    other_value = ["open", "value=other:must:00000000"]
+    closed = ["calls", "ask=programs", "clone"]
+    return [
+        CallsRow("no types for a function", (typed, b"", b""), resolve, ["open 0", "resolve 400"]),
+        CallsRow("types that can't be read", (typed, b"types", b""), resolve, ["open 0", "resolve 200"]),
+        CallsRow("types to adapt by that can't be read", (SMALL, b"types", b""), adapt, ["open 0", "types 200"]),
+        CallsRow("no types to adapt by", (SMALL, b"", b""), adapt, ["open 0", "types 200"]),
+        CallsRow("a function of another type", (typed, other, b""), resolve, ["open 0", "resolve 402 f"]),
+        CallsRow("a variable of another type", (held, other, b""), resolve, ["open 0", "resolve 403 v"]),
+        CallsRow("no function in the kernel", (typed, KERNEL, b""), resolve, ["open 0", "resolve 408 f"]),
+        CallsRow("no UTF-8", (void, b"", b"\xff D v\n"), resolve, ["open 0", "resolve 406"]),
+        CallsRow("no address", (void, b"", b"x D v\n"), resolve, ["open 0", "resolve 407 invalid address: x"]),
+        CallsRow(
+            "a call of an address",
+            (called, b"", b"1 D v\n"),
+            [*resolve, "externs"],
+            ["open 0", "resolve 0", "externs 507 p"],
+        ),
+        CallsRow("a variable without a map", (values.variables(), b"", b""), other_value, ["open 0", "value 152"]),
+        CallsRow("a closed handle", (SMALL, b"", b""), closed, ["calls 3", "ask 3", "clone 3"]),
+        CallsRow("no such program", (SMALL, b"", b""), ["open", "ask=slots:q"], ["open 0", "ask 4"]),
+        CallsRow("no such map", (SMALL, b"", b""), ["open", "ask=map_data:m"], ["open 0", "ask 5"]),
+        CallsRow("no name", (SMALL, b"", b""), ["open", "ask=slots"], ["open 0", "ask 4"]),
+    ]
+
+
+def unchanged():
+    """What a refused call leaves is what stood before it; a copy has what the first one has."""
+    pairs = [
+        ("a variable that isn't there", (COUNTER, b"", b""), "value=none:must:00"),
+        ("types that can't be read", (COUNTER, b"types", b""), "types"),
+        ("no function in the kernel", (function_of("f", GLOBAL), KERNEL, b""), "resolve"),
+    ]
+    shows = ["info", "programs", "listed", "declared", "sections", "slots", "records"]
+
+    def is_same(lines):
+        answers = "value", "types", "resolve", "clone"
+        middle = next(at for at, line in enumerate(lines) if at and line.split()[0] in answers)
+        same = lines[1:middle] == lines[middle + 1 :]
+        return None if same and middle > 1 else f"{lines[middle]}: another object behind it"
+
+    for name, files, action in pairs:
+        yield CallsRow(f"unchanged: {name}", files, ["open", *shows, action, *shows], is_same)
+    for name, files in [("counter", (COUNTER, TASKS, b"")), ("references", (REFERENCES, KERNEL, LINES))]:
+        yield CallsRow(f"a clone: {name}", files, ["prepare", *shows, "clone", *shows], is_same)
+
+
+def changes():
+    """A map's sizes, and a value that is written into a map's data."""
+    entries = ["open", "entries=counts:9", "size=counts:24", "listed"]
+    value = ["open", "value=wanted:must:2a000000", "listed"]
+
+    def line_of(name, lines):
+        return next(line for line in lines if line.startswith(f"map {name} "))
+
+    def has_sizes(lines):
+        line = line_of("counts", lines)
+        return None if " value 24:" in line and " entries 9 " in line else line
+
+    def has_value(lines):
+        line = line_of(".rodata", lines)
+        return None if line.endswith(" data 2a000000") else line
+
+    yield CallsRow("sizes of a map", (COUNTER, b"", b""), entries, has_sizes)
+    yield CallsRow("a value of a variable", (COUNTER, b"", b""), value, has_value)
+
+
+def names():
+    """Each number of the header has a name of its own, and no other number has one."""
+    known = builds.numbers_of_header()
+
+    def judge(lines):
+        found = {int(line.split()[0]): line.partition(" ")[2] for line in lines}
+        wrong = sorted(known ^ set(found))
+        same = len(found) - len(set(found.values()))
+        return f"{wrong} have a name or none, {same} the name of another" if wrong or same else None
+
+    yield CallsRow("names of numbers", (b"", b"", b""), ["names"], judge)
+
+
+def rows():
+    return [*names(), *kinds(), *small_object(), *numbers(), *unchanged(), *changes()]

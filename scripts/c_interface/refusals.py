@@ -1,0 +1,101 @@
+"""The numbers of refusals, and what they are about, from the text of an error."""
+import re
+
+CLOSED, NO_PROGRAM = 3, 4
+
+FILE = """
+    TooShort BadMagic NotElf64 BadByteOrder BadSectionTable BadSectionRange BadStringTable BadSymbolTable
+    BadRelocationTable ExtendedNumbering
+""".split()
+
+TYPES = """
+    InvalidHeader InvalidTypeInfo InvalidInfo InvalidStringOffset InvalidRelocationKind UnexpectedBtfType UnknownBtfType
+    UnknownBtfTypeName MaximumTypeDepth InvalidDatasec InvalidSymbolName InnerMapCannotBePinned
+    MultiLevelMapInMapNotSupported InvalidValuesSpec TooLarge
+""".split()
+
+SLOTS = """
+    UnknownSymbol SectionNotFound UnknownFunction FunctionInfoMismatch UnknownProgram InvalidRelocationOffset
+    ExternNotFound UnresolvableSymbol UnsupportedTextSymbol InvalidLineInfo ProgramTooLong MapAddressOverflow
+""".split()
+
+PARSING = """
+    MissingLicenseNullTerminator InvalidLicense InvalidKernelVersion UnsupportedRelocationTarget InvalidProgramSection
+    InvalidProgramCode InvalidMapDefinition SymbolTableConflict UnknownSymbol InvalidSymbol InvalidGlobalData
+    SymbolNotFound MapNotFound MapSymbolNameNotFound NoSymbolsForSection NoBTF
+""".split()
+
+ADAPTING = """
+    SectionNotFound FunctionNotFound InvalidAccessString InvalidInstructionIndex ConflictingCandidates
+    MaximumNestingLevelReached InvalidAccessIndex InvalidRelocationKindForType InvalidInstruction
+    MissingTargetDefinition
+""".split()
+
+FINDING = """
+    TypedKsymRequiresKernelBtf VariableNotFound IncompatibleFunctionSignature IncompatibleVariableType
+    InvalidExternType AmbiguousResolution KallsymsAccessError KallsymsParseError FunctionNotFound
+""".split()
+
+# The first number of the slots' faults, by the stage.
+STAGES = {"maps": 300, "externs": 500, "calls": 600}
+
+
+def word(text):
+    return re.match(r"\w*", text)[0]
+
+
+def named(text):
+    """The first text that an error has."""
+    found = re.search(r'Text \{ text: "([^"]*)" \}', text)
+    return found[1] if found else ""
+
+
+def within(text):
+    """What stands between the outer brackets."""
+    return text[text.index("(") + 1 :]
+
+
+def of_parsing(text):
+    """Of an error of parsing: its number, and what it is about."""
+    variant = word(text)
+    if variant == "ElfError":
+        return 100 + FILE.index(word(within(text))), ""
+    if variant == "SectionError":
+        return 110 + FILE.index(re.search(r"error: (\w+)", text)[1]), ""
+    if variant == "BtfError":
+        return 120 + TYPES.index(word(within(text))), named(text)
+    return 140 + PARSING.index(variant), named(text)
+
+
+def of_adapting(text):
+    """Of `SECTION: ERROR`."""
+    section, _, error = text.partition(": ")
+    if word(error) == "BtfError":
+        return 220 + TYPES.index(word(within(error))), section
+    return 240 + ADAPTING.index(word(error)), section
+
+
+def of_slots(stage, text):
+    """Of an error with the name of a function."""
+    return STAGES[stage] + SLOTS.index(re.search(r"error: (\w+)", text)[1]), named(text)
+
+
+def of_finding(text):
+    if word(text) == "BtfError":
+        return 420 + TYPES.index(word(within(text))), named(text)
+    return 400 + FINDING.index(word(text)), named(text)
+
+
+def variants():
+    """What `ebpf-link` calls each number: its stage and its variant."""
+    names = {1: "room", 2: "memory", NO_PROGRAM: "no program"}
+    for first, stage, variant in [(100, "parse", "ElfError"), (110, "parse", "SectionError")]:
+        names |= {first + at: f"{stage}: {variant}" for at in range(len(FILE))}
+    for first, stage in [(120, "parse"), (220, "types"), (420, "ksyms")]:
+        names |= {first + at: f"{stage}: BtfError" for at in range(len(TYPES))}
+    names |= {200 + at: f"btf: {name}" for at, name in enumerate(TYPES)}
+    for first, stage, faults in [(140, "parse", PARSING), (240, "types", ADAPTING), (400, "ksyms", FINDING)]:
+        names |= {first + at: f"{stage}: {name}" for at, name in enumerate(faults)}
+    for stage, first in STAGES.items():
+        names |= {first + at: f"{stage}: {name}" for at, name in enumerate(SLOTS)}
+    return names
