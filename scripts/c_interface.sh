@@ -10,7 +10,7 @@ cd "$(dirname "$0")/.."
 crate=crates/ebpf_c
 archive=$crate/out/libebpf_c.a
 if [ ! -e $archive ] || [ -n "$(find crates/*/src -name '*.rt' -newer $archive -print -quit)" ]; then
-    (cd $crate && rt lib)
+    python3 -B scripts/c_interface/archive.py
 fi
 mkdir -p examples/out
 kit=$(dirname "$(rt doc)")

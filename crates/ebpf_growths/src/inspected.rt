@@ -4,8 +4,10 @@ use crate::call::Call;
 use crate::given::Kernel;
 use crate::marks::{begin, end};
 use crate::prepared::{DESCRIPTORS, steps};
-use ebpf_inspect::inspect;
+use ebpf_base::Items;
+use ebpf_inspect::{ProgramReport, inspect};
 use ebpf_object::Object;
+use ebpf_object::prepare::PrepareError;
 use std::alloc::Global;
 use std::io;
 
@@ -20,6 +22,18 @@ pub fn link_map(rt: &impl Print, alloc: Global, object: &Object, name: &str) -> 
     println!(rt; "answer: {answer:?}")
 }
 
+/// What inspecting answered.
+fn print_inspected(
+    rt: &impl Print,
+    answer: &Result<Items<ProgramReport>, PrepareError>,
+) -> io::Result<()> {
+    end(rt, true)?;
+    match answer {
+        Ok(reports) => println!(rt; "answer: Ok {reports:?}"),
+        Err(error) => println!(rt; "answer: {error:?}"),
+    }
+}
+
 /// Inspects the file between the marks, by the steps whose first letters the word has.
 pub fn inspected(
     rt: &impl Print,
@@ -32,9 +46,5 @@ pub fn inspected(
     let steps = steps(kernel, call.name, &given);
     begin(rt, true)?;
     let answer = inspect(alloc, bytes, &steps, kernel.lines);
-    end(rt, true)?;
-    match answer {
-        Ok(reports) => println!(rt; "answer: Ok {reports:?}"),
-        Err(error) => println!(rt; "answer: {error:?}"),
-    }
+    print_inspected(rt, &answer)
 }
