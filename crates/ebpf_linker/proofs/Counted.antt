@@ -59,13 +59,13 @@ module _ (F : Functions ℕ Fault) (N : ℕ) (C : ℕ → List Call) (p : ℕ) w
             ];
       }
 
-  counted_append : (s t : Search) (top : Open) (k : ℕ) → Counted F s.order s.used → (o : Option Fault) → append_fault F k s.used ≡ o → MatchOption o ((t ≡ opened F top s k) × (◌≡◌ {A = Option Fault} None None)) (λ e. ◌≡◌ {A = Option Fault} None (Some e)) → Counted F t.order t.used
+  counted_append : (s t : Search) (top : Open) (k : ℕ) → Counted F s.order s.used → (o : Option Fault) → append_fault F k s.used ≡ o → MatchOption o ((t ≡ opened F top s k) × (◌≡◌ {A = Option Fault} None None)) (λ e. (t ≡ s) × (◌≡◌ {A = Option Fault} None (Some e))) → Counted F t.order t.used
   counted_append s t top k h None fit a = subst (λ (u : Search). Counted F u.order u.used) (sym a.0) (counted_more s.order s.used k h fit)
-  counted_append s t top k h (Some e) fit a = cc
+  counted_append s t top k h (Some e) fit a = cc (a.1)
 
   pub counted : (s t : Search) (top : Open) → Counted F s.order s.used → (g : Option Target) → StepTo F top s t None g → Counted F t.order t.used
   counted s t top h None a = subst (λ (u : Search). Counted F u.order u.used) (sym a.0) h
-  counted s t top h (Some (Nowhere d)) a = cc
+  counted s t top h (Some (Nowhere d)) a = cc (a.1)
   counted s t top h (Some (Function k)) a =
       elim (cases_Bool (slice_index_or s.found k false)) [
         | inl e ↦ let b = rw e at a in subst (λ (u : Search). Counted F u.order u.used) (sym b.0) h
@@ -155,10 +155,10 @@ module _ (F : Functions ℕ Fault) (N : ℕ) (C : ℕ → List Call) (p : ℕ) w
         fault = ap (append_fault F k) (sym n.used) ∙ bad;
       }
 
-  refused_append : Sought N C → (s t : Search) (top : Open) (d : Fault) (r : Call) (k : ℕ) → State N C p s.order s.found (s.pending ++ top ∷ []) → Counted F s.order s.used → slice_get (C top.function) top.next ≡ Some r → r.target ≡ Function k → slice_index_or s.found k false ≡ false → (o : Option Fault) → append_fault F k s.used ≡ o → MatchOption o ((t ≡ opened F top s k) × (◌≡◌ {A = Option Fault} (Some d) None)) (λ e. ◌≡◌ {A = Option Fault} (Some d) (Some e)) → LeastFault F (refs C) p d
+  refused_append : Sought N C → (s t : Search) (top : Open) (d : Fault) (r : Call) (k : ℕ) → State N C p s.order s.found (s.pending ++ top ∷ []) → Counted F s.order s.used → slice_get (C top.function) top.next ≡ Some r → r.target ≡ Function k → slice_index_or s.found k false ≡ false → (o : Option Fault) → append_fault F k s.used ≡ o → MatchOption o ((t ≡ opened F top s k) × (◌≡◌ {A = Option Fault} (Some d) None)) (λ e. (t ≡ s) × (◌≡◌ {A = Option Fault} (Some d) (Some e))) → LeastFault F (refs C) p d
   refused_append sound s t top d r k h n at to flag None fit a = cc (a.1)
   refused_append sound s t top d r k h n at to flag (Some e) bad a =
-      let same : e ≡ d = cc in
+      let same : e ≡ d = cc (a.1) in
       record {
         path = path_of C p (top ∷ reverse s.pending);
         slot = r.slot;
@@ -168,7 +168,7 @@ module _ (F : Functions ℕ Fault) (N : ℕ) (C : ℕ → List Call) (p : ℕ) w
 
   refused_at : Sought N C → (s t : Search) (top : Open) (d : Fault) → State N C p s.order s.found (s.pending ++ top ∷ []) → Counted F s.order s.used → (r : Call) → slice_get (C top.function) top.next ≡ Some r → (g : Target) → r.target ≡ g → StepTo F top s t (Some d) (Some g) → LeastFault F (refs C) p d
   refused_at sound s t top d h n r at (Nowhere g) to a =
-      let same : g ≡ d = cc in
+      let same : g ≡ d = cc (a.1) in
       let held = held_top N C p s.order s.pending top h.held in
       record {
         path = path_of C p (top ∷ reverse s.pending);

@@ -44,16 +44,16 @@ module _ (F : Functions ℕ Fault) (N : ℕ) (C : ℕ → List Call) (top : Open
   abbrev Falls : Type 0
   Falls = left_of C t < unfound s.found C 0 + left_in C (s.pending ++ top ∷ [])
 
-  by_append : (k : ℕ) → k < length s.found → slice_index_or s.found k false ≡ false → (o : Option Fault) → MatchOption o ((t ≡ opened F top s k) × (◌≡◌ {A = Option Fault} None None)) (λ e. ◌≡◌ {A = Option Fault} None (Some e)) → Falls
+  by_append : (k : ℕ) → k < length s.found → slice_index_or s.found k false ≡ false → (o : Option Fault) → MatchOption o ((t ≡ opened F top s k) × (◌≡◌ {A = Option Fault} None None)) (λ e. (t ≡ s) × (◌≡◌ {A = Option Fault} None (Some e))) → Falls
   by_append k inside flag None a =
       let new : Open = record { copy = length s.order; function = k; next = 0 } in
       let e = unfound_set s.found C 0 k k (omega arith) flag inside in
       let m = left_more C (s.pending ++ top ∷ []) (new ∷ []) in
       let z = ap (left_of C) a.0 in
       omega (arith, e, m, z)
-  by_append k inside flag (Some d) a = cc
+  by_append k inside flag (Some d) a = cc (a.1)
 
-  by_flag : (k : ℕ) → top.next < length (C top.function) → k < length s.found → (b : Bool) → slice_index_or s.found k false ≡ b → MatchBool b ((t ≡ passed top s) × (◌≡◌ {A = Option Fault} None None)) (MatchOption (append_fault F k s.used) ((t ≡ opened F top s k) × (◌≡◌ {A = Option Fault} None None)) (λ e. ◌≡◌ {A = Option Fault} None (Some e))) → Falls
+  by_flag : (k : ℕ) → top.next < length (C top.function) → k < length s.found → (b : Bool) → slice_index_or s.found k false ≡ b → MatchBool b ((t ≡ passed top s) × (◌≡◌ {A = Option Fault} None None)) (MatchOption (append_fault F k s.used) ((t ≡ opened F top s k) × (◌≡◌ {A = Option Fault} None None)) (λ e. (t ≡ s) × (◌≡◌ {A = Option Fault} None (Some e)))) → Falls
   by_flag k lt inside true flag a =
       let next : Open = record top { next = top.next + 1 } in
       let z = ap (left_of C) a.0 in
@@ -61,7 +61,7 @@ module _ (F : Functions ℕ Fault) (N : ℕ) (C : ℕ → List Call) (top : Open
   by_flag k lt inside false flag a = by_append k inside flag (append_fault F k s.used) a
 
   step_to : (r : Call) → Sought N C → length s.found ≡ N → slice_get (C top.function) top.next ≡ Some r → (g : Target) → r.target ≡ g → StepTo F top s t None (Some g) → Falls
-  step_to r sound size at (Nowhere d) to a = cc
+  step_to r sound size at (Nowhere d) to a = cc (a.1)
   step_to r sound size at (Function k) to a =
       let inside : k < N = subst (IsIn N) to (sound.within top.function top.next r at) in
       by_flag k (slice_get_within (C top.function) top.next r at) (omega (arith, size)) (slice_index_or s.found k false) refl a

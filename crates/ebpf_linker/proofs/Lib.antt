@@ -26,4 +26,5 @@ pub mod Mapping
 pub mod CarryMap
 pub mod OneMap
 pub mod Written
+pub mod Unmarked
 mod Rows

@@ -1,10 +1,9 @@
 -- The copies and references that are noted are those of the linked program.
-use Rattle.std.proofs.Common.{◌≡◌, ◌≢◌, ℕ, suc, ◌+◌, ◌<◌, ◌≤◌, List, [], ◌∷◌, ◌++◌, length, map, Option, Some, None, refl, sym, ap, ◌∙◌, subst, inl, inr, arith, replicate}
+use Rattle.std.proofs.Common.{◌≡◌, ◌≢◌, ℕ, suc, ◌+◌, ◌<◌, ◌≤◌, List, [], ◌∷◌, ◌++◌, length, map, Option, Some, None, refl, sym, ap, ◌∙◌, subst, inl, inr, arith}
 use Rattle.std.specs.Prelude.{slice_get, slice_index, ◌==◌, Vec, ◌⊎◌}
 use Rattle.std.specs.declared.alloc.Global.{Global}
 use Rattle.std.proofs.lemmas.Bool.{cases_Bool, eqb-true}
 use Rattle.std.proofs.lemmas.Option.{slice_get_within}
-use Rattle.std.proofs.lemmas.List.{length-replicate}
 use Rattle.ebpf_parts.specs.declared.insn.bpf_insn.{bpf_insn}
 use Rattle.ebpf_linker.specs.declared.body.Body.{Body}
 use Rattle.ebpf_linker.specs.declared.link_map.NumberedCopy.{NumberedCopy}
@@ -207,12 +206,12 @@ module _ (B : List Body) (C : List (Vec Call Global)) where
   same_name : (r : Reference ℕ Fault) (k m : ℕ) → r ≡ Names k → r ≡ Names m → k ≡ m
   same_name r k m e f = cc
 
-  module _ (p : ℕ) (ks bases : List ℕ) (ready : IsReady B C p ks) (places : bases ≡ placed B (length (body_at B p)) (replicate (length B) 0) ks) (sound : Sound (length B) C) where
+  module _ (p : ℕ) (ks bases : List ℕ) (ready : IsReady B C p ks) (before : List ℕ) (count : length before ≡ length B) (places : bases ≡ placed B (length (body_at B p)) before ks) (sound : Sound (length B) C) where
     -- the places that were noted are those at which the copies begin
     begins_there : (m : ℕ) → Among ks m → (c : ℕ) × BeginsAt (functions B C) ks m c × (slice_index bases m ≡ length (body_at B p) + c)
     begins_there m a =
-        let within : (n : ℕ) → Among ks n → n < length (replicate (length B) 0) = λ n b. rw length-replicate (all_in B C p ks n ready.copies b) in
-        let (c, begins, e) = placed_at B C (length (body_at B p)) (replicate (length B) 0) ks m ready.found.order.once within a in
+        let within : (n : ℕ) → Among ks n → n < length before = λ n b. let lt = all_in B C p ks n ready.copies b in omega (arith, lt, count) in
+        let (c, begins, e) = placed_at B C (length (body_at B p)) before ks m ready.found.order.once within a in
         (c, begins, ap (λ (u : List ℕ). slice_index u m) places ∙ e)
 
     order : IsOrder (functions B C).reference p ks

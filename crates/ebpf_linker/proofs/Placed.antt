@@ -1,5 +1,5 @@
 -- The places at which functions begin.
-use Rattle.std.proofs.Common.{◌≡◌, ℕ, zero, suc, ◌+◌, ◌<◌, ◌≤◌, ◌^◌, Bool, true, false, List, [], ◌∷◌, ◌++◌, length, drop, None, refl, sym, ap, ◌∙◌, subst, inl, inr, arith, length-set, replicate, get_or, drop-cons, add-one, append_assoc, length-append}
+use Rattle.std.proofs.Common.{◌≡◌, ℕ, zero, suc, ◌+◌, ◌<◌, ◌≤◌, ◌^◌, Bool, true, false, List, [], ◌∷◌, ◌++◌, length, drop, None, refl, sym, ap, ◌∙◌, subst, inl, inr, arith, length-set, get_or, drop-cons, add-one, append_assoc, length-append}
 use Rattle.std.specs.Prelude.{slice_set, All, Vec}
 use Rattle.std.specs.declared.alloc.Global.{Global}
 use Rattle.std.proofs.lemmas.Bool.{ltb-false}
@@ -34,15 +34,15 @@ module _ (B : List Body) (ks : List ℕ) (end i : ℕ) where
   pub fit_next : (k : ℕ) → Fit B end (drop i ks) → i < length ks → k ≡ get_or ks i 0 → (content_fault (content_in B k) end (ProgramTooLong k) (InvalidLineInfo k) ≡ None) × Fit B (end + length (body_at B k)) (drop (i + 1) ks)
   fit_next k h lt e = subst (Fit B end) (next_is ks i k lt e) h
 
-pub record Placing (B : List Body) (first : ℕ) (ks bases : List ℕ) (end i : ℕ) : Type 0 where
-  pub places : placed B end bases (drop i ks) ≡ placed B first (replicate (length B) 0) ks
+pub record Placing (B : List Body) (first : ℕ) (before ks bases : List ℕ) (end i : ℕ) : Type 0 where
+  pub places : placed B end bases (drop i ks) ≡ placed B first before ks
   pub fit : Fit B end (drop i ks)
   pub below : All (λ b. b < 2 ^ 31) bases
   pub flags : length bases ≡ length B
 
 module _ (B : List Body) (first : ℕ) (ks bases : List ℕ) (end i : ℕ) where
-  pub placed_next : (k n : ℕ) → Placing B first ks bases end i → i < length ks → k ≡ get_or ks i 0 → n ≡ length (body_at B k) → Placing B first ks (slice_set bases k end) (end + n) (i + 1)
-  placed_next k n h lt e size =
+  pub placed_next : (before : List ℕ) (k n : ℕ) → Placing B first before ks bases end i → i < length ks → k ≡ get_or ks i 0 → n ≡ length (body_at B k) → Placing B first before ks (slice_set bases k end) (end + n) (i + 1)
+  placed_next before k n h lt e size =
       let d = next_is ks i k lt e in
       let f = fit_next B ks end i k h.fit lt e in
       let short = can_have (content_in B k) end _ _ f.0 in

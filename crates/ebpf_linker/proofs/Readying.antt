@@ -1,5 +1,5 @@
 -- From the functions that were found to the program that is written.
-use Rattle.std.proofs.Common.{◌≡◌, ◌≢◌, ℕ, zero, suc, ◌+◌, ◌-◌, ◌<◌, ◌≤◌, List, [], ◌∷◌, length, take, drop, Some, None, refl, sym, ap, ◌∙◌, subst, inl, inr, arith, replicate}
+use Rattle.std.proofs.Common.{◌≡◌, ◌≢◌, ℕ, zero, suc, ◌+◌, ◌-◌, ◌<◌, ◌≤◌, List, [], ◌∷◌, length, take, drop, Some, None, refl, sym, ap, ◌∙◌, subst, inl, inr, arith}
 use Rattle.std.specs.Prelude.{slice_get, All, Vec, Result, Ok}
 use Rattle.std.specs.declared.alloc.Global.{Global}
 use Rattle.std.proofs.lemmas.List.Elements.{All-nil, All-cons, All-get_or}
@@ -111,12 +111,12 @@ module _ (B : List Body) (C : List (Vec Call Global)) (p : ℕ) where
   content_some k lt = let (b, at) = get_body B k lt in (_, ap option_content at)
 
   -- the program that was written
-  pub is_program : (ks : List ℕ) (bases : List ℕ) (l : LinkedProgram) → IsReady B C p ks → bases ≡ placed B (length (body_at B p)) (replicate (length B) 0) ks → l.slots ≡ laid B C bases 0 (p ∷ ks) → l.func_info ≡ linked_func_info (functions B C) p ks → l.line_info ≡ linked_line_info (functions B C) p ks → l.func_count ≡ count_if (has_some ks) l.func_info → l.line_count ≡ count_if (has_lines (functions B C) ks) l.line_info → IsProgram (functions B C) p ks l
-  is_program ks bases l h places slots funcs lines func_count line_count =
+  pub is_program : (ks : List ℕ) (bases : List ℕ) (l : LinkedProgram) → IsReady B C p ks → (before : List ℕ) → length before ≡ length B → bases ≡ placed B (length (body_at B p)) before ks → l.slots ≡ laid B C bases 0 (p ∷ ks) → l.func_info ≡ linked_func_info (functions B C) p ks → l.line_info ≡ linked_line_info (functions B C) p ks → l.func_count ≡ count_if (has_some ks) l.func_info → l.line_count ≡ count_if (has_lines (functions B C) ks) l.line_info → IsProgram (functions B C) p ks l
+  is_program ks bases l h before count places slots funcs lines func_count line_count =
       let F = functions B C in
       let order = plain F p ks h.found.order in
       let within : (m : ℕ) → Among ks m → m < length B = λ m a. all_in ks m h.copies a in
-      let linked = is_linked B C p ks l.slots bases order within places slots in
+      let linked = is_linked B C p ks l.slots bases order within before count places slots in
       record {
         linked = linked;
         order = order.order;

@@ -198,18 +198,18 @@ module _ (N : ℕ) (C : ℕ → List Call) (p : ℕ) where
   to_state : (o o' : List ℕ) (f f' : List Bool) (s s' : List Open) → o' ≡ o → f' ≡ f → s' ≡ s → State N C p o f s → State N C p o' f' s'
   to_state o o' f f' s s' e g h st = subst (λ (u : List ℕ). State N C p u f' s') (sym e) (subst (λ (u : List Bool). State N C p o u s') (sym g) (subst (State N C p o f) (sym h) st))
 
-  step_append : (F : Functions ℕ Fault) → Sought N C → (s t : Search) (top : Open) → State N C p s.order s.found (s.pending ++ top ∷ []) → (r : Call) → slice_get (C top.function) top.next ≡ Some r → (k : ℕ) → r.target ≡ Function k → slice_index_or s.found k false ≡ false → (o : Option Fault) → MatchOption o ((t ≡ opened F top s k) × (◌≡◌ {A = Option Fault} None None)) (λ e. ◌≡◌ {A = Option Fault} None (Some e)) → State N C p t.order t.found t.pending
+  step_append : (F : Functions ℕ Fault) → Sought N C → (s t : Search) (top : Open) → State N C p s.order s.found (s.pending ++ top ∷ []) → (r : Call) → slice_get (C top.function) top.next ≡ Some r → (k : ℕ) → r.target ≡ Function k → slice_index_or s.found k false ≡ false → (o : Option Fault) → MatchOption o ((t ≡ opened F top s k) × (◌≡◌ {A = Option Fault} None None)) (λ e. (t ≡ s) × (◌≡◌ {A = Option Fault} None (Some e))) → State N C p t.order t.found t.pending
   step_append F sound s t top h r at k to flag None a =
       subst (λ (u : Search). State N C p u.order u.found u.pending) (sym a.0) (step_push sound s.order s.found s.pending top r k h at to flag)
-  step_append F sound s t top h r at k to flag (Some e) a = cc
+  step_append F sound s t top h r at k to flag (Some e) a = cc (a.1)
 
-  step_flag : (F : Functions ℕ Fault) → Sought N C → (s t : Search) (top : Open) → State N C p s.order s.found (s.pending ++ top ∷ []) → (r : Call) → slice_get (C top.function) top.next ≡ Some r → (k : ℕ) → r.target ≡ Function k → (b : Bool) → slice_index_or s.found k false ≡ b → MatchBool b ((t ≡ passed top s) × (◌≡◌ {A = Option Fault} None None)) (MatchOption (append_fault F k s.used) ((t ≡ opened F top s k) × (◌≡◌ {A = Option Fault} None None)) (λ e. ◌≡◌ {A = Option Fault} None (Some e))) → State N C p t.order t.found t.pending
+  step_flag : (F : Functions ℕ Fault) → Sought N C → (s t : Search) (top : Open) → State N C p s.order s.found (s.pending ++ top ∷ []) → (r : Call) → slice_get (C top.function) top.next ≡ Some r → (k : ℕ) → r.target ≡ Function k → (b : Bool) → slice_index_or s.found k false ≡ b → MatchBool b ((t ≡ passed top s) × (◌≡◌ {A = Option Fault} None None)) (MatchOption (append_fault F k s.used) ((t ≡ opened F top s k) × (◌≡◌ {A = Option Fault} None None)) (λ e. (t ≡ s) × (◌≡◌ {A = Option Fault} None (Some e)))) → State N C p t.order t.found t.pending
   step_flag F sound s t top h r at k to true flag a =
       subst (λ (u : Search). State N C p u.order u.found u.pending) (sym a.0) (step_next s.order s.found s.pending top r k h at to flag)
   step_flag F sound s t top h r at k to false flag a = step_append F sound s t top h r at k to flag (append_fault F k s.used) a
 
   step_to : (F : Functions ℕ Fault) → Sought N C → (s t : Search) (top : Open) → State N C p s.order s.found (s.pending ++ top ∷ []) → (r : Call) → slice_get (C top.function) top.next ≡ Some r → (g : Target) → r.target ≡ g → StepTo F top s t None (Some g) → State N C p t.order t.found t.pending
-  step_to F sound s t top h r at (Nowhere d) to a = cc
+  step_to F sound s t top h r at (Nowhere d) to a = cc (a.1)
   step_to F sound s t top h r at (Function k) to a = step_flag F sound s t top h r at k to (slice_index_or s.found k false) refl a
 
   stepped : (F : Functions ℕ Fault) → Sought N C → (s t : Search) (top : Open) → State N C p s.order s.found (s.pending ++ top ∷ []) → (c : Option Call) → slice_get (C top.function) top.next ≡ c → StepTo F top s t None (target_of c) → State N C p t.order t.found t.pending

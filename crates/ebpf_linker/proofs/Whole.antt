@@ -1,8 +1,7 @@
 -- The slots of the linked program are those that are wanted.
-use Rattle.std.proofs.Common.{◌≡◌, ◌≢◌, ℕ, zero, suc, ◌+◌, ◌<◌, List, [], ◌∷◌, ◌++◌, length, Some, refl, sym, ap, ◌∙◌, subst, inl, inr, arith, length-append, length-set, get_or-set_same, get_or-set_other, replicate}
+use Rattle.std.proofs.Common.{◌≡◌, ◌≢◌, ℕ, zero, suc, ◌+◌, ◌<◌, List, [], ◌∷◌, ◌++◌, length, Some, refl, sym, ap, ◌∙◌, subst, inl, inr, arith, length-append, length-set, get_or-set_same, get_or-set_other}
 use Rattle.std.specs.Prelude.{slice_get, slice_set, slice_index, pos, ◌-ℤ◌, Vec}
 use Rattle.std.specs.declared.alloc.Global.{Global}
-use Rattle.std.proofs.lemmas.List.{length-replicate}
 use Rattle.ebpf_parts.specs.declared.insn.bpf_insn.{bpf_insn}
 use Rattle.ebpf_linker.specs.declared.reference.Fault.{Fault}
 use Rattle.ebpf_linker.specs.declared.reference.Call.{Call}
@@ -89,8 +88,8 @@ module _ (B : List Body) (C : List (Vec Call Global)) where
       let (c, begins, is) = at k (subst (Among ks) (sym same) r.2) in
       (c, begins, ap (λ (u : ℕ). relinked s (pos u -ℤ pos (place + 1))) (is))
 
-  pub is_linked : (p : ℕ) (ks : List ℕ) (out : List bpf_insn) (bases : List ℕ) → IsOrder (functions B C).reference p ks → ((m : ℕ) → Among ks m → m < length B) → bases ≡ placed B (length (body_at B p)) (replicate (length B) 0) ks → out ≡ laid B C bases 0 (p ∷ ks) → Linked (functions B C) p ks out
-  is_linked p ks out bases order within places is =
+  pub is_linked : (p : ℕ) (ks : List ℕ) (out : List bpf_insn) (bases : List ℕ) → IsOrder (functions B C).reference p ks → ((m : ℕ) → Among ks m → m < length B) → (before : List ℕ) → length before ≡ length B → bases ≡ placed B (length (body_at B p)) before ks → out ≡ laid B C bases 0 (p ∷ ks) → Linked (functions B C) p ks out
+  is_linked p ks out bases order within before count places is =
       record {
         once = order.once;
         reached = order.reached;
@@ -99,8 +98,8 @@ module _ (B : List Body) (C : List (Vec Call Global)) where
         size = ap length is ∙ length-laid bases 0 (p ∷ ks) ∙ sym (size_same (p ∷ ks));
         slots = λ k b i s begins at.
             let at' = at in
-            let within' : (m : ℕ) → Among ks m → m < length (replicate (length B) 0) = λ m h. rw length-replicate (within m h) in
-            let found : (m : ℕ) → Among ks m → (c : ℕ) × BeginsAt (functions B C) ks m c × (slice_index bases m ≡ length (body_at B p) + c) = λ m h. let (c, g, e) = placed_at (length (body_at B p)) (replicate (length B) 0) ks m order.once within' h in (c, g, ap (λ (u : List ℕ). slice_index u m) places ∙ e) in (
+            let within' : (m : ℕ) → Among ks m → m < length before = λ m h. let lt = within m h in omega (arith, lt, count) in
+            let found : (m : ℕ) → Among ks m → (c : ℕ) × BeginsAt (functions B C) ks m c × (slice_index bases m ≡ length (body_at B p) + c) = λ m h. let (c, g, e) = placed_at (length (body_at B p)) before ks m order.once within' h in (c, g, ap (λ (u : List ℕ). slice_index u m) places ∙ e) in (
               became bases (b + i) (referred (calls_at C k) i) s,
               ap (λ (u : List bpf_insn). slice_get u (b + i)) is ∙ laid_get bases (p ∷ ks) k 0 b i (b + i) s begins at' (omega arith),
               becomes_at p ks bases (b + i) (referred (calls_at C k) i) s found (λ some. order.resolved k i (begins_among (functions B C) (p ∷ ks) k b begins) some),

@@ -1,5 +1,5 @@
 -- What linking gives.
-use Rattle.std.specs.Prelude.{◌≡◌, ◌+◌, ◌≤◌, List, ◌∷◌, length, Some, Result, Ok, Err}
+use Rattle.std.specs.Prelude.{◌≡◌, ◌+◌, ◌≤◌, List, length, Some, Result, Ok, Err}
 use Rattle.ebpf_linker.specs.declared.body.LinkedProgram.{LinkedProgram}
 use Rattle.ebpf_linker.specs.Functions.{Functions, Content, Linked, Among, body, total}
 use Rattle.ebpf_linker.specs.Faults.{linking, Faultless, LeastFault, has_some}

@@ -51,12 +51,12 @@ opened F top s k = record {
 
 -- function k is opened where it can have a copy
 abbrev pub Entered : Functions ℕ Fault → Open → Search → Search → Option Fault → ℕ → Type 0
-Entered F top s t r k = MatchOption (append_fault F k s.used) ((t ≡ opened F top s k) × (r ≡ None)) (λ e. r ≡ Some e)
+Entered F top s t r k = MatchOption (append_fault F k s.used) ((t ≡ opened F top s k) × (r ≡ None)) (λ e. (t ≡ s) × (r ≡ Some e))
 
 -- what one step does, by the reference that is next in the function on top, which was taken off
 abbrev pub StepTo : Functions ℕ Fault → Open → Search → Search → Option Fault → Option Target → Type 0
 StepTo F top s t r None = (t ≡ s) × (r ≡ None)
-StepTo F top s t r (Some (Nowhere e)) = r ≡ Some e
+StepTo F top s t r (Some (Nowhere e)) = (t ≡ s) × (r ≡ Some e)
 StepTo F top s t r (Some (Function k)) =
     MatchBool (slice_index_or s.found k false)
     ((t ≡ passed top s) × (r ≡ None))

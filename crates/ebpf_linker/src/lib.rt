@@ -15,6 +15,7 @@ mod reference;
 mod search;
 pub mod slot;
 mod soundness;
+mod tables;
 #[cfg(test)]
 mod test_functions;
 #[cfg(test)]
@@ -24,3 +25,4 @@ pub use body::{Body, LinkedProgram};
 pub use program::link;
 pub use reference::{Call, Fault, Target};
 pub use soundness::is_sound;
+pub use tables::Tables;

@@ -12,6 +12,7 @@ use crate::places::places;
 use crate::reference::{Call, Fault, Target};
 use crate::search::search;
 use crate::slot::is_pseudo_call;
+use crate::tables::Tables;
 use ebpf_base::Items;
 use ebpf_parts::insn::bpf_insn;
 use std::alloc::{AllocError, Global};
@@ -154,6 +155,7 @@ fn references_of(
 // The copies and the references of the program with copies of these functions.
 fn mapped(
     alloc: Global,
+    tables: &Tables,
     bodies: &[Body<'_>],
     calls: &[Vec<Call>],
     start: usize,
@@ -164,9 +166,10 @@ fn mapped(
     requires ready { IsReady bodies.now calls.now start reached.now }
     ensures { IfOk result (λ m. IsNumberedMap (functions bodies.now calls.now) start m) }
 {
-    let bases = places(alloc, bodies, bodies[start].slots.len(), reached)?;
+    let bases = places(alloc, tables, bodies, bodies[start].slots.len(), reached)?;
     let copies = copies_of(alloc, bodies, start, reached)?;
     let references = references_of(alloc, bodies, calls, start, reached, &bases)?;
+    tables.keep_places(bases);
     Ok(NumberedMap {
         copies: Items::from_vec(copies),
         references: Items::from_vec(references),
@@ -174,13 +177,15 @@ fn mapped(
 }
 
 /// What the program `start` is made of once it is linked: where its copies begin, and its references with the places
-/// that they lead to. The program is linked as `link` does, but no slot and no record is written.
+/// that they lead to. The program is linked as `link` does, but no slot and no record is written. `tables` are kept for
+/// the next program of these functions.
 ///
 /// # Errors
 ///
 /// Those of `link`.
 pub fn link_map(
     alloc: Global,
+    tables: &Tables,
     bodies: &[Body<'_>],
     calls: &[Vec<Call>],
     start: usize,
@@ -190,9 +195,9 @@ pub fn link_map(
     requires sound { Sound (length bodies.now) calls.now }
     ensures { IfOk result (λ answer. IsMapping (functions bodies.now calls.now) start answer) }
 {
-    let order = match search(alloc, bodies, calls, start)? {
+    let order = match search(alloc, tables, bodies, calls, start)? {
         Ok(order) => order,
         Err(fault) => return Ok(Err(fault)),
     };
-    Ok(Ok(mapped(alloc, bodies, calls, start, &order[1..])?))
+    Ok(Ok(mapped(alloc, tables, bodies, calls, start, &order[1..])?))
 }

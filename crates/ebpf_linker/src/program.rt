@@ -11,12 +11,14 @@ use crate::places::places;
 use crate::records::{count_if, func_records, has_lines, line_records};
 use crate::reference::{Call, Fault};
 use crate::search::search;
+use crate::tables::Tables;
 use ebpf_base::Items;
 use std::alloc::{AllocError, Global};
 
 // The program with copies of these functions; `order` is the program and them.
 fn assemble(
     alloc: Global,
+    tables: &Tables,
     bodies: &[Body<'_>],
     calls: &[Vec<Call>],
     start: usize,
@@ -29,8 +31,9 @@ fn assemble(
     requires order { order.now ≡ start ∷ copies.now }
     ensures { IfOk result (λ program. IsProgram (functions bodies.now calls.now) start copies.now program) }
 {
-    let bases = places(alloc, bodies, bodies[start].slots.len(), copies)?;
+    let bases = places(alloc, tables, bodies, bodies[start].slots.len(), copies)?;
     let slots = lay(alloc, bodies, calls, order, &bases)?;
+    tables.keep_places(bases);
     let func_info = func_records(alloc, bodies, start, copies)?;
     let line_info = line_records(alloc, bodies, start, copies)?;
     let func_count = count_if(!copies.is_empty(), &func_info);
@@ -47,7 +50,7 @@ fn assemble(
 /// The program `start`, followed by a copy of each function that its references reach, once. The copies stand in
 /// the order in which a walk comes to them that follows the references of each function slot by slot, and those of
 /// a function that is copied at once. A slot that refers names the distance from the slot after it to the copy;
-/// where it is no call its source register becomes 4.
+/// where it is no call its source register becomes 4. `tables` are kept for the next program of these functions.
 ///
 /// # Errors
 ///
@@ -55,6 +58,7 @@ fn assemble(
 /// `InvalidLineInfo`.
 pub fn link(
     alloc: Global,
+    tables: &Tables,
     bodies: &[Body<'_>],
     calls: &[Vec<Call>],
     start: usize,
@@ -64,9 +68,10 @@ pub fn link(
     requires sound { Sound (length bodies.now) calls.now }
     ensures { IfOk result (λ answer. IsLinking (functions bodies.now calls.now) start answer) }
 {
-    let order = match search(alloc, bodies, calls, start)? {
+    let order = match search(alloc, tables, bodies, calls, start)? {
         Ok(order) => order,
         Err(fault) => return Ok(Err(fault)),
     };
-    Ok(Ok(assemble(alloc, bodies, calls, start, &order, &order[1..])?))
+    let program = assemble(alloc, tables, bodies, calls, start, &order, &order[1..])?;
+    Ok(Ok(program))
 }

@@ -1,14 +1,16 @@
 //! The order in which functions are copied, or why they can't be.
 
-ghost use Rattle.std.specs.Prelude.{◌≡◌, ℕ, ◌+◌, ◌<◌, ◌≤◌, length, [], IfOk, Some};
+ghost use Rattle.std.specs.Prelude.{◌≡◌, ℕ, ◌+◌, ◌<◌, ◌≤◌, length, [], IfOk, Some, All, true, false, slice_index_or};
 ghost use Rattle.ebpf_linker.specs.Answer.{Finds};
 ghost use Rattle.ebpf_linker.specs.Faults.{content_fault, has_stray, is_stray, linking, append_fault};
+ghost use Rattle.ebpf_linker.specs.Functions.{Among};
 ghost use Rattle.ebpf_linker.specs.Numbered.{Sound, IsIn, content_of, content_in, functions};
 ghost use Rattle.ebpf_linker.specs.Steps.{Advanced, Entered, search_at, seen, target_seen};
 ghost use Rattle.ebpf_linker.specs.declared.reference.Fault.TheVariants.{ProgramTooLong, InvalidLineInfo};
 
 use crate::body::Body;
 use crate::reference::{Call, Fault, Target};
+use crate::tables::{Tables, unmark};
 use ebpf_ext::bpf_line_info;
 use std::alloc::{AllocError, Global};
 
@@ -150,11 +152,29 @@ impl Progress {
             }
         }
     }
+
+    // The functions in their order. The flags are taken back and kept for the next search.
+    fn finish(self, tables: &Tables) -> Vec<usize>
+        requires within { All (λ k. k < length self.found.items) self.order.items }
+        requires marked { (k : ℕ) → slice_index_or self.found.items k false ≡ true → Among self.order.items k }
+        ensures { result ≡ self.order }
+    {
+        let Progress {
+            order,
+            mut found,
+            pending: _,
+            used: _,
+        } = self;
+        unmark(&mut found, &order);
+        tables.keep_flags(found);
+        order
+    }
 }
 
 /// The program and the functions that it reaches, in the order in which they are copied.
 pub fn search(
     alloc: Global,
+    tables: &Tables,
     bodies: &[Body<'_>],
     calls: &[Vec<Call>],
     start: usize,
@@ -166,7 +186,7 @@ pub fn search(
 {
     let mut order = Vec::new(alloc);
     order.push(start)?;
-    let found = vec![in alloc; false; bodies.len()]?;
+    let found = tables.take_flags(alloc, bodies.len())?;
     let mut pending = Vec::new(alloc);
     pending.push(Open {
         copy: 0,
@@ -183,8 +203,9 @@ pub fn search(
     while let Some(top) = progress.pending.pop() {
         let step = progress.advance(bodies, calls, start, top)?;
         if let Some(fault) = step {
+            let _order = progress.finish(tables);
             return Ok(Err(fault));
         }
     }
-    Ok(Ok(progress.order))
+    Ok(Ok(progress.finish(tables)))
 }

@@ -1,7 +1,7 @@
 //! Functions and references for tests.
 
 use crate::link_map::{NumberedMap, link_map};
-use crate::{Body, Call, Fault, LinkedProgram, Target, is_sound, link};
+use crate::{Body, Call, Fault, LinkedProgram, Tables, Target, is_sound, link};
 use ebpf_parts::insn::bpf_insn;
 use std::alloc::{AllocError, Global};
 
@@ -74,16 +74,27 @@ pub fn lists(
     Ok(lists)
 }
 
-/// The first function linked; none where the references are not sound.
+/// The function with a number linked; none where the references are not sound.
+pub fn linked_at(
+    alloc: Global,
+    tables: &Tables,
+    bodies: &[Body<'_>],
+    calls: &[Vec<Call>],
+    start: usize,
+) -> Result<Option<Result<LinkedProgram, Fault>>, AllocError> {
+    if start >= bodies.len() || calls.len() != bodies.len() || !is_sound(calls, bodies.len()) {
+        return Ok(None);
+    }
+    Ok(Some(link(alloc, tables, bodies, calls, start)?))
+}
+
+/// The first function linked, with tables of its own.
 pub fn linked(
     alloc: Global,
     bodies: &[Body<'_>],
     calls: &[Vec<Call>],
 ) -> Result<Option<Result<LinkedProgram, Fault>>, AllocError> {
-    if bodies.is_empty() || calls.len() != bodies.len() || !is_sound(calls, bodies.len()) {
-        return Ok(None);
-    }
-    Ok(Some(link(alloc, bodies, calls, 0)?))
+    linked_at(alloc, &Tables::new(), bodies, calls, 0)
 }
 
 /// What the first function is made of, linked; none where the references are not sound.
@@ -95,5 +106,5 @@ pub fn mapped(
     if bodies.is_empty() || calls.len() != bodies.len() || !is_sound(calls, bodies.len()) {
         return Ok(None);
     }
-    Ok(Some(link_map(alloc, bodies, calls, 0)?))
+    Ok(Some(link_map(alloc, &Tables::new(), bodies, calls, 0)?))
 }

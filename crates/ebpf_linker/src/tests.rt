@@ -1,22 +1,17 @@
 //! Programs and functions linked, as texts.
 
 use crate::test_functions::{
-    CALLS, CALLS_TWICE, ENDS, EXIT, LOAD, NOTHING, Reference, linked, lists, plain,
+    CALLS, CALLS_TWICE, ENDS, EXIT, LOAD, NOTHING, Reference, linked, linked_at, lists, plain,
 };
-use crate::{Body, Call, Fault, Target};
+use crate::{Body, Call, Fault, LinkedProgram, Tables, Target};
 use ebpf_ext::{bpf_func_info, bpf_line_info};
 use ebpf_parts::insn::bpf_insn;
 use std::alloc::{AllocError, Global};
 use std::test::Fail;
 
-/// The first function linked: the imm and the registers of each slot, or the fault.
-fn outcome(
-    alloc: Global,
-    bodies: &[Body<'_>],
-    references: &[Reference],
-) -> Result<String, AllocError> {
-    let calls = lists(alloc, bodies.len(), references)?;
-    let program = match linked(alloc, bodies, &calls)? {
+/// A linked program: the imm and the registers of each slot, or the fault.
+fn told(alloc: Global, answer: Option<Result<LinkedProgram, Fault>>) -> Result<String, AllocError> {
+    let program = match answer {
         Some(Ok(program)) => program,
         Some(Err(fault)) => return format!(in alloc; "{fault:?}"),
         None => return format!(in alloc; "unsound"),
@@ -37,6 +32,34 @@ fn outcome(
     let counts = format!(in alloc; "{:?} {:?}", program.func_count, program.line_count)?;
     text.push_str(counts.as_str())?;
     Ok(text)
+}
+
+/// The first function linked.
+fn outcome(
+    alloc: Global,
+    bodies: &[Body<'_>],
+    references: &[Reference],
+) -> Result<String, AllocError> {
+    let calls = lists(alloc, bodies.len(), references)?;
+    told(alloc, linked(alloc, bodies, &calls)?)
+}
+
+/// Each of these functions linked in turn, with the same tables.
+fn outcomes(
+    alloc: Global,
+    tables: &Tables,
+    bodies: &[Body<'_>],
+    references: &[Reference],
+    starts: &[usize],
+) -> Result<String, AllocError> {
+    let calls = lists(alloc, bodies.len(), references)?;
+    let mut texts = String::new(alloc);
+    for start in starts {
+        let text = told(alloc, linked_at(alloc, tables, bodies, &calls, *start)?)?;
+        texts.push_str(text.as_str())?;
+        texts.push_str("; ")?;
+    }
+    Ok(texts)
 }
 
 /// A program that calls itself has a copy of its own.
@@ -245,5 +268,37 @@ fn chain(alloc: Global, count: usize) -> Result<String, AllocError> {
 fn long_chain(rt: HostRuntime) -> Result<(), Fail> {
     let text = chain(rt.alloc(), 10000)?;
     assert_eq!(rt; text.as_str(), "20001 10000");
+    Ok(())
+}
+
+/// What one program leaves in the tables serves the next: after a fault, and over other functions.
+#[test]
+fn programs_share_tables(rt: HostRuntime) -> Result<(), Fail> {
+    let tables = Tables::new();
+    let bodies = [
+        plain(&CALLS_TWICE),
+        plain(&CALLS),
+        plain(&ENDS),
+        plain(&CALLS_TWICE),
+    ];
+    let references = [
+        (0, 0, Target::Function(1)),
+        (0, 1, Target::Function(2)),
+        (1, 0, Target::Function(2)),
+        (3, 0, Target::Function(2)),
+        (
+            3,
+            1,
+            Target::Nowhere(Fault::UnsupportedTextSymbol { index: 5 }),
+        ),
+    ];
+    let text = outcomes(rt.alloc(), &tables, &bodies, &references, &[0, 1, 2, 3, 1])?;
+    assert_eq!(rt;
+        text.as_str(),
+        "2/1 3/1 0/0 1/1 0/0 0/0 Some(0) None; 1/1 0/0 0/0 Some(0) None; 0/0 None None; UnsupportedTextSymbol { index: 5 }; 1/1 0/0 0/0 Some(0) None; "
+    );
+    let alone = [(0, 0, Target::Function(0))];
+    let text = outcomes(rt.alloc(), &tables, &[plain(&CALLS)], &alone, &[0])?;
+    assert_eq!(rt; text.as_str(), "1/1 0/0 -1/1 0/0 Some(0) None; ");
     Ok(())
 }

@@ -94,7 +94,13 @@ impl<'a> NumberedFunctions<'a> {
         requires { number < length (function_keys (read self.now.parts).functions) }
         ensures { IfOk result (λ answer. IsKeyedMapping (read self.now.parts) number answer) }
     {
-        link_map(alloc, self.bodies.as_slice(), self.calls.as_slice(), number)
+        link_map(
+            alloc,
+            &self.tables,
+            self.bodies.as_slice(),
+            self.calls.as_slice(),
+            number,
+        )
     }
 
     /// What the program with a number is made of, by what was found by numbers.

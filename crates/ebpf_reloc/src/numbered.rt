@@ -14,7 +14,7 @@ use crate::function::Function;
 use crate::linkable::Linkable;
 use crate::numbers::{function_keys, function_list};
 use ebpf_base::Text;
-use ebpf_linker::{Body, Call, Fault, LinkedProgram, link};
+use ebpf_linker::{Body, Call, Fault, LinkedProgram, Tables, link};
 use std::alloc::{AllocError, Global};
 
 /// The functions of an object, numbered in the order of their keys.
@@ -30,6 +30,8 @@ pub struct NumberedFunctions<'a> {
     pub bodies: Vec<Body<'a>>,
     /// Their calls.
     pub calls: Vec<Vec<Call>>,
+    /// What one program that is linked leaves for the next.
+    pub tables: Tables,
     ghost are_keys: { keys.items ≡ function_keys (read parts).functions },
     ghost are_functions: { map (λ f. f.now) functions.items ≡ function_list (read parts).functions },
     ghost are_bodies: { map body_content bodies.items ≡ map content_of (function_list (read parts).functions) },
@@ -74,6 +76,7 @@ impl<'a> NumberedFunctions<'a> {
             functions,
             bodies,
             calls,
+            tables: Tables::new(),
         })
     }
 
@@ -86,7 +89,13 @@ impl<'a> NumberedFunctions<'a> {
         requires { number < length (function_keys (read self.now.parts).functions) }
         ensures { IfOk result (λ answer. IsLinking (functions_of (read self.now.parts)) (key_in (function_keys (read self.now.parts).functions) number) (answer_named (told (function_list (read self.now.parts).functions)) answer)) }
     {
-        link(alloc, self.bodies.as_slice(), self.calls.as_slice(), number)
+        link(
+            alloc,
+            &self.tables,
+            self.bodies.as_slice(),
+            self.calls.as_slice(),
+            number,
+        )
     }
 }
 

@@ -1,5 +1,4 @@
-use Rattle.std.proofs.Common.{◌≡◌, ℕ, length, replicate, ap, sym, ◌∙◌, subst}
-use Rattle.std.proofs.lemmas.List.{length-replicate}
+use Rattle.std.proofs.Common.{◌≡◌, ℕ, length, ap, sym, ◌∙◌, subst}
 use Rattle.ebpf_linker.specs.Image.{placed}
 use Rattle.ebpf_linker.proofs.Mapping.{is_link_map}
 use Rattle.ebpf_linker.proofs.Placed.{length-placed, body_read, no_body}
@@ -7,15 +6,16 @@ use Rattle.ebpf_linker.proofs.link_map.mapped.Goals as goal
 
 pub references_of-requires-clause-bases : goal.references_of-requires-clause-bases
 references_of-requires-clause-bases c =
-    let n = length c.args.bodies.now in
-    ap length (c.deref.ensures.value ∙ c.in_ok-bases.ensures.places) ∙ length-placed c.args.bodies.now _ (replicate n 0) c.args.reached.now ∙ length-replicate n 0
+    let (before, count, is) = c.in_ok-bases.ensures.places in
+    ap length (c.deref.ensures.value ∙ is) ∙ length-placed c.args.bodies.now _ before c.args.reached.now ∙ count
 
 pub returns : goal.returns
 returns c =
     let B = c.args.bodies.now in
     let ks = c.args.reached.now in
     let first = ap length (body_read B c.args.start no_body c.requires.ready.start) in
-    let places = subst (λ (n : ℕ). c.in_ok-bases.bases.items ≡ placed B n (replicate (length B) 0) ks) (sym first) c.in_ok-bases.ensures.places in
-    is_link_map B c.args.calls.now c.args.start ks c.deref.result.now c.requires.ready (c.deref.ensures.value ∙ places) c.requires.sound c.from_vec.result c.from_vec-2.result
+    let (before, count, is) = c.in_ok-bases.ensures.places in
+    let places = subst (λ (n : ℕ). c.in_ok-bases.bases.items ≡ placed B n before ks) (sym first) is in
+    is_link_map B c.args.calls.now c.args.start ks c.deref.result.now c.requires.ready before count (c.deref.ensures.value ∙ places) c.requires.sound c.from_vec.result c.from_vec-2.result
     (c.from_vec.ensures ∙ c.in_ok-copies.ensures)
     (c.from_vec-2.ensures ∙ c.in_ok-references.ensures)

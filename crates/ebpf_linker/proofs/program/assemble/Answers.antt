@@ -1,5 +1,4 @@
-use Rattle.std.proofs.Common.{◌≡◌, ℕ, Bool, length, replicate, ap, sym, ◌∙◌, subst}
-use Rattle.std.proofs.lemmas.List.{length-replicate}
+use Rattle.std.proofs.Common.{◌≡◌, ℕ, Bool, length, ap, sym, ◌∙◌, subst}
 use Rattle.ebpf_linker.specs.Faults.{has_some}
 use Rattle.ebpf_linker.specs.Image.{placed, laid}
 use Rattle.ebpf_linker.specs.Numbered.{functions}
@@ -11,8 +10,8 @@ use Rattle.ebpf_linker.proofs.program.assemble.Goals as goal
 
 pub lay-requires-clause-bases : goal.lay-requires-clause-bases
 lay-requires-clause-bases c =
-    let n = length c.args.bodies.now in
-    ap length (c.deref.ensures.value ∙ c.in_ok-bases.ensures.places) ∙ length-placed c.args.bodies.now _ (replicate n 0) c.args.copies.now ∙ length-replicate n 0
+    let (before, count, is) = c.in_ok-bases.ensures.places in
+    ap length (c.deref.ensures.value ∙ is) ∙ length-placed c.args.bodies.now _ before c.args.copies.now ∙ count
 
 pub returns : goal.returns
 returns c =
@@ -21,9 +20,10 @@ returns c =
     let p = c.args.start in
     let ks = c.args.copies.now in
     let first = ap length (body_read B p no_body c.requires.ready.start) in
-    let places = subst (λ (n : ℕ). c.in_ok-bases.bases.items ≡ placed B n (replicate (length B) 0) ks) (sym first) c.in_ok-bases.ensures.places in
+    let (before, count, is) = c.in_ok-bases.ensures.places in
+    let places = subst (λ (n : ℕ). c.in_ok-bases.bases.items ≡ placed B n before ks) (sym first) is in
     let some : has_some ks ≡ _ = some_if ks c.is_empty.result c.is_empty.ensures in
-    is_program B C p ks c.deref.result.now _ c.requires.ready (c.deref.ensures.value ∙ places)
+    is_program B C p ks c.deref.result.now _ c.requires.ready before count (c.deref.ensures.value ∙ places)
     (c.from_vec.ensures ∙ c.in_ok-slots.ensures ∙ ap (laid B C c.deref.result.now 0) c.requires.order)
     (c.from_vec-2.ensures ∙ c.in_ok-func_info.ensures)
     (c.from_vec-3.ensures ∙ c.in_ok-line_info.ensures)

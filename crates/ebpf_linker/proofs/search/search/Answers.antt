@@ -1,14 +1,16 @@
-use Rattle.std.proofs.Common.{◌≡◌, ℕ, ◌+◌, ◌<◌, List, [], ◌∷◌, ◌++◌, length, replicate, false, rules, refl, sym, ap, ◌∙◌, subst, arith, Option}
-use Rattle.std.specs.Prelude.{slice_get, Err, Ok}
+use Rattle.std.proofs.Common.{◌≡◌, ℕ, ◌+◌, ◌<◌, List, [], ◌∷◌, ◌++◌, length, replicate, true, false, rules, refl, sym, ap, ◌∙◌, subst, arith, Option}
+use Rattle.std.specs.Prelude.{slice_get, slice_index_or, All, Err, Ok, Vec}
+use Rattle.std.specs.declared.alloc.Global.{Global}
 use Rattle.ebpf_linker.specs.declared.reference.Fault.{Fault}
 use Rattle.ebpf_linker.specs.declared.search.Open.{Open}
-use Rattle.ebpf_linker.specs.Functions.{Content}
+use Rattle.ebpf_linker.specs.Functions.{Content, Among}
 use Rattle.ebpf_linker.specs.Numbered.{functions}
-use Rattle.ebpf_linker.specs.Steps.{Advanced, search_at, seen, target_of}
+use Rattle.ebpf_linker.specs.Steps.{Advanced, Search, search_at, seen, target_of}
 use Rattle.ebpf_linker.proofs.Searched.{State, advanced, started}
 use Rattle.ebpf_linker.proofs.Counted.{counted, refused, found_all, counted_first}
 use Rattle.ebpf_linker.proofs.Ends.{less_left, left_in, unfound}
 use Rattle.ebpf_linker.proofs.Seen.{sought, finds, content_read}
+use Rattle.ebpf_linker.proofs.Unmarked.{found_within, set_among, stands_still}
 use Rattle.ebpf_linker.proofs.search.search.Goals as goal
 
 pub loop-top-init : goal.loop-top-init
@@ -23,6 +25,38 @@ loop-top-init c =
       state = started (length B) (seen B C c.args.start) c.args.start _ _ _ c.requires.start o fs s;
       counted = counted_first (functions B C) c.args.start _ c.push.new.self.items o (ap (λ (u : Content). length u.slots) (sym (content_read B c.args.start _ c.requires.start)));
     }
+
+pub finish-order-requires-clause-within : goal.finish-order-requires-clause-within
+finish-order-requires-clause-within c =
+    let B = c.args.bodies.now in
+    let C = c.args.calls.now in
+    let p = c.args.start in
+    let F = functions B C in
+    let s = search_at c.loop-top.progress.order.items c.loop-top.progress.found.items c.pop.new.self.items c.loop-top.progress.used in
+    let t = search_at c.advance.new.self.order.items c.advance.new.self.found.items c.advance.new.self.pending.items c.advance.new.self.used in
+    let top = c.in-Some.top in
+    let a = subst (λ (u : Option Fault). Advanced F (seen B C p) top s t u) c.in-Some-step.is c.in_ok-step.ensures in
+    let same = stands_still F top s t c.in-Some-step.fault (target_of (slice_get (seen B C p top.function) top.next)) a in
+    subst (λ (u : Search). All (λ k. k < length u.found) u.order) (sym same) (found_within c.loop-top.invariant.state)
+
+pub finish-order-requires-clause-marked : goal.finish-order-requires-clause-marked
+finish-order-requires-clause-marked c =
+    let B = c.args.bodies.now in
+    let C = c.args.calls.now in
+    let p = c.args.start in
+    let F = functions B C in
+    let s = search_at c.loop-top.progress.order.items c.loop-top.progress.found.items c.pop.new.self.items c.loop-top.progress.used in
+    let t = search_at c.advance.new.self.order.items c.advance.new.self.found.items c.advance.new.self.pending.items c.advance.new.self.used in
+    let top = c.in-Some.top in
+    let a = subst (λ (u : Option Fault). Advanced F (seen B C p) top s t u) c.in-Some-step.is c.in_ok-step.ensures in
+    let same = stands_still F top s t c.in-Some-step.fault (target_of (slice_get (seen B C p top.function) top.next)) a in
+    subst (λ (u : Search). (k : ℕ) → slice_index_or u.found k false ≡ true → Among u.order k) (sym same) (set_among c.loop-top.invariant.state)
+
+pub finish-requires-clause-within : goal.finish-requires-clause-within
+finish-requires-clause-within c = found_within c.loop-top.invariant.state
+
+pub finish-requires-clause-marked : goal.finish-requires-clause-marked
+finish-requires-clause-marked c = set_among c.loop-top.invariant.state
 
 pub returns-in-Some-step : goal.returns-in-Some-step
 returns-in-Some-step c =
@@ -72,4 +106,5 @@ returns c =
     let C = c.args.calls.now in
     let p = c.args.start in
     let empty : length c.loop-top.progress.pending.items ≡ 0 = omega (arith, c.loop-top.progress.pending.ok.0, c.in_default.ensures.cases.0) in
-    finds B C p (Ok c.loop-top.progress.order) (found_all (functions B C) (length B) (seen B C p) p c.loop-top.progress.order.items c.loop-top.progress.found.items c.loop-top.progress.pending.items c.loop-top.progress.used empty c.loop-top.invariant.state c.loop-top.invariant.counted)
+    let (ks, is, found) = found_all (functions B C) (length B) (seen B C p) p c.loop-top.progress.order.items c.loop-top.progress.found.items c.loop-top.progress.pending.items c.loop-top.progress.used empty c.loop-top.invariant.state c.loop-top.invariant.counted in
+    finds B C p (Ok c.finish.result) (ks, ap (λ (v : Vec ℕ Global). v.items) c.finish.ensures ∙ is, found)

@@ -1,0 +1,85 @@
+//! Tables over all functions, which one program leaves for the next.
+
+ghost use Rattle.std.specs.Prelude.{◌≡◌, ◌<◌, ◌^◌, ℕ, length, IfOk, All, true, false, replicate, slice_index_or};
+ghost use Rattle.ebpf_linker.specs.Functions.{Among};
+
+use std::alloc::{AllocError, Global};
+use std::cell::Cell;
+
+/// Flags of functions by number, none of which is set.
+#[derive(Drop)]
+struct Unmarked {
+    flags: Vec<bool>,
+    ghost none: { flags.items ≡ replicate (length flags.items) false },
+}
+
+/// Places of functions by number.
+#[derive(Drop)]
+struct Places {
+    places: Vec<usize>,
+    ghost below: { All (λ place. place < 2 ^ 31) places.items },
+}
+
+/// Tables over all functions: made for the first program that is linked, and kept for the next ones, so that these
+/// cost what they reach. What is linked doesn't depend on them.
+#[derive(Drop)]
+pub struct Tables {
+    found: Cell<Option<Unmarked>>,
+    bases: Cell<Option<Places>>,
+}
+
+impl Tables {
+    /// No tables yet.
+    pub fn new() -> Tables {
+        Tables {
+            found: Cell::new(None),
+            bases: Cell::new(None),
+        }
+    }
+
+    /// Flags of so many functions, none of which is set.
+    pub(crate) fn take_flags(&self, alloc: Global, count: usize) -> Result<Vec<bool>, AllocError>
+        ensures { IfOk result (λ flags. flags.items ≡ replicate count false) }
+    {
+        match self.found.take() {
+            Some(kept) if kept.flags.len() == count => Ok(kept.flags),
+            _ => vec![in alloc; false; count],
+        }
+    }
+
+    /// Keeps flags for the next search.
+    pub(crate) fn keep_flags(&self, flags: Vec<bool>)
+        requires { flags.items ≡ replicate (length flags.items) false }
+    {
+        self.found.set(Some(Unmarked { flags }));
+    }
+
+    /// Places of so many functions, whatever they are.
+    pub(crate) fn take_places(&self, alloc: Global, count: usize) -> Result<Vec<usize>, AllocError>
+        ensures count { IfOk result (λ places. length places.items ≡ count) }
+        ensures below { IfOk result (λ places. All (λ place. place < 2 ^ 31) places.items) }
+    {
+        match self.bases.take() {
+            Some(kept) if kept.places.len() == count => Ok(kept.places),
+            _ => vec![in alloc; 0; count],
+        }
+    }
+
+    /// Keeps places for the next program.
+    pub(crate) fn keep_places(&self, places: Vec<usize>)
+        requires { All (λ place. place < 2 ^ 31) places.items }
+    {
+        self.bases.set(Some(Places { places }));
+    }
+}
+
+/// Takes back the flags of these functions, where no other is set.
+pub fn unmark(flags: &mut Vec<bool>, functions: &[usize])
+    requires within { All (λ k. k < length flags.old.items) functions.now }
+    requires marked { (k : ℕ) → slice_index_or flags.old.items k false ≡ true → Among functions.now k }
+    ensures { flags.new.items ≡ replicate (length flags.old.items) false }
+{
+    for function in functions {
+        flags[*function] = false;
+    }
+}
