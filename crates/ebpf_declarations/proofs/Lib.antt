@@ -1,5 +1,4 @@
 pub mod Added
-pub mod Answered
 pub mod Beginnings
 pub mod LaterMembers
 pub mod Put
