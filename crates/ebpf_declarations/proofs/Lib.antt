@@ -4,3 +4,5 @@ pub mod LaterMembers
 pub mod Put
 pub mod Said
 pub mod KnownStructs
+pub mod LongNames
+pub mod NamedSections

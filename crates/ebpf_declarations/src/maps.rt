@@ -85,7 +85,7 @@ fn map_of(
 
 /// Adds the maps of entries.
 #[tactic(auto, using(crate::proofs::Added::more_added, ebpf_parts::proofs::Walks::rest_more, ebpf_parts::proofs::Walks::rest_none))]
-fn add_entries(
+pub fn add_entries(
     alloc: Global,
     found: &mut Items<(Text, Map)>,
     btf: &Btf,
