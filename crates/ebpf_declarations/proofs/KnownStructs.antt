@@ -13,9 +13,9 @@ use Rattle.ebpf_btf.specs.declared.error.BtfError.{BtfError}
 use Rattle.ebpf_btf.specs.declared.error.BtfError.TheVariants.{InvalidValuesSpec}
 use Rattle.ebpf_btf.specs.declared.members.BtfMember.{BtfMember}
 use Rattle.ebpf_declarations.specs.Attempts.{all_given}
-use Rattle.ebpf_declarations.specs.KnownStructs.{struct_says, Knows}
-use Rattle.ebpf_declarations.specs.MapMembers.{unexpected, resolved_struct, pointed_struct, held_struct, member_at}
-use Rattle.ebpf_declarations.specs.Maps.{with_members, inner_saying_of, inner_saying, inner_definition, saying_of, saying, definitions}
+use Rattle.ebpf_declarations.specs.KnownStructs.{Remembers}
+use Rattle.ebpf_declarations.specs.MapMembers.{unexpected, members_at, pointed_struct, held_struct, member_at}
+use Rattle.ebpf_declarations.specs.Maps.{with_members, inner_saying_of, inner_saying, inner_definition, inner_says, saying_of, saying, definitions, struct_says}
 use Rattle.ebpf_declarations.specs.Sayings.{no_definitions, with_all}
 use Rattle.ebpf_declarations.specs.declared.definitions.MapDefinitions.{MapDefinitions}
 use Rattle.ebpf_declarations.specs.declared.map_member.MapMember.{MapMember}
@@ -68,11 +68,15 @@ module _ (info : TypeInfo) (n o : List ℕ) where
       via (with_members (inner_saying info n) no_definitions ms) (with_members (inner_saying info o) no_definitions ms) (λ e. Ok e.def) (λ e. Ok e.def) d
       (λ e k. with_same (inner_saying info n) (inner_saying info o) inner_same no_definitions e ms k) (λ e k. k) h
 
-  held_same : (id : ℕ) (ms : List BtfMember) → held_struct info.types n id ≡ Ok ms → held_struct info.types o id ≡ Ok ms
+  pub inner_says_same : (id : ℕ) (d : BtfMapDef) → inner_says info n id ≡ Ok d → inner_says info o id ≡ Ok d
+  inner_says_same id d h =
+      via (members_at info.types id) (members_at info.types id) (λ ms. inner_definition info n ms) (λ ms. inner_definition info o ms) d (λ ms k. k) (λ ms k. inner_definition_same ms d k) h
+
+  held_same : (id : ℕ) (s : ℕ) → held_struct info.types n id ≡ Ok s → held_struct info.types o id ≡ Ok s
   unfolding held_struct
-  held_same id ms h =
-      via (type_at info.types id) (type_at info.types id) _ _ ms (λ t k. k)
-      (λ t k. where_some (array_of t) (λ array. array.len == 0) (λ array. pointed_struct info.types array.element_type) (InvalidValuesSpec n) (InvalidValuesSpec o) (unexpected t) ms k) h
+  held_same id s h =
+      via (type_at info.types id) (type_at info.types id) _ _ s (λ t k. k)
+      (λ t k. where_some (array_of t) (λ array. array.len == 0) (λ array. pointed_struct info.types array.element_type) (InvalidValuesSpec n) (InvalidValuesSpec o) (unexpected t) s k) h
 
   saying_of_same : (about : MapMember) (id : ℕ) (s : Saying) → saying_of info n about id ≡ Ok s → saying_of info o about id ≡ Ok s
   unfolding saying_of
@@ -81,30 +85,31 @@ module _ (info : TypeInfo) (n o : List ℕ) where
   saying_of_same Key id s h = h
   saying_of_same Value id s h = h
   saying_of_same Values id s h =
-      via (held_struct info.types n id) (held_struct info.types o id) (λ held. if_ok (inner_definition info n held) (λ inner. Ok (said.Values inner))) (λ held. if_ok (inner_definition info o held) (λ inner. Ok (said.Values inner))) s (held_same id)
-      (λ held k. via (inner_definition info n held) (inner_definition info o held) (λ inner. Ok (said.Values inner)) (λ inner. Ok (said.Values inner)) s (inner_definition_same held) (λ inner g. g) k) h
+      via (held_struct info.types n id) (held_struct info.types o id) (λ held. if_ok (inner_says info n held) (λ inner. Ok (said.Values inner))) (λ held. if_ok (inner_says info o held) (λ inner. Ok (said.Values inner))) s (held_same id)
+      (λ held k. via (inner_says info n held) (inner_says info o held) (λ inner. Ok (said.Values inner)) (λ inner. Ok (said.Values inner)) s (inner_says_same held) (λ inner g. g) k) h
   saying_of_same Other id s h = h
 
   saying_same : (m : BtfMember) (s : Saying) → saying info n m ≡ Ok s → saying info o m ≡ Ok s
   unfolding saying
   saying_same m s h = via (member_at info.strings m) (member_at info.strings m) _ _ s (λ x k. k) (λ about k. saying_of_same about m.btf_type s k) h
 
-  says_same : (id : ℕ) (d : MapDefinitions) → struct_says info n id ≡ Ok d → struct_says info o id ≡ Ok d
+  pub says_same : (id : ℕ) (d : MapDefinitions) → struct_says info n id ≡ Ok d → struct_says info o id ≡ Ok d
   says_same id d h =
-      via (resolved_struct info.types id) (resolved_struct info.types id) (λ ms. definitions info n ms) (λ ms. definitions info o ms) d (λ ms k. k)
+      via (members_at info.types id) (members_at info.types id) (λ ms. definitions info n ms) (λ ms. definitions info o ms) d (λ ms k. k)
       (λ ms k. with_same (saying info n) (saying info o) saying_same no_definitions d ms k) h
 
 equal_numbers : (k q : ℕ) → is_at (nat_cmp k) q ≡ true → k ≡ q
 equal_numbers k q h = grind (arith, nat_tests)
 
--- one more struct is remembered
-pub one_more : (info : TypeInfo) (m n : BTreeMap ℕ MapDefinitions) (name : List ℕ) (id : ℕ) (d : MapDefinitions) → Knows info m → struct_says info name id ≡ Ok d → Updates nat_cmp m n id (Some d) → Knows info n
-one_more info m n name id d knows says updates = record { said = λ q e at o. step q e o (is_at (nat_cmp id) q) refl (sym (updates.0 q) ∙ at) }
+-- one more struct is remembered, which says the same of maps of all names
+pub one_more : {X : Type 0} (says : List ℕ → ℕ → Result X BtfError) → ((n o : List ℕ) (id : ℕ) (d : X) → says n id ≡ Ok d → says o id ≡ Ok d)
+    → (m n : BTreeMap ℕ X) (name : List ℕ) (id : ℕ) (d : X) → Remembers says m → says name id ≡ Ok d → Updates nat_cmp m n id (Some d) → Remembers says n
+one_more {X = X} says same_for m n name id d knows is updates = record { said = λ q e at o. step q e o (is_at (nat_cmp id) q) refl (sym (updates.0 q) ∙ at) }
   where
-    step : (q : ℕ) (e : MapDefinitions) (o : List ℕ) (b : Bool) → is_at (nat_cmp id) q ≡ b → cond (is_at (nat_cmp id) q) (Some d) (get nat_cmp m q) ≡ Some e → struct_says info o q ≡ Ok e
-    step q e o true is at =
-        let place : id ≡ q = equal_numbers id q is in
-        let value : Some d ≡ Some e = sym (ap (λ b. cond b (Some d) (get nat_cmp m q)) is) ∙ at in
+    step : (q : ℕ) (e : X) (o : List ℕ) (b : Bool) → is_at (nat_cmp id) q ≡ b → cond (is_at (nat_cmp id) q) (Some d) (get nat_cmp m q) ≡ Some e → says o q ≡ Ok e
+    step q e o true here at =
+        let place : id ≡ q = equal_numbers id q here in
+        let value : Some d ≡ Some e = sym (ap (λ b. cond b (Some d) (get nat_cmp m q)) here) ∙ at in
         let same : d ≡ e = cc in
-        ap (struct_says info o) (sym place) ∙ says_same info name o id d says ∙ ap Ok same
-    step q e o false is at = knows.said q e (sym (ap (λ b. cond b (Some d) (get nat_cmp m q)) is) ∙ at) o
+        ap (says o) (sym place) ∙ same_for name o id d is ∙ ap Ok same
+    step q e o false here at = knows.said q e (sym (ap (λ b. cond b (Some d) (get nat_cmp m q)) here) ∙ at) o

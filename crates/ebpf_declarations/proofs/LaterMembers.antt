@@ -10,7 +10,7 @@ use Rattle.ebpf_btf.specs.declared.members.BtfMember.{BtfMember}
 use Rattle.ebpf_declarations.specs.Attempts.{all_given}
 use Rattle.ebpf_declarations.specs.Laws.{LaterMembersStand, LaterInnerMembersStand}
 use Rattle.ebpf_declarations.specs.MapMembers.{map_member, member_at, number, sized_type, held_struct}
-use Rattle.ebpf_declarations.specs.Maps.{with_members, plain_saying, inner_saying_of, inner_saying, inner_definition, saying_of, saying, pinning_of}
+use Rattle.ebpf_declarations.specs.Maps.{with_members, plain_saying, inner_saying_of, inner_saying, inner_says, saying_of, saying, pinning_of}
 use Rattle.ebpf_declarations.specs.Sayings.{same_number, number_said, pinning_said, key_type_said, value_type_said, inner_said, last_some, with_all, no_definitions}
 use Rattle.ebpf_declarations.specs.declared.definitions.MapDefinitions.{MapDefinitions}
 use Rattle.ebpf_declarations.specs.declared.map_member.MapMember.{MapMember}
@@ -231,8 +231,8 @@ saying_subject info name about.Pinning id s is = by_subject about.Pinning (numbe
 saying_subject info name about.Key id s is = by_subject about.Key (sized_type info.types id) (λ t. Key t.0 t.1) s (λ t. refl) is
 saying_subject info name about.Value id s is = by_subject about.Value (sized_type info.types id) (λ t. Value t.0 t.1) s (λ t. refl) is
 saying_subject info name about.Values id s is =
-    by_inner (held_struct info.types name id) (λ held. if_ok (inner_definition info name held) (λ inner. Ok (Values inner))) s
-    (λ held here. by_subject about.Values (inner_definition info name held) Values s (λ inner. refl) here) is
+    by_inner (held_struct info.types name id) (λ held. if_ok (inner_says info name held) (λ inner. Ok (Values inner))) s
+    (λ held here. by_subject about.Values (inner_says info name held) Values s (λ inner. refl) here) is
 saying_subject info name about.Other id s is = let e : Nothing ≡ s = cc in ap subject (sym e)
 
 inner_subject : (info : TypeInfo) (name : List ℕ) (m : MapMember) (id : ℕ) (s : Saying) → inner_saying_of info name m id ≡ Ok s → subject s ≡ m

@@ -1,18 +1,21 @@
--- What structs say of maps, remembered by the types that stand for them.
+-- What structs say of maps, remembered by their ids.
 use Rattle.std.specs.Prelude.{◌≡◌, ℕ, List, Result, Ok, Some}
 use Rattle.std.specs.BTreeMap.{BTreeMap, get}
 use Rattle.std.specs.Ordering.{nat_cmp}
-use Rattle.ebpf_btf.specs.Next.{if_ok}
 use Rattle.ebpf_btf.specs.TypeInfo.{TypeInfo}
 use Rattle.ebpf_btf.specs.declared.error.BtfError.{BtfError}
-use Rattle.ebpf_declarations.specs.MapMembers.{resolved_struct}
-use Rattle.ebpf_declarations.specs.Maps.{definitions}
-use Rattle.ebpf_declarations.specs.declared.definitions.MapDefinitions.{MapDefinitions}
-
--- what the struct says of the map with a name that a type stands for
-abbrev pub struct_says : TypeInfo → List ℕ → ℕ → Result MapDefinitions BtfError
-struct_says info name id = if_ok (resolved_struct info.types id) (λ members. definitions info name members)
+use Rattle.ebpf_declarations.specs.Maps.{inner_says, struct_says}
+use Rattle.ebpf_declarations.specs.declared.known_structs.KnownStructs.{KnownStructs}
+use Rattle.ebpf_parts.specs.declared.maps.definition.BtfMapDef.{BtfMapDef}
 
 -- what is remembered is what the structs say, whatever the map's name
-pub record Knows (info : TypeInfo) (known : BTreeMap ℕ MapDefinitions) : Type 0 where
-  pub said : (id : ℕ) (d : MapDefinitions) → get nat_cmp known id ≡ Some d → (name : List ℕ) → struct_says info name id ≡ Ok d
+pub record Remembers {X : Type 0} (says : List ℕ → ℕ → Result X BtfError) (known : BTreeMap ℕ X) : Type 0 where
+  pub said : (id : ℕ) (d : X) → get nat_cmp known id ≡ Some d → (name : List ℕ) → says name id ≡ Ok d
+
+abbrev pub RemembersInner : TypeInfo → BTreeMap ℕ BtfMapDef → Type 0
+RemembersInner info known = Remembers (inner_says info) known
+
+-- of maps, and of the maps that they hold
+pub record Knows (info : TypeInfo) (known : KnownStructs) : Type 0 where
+  pub maps : Remembers (struct_says info) known.maps
+  pub inner_maps : RemembersInner info known.inner_maps

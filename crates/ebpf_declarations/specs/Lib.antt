@@ -4,6 +4,7 @@ pub mod Externs
 pub mod Laws
 pub mod MapMembers
 pub mod Maps
+pub mod NamedSections
 pub mod Placeholders
 pub mod Sayings
 pub mod KnownStructs

@@ -4,7 +4,7 @@ use Rattle.std.specs.Prelude.{ℕ, List, [], ◌∷◌, Option, Some, None, Resu
 use Rattle.std.specs.Str.{bytes_eq}
 use Rattle.ebpf_base.specs.Faults.{first_of}
 use Rattle.ebpf_btf.specs.Next.{if_some, if_ok}
-use Rattle.ebpf_btf.specs.Steps.{type_at, resolved_type, size_of}
+use Rattle.ebpf_btf.specs.Steps.{type_at, resolved, resolved_type, size_of}
 use Rattle.ebpf_btf.specs.Strings.{text_at}
 use Rattle.ebpf_btf.specs.Types.{array_of, type_word}
 use Rattle.ebpf_btf.specs.declared.error.BtfError.{BtfError}
@@ -66,20 +66,20 @@ sized_type types id =
     (λ t. if_ok (size_of types t) (λ size. Ok (t, size)))
     (Err (UnexpectedBtfType id)))
 
--- the members of the struct that a type stands for
-unfoldable pub resolved_struct : List BtfType → ℕ → Result (List BtfMember) BtfError
-resolved_struct types id =
-    if_ok (resolved_type types id) (λ t.
+-- the members of the STRUCT with an id
+unfoldable pub members_at : List BtfType → ℕ → Result (List BtfMember) BtfError
+members_at types id =
+    if_ok (type_at types id) (λ t.
     if_some (struct_members t) (λ members. Ok members) (Err (unexpected t)))
 
--- the struct that a pointer, which a type stands for, points to
-unfoldable pub pointed_struct : List BtfType → ℕ → Result (List BtfMember) BtfError
+-- the id of what a pointer, which a type stands for, points to, past types that stand for others
+unfoldable pub pointed_struct : List BtfType → ℕ → Result ℕ BtfError
 pointed_struct types id =
     if_ok (resolved_type types id) (λ p.
-    if_some (pointed p) (λ s. resolved_struct types s) (Err (unexpected p)))
+    if_some (pointed p) (λ s. resolved types s) (Err (unexpected p)))
 
--- the struct of the maps that a map holds: the member is an ARRAY of no elements that point to it
-unfoldable pub held_struct : List BtfType → List ℕ → ℕ → Result (List BtfMember) BtfError
+-- the id of the struct of the maps that a map holds: the member is an ARRAY of no elements that point to it
+unfoldable pub held_struct : List BtfType → List ℕ → ℕ → Result ℕ BtfError
 held_struct types name id =
     if_ok (type_at types id) (λ t.
     if_some (array_of t)

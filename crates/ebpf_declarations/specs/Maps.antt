@@ -3,7 +3,7 @@ use Rattle.std.specs.Prelude.{ℕ, List, [], Option, Some, None, Result, Ok, Err
 use Rattle.std.specs.List.{flat_map}
 use Rattle.ebpf_base.specs.Faults.{first_some, fault_of}
 use Rattle.ebpf_btf.specs.Next.{if_some, if_ok}
-use Rattle.ebpf_btf.specs.Steps.{type_at}
+use Rattle.ebpf_btf.specs.Steps.{type_at, resolved}
 use Rattle.ebpf_btf.specs.Strings.{type_name}
 use Rattle.ebpf_btf.specs.TypeInfo.{TypeInfo}
 use Rattle.ebpf_btf.specs.declared.error.BtfError.{BtfError}
@@ -14,7 +14,7 @@ use Rattle.ebpf_btf.specs.declared.types.BtfType.{BtfType}
 use Rattle.ebpf_btf.specs.declared.types.BtfType.TheVariants.{Var}
 use Rattle.ebpf_declarations.specs.Attempts.{given, all_given}
 use Rattle.ebpf_declarations.specs.DataSections.{MetSection, Named, UnreadableName, met_section}
-use Rattle.ebpf_declarations.specs.MapMembers.{unexpected, number, sized_type, resolved_struct, held_struct, member_at}
+use Rattle.ebpf_declarations.specs.MapMembers.{unexpected, number, sized_type, members_at, held_struct, member_at}
 use Rattle.ebpf_declarations.specs.Sayings.{no_definitions, with_all}
 use Rattle.ebpf_declarations.specs.declared.map_member.MapMember.{MapMember}
 use Rattle.ebpf_declarations.specs.declared.map_member.MapMember.TheVariants as about
@@ -58,11 +58,15 @@ inner_saying info name m = if_ok (member_at info.strings m) (λ member. inner_sa
 abbrev pub inner_definition : TypeInfo → List ℕ → List BtfMember → Result BtfMapDef BtfError
 inner_definition info name members = if_ok (with_members (inner_saying info name) no_definitions members) (λ d. Ok d.def)
 
+-- what the STRUCT with an id says of the maps that the map with a name holds
+abbrev pub inner_says : TypeInfo → List ℕ → ℕ → Result BtfMapDef BtfError
+inner_says info name id = if_ok (members_at info.types id) (λ members. inner_definition info name members)
+
 -- of the map with a name, which may hold maps
 unfoldable pub saying_of : TypeInfo → List ℕ → MapMember → ℕ → Result Saying BtfError
 saying_of info name about.Values id =
     if_ok (held_struct info.types name id) (λ held.
-    if_ok (inner_definition info name held) (λ inner. Ok (said.Values inner)))
+    if_ok (inner_says info name held) (λ inner. Ok (said.Values inner)))
 saying_of info name member id = plain_saying info.types member id
 
 unfoldable pub saying : TypeInfo → List ℕ → BtfMember → Result Saying BtfError
@@ -70,6 +74,10 @@ saying info name m = if_ok (member_at info.strings m) (λ member. saying_of info
 
 abbrev pub definitions : TypeInfo → List ℕ → List BtfMember → Result MapDefinitions BtfError
 definitions info name members = with_members (saying info name) no_definitions members
+
+-- what the STRUCT with an id says of the map with a name
+abbrev pub struct_says : TypeInfo → List ℕ → ℕ → Result MapDefinitions BtfError
+struct_says info name id = if_ok (members_at info.types id) (λ members. definitions info name members)
 
 -- ---- one map
 
@@ -85,8 +93,8 @@ declared info entry =
     if_some (variable t)
     (λ id.
     if_ok (type_name info t) (λ name.
-    if_ok (resolved_struct info.types id) (λ members.
-    if_ok (definitions info name members) (λ d. Ok (name, d)))))
+    if_ok (resolved info.types id) (λ held.
+    if_ok (struct_says info name held) (λ d. Ok (name, d)))))
     (Err (unexpected t)))
 
 abbrev pub map_at : MapDefinitions → ℕ → ℕ → Map

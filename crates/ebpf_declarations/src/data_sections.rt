@@ -9,7 +9,7 @@ use ebpf_btf::{Btf, BtfError, BtfType, DataSecEntry};
 
 /// The entries of a DATASEC.
 #[tactic(auto, unfolding(crate::specs::DataSections::entries_of))]
-fn entries_of(ty: &BtfType) -> Option<&[DataSecEntry]>
+pub fn entries_of(ty: &BtfType) -> Option<&[DataSecEntry]>
     ensures { option_copied result ≡ entries_of ty.now }
 {
     match ty {

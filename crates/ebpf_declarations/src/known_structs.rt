@@ -1,46 +1,73 @@
-//! What structs say of maps, remembered by the types that stand for them.
+//! What structs say of maps, remembered by their ids.
 
 ghost use Rattle.std.specs.Prelude.{◌≡◌, OnOk};
 ghost use Rattle.ebpf_base.specs.Faults.{Gives};
 ghost use Rattle.ebpf_btf.specs.Memory.{is_memory};
-ghost use Rattle.ebpf_declarations.specs.KnownStructs.{struct_says, Knows};
+ghost use Rattle.ebpf_btf.specs.TypeInfo.{TypeInfo};
+ghost use Rattle.ebpf_declarations.specs.KnownStructs.{Knows, RemembersInner};
+ghost use Rattle.ebpf_declarations.specs.Maps.{struct_says};
 
 use crate::definitions::MapDefinitions;
 use crate::map_sayings::definitions;
-use crate::map_structs::resolved_struct;
+use crate::map_structs::members_at;
 use ebpf_btf::{Btf, BtfError};
+use ebpf_parts::maps::BtfMapDef;
 use std::alloc::Global;
 use std::collections::BTreeMap;
 
-/// What the struct says of the map with a name that a type stands for.
+/// What structs say of maps, by the ids of the structs.
+#[derive(Drop)]
+pub struct KnownStructs {
+    /// Of the maps that they declare.
+    pub maps: BTreeMap<u32, MapDefinitions>,
+    /// Of the maps that maps hold.
+    pub inner_maps: BTreeMap<u32, BtfMapDef>,
+}
+
+impl KnownStructs {
+    /// Where no struct was read.
+    pub fn none(alloc: Global) -> KnownStructs
+        ensures { (info : TypeInfo) → Knows info result }
+    {
+        KnownStructs {
+            maps: BTreeMap::new(alloc),
+            inner_maps: BTreeMap::new(alloc),
+        }
+    }
+}
+
+/// What the struct with an id says of the map with a name.
 fn read_struct(
     alloc: Global,
     btf: &Btf,
+    inner_maps: &mut BTreeMap<u32, BtfMapDef>,
     name: &str,
-    type_id: u32,
+    struct_id: u32,
 ) -> Result<MapDefinitions, BtfError>
-    ensures { Gives is_memory result (struct_says btf.now name.now type_id) }
+    requires { RemembersInner btf.now inner_maps.old }
+    ensures says { Gives is_memory result (struct_says btf.now name.now struct_id) }
+    ensures known { OnOk result (RemembersInner btf.now inner_maps.new) }
 {
-    let members = resolved_struct(btf, type_id)?;
-    definitions(alloc, btf, name, members)
+    let members = members_at(btf, struct_id)?;
+    definitions(alloc, btf, inner_maps, name, members)
 }
 
 /// The same, read at the first map that the struct declares.
 pub fn said_by_struct(
     alloc: Global,
     btf: &Btf,
-    known: &mut BTreeMap<u32, MapDefinitions>,
+    known: &mut KnownStructs,
     name: &str,
-    type_id: u32,
+    struct_id: u32,
 ) -> Result<MapDefinitions, BtfError>
     requires { Knows btf.now known.old }
-    ensures says { Gives is_memory result (struct_says btf.now name.now type_id) }
+    ensures says { Gives is_memory result (struct_says btf.now name.now struct_id) }
     ensures known { OnOk result (Knows btf.now known.new) }
 {
-    if let Some(said) = known.get(&type_id) {
+    if let Some(said) = known.maps.get(&struct_id) {
         return Ok(*said);
     }
-    let said = read_struct(alloc, btf, name, type_id)?;
-    known.insert(type_id, said)?;
+    let said = read_struct(alloc, btf, &mut known.inner_maps, name, struct_id)?;
+    known.maps.insert(struct_id, said)?;
     Ok(said)
 }

@@ -2,6 +2,7 @@
 #![tactic(auto)]
 
 mod data_sections;
+mod declared_maps;
 mod definitions;
 mod error;
 mod externs;
@@ -12,9 +13,11 @@ mod map_sayings;
 mod map_structs;
 mod map_types;
 mod maps;
+mod named_sections;
 mod placeholders;
 mod saying;
 
+pub use declared_maps::DeclaredMaps;
 pub use error::parse_error;
 pub use externs::collect_externs;
 pub use maps::collect_btf_maps;

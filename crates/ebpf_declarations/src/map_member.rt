@@ -1,9 +1,7 @@
 //! The members of a struct that declares a map.
 
 ghost use Rattle.std.specs.Prelude.{◌≡◌};
-ghost use Rattle.ebpf_base.specs.Faults.{Gives};
-ghost use Rattle.ebpf_btf.specs.Memory.{is_memory};
-ghost use Rattle.ebpf_declarations.specs.MapMembers.{map_member, member_at};
+ghost use Rattle.ebpf_declarations.specs.MapMembers.{member_at};
 
 use ebpf_btf::{Btf, BtfError, BtfMember};
 
@@ -41,30 +39,41 @@ pub enum MapMember {
     Other,
 }
 
-/// What a member of this name is about.
+/// What a member is about, by its name, of which no more is looked at than the longest of the known names has.
 #[tactic(auto, unfolding(crate::specs::MapMembers::map_member))]
-fn map_member(name: &str) -> MapMember
-    ensures { result ≡ map_member name.now }
-{
-    match name {
-        "type" => MapMember::Number(MapNumber::MapType),
-        "key_size" => MapMember::Number(MapNumber::KeySize),
-        "value_size" => MapMember::Number(MapNumber::ValueSize),
-        "max_entries" => MapMember::Number(MapNumber::MaxEntries),
-        "map_flags" => MapMember::Number(MapNumber::MapFlags),
-        "map_extra" => MapMember::Number(MapNumber::MapExtra),
-        "key" => MapMember::Key,
-        "value" => MapMember::Value,
-        "pinning" => MapMember::Pinning,
-        "values" => MapMember::Values,
-        _ => MapMember::Other,
-    }
-}
-
-/// What a member is about, by its name.
 pub fn member_at(btf: &Btf, member: &BtfMember) -> Result<MapMember, BtfError>
-    ensures { Gives is_memory result (member_at btf.now.strings member.now) }
+    ensures { result ≡ member_at btf.now.strings member.now }
 {
-    let name = btf.string_at(member.name_offset)?;
-    Ok(map_member(name.as_str()))
+    let name = member.name_offset;
+    if btf.is_name_at(name, "type")? {
+        return Ok(MapMember::Number(MapNumber::MapType));
+    }
+    if btf.is_name_at(name, "key_size")? {
+        return Ok(MapMember::Number(MapNumber::KeySize));
+    }
+    if btf.is_name_at(name, "value_size")? {
+        return Ok(MapMember::Number(MapNumber::ValueSize));
+    }
+    if btf.is_name_at(name, "max_entries")? {
+        return Ok(MapMember::Number(MapNumber::MaxEntries));
+    }
+    if btf.is_name_at(name, "map_flags")? {
+        return Ok(MapMember::Number(MapNumber::MapFlags));
+    }
+    if btf.is_name_at(name, "map_extra")? {
+        return Ok(MapMember::Number(MapNumber::MapExtra));
+    }
+    if btf.is_name_at(name, "key")? {
+        return Ok(MapMember::Key);
+    }
+    if btf.is_name_at(name, "value")? {
+        return Ok(MapMember::Value);
+    }
+    if btf.is_name_at(name, "pinning")? {
+        return Ok(MapMember::Pinning);
+    }
+    if btf.is_name_at(name, "values")? {
+        return Ok(MapMember::Values);
+    }
+    Ok(MapMember::Other)
 }

@@ -1,19 +1,21 @@
 //! What the members of a struct say of a map.
 
-ghost use Rattle.std.specs.Prelude.{◌≡◌};
+ghost use Rattle.std.specs.Prelude.{◌≡◌, OnOk};
 ghost use Rattle.ebpf_base.specs.Faults.{Gives};
 ghost use Rattle.ebpf_btf.specs.Memory.{is_memory};
-ghost use Rattle.ebpf_declarations.specs.Maps.{pinning_of, plain_saying, inner_saying_of, inner_saying, inner_definition, saying_of, saying, definitions};
+ghost use Rattle.ebpf_declarations.specs.KnownStructs.{RemembersInner};
+ghost use Rattle.ebpf_declarations.specs.Maps.{pinning_of, plain_saying, inner_saying_of, inner_saying, inner_definition, inner_says, saying_of, saying, definitions};
 
 use crate::definitions::MapDefinitions;
 use crate::map_member::{MapMember, member_at};
-use crate::map_structs::held_struct;
+use crate::map_structs::{held_struct, members_at};
 use crate::map_types::{number, sized_type};
 use crate::saying::Saying;
 use ebpf_base::Text;
 use ebpf_btf::{Btf, BtfError, BtfMember};
 use ebpf_parts::maps::{BtfMapDef, PinningType};
 use std::alloc::Global;
+use std::collections::BTreeMap;
 
 fn pinning_of(number: u32) -> PinningType
     ensures { result ≡ pinning_of number }
@@ -100,32 +102,76 @@ fn inner_definition(
     Ok(all.def)
 }
 
+/// What the struct with an id says of the maps that the map with a name holds.
+fn read_inner_struct(
+    alloc: Global,
+    btf: &Btf,
+    name: &str,
+    struct_id: u32,
+) -> Result<BtfMapDef, BtfError>
+    ensures { Gives is_memory result (inner_says btf.now name.now struct_id) }
+{
+    let members = members_at(btf, struct_id)?;
+    inner_definition(alloc, btf, name, members)
+}
+
+/// The same, read at the first map that holds such maps.
+fn said_by_inner_struct(
+    alloc: Global,
+    btf: &Btf,
+    known: &mut BTreeMap<u32, BtfMapDef>,
+    name: &str,
+    struct_id: u32,
+) -> Result<BtfMapDef, BtfError>
+    requires { RemembersInner btf.now known.old }
+    ensures says { Gives is_memory result (inner_says btf.now name.now struct_id) }
+    ensures known { OnOk result (RemembersInner btf.now known.new) }
+{
+    if let Some(said) = known.get(&struct_id) {
+        return Ok(*said);
+    }
+    let said = read_inner_struct(alloc, btf, name, struct_id)?;
+    known.insert(struct_id, said)?;
+    Ok(said)
+}
+
 /// What a member says of the map with a name.
 #[tactic(auto, unfolding(crate::specs::Maps::saying_of))]
 fn saying_of(
     alloc: Global,
     btf: &Btf,
+    known: &mut BTreeMap<u32, BtfMapDef>,
     name: &str,
     member: MapMember,
     type_id: u32,
 ) -> Result<Saying, BtfError>
-    ensures { Gives is_memory result (saying_of btf.now name.now member type_id) }
+    requires { RemembersInner btf.now known.old }
+    ensures says { Gives is_memory result (saying_of btf.now name.now member type_id) }
+    ensures known { OnOk result (RemembersInner btf.now known.new) }
 {
     if member != MapMember::Values {
         return plain_saying(btf, member, type_id);
     }
     let held = held_struct(alloc, btf, name, type_id)?;
-    let inner = inner_definition(alloc, btf, name, held)?;
+    let inner = said_by_inner_struct(alloc, btf, known, name, held)?;
     Ok(Saying::Values(inner))
 }
 
 /// The same, by the member's name.
 #[tactic(auto, unfolding(crate::specs::Maps::saying))]
-fn saying(alloc: Global, btf: &Btf, name: &str, member: &BtfMember) -> Result<Saying, BtfError>
-    ensures { Gives is_memory result (saying btf.now name.now member.now) }
+fn saying(
+    alloc: Global,
+    btf: &Btf,
+    known: &mut BTreeMap<u32, BtfMapDef>,
+    name: &str,
+    member: &BtfMember,
+) -> Result<Saying, BtfError>
+    requires { RemembersInner btf.now known.old }
+    ensures says { Gives is_memory result (saying btf.now name.now member.now) }
+    ensures known { OnOk result (RemembersInner btf.now known.new) }
 {
     let about = member_at(btf, member)?;
-    saying_of(alloc, btf, name, about, member.btf_type)
+    saying_of(alloc, btf, known, name, about, member.btf_type)
 }
 
 /// What members say of the map with a name.
@@ -133,14 +179,17 @@ fn saying(alloc: Global, btf: &Btf, name: &str, member: &BtfMember) -> Result<Sa
 pub fn definitions(
     alloc: Global,
     btf: &Btf,
+    known: &mut BTreeMap<u32, BtfMapDef>,
     name: &str,
     members: &[BtfMember],
 ) -> Result<MapDefinitions, BtfError>
-    ensures { Gives is_memory result (definitions btf.now name.now members.now) }
+    requires { RemembersInner btf.now known.old }
+    ensures says { Gives is_memory result (definitions btf.now name.now members.now) }
+    ensures known { OnOk result (RemembersInner btf.now known.new) }
 {
     let mut all = MapDefinitions::none();
     for member in members {
-        all = all.with(saying(alloc, btf, name, member)?);
+        all = all.with(saying(alloc, btf, known, name, member)?);
     }
     Ok(all)
 }

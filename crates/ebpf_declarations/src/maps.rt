@@ -11,14 +11,13 @@ ghost use Rattle.ebpf_parts.specs.Memory.{is_memory};
 use crate::data_sections::section_entries;
 use crate::definitions::MapDefinitions;
 use crate::error::parse_error;
-use crate::known_structs::said_by_struct;
+use crate::known_structs::{KnownStructs, said_by_struct};
 use crate::map_types::unexpected;
 use ebpf_base::{ByName, Items, Text};
 use ebpf_btf::{Btf, BtfError, BtfType, DataSecEntry};
 use ebpf_parts::maps::{BtfMap, Map};
 use ebpf_parts::{ParseError, Section};
 use std::alloc::Global;
-use std::collections::BTreeMap;
 
 /// The id of the type that a VAR holds.
 #[tactic(auto, unfolding(crate::specs::Maps::variable))]
@@ -36,7 +35,7 @@ fn variable(ty: &BtfType) -> Option<u32>
 fn declared(
     alloc: Global,
     btf: &Btf,
-    known: &mut BTreeMap<u32, MapDefinitions>,
+    known: &mut KnownStructs,
     entry: &DataSecEntry,
 ) -> Result<(Text, MapDefinitions), BtfError>
     requires { Knows btf.now known.old }
@@ -48,6 +47,7 @@ fn declared(
         return Err(unexpected(ty));
     };
     let name = Text::from_str(alloc, btf.type_name(ty)?.as_str())?;
+    let held = btf.resolve_type(held)?;
     let definitions = said_by_struct(alloc, btf, known, name.as_str(), held)?;
     Ok((name, definitions))
 }
@@ -57,7 +57,7 @@ fn declared(
 fn map_of(
     alloc: Global,
     btf: &Btf,
-    known: &mut BTreeMap<u32, MapDefinitions>,
+    known: &mut KnownStructs,
     section: &Section<'_>,
     symbols: &ByName<usize>,
     entry: &DataSecEntry,
@@ -85,11 +85,11 @@ fn map_of(
 
 /// Adds the maps of entries.
 #[tactic(auto, using(crate::proofs::Added::more_added, ebpf_parts::proofs::Walks::rest_more, ebpf_parts::proofs::Walks::rest_none))]
-fn add_entries(
+pub fn add_entries(
     alloc: Global,
     found: &mut Items<(Text, Map)>,
     btf: &Btf,
-    known: &mut BTreeMap<u32, MapDefinitions>,
+    known: &mut KnownStructs,
     section: &Section<'_>,
     symbols: &ByName<usize>,
     entries: &[DataSecEntry],
@@ -111,7 +111,7 @@ fn add_type(
     alloc: Global,
     found: &mut Items<(Text, Map)>,
     btf: &Btf,
-    known: &mut BTreeMap<u32, MapDefinitions>,
+    known: &mut KnownStructs,
     section: &Section<'_>,
     symbols: &ByName<usize>,
     ty: &BtfType,
@@ -129,7 +129,8 @@ fn add_type(
 }
 
 /// The maps that types declare in a section, with their names: DATASEC by DATASEC of the section's name, and of each
-/// its entries in order. What a struct says is read once. `symbols` has the numbers of the section's symbols by name, of equal names the greatest.
+/// its entries in order. What a struct says, of maps or of the maps that they hold, is read once. `symbols` has the
+/// numbers of the section's symbols by name, of equal names the greatest.
 ///
 /// Faults in that order: `BtfError` of a DATASEC's name; of each entry `BtfError` where its type is no VAR, where
 /// its name can't be read, where its type stands for no STRUCT, and of each member; `SymbolNotFound` where the
@@ -145,7 +146,7 @@ pub fn collect_btf_maps(
     ensures fault { Refuses is_memory result (btf_maps_fault btf.now (map.get symbols.now) section.now.index.0 section.now.name) }
 {
     let mut found = Items::new(alloc);
-    let mut known = BTreeMap::new(alloc);
+    let mut known = KnownStructs::none(alloc);
     for ty in btf.types() {
         add_type(alloc, &mut found, btf, &mut known, section, symbols, ty)?;
     }

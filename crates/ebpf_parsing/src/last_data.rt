@@ -25,7 +25,7 @@ fn is_data(kind: EbpfSectionKind) -> bool
 }
 
 /// The name of a section, empty where it can't be read.
-fn name_or_empty<'a>(section: &ElfSection<'a>) -> &'a str
+pub fn name_or_empty<'a>(section: &ElfSection<'a>) -> &'a str
     ensures { result.now ≡ name_or_empty section.now }
 {
     match section.name() {

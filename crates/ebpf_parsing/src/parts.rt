@@ -23,7 +23,7 @@ ghost use Rattle.ebpf_parts.specs.ProgramSections.{program_section};
 ghost use Rattle.ebpf_parts.specs.Sections.{section_of, section_fault};
 
 use crate::data_maps::put_data_map;
-use crate::declared_maps::put_declared_maps;
+use crate::declared_maps::{find_declared_maps, put_declared_maps};
 use crate::file_types::{is_type_information, remember};
 use crate::groups::Groups;
 use crate::last_data::last_data_sections;
@@ -164,7 +164,7 @@ impl Parts {
             }
             EbpfSectionKind::Maps => put_legacy_maps(alloc, &mut self.maps, section, symbols),
             EbpfSectionKind::BtfMaps => {
-                put_declared_maps(alloc, &mut self.maps, &context.shared.btf, section, symbols)
+                put_declared_maps(alloc, &mut self.maps, &context.declared, section, symbols)
             }
             EbpfSectionKind::Text => self.add_texts(alloc, context, section, symbols),
             _ => Ok(()),
@@ -208,7 +208,12 @@ fn read_by_last(
 {
     let tables = read_relocation_sections(alloc, file)?;
     let records = RecordsByName::gather(alloc, &shared.btf_ext)?;
-    let context = Context { shared, records };
+    let declared = find_declared_maps(alloc, &shared.btf, file)?;
+    let context = Context {
+        shared,
+        records,
+        declared,
+    };
     let mut parts = Parts::new(alloc, section_infos);
     for section in file.sections() {
         if is_type_information(&section) {

@@ -10,6 +10,7 @@ ghost use Rattle.ebpf_parts.specs.Memory.{is_memory};
 use crate::records::{FuncRecords, LineRecords, SectionRecords};
 use crate::shared::Shared;
 use ebpf_base::ByName;
+use ebpf_declarations::DeclaredMaps;
 use ebpf_ext::{BtfExt, FuncInfo, LineInfo};
 use ebpf_parts::ParseError;
 use std::alloc::Global;
@@ -164,12 +165,14 @@ impl<'e> RecordsByName<'e> {
     }
 }
 
-/// What the sections of a file are read with: what they share, and what is said of each.
+/// What the sections of a file are read with: what they share, what is said of each, and the maps that types declare.
 #[derive(Drop)]
 pub struct Context<'s> {
     pub shared: &'s Shared,
     pub records: RecordsByName<'s>,
+    pub declared: Option<DeclaredMaps<'s>>,
     ghost gathered: { records ≡ gathered_of shared.now.btf_ext },
+    ghost declared_are: { declared ≡ shared.now.btf },
 }
 
 impl<'s> Model for Context<'s> {

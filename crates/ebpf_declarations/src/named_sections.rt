@@ -1,0 +1,128 @@
+//! The DATASECs of some names, found in one pass over the types.
+
+ghost use Rattle.std.specs.Prelude.{◌≡◌, ◌+◌, ◌==◌, drop, is_some, take, IfOk, IfErr, OnOk, true};
+ghost use Rattle.std.specs.List.{position};
+ghost use Rattle.ebpf_btf.specs.Memory.{is_memory};
+ghost use Rattle.ebpf_declarations.specs.DataSections.{entries_of};
+ghost use Rattle.ebpf_declarations.specs.NamedSections.{noted, AreSought, AreWithin, Looked, AreFound};
+
+use ebpf_base::{ByName, Items};
+use ebpf_btf::{Btf, BtfError, BtfType};
+use std::alloc::Global;
+
+/// The DATASECs of some names.
+#[derive(Drop)]
+pub struct NamedSections {
+    /// Of each name the ids of its DATASECs in order, up to the first DATASEC whose name can't be read.
+    pub by_name: ByName<Items<u32>>,
+    /// The offset of that DATASEC's name.
+    pub unreadable: Option<usize>,
+}
+
+/// Whether a type is a DATASEC.
+#[tactic(auto, unfolding(crate::specs::DataSections::entries_of))]
+fn is_section(ty: &BtfType) -> bool
+    ensures { result ≡ is_some (entries_of ty.now) }
+{
+    matches!(ty, BtfType::DataSec { .. })
+}
+
+/// The bytes from an offset of the strings on, one more than a name may have.
+#[tactic(auto, using(crate::proofs::LongNames::none_past, crate::proofs::LongNames::all_near))]
+fn near_bytes(strings: &[u8], offset: u32, longest: usize) -> &[u8]
+    ensures { result.now ≡ take (longest + 1) (drop offset strings.now) }
+{
+    let place = offset as usize;
+    if place >= strings.len() {
+        return &[];
+    }
+    let from = &strings[place..];
+    if from.len() <= longest {
+        return from;
+    }
+    &from[..longest + 1]
+}
+
+/// The place of the first zero byte.
+fn zero_place(bytes: &[u8]) -> Option<usize>
+    ensures { result ≡ position (λ b. b == 0) bytes.now }
+{
+    bytes.iter().position(|b| *b == 0)
+}
+
+/// Adds an id to those of a name, where the name is sought.
+#[tactic(auto, unfolding(crate::specs::NamedSections::noted))]
+fn note(by_name: &mut ByName<Items<u32>>, name: &str, id: u32) -> Result<(), BtfError>
+    ensures noted { OnOk result (by_name.new ≡ noted by_name.old name.now id) }
+    ensures memory { IfErr result (λ e. is_memory e ≡ true) }
+{
+    let Some(ids) = by_name.get_mut(name) else {
+        return Ok(());
+    };
+    ids.push(id)?;
+    Ok(())
+}
+
+/// Adds the id of a type to those of its name, where it is a DATASEC whose name is sought. Whether its name can be
+/// read; of one that no text is sought for no more is looked at than the longest of these has.
+fn look_at(
+    by_name: &mut ByName<Items<u32>>,
+    btf: &Btf,
+    longest: usize,
+    id: u32,
+    ty: &BtfType,
+) -> Result<bool, BtfError>
+    requires { AreWithin longest by_name.old }
+    ensures looked { IfOk result (λ readable. Looked btf.now ty.now id by_name.old by_name.new readable) }
+    ensures memory { IfErr result (λ e. is_memory e ≡ true) }
+{
+    if !is_section(ty) {
+        return Ok(true);
+    }
+    let name = ty.name_offset();
+    if btf.is_name_at(name, "").is_err() {
+        return Ok(false);
+    }
+    if zero_place(near_bytes(btf.strings(), name, longest)).is_none() {
+        return Ok(true);
+    }
+    let text = btf.string_at(name)?;
+    note(by_name, text.as_str(), id)?;
+    Ok(true)
+}
+
+/// These names, each with no ids, and the length of the longest.
+fn sought(alloc: Global, names: &[&str]) -> Result<(ByName<Items<u32>>, usize), BtfError>
+    ensures none { IfOk result (λ s. AreSought s.1 s.0) }
+    ensures memory { IfErr result (λ e. is_memory e ≡ true) }
+{
+    let mut by_name = ByName::new(alloc);
+    let mut longest = 0;
+    for name in names {
+        by_name.insert(String::from_str(alloc, *name)?, Items::new(alloc))?;
+        longest = name.len().max(longest);
+    }
+    Ok((by_name, longest))
+}
+
+impl NamedSections {
+    /// The DATASECs of these names. `OutOfMemory` where memory is refused.
+    pub fn gather(alloc: Global, btf: &Btf, names: &[&str]) -> Result<NamedSections, BtfError>
+        ensures found { IfOk result (λ found. AreFound btf.now found) }
+        ensures memory { IfErr result (λ e. is_memory e ≡ true) }
+    {
+        let (mut by_name, longest) = sought(alloc, names)?;
+        for (id, ty) in btf.types().iter().enumerate() {
+            if !look_at(&mut by_name, btf, longest, id as u32, ty)? {
+                return Ok(NamedSections {
+                    by_name,
+                    unreadable: Some(ty.name_offset() as usize),
+                });
+            }
+        }
+        Ok(NamedSections {
+            by_name,
+            unreadable: None,
+        })
+    }
+}
