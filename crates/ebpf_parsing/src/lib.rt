@@ -1,6 +1,7 @@
 //! What an ELF file with eBPF programs holds, read from its bytes.
 #![tactic(auto)]
 
+mod by_places;
 mod contents;
 mod data_maps;
 mod declared_maps;
