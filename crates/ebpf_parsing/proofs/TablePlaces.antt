@@ -16,6 +16,7 @@ use Rattle.ebpf_base.specs.Keyed.{put_all, last_at}
 use Rattle.ebpf_elf.specs.Relocations.{entry_of, entries_of}
 use Rattle.ebpf_elf.specs.Sections.{SectionOf}
 use Rattle.ebpf_elf.specs.declared.entries.ElfRelocation.{ElfRelocation}
+use Rattle.ebpf_parsing.proofs.FromFile.{some_same}
 use Rattle.ebpf_parsing.proofs.LastEntries.{equal, last_at-append}
 use Rattle.ebpf_parsing.proofs.Lasts.{has, false_is_not, any-append, whatever, none_last, Lasts, another, fewer_lasts}
 use Rattle.ebpf_parsing.specs.EntryPlaces.{places_cmp, places_total, places_of, entries_at, lacks_symbol, AreNoted, AreOf, table_row}
@@ -35,9 +36,6 @@ at_places s = refl
 
 pub noted_is : (s : SectionOf) (noted : FinMap places_cmp Bool) (lacks : Bool) → AreNoted s.file noted → get noted (places_of s) ≡ Some lacks → lacks ≡ lacks_symbol (entries_of s)
 noted_is s noted lacks so at = so (places_of s) lacks at ∙ sym (ap lacks_symbol (at_places s))
-
-some_same : {X : Type 0} (x y : X) → Some x ≡ Some y → x ≡ y
-some_same x y e = cc
 
 pub noted_more : (s : SectionOf) (noted : FinMap places_cmp Bool) (lacks : Bool) → AreNoted s.file noted → lacks ≡ lacks_symbol (entries_of s) → AreNoted s.file (insert noted (places_of s) lacks)
 noted_more s noted lacks so is p other at = step (eq_by_cmp places_cmp p (places_of s)) refl (sym (get-insert places_total noted (places_of s) lacks p) ∙ at)

@@ -18,6 +18,7 @@ mod program_functions;
 mod records;
 mod records_by_name;
 mod relocations;
+mod sections;
 mod shared;
 mod slot_places;
 mod symbol_names;

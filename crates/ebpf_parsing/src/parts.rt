@@ -8,7 +8,7 @@ ghost use Rattle.ebpf_base.specs.Keyed.{put_all};
 ghost use Rattle.ebpf_elf.specs.Relocations.{relocation_sections, target_of, relocations, entries_of};
 ghost use Rattle.ebpf_parsing.specs.DataMaps.{data_maps, data_map_fault};
 ghost use Rattle.ebpf_parsing.specs.FileSymbols.{file_symbols};
-ghost use Rattle.ebpf_parsing.specs.Groups.{group_at};
+ghost use Rattle.ebpf_parsing.specs.Groups.{group_at, AreTablesOf};
 ghost use Rattle.ebpf_parsing.specs.LastData.{added_last, last_data, last_maps};
 ghost use Rattle.ebpf_parsing.specs.LegacyMaps.{legacy_maps, legacy_maps_fault};
 ghost use Rattle.ebpf_parsing.specs.Contents.{object_sections, read_fault, sections_fault};
@@ -22,7 +22,7 @@ ghost use Rattle.ebpf_parsing.specs.Symbols.{symbols_of};
 ghost use Rattle.ebpf_parsing.specs.Texts.{text_functions, text_fault};
 ghost use Rattle.ebpf_parts.specs.Memory.{is_memory};
 ghost use Rattle.ebpf_parts.specs.ProgramSections.{program_section};
-ghost use Rattle.ebpf_parts.specs.Sections.{section_of, section_with, section_fault};
+ghost use Rattle.ebpf_parts.specs.Sections.{section_of, section_fault};
 
 use crate::data_maps::put_data_map;
 use crate::declared_maps::put_declared_maps;
@@ -33,7 +33,8 @@ use crate::legacy_maps::put_legacy_maps;
 use crate::program::Program;
 use crate::program_functions::{put_functions, put_programs};
 use crate::records_by_name::{Context, RecordsByName};
-use crate::relocations::{RelocationTable, by_offset, check_targets, read_relocation_sections};
+use crate::relocations::{RelocationTable, by_offset};
+use crate::sections::read_section;
 use crate::shared::Shared;
 use crate::symbols::NamedSymbol;
 use crate::text::{put_texts, text_functions};
@@ -92,22 +93,6 @@ fn put_relocations(
         }
         _ => Ok(()),
     }
-}
-
-/// A section of a file without its relocations, of which these are the sections.
-#[tactic(auto, using(crate::proofs::Bare::fault_of_targets), unfolding(ebpf_parts::specs::Sections::section_fault, ebpf_parts::specs::Sections::section_fault_with))]
-fn read_section<'a>(
-    alloc: Global,
-    section: &ElfSection<'a>,
-    tables: &[RelocationTable<'_>],
-) -> Result<Section<'a>, ParseError>
-    requires { tables.now ≡ filter (λ r. target_of r == section.now.index) (relocation_sections section.now.file) }
-    ensures section { IfOk result (λ s. s ≡ section_with [] section.now) }
-    ensures fault { Refuses is_memory result (section_fault section.now) }
-{
-    let read = Section::with_relocations(alloc, section, &[])?;
-    check_targets(tables)?;
-    Ok(read)
 }
 
 impl Parts {
@@ -227,15 +212,16 @@ fn read_by_last(
     shared: &Shared,
     section_infos: ByName<SectionIndex>,
     file: &ElfFile<'_>,
+    tables: &Groups<RelocationTable<'_>>,
     symbols: &Groups<NamedSymbol<'_>>,
     last: &ByName<usize>,
 ) -> Result<Parts, ParseError>
+    requires tables { AreTablesOf file.now tables.now.groups }
     requires grouped { (q : ℕ) → group_at symbols.now.groups q ≡ symbols_of (file_symbols file.now) q }
     requires last { last.now ≡ last_data (object_sections file.now) }
     ensures parts { IfOk result (λ p. p ≡ parts_of shared.now section_infos file.now) }
     ensures fault { Refuses is_memory result (sections_fault shared.now.btf file.now) }
 {
-    let tables = read_relocation_sections(alloc, file)?;
     let records = RecordsByName::gather(alloc, &shared.btf_ext)?;
     let context = Context { shared, records };
     let mut parts = Parts::new(alloc, section_infos);
@@ -262,12 +248,14 @@ pub fn read_sections(
     shared: &Shared,
     section_infos: ByName<SectionIndex>,
     file: &ElfFile<'_>,
+    tables: &Groups<RelocationTable<'_>>,
     symbols: &Groups<NamedSymbol<'_>>,
 ) -> Result<Parts, ParseError>
+    requires tables { AreTablesOf file.now tables.now.groups }
     requires grouped { (q : ℕ) → group_at symbols.now.groups q ≡ symbols_of (file_symbols file.now) q }
     ensures parts { IfOk result (λ p. p ≡ parts_of shared.now section_infos file.now) }
     ensures fault { Refuses is_memory result (sections_fault shared.now.btf file.now) }
 {
     let last = last_data_sections(alloc, file)?;
-    read_by_last(alloc, shared, section_infos, file, symbols, &last)
+    read_by_last(alloc, shared, section_infos, file, tables, symbols, &last)
 }

@@ -1,12 +1,12 @@
 //! The relocations of a file's sections.
 
-ghost use Rattle.std.specs.Prelude.{◌≡◌, ◌==◌, ◌++◌, ◌∷◌, [], ℕ, filter, map, IfOk, IfErr, OnOk, true};
+ghost use Rattle.std.specs.Prelude.{◌≡◌, map, IfOk, IfErr, OnOk, true};
 ghost use Rattle.std.specs.List.{flat_map};
 ghost use Rattle.ebpf_base.specs.Faults.{Refuses};
 ghost use Rattle.ebpf_base.specs.Keyed.{put_all};
-ghost use Rattle.ebpf_elf.specs.Relocations.{relocation_sections, target_of, entries_of};
+ghost use Rattle.ebpf_elf.specs.Relocations.{entries_of};
 ghost use Rattle.ebpf_parsing.specs.EntryPlaces.{AreNoted, AreOfOneFile, lacks_symbol, last_tables};
-ghost use Rattle.ebpf_parsing.specs.Groups.{group_at};
+ghost use Rattle.ebpf_parsing.specs.Groups.{AreTablesOf};
 ghost use Rattle.ebpf_parsing.specs.Relocations.{kept_relocations, offset_of};
 ghost use Rattle.ebpf_parts.specs.Memory.{is_memory};
 ghost use Rattle.ebpf_parts.specs.Sections.{target_fault};
@@ -82,7 +82,7 @@ pub fn read_relocation_sections<'a>(
     alloc: Global,
     file: &ElfFile<'a>,
 ) -> Result<Groups<RelocationTable<'a>>, ParseError>
-    ensures groups { IfOk result (λ g. (q : ℕ) → group_at g.groups q ≡ filter (λ r. target_of r == q) (relocation_sections file.now)) }
+    ensures groups { IfOk result (λ g. AreTablesOf file.now g.groups) }
     ensures memory { IfErr result (λ e. is_memory e ≡ true) }
 {
     let mut groups = Groups::new(alloc);

@@ -41,7 +41,7 @@ add_section-requires c =
     let front : c.loop-section.section-iterator ≡ c.in-Some.section ∷ c.next.new.self = search rules in
     let of_file : c.in-Some.section.file ≡ c.args.file.now = (subst (AreOf c.args.file.now) front c.loop-section.invariant.from).0 in
     let found : c.of.result.now ≡ filter (λ r. target_of r == c.in-Some.section.index) (relocation_sections c.args.file.now) =
-    c.of.ensures ∙ c.in_ok-tables.ensures.groups c.index-index.result.0 ∙ ap (λ q. filter (λ r. target_of r == q) (relocation_sections c.args.file.now)) c.index-index.ensures in
+    c.of.ensures ∙ c.requires.tables c.index-index.result.0 ∙ ap (λ q. filter (λ r. target_of r == q) (relocation_sections c.args.file.now)) c.index-index.ensures in
     found ∙ ap (λ file. filter (λ r. target_of r == c.in-Some.section.index) (relocation_sections file)) (sym of_file)
 
 pub loop-section-preserved : goal.loop-section-preserved
