@@ -248,16 +248,28 @@ def calling(file):
     return number, file.symbol("f", FUNCTION, file.code(".text", EXIT), 0, 8)
 
 
+def same_relocations(file, number, symbol, size):
+    """Relocation sections about this section with the same entries of the file."""
+    entries = entry(0, symbol) * many(size // 2, 16)
+    first = file.relocations(number, entries)
+    for _ in range(min(many(size // 2, 64), SECTIONS)):
+        file.relocations(number, b"", size=len(entries), same_as=first)
+    return file.bytes()
+
+
 @shape
 def relocations_of_one_range(size):
     """Relocation sections with the same entries of the file."""
     file = File()
     number, called = calling(file)
-    entries = entry(0, called) * many(size // 2, 16)
-    first = file.relocations(number, entries)
-    for _ in range(min(many(size // 2, 64), SECTIONS)):
-        file.relocations(number, b"", size=len(entries), same_as=first)
-    return file.bytes()
+    return same_relocations(file, number, called, size)
+
+
+@shape
+def relocations_of_the_license(size):
+    """The same where all are about the license, of which only the bytes are read."""
+    file = with_program()
+    return same_relocations(file, file.section("license", b"GPL\0"), 1, size)
 
 
 @shape

@@ -7,11 +7,21 @@ use Rattle.ebpf_commands.specs.Linked.{following, numbered}
 use Rattle.ebpf_object.specs.Steps.{descriptor_of}
 use Rattle.ebpf_parts.proofs.Walks.{rest_more}
 
-pub one_numbered : (before : List (Bor (List ℕ) × ℤ)) (d e : ℤ) (names : List (Bor (List ℕ))) (i : ℕ) (name : Bor (List ℕ))
-    → i < length names → name ≡ slice_index_or names i name → e ≡ following d
-    → map descriptor_of (before ++ (name, e) ∷ []) ++ numbered e (lent_bytes (drop (i + 1) names)) ≡ map descriptor_of before ++ numbered d (lent_bytes (drop i names))
-one_numbered before d e names i name below here is =
-    ap (λ front. front ++ numbered e (lent_bytes (drop (i + 1) names))) (map-append descriptor_of before ((name, e) ∷ []))
-    ∙ append_assoc (map descriptor_of before) ((name.now, e) ∷ []) (numbered e (lent_bytes (drop (i + 1) names)))
-    ∙ ap (λ n. map descriptor_of before ++ (name.now, n) ∷ numbered n (lent_bytes (drop (i + 1) names))) is
-    ∙ ap (λ rest. map descriptor_of before ++ numbered d (lent_bytes rest)) (sym (rest_more names i name below here))
+pub one_numbered : (before : List (Bor (List ℕ) × ℤ)) (lent : Bor (List ℕ)) (d e : ℤ) (names : List (List ℕ)) (i : ℕ) (name : List ℕ)
+    → i < length names → name ≡ slice_index_or names i name → lent.now ≡ name → e ≡ following d
+    → map descriptor_of (before ++ (lent, e) ∷ []) ++ numbered e (drop (i + 1) names) ≡ map descriptor_of before ++ numbered d (drop i names)
+one_numbered before lent d e names i name below here same is =
+    ap (λ front. front ++ numbered e (drop (i + 1) names)) (map-append descriptor_of before ((lent, e) ∷ []))
+    ∙ append_assoc (map descriptor_of before) ((lent.now, e) ∷ []) (numbered e (drop (i + 1) names))
+    ∙ ap (λ n. map descriptor_of before ++ (n, e) ∷ numbered e (drop (i + 1) names)) same
+    ∙ ap (λ n. map descriptor_of before ++ (name, n) ∷ numbered n (drop (i + 1) names)) is
+    ∙ ap (λ rest. map descriptor_of before ++ numbered d rest) (sym (rest_more names i name below here))
+
+-- one more name is copied
+pub one_copied : (before : List (List ℕ)) (copy : List ℕ) (names : List (Bor (List ℕ))) (i : ℕ) (name : Bor (List ℕ))
+    → i < length names → name ≡ slice_index_or names i name → copy ≡ name.now
+    → (before ++ copy ∷ []) ++ lent_bytes (drop (i + 1) names) ≡ before ++ lent_bytes (drop i names)
+one_copied before copy names i name below here same =
+    append_assoc before (copy ∷ []) (lent_bytes (drop (i + 1) names))
+    ∙ ap (λ n. before ++ n ∷ lent_bytes (drop (i + 1) names)) same
+    ∙ ap (λ rest. before ++ lent_bytes rest) (sym (rest_more names i name below here))

@@ -32,14 +32,18 @@ abbrev pub numbered : ℤ → List (List ℕ) → List Descriptor
 numbered n [] = []
 numbered n (name ∷ names) = (name, following n) ∷ numbered (following n) names
 
--- All passes, types where the kernel's are known; maps have the descriptors 1, 2, .. in byte order of their names.
-abbrev pub asked : Option TypeInfo → FinMap text_cmp Map → Chosen
-asked types maps = record {
+-- All passes, types where the kernel's are known; the maps of these names have the descriptors 1, 2, .. in order.
+abbrev pub asked_of : Option TypeInfo → List (List ℕ) → Chosen
+asked_of types names = record {
   target = types;
-  descriptors = Some (numbered (pos 0) (keys_of (entries maps)));
+  descriptors = Some (numbered (pos 0) names);
   kernel = Some types;
   calls = true;
 }
+
+-- the same of maps, in byte order of their names
+abbrev pub asked : Option TypeInfo → FinMap text_cmp Map → Chosen
+asked types maps = asked_of types (keys_of (entries maps))
 
 -- the object of a file after all passes
 pub record IsLinked (file : List ℕ) (btf : Option (List ℕ)) (lines : Option (List ℕ)) (o : Object) : Type 0 where

@@ -4,19 +4,18 @@ ghost use Rattle.std.specs.Prelude.{◌≡◌, ◌≤◌, ⊤, true, Some, None,
 ghost use Rattle.std.specs.Io.KnownBytes.{Appends};
 ghost use Rattle.std.specs.Option.{option_copied};
 ghost use Rattle.ebpf_commands.specs.Failures.{is_outside, Stands, CannotPrepare};
-ghost use Rattle.ebpf_commands.specs.Linked.{asked};
+ghost use Rattle.ebpf_commands.specs.Linked.{asked_of};
 ghost use Rattle.ebpf_commands.specs.Listed.{report_named, listed, HasInspected, HasListed, LacksReport, LacksAskedReport};
 ghost use Rattle.ebpf_inspect.specs.Inspected.{IsInspected};
 
 use crate::arguments::Words;
 use crate::failure::{Failure, report};
 use crate::link::finish;
-use crate::preparation::{all_passes, maps_of, numbered, read_types};
+use crate::preparation::{all_passes, map_names, numbered, read_types};
 use crate::report_text::write_report;
-use ebpf_base::{ByName, Items};
+use ebpf_base::{Items, Text};
 use ebpf_btf::Btf;
 use ebpf_inspect::{ProgramReport, inspect};
-use ebpf_object::maps::Map;
 use ebpf_object::prepare::PrepareError;
 use std::alloc::Global;
 use std::io::{BufRead, Write};
@@ -98,18 +97,18 @@ fn print_listed<'a, W: Write>(
     }
 }
 
-/// Inspects a file after all passes, these maps numbered, and the kernel's types where they are known.
+/// Inspects a file after all passes, maps of these names numbered, and the kernel's types where they are known.
 fn inspect_with<K: BufRead + Drop>(
     alloc: Global,
     file: &[u8],
     types: Option<&Btf>,
-    maps: &ByName<Map>,
+    names: &[Text],
     kallsyms: K,
 ) -> Result<Items<ProgramReport>, Failure<'static>>
-    ensures inspected { IfOk result (IsInspected (asked (option_copied types.entry) maps.now) (K.remaining kallsyms) file.now) }
-    ensures refused { IfErr result (λ f. MatchBool (is_outside f) ⊤ (CannotPrepare (asked (option_copied types.entry) maps.now) (K.remaining kallsyms) file.now f)) }
+    ensures inspected { IfOk result (IsInspected (asked_of (option_copied types.entry) names.now) (K.remaining kallsyms) file.now) }
+    ensures refused { IfErr result (λ f. MatchBool (is_outside f) ⊤ (CannotPrepare (asked_of (option_copied types.entry) names.now) (K.remaining kallsyms) file.now f)) }
 {
-    let Ok(descriptors) = numbered(alloc, maps) else {
+    let Ok(descriptors) = numbered(alloc, names) else {
         return Err(Failure::Memory);
     };
     match inspect(alloc, file, &all_passes(types, &descriptors), kallsyms) {
@@ -133,11 +132,11 @@ fn inspected<K: BufRead + Drop>(
         Ok(types) => types,
         Err(error) => return Err(Failure::Btf(error)),
     };
-    let maps = match maps_of(alloc, file) {
-        Ok(maps) => maps,
+    let names = match map_names(alloc, file) {
+        Ok(names) => names,
         Err(error) => return Err(Failure::Preparing(PrepareError::Parse(error))),
     };
-    inspect_with(alloc, file, types.as_ref(), &maps, kallsyms)
+    inspect_with(alloc, file, types.as_ref(), names.as_slice(), kallsyms)
 }
 
 /// Inspects a file after all passes, and writes what the programs that are asked for are made of.

@@ -9,17 +9,16 @@ ghost use Rattle.ebpf_object.specs.Headline.{Headline};
 ghost use Rattle.ebpf_object.specs.Objects.{object_of};
 ghost use Rattle.ebpf_commands.specs.Done.{HasPrinted};
 ghost use Rattle.ebpf_commands.specs.Failures.{is_outside, Stands, Lacks, LacksAsked, CannotPrepare};
-ghost use Rattle.ebpf_commands.specs.Linked.{asked, IsLinked};
+ghost use Rattle.ebpf_commands.specs.Linked.{asked_of, IsLinked};
 ghost use Rattle.ebpf_commands.specs.Printed.{function_named, lines_of, printed};
 
 use crate::arguments::Words;
 use crate::failure::{Failure, report};
-use crate::preparation::{all_passes, maps_of, numbered, read_types};
+use crate::preparation::{all_passes, map_names, numbered, read_types};
 use crate::program_text::write_program;
-use ebpf_base::ByName;
+use ebpf_base::Text;
 use ebpf_btf::Btf;
 use ebpf_object::Object;
-use ebpf_object::maps::Map;
 use ebpf_object::prepare::{PrepareError, prepare};
 use ebpf_reloc::Function;
 use std::alloc::Global;
@@ -127,18 +126,18 @@ fn print_object<'a, W: Write>(
     }
 }
 
-/// Prepares a file with all passes, these maps numbered, and the kernel's types where they are known.
+/// Prepares a file with all passes, maps of these names numbered, and the kernel's types where they are known.
 fn prepare_with<K: BufRead + Drop>(
     alloc: Global,
     file: &[u8],
     types: Option<&Btf>,
-    maps: &ByName<Map>,
+    names: &[Text],
     kallsyms: K,
 ) -> Result<Object, Failure<'static>>
-    ensures headline { IfOk result (Headline (asked (option_copied types.entry) maps.now) (K.remaining kallsyms) file.now) }
-    ensures refused { IfErr result (λ f. MatchBool (is_outside f) ⊤ (CannotPrepare (asked (option_copied types.entry) maps.now) (K.remaining kallsyms) file.now f)) }
+    ensures headline { IfOk result (Headline (asked_of (option_copied types.entry) names.now) (K.remaining kallsyms) file.now) }
+    ensures refused { IfErr result (λ f. MatchBool (is_outside f) ⊤ (CannotPrepare (asked_of (option_copied types.entry) names.now) (K.remaining kallsyms) file.now f)) }
 {
-    let Ok(descriptors) = numbered(alloc, maps) else {
+    let Ok(descriptors) = numbered(alloc, names) else {
         return Err(Failure::Memory);
     };
     match prepare(alloc, file, &all_passes(types, &descriptors), kallsyms) {
@@ -162,11 +161,11 @@ fn prepared<K: BufRead + Drop>(
         Ok(types) => types,
         Err(error) => return Err(Failure::Btf(error)),
     };
-    let maps = match maps_of(alloc, file) {
-        Ok(maps) => maps,
+    let names = match map_names(alloc, file) {
+        Ok(names) => names,
         Err(error) => return Err(Failure::Preparing(PrepareError::Parse(error))),
     };
-    prepare_with(alloc, file, types.as_ref(), &maps, kallsyms)
+    prepare_with(alloc, file, types.as_ref(), names.as_slice(), kallsyms)
 }
 
 /// Prepares the object of a file with all passes, and writes the programs that are asked for.

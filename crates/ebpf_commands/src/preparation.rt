@@ -12,34 +12,25 @@ ghost use Rattle.ebpf_object.specs.Objects.{object_of, parse_fault};
 ghost use Rattle.ebpf_object.specs.Steps.{chosen, descriptor_of};
 ghost use Rattle.ebpf_commands.specs.Linked.{kernel_types, numbered};
 
-use ebpf_base::ByName;
+use ebpf_base::{Items, Text};
 use ebpf_btf::{Btf, BtfError, Endianness};
 use ebpf_object::Object;
-use ebpf_object::maps::Map;
 use ebpf_object::prepare::Steps;
 use ebpf_parts::ParseError;
 use std::alloc::{AllocError, Global};
 
-/// Names with descriptors, 1 and on.
+/// The names of maps with descriptors, 1 and on.
 #[tactic(auto, using(crate::proofs::Numbered::one_numbered, ebpf_parts::proofs::Walks::rest_none))]
-fn numbered_names<'a>(alloc: Global, names: &[&'a str]) -> Result<Vec<(&'a str, i32)>, AllocError>
-    ensures { IfOk result (λ named. map descriptor_of named.items ≡ numbered (pos 0) (lent_bytes names.now)) }
+pub fn numbered(alloc: Global, names: &[Text]) -> Result<Vec<(&str, i32)>, AllocError>
+    ensures { IfOk result (λ named. map descriptor_of named.items ≡ numbered (pos 0) names.now) }
 {
     let mut numbered = Vec::with_capacity(alloc, names.len())?;
     let mut descriptor: i32 = 0;
     for name in names {
         descriptor = descriptor.saturating_add(1);
-        numbered.push((*name, descriptor))?;
+        numbered.push((name.as_str(), descriptor))?;
     }
     Ok(numbered)
-}
-
-/// The names of maps with descriptors, 1 and on in byte order.
-pub fn numbered<'a>(alloc: Global, maps: &'a ByName<Map>) -> Result<Vec<(&'a str, i32)>, AllocError>
-    ensures { IfOk result (λ named. map descriptor_of named.items ≡ numbered (pos 0) (keys_of (entries maps.now))) }
-{
-    let names = maps.names(alloc)?;
-    numbered_names(alloc, &names)
 }
 
 /// The kernel's types, where bytes of them are given.
@@ -55,15 +46,30 @@ pub fn read_types(alloc: Global, bytes: Option<&[u8]>) -> Result<Option<Btf>, Bt
     }
 }
 
-/// The file's own maps, so that they can be named.
-pub fn maps_of(alloc: Global, file: &[u8]) -> Result<ByName<Map>, ParseError>
-    ensures maps { IfOk result (λ maps. maps ≡ (object_of file.now).maps) }
+/// Copies of names.
+#[tactic(auto, using(crate::proofs::Numbered::one_copied, ebpf_parts::proofs::Walks::rest_none))]
+fn copied(alloc: Global, names: &[&str]) -> Result<Items<Text>, AllocError>
+    ensures { IfOk result (λ copies. copies ≡ lent_bytes names.now) }
+{
+    let mut copies = Items::new(alloc);
+    for name in names {
+        copies.push(Text::from_str(alloc, name)?)?;
+    }
+    Ok(copies)
+}
+
+/// The names of the file's own maps in byte order. Nothing else of the object is kept.
+pub fn map_names(alloc: Global, file: &[u8]) -> Result<Items<Text>, ParseError>
+    ensures names { IfOk result (λ names. names ≡ keys_of (entries (object_of file.now).maps)) }
     ensures fault { Refuses parse_memory result (parse_fault file.now) }
 {
-    match Object::parse(alloc, file) {
-        Ok(object) => Ok(object.maps),
-        Err(error) => Err(error),
-    }
+    let object = match Object::parse(alloc, file) {
+        Ok(object) => object,
+        Err(error) => return Err(error),
+    };
+    let names = object.maps.names(alloc)?;
+    let copies = copied(alloc, &names)?;
+    Ok(copies)
 }
 
 /// All passes: types where the kernel's are known, these descriptors of maps, externs, calls.

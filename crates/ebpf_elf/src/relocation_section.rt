@@ -1,12 +1,25 @@
 //! A section with relocations.
 
 ghost use Rattle.std.specs.Prelude.{◌≡◌, ◌<◌, ◌^◌, length};
-ghost use Rattle.ebpf_elf.specs.Relocations.{target_of, entries_of};
-ghost use Rattle.ebpf_elf.specs.Sections.{SectionOf};
+ghost use Rattle.ebpf_elf.specs.RelocationTables.{relocation_size};
+ghost use Rattle.ebpf_elf.specs.Relocations.{target_of, entries_of, entry_count};
+ghost use Rattle.ebpf_elf.specs.Sections.{SectionOf, header};
 
+use crate::entries::SectionIndex;
 use crate::entry_table::EntryTable;
 use crate::relocation_entries::RelocationEntries;
 use std::marker::Model;
+
+/// Where the entries of a section with relocations stand in its file.
+#[derive(Clone, Copy, Debug, PartialEq, Eq)]
+pub struct EntryPlaces {
+    /// The place of the first entry (sh_offset).
+    pub offset: usize,
+    /// The size of an entry in bytes: 16 in a REL section, 24 in a RELA section.
+    pub entry_size: usize,
+    /// The number of entries.
+    pub count: usize,
+}
 
 /// A section with relocations against the symbol table. Contracts see the file and the section's number.
 #[derive(Clone, Drop)]
@@ -29,11 +42,31 @@ impl<'a> ElfRelocationSection<'a> {
         ElfRelocationSection { entries }
     }
 
+    /// The section's own number, from 1 on.
+    pub fn index(&self) -> SectionIndex
+        ensures { result.0 ≡ self.now.index }
+    {
+        SectionIndex(self.entries.index)
+    }
+
     /// The number of the section that the entries patch (sh_info).
     pub fn target(&self) -> usize
         ensures { result ≡ target_of self.now }
     {
         self.entries.target
+    }
+
+    /// Where the entries stand. Two sections of a file whose entries stand at the same places have the same entries.
+    pub fn places(&self) -> EntryPlaces
+        ensures offset { result.offset ≡ (header self.now).offset }
+        ensures entry_size { result.entry_size ≡ relocation_size (header self.now).kind }
+        ensures count { result.count ≡ entry_count self.now }
+    {
+        EntryPlaces {
+            offset: self.entries.offset,
+            entry_size: self.entries.entry_size,
+            count: self.entries.count,
+        }
     }
 
     /// The entries of this section, in order.

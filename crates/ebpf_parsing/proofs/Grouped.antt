@@ -1,8 +1,11 @@
 -- One more symbol in its group.
-use Rattle.std.proofs.Common.{◌≡◌, ℕ, Bool, true, false, List, [], ◌∷◌, ◌++◌, filter, refl, ap, ◌∙◌, append_assoc, append-nil}
+use Rattle.std.proofs.Common.{◌≡◌, ℕ, Bool, true, false, List, [], ◌∷◌, ◌++◌, filter, refl, sym, ap, ◌∙◌, append_assoc, append-nil}
 use Rattle.std.specs.Prelude.{◌==◌, if◌then◌else◌}
-use Rattle.ebpf_elf.specs.Relocations.{target_of}
+use Rattle.std.specs.BTreeMap.{BTreeMap}
+use Rattle.std.specs.Global.{Vec}
+use Rattle.ebpf_elf.specs.Relocations.{relocation_sections, target_of}
 use Rattle.ebpf_elf.specs.Sections.{SectionOf}
+use Rattle.ebpf_parsing.specs.Groups.{group_at, AreTablesOf}
 use Rattle.ebpf_parsing.specs.Symbols.{SymbolValue, symbols_of, is_in}
 
 pub group_more : (group group' : List SymbolValue) (y : SymbolValue) (rest : List SymbolValue) (q : ℕ)
@@ -33,3 +36,8 @@ target_more group group' r rest q e = ap (λ g. g ++ filter (λ s. target_of s =
 
 pub target_all : (group : List SectionOf) (q : ℕ) → group ++ filter (λ s. target_of s == q) [] ≡ group
 target_all group q = append-nil group
+
+-- those of a section of the file
+pub tables_of_section : (file : List ℕ) (groups : BTreeMap ℕ (Vec SectionOf)) (s : SectionOf) (found : List SectionOf) → AreTablesOf file groups → s.file ≡ file → found ≡ group_at groups s.index
+    → found ≡ filter (λ r. target_of r == s.index) (relocation_sections s.file)
+tables_of_section file groups s found grouped own is = is ∙ grouped s.index ∙ sym (ap (λ f. filter (λ r. target_of r == s.index) (relocation_sections f)) own)

@@ -29,7 +29,7 @@ any-append p (x ∷ xs) ys = ap (λ b. p x || b) (any-append p xs ys) ∙ groupe
 
 module _ {K X : Type 0} (R : K → K → Ordering) (q : K) where
   -- where a key is among entries, the last of them does not rest on what was before
-  whatever : (es : List (K × X)) → has R q es ≡ true → (a b : Option X) → last_at R q a es ≡ last_at R q b es
+  pub whatever : (es : List (K × X)) → has R q es ≡ true → (a b : Option X) → last_at R q a es ≡ last_at R q b es
   whatever [] h a b = false_is_not h
   whatever (e ∷ es) h a b = step (λ g. whatever es g a b) (eq_by_cmp R q e.0) refl
     where
@@ -40,7 +40,7 @@ module _ {K X : Type 0} (R : K → K → Ordering) (q : K) where
           rw at (more rest)
 
   -- none is among them
-  none_last : (es : List (K × X)) → has R q es ≡ false → (a : Option X) → last_at R q a es ≡ a
+  pub none_last : (es : List (K × X)) → has R q es ≡ false → (a : Option X) → last_at R q a es ≡ a
   none_last [] h a = refl
   none_last (e ∷ es) h a = step (λ g. none_last es g a) (eq_by_cmp R q e.0) refl
     where

@@ -14,6 +14,8 @@ pub mod LastData
 pub mod LastEntries
 pub mod LastPrograms
 pub mod Lasts
+pub mod TablePlaces
+pub mod Bare
 pub mod OffsetOrder
 pub mod TextKeys
 pub mod SectionTables

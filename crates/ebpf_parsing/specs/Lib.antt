@@ -2,6 +2,7 @@ pub mod Symbols
 pub mod FileSymbols
 pub mod Groups
 pub mod Relocations
+pub mod EntryPlaces
 pub mod Programs
 pub mod Terms
 pub mod Records

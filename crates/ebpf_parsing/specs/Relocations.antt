@@ -4,6 +4,7 @@ use Rattle.std.specs.FinMap.{FinMap, empty}
 use Rattle.std.specs.Ordering.{nat_cmp}
 use Rattle.ebpf_base.specs.Keyed.{put_all}
 use Rattle.ebpf_elf.specs.declared.entries.ElfRelocation.{ElfRelocation}
+use Rattle.ebpf_parts.specs.Sections.{SectionValue}
 
 -- a relocation, by its offset
 abbrev pub offset_of : ElfRelocation → ℕ × ElfRelocation
@@ -17,3 +18,7 @@ kept_relocations relocations = put_all empty (map offset_of relocations)
 abbrev pub kept_at : ℕ → List ElfRelocation → List (ℕ × FinMap nat_cmp ElfRelocation)
 kept_at section [] = []
 kept_at section (r ∷ rest) = (section, kept_relocations (r ∷ rest)) ∷ []
+
+-- a section with these relocations
+abbrev pub patched : List ElfRelocation → SectionValue → SectionValue
+patched list s = record s { relocations = list }

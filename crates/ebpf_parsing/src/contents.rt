@@ -9,6 +9,7 @@ use crate::externs::FileExterns;
 use crate::file_types::FileTypes;
 use crate::license::read_license;
 use crate::parts::{Parts, read_sections};
+use crate::relocations::read_relocation_sections;
 use crate::shared::Shared;
 use crate::symbols::read_symbols;
 use crate::version::read_version;
@@ -51,10 +52,11 @@ impl Contents {
             Ok(file) => file,
             Err(error) => return Err(ParseError::ElfError(error)),
         };
-        let license = read_license(alloc, &file)?;
-        let kernel_version = read_version(alloc, &file)?;
+        let tables = read_relocation_sections(alloc, &file)?;
+        let license = read_license(alloc, &file, &tables)?;
+        let kernel_version = read_version(alloc, &file, &tables)?;
         let symbols = read_symbols(alloc, &file)?;
-        let types = FileTypes::read(alloc, &file)?;
+        let types = FileTypes::read(alloc, &file, &tables)?;
         let declared = FileExterns::read(alloc, &file, types.btf)?;
         let shared = Shared {
             license,
@@ -62,7 +64,14 @@ impl Contents {
             btf: declared.btf,
             btf_ext: types.btf_ext,
         };
-        let parts = read_sections(alloc, &shared, types.section_infos, &file, &symbols.groups)?;
+        let parts = read_sections(
+            alloc,
+            &shared,
+            types.section_infos,
+            &file,
+            &tables,
+            &symbols.groups,
+        )?;
         Ok(Contents {
             endianness: file.endianness(),
             shared,

@@ -9,10 +9,14 @@ ghost use Rattle.ebpf_btf.specs.Reading.{type_info_of};
 ghost use Rattle.ebpf_elf.specs.File.{order_of};
 ghost use Rattle.ebpf_parsing.specs.Contents.{is_type_information};
 ghost use Rattle.ebpf_parsing.specs.FileTypes.{btf_of, btf_fault, ext_of, ext_fault, ext_beside, ext_fault_beside, ext_names_beside, said_in, said_fault_in, said_section, names_in, type_names, names_met, file_types_fault};
+ghost use Rattle.ebpf_parsing.specs.Groups.{AreTablesOf};
 ghost use Rattle.ebpf_parsing.specs.OfSection.{name_in};
 ghost use Rattle.ebpf_parts.specs.Memory.{is_memory};
 ghost use Rattle.ebpf_parts.specs.declared.error.ParseError.TheVariants.{BtfError as TypeFault};
 
+use crate::groups::Groups;
+use crate::relocations::RelocationTable;
+use crate::sections::read_section_of;
 use ebpf_base::ByName;
 use ebpf_btf::{Btf, Endianness};
 use ebpf_declarations::parse_error;
@@ -74,12 +78,14 @@ pub fn remember(
 }
 
 /// The types of a file, where it has a section `.BTF`, whose name is remembered.
-#[tactic(auto, unfolding(crate::specs::FileTypes::btf_of, crate::specs::FileTypes::btf_fault, crate::specs::FileTypes::type_names))]
+#[tactic(auto, using(crate::proofs::FromFile::found_from), unfolding(ebpf_parts::specs::Sections::section_of, ebpf_parts::specs::Sections::section_with, crate::specs::FileTypes::btf_of, crate::specs::FileTypes::btf_fault, crate::specs::FileTypes::type_names))]
 fn read_types(
     alloc: Global,
     file: &ElfFile<'_>,
+    tables: &Groups<RelocationTable<'_>>,
     section_infos: &mut ByName<SectionIndex>,
 ) -> Result<Option<Btf>, ParseError>
+    requires tables { AreTablesOf file.now tables.now.groups }
     ensures types { IfOk result (λ types. types ≡ btf_of file.now) }
     ensures names { OnOk result (section_infos.new ≡ put_all section_infos.old (type_names file.now)) }
     ensures fault { Refuses is_memory result (btf_fault file.now) }
@@ -87,19 +93,22 @@ fn read_types(
     let Some(section) = file.section_by_name(".BTF") else {
         return Ok(None);
     };
-    let section = Section::from_elf(alloc, &section)?;
+    let section = read_section_of(alloc, file, tables, &section)?;
     let types = types_in(alloc, file.endianness(), section.bytes)?;
     remember(alloc, section_infos, &section)?;
     Ok(Some(types))
 }
 
 /// What a file says of instructions, where it has a section `.BTF.ext`, whose name is remembered.
+#[tactic(auto, using(crate::proofs::FromFile::found_from), unfolding(ebpf_parts::specs::Sections::section_of, ebpf_parts::specs::Sections::section_with))]
 fn read_said(
     alloc: Global,
     file: &ElfFile<'_>,
+    tables: &Groups<RelocationTable<'_>>,
     types: &Btf,
     section_infos: &mut ByName<SectionIndex>,
 ) -> Result<Option<BtfExt>, ParseError>
+    requires tables { AreTablesOf file.now tables.now.groups }
     ensures said { IfOk result (λ said. said ≡ said_in (order_of file.now) types.now (said_section file.now)) }
     ensures names { OnOk result (section_infos.new ≡ put_all section_infos.old (names_in (said_section file.now))) }
     ensures fault { Refuses is_memory result (said_fault_in (order_of file.now) types.now (said_section file.now)) }
@@ -107,7 +116,7 @@ fn read_said(
     let Some(section) = file.section_by_name(".BTF.ext") else {
         return Ok(None);
     };
-    let section = Section::from_elf(alloc, &section)?;
+    let section = read_section_of(alloc, file, tables, &section)?;
     let said = said_in(alloc, file.endianness(), section.bytes, types)?;
     remember(alloc, section_infos, &section)?;
     Ok(Some(said))
@@ -117,9 +126,11 @@ fn read_said(
 fn read_said_beside(
     alloc: Global,
     file: &ElfFile<'_>,
+    tables: &Groups<RelocationTable<'_>>,
     types: &Option<Btf>,
     section_infos: &mut ByName<SectionIndex>,
 ) -> Result<Option<BtfExt>, ParseError>
+    requires tables { AreTablesOf file.now tables.now.groups }
     ensures said { IfOk result (λ said. said ≡ ext_beside file.now types.now) }
     ensures names { OnOk result (section_infos.new ≡ put_all section_infos.old (ext_names_beside file.now types.now)) }
     ensures fault { Refuses is_memory result (ext_fault_beside file.now types.now) }
@@ -127,7 +138,7 @@ fn read_said_beside(
     let Some(types) = types else {
         return Ok(None);
     };
-    read_said(alloc, file, types, section_infos)
+    read_said(alloc, file, tables, types, section_infos)
 }
 
 /// The type information of a file, what it says of instructions, and the names of their sections.
@@ -141,15 +152,20 @@ pub struct FileTypes {
 impl FileTypes {
     /// That of a file.
     #[tactic(auto, unfolding(crate::specs::FileTypes::ext_of, crate::specs::FileTypes::ext_fault, crate::specs::FileTypes::ext_names, crate::specs::FileTypes::names_met, crate::specs::FileTypes::file_types_fault))]
-    pub fn read(alloc: Global, file: &ElfFile<'_>) -> Result<FileTypes, ParseError>
+    pub fn read(
+        alloc: Global,
+        file: &ElfFile<'_>,
+        tables: &Groups<RelocationTable<'_>>,
+    ) -> Result<FileTypes, ParseError>
+        requires tables { AreTablesOf file.now tables.now.groups }
         ensures btf { IfOk result (λ types. types.btf ≡ btf_of file.now) }
         ensures btf_ext { IfOk result (λ types. types.btf_ext ≡ ext_of file.now) }
         ensures section_infos { IfOk result (λ types. types.section_infos ≡ names_met file.now) }
         ensures fault { Refuses is_memory result (file_types_fault file.now) }
     {
         let mut section_infos = ByName::new(alloc);
-        let btf = read_types(alloc, file, &mut section_infos)?;
-        let btf_ext = read_said_beside(alloc, file, &btf, &mut section_infos)?;
+        let btf = read_types(alloc, file, tables, &mut section_infos)?;
+        let btf_ext = read_said_beside(alloc, file, tables, &btf, &mut section_infos)?;
         Ok(FileTypes {
             btf,
             btf_ext,

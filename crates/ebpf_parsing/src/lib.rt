@@ -1,6 +1,7 @@
 //! What an ELF file with eBPF programs holds, read from its bytes.
 #![tactic(auto)]
 
+mod by_places;
 mod contents;
 mod data_maps;
 mod declared_maps;
@@ -17,6 +18,7 @@ mod program_functions;
 mod records;
 mod records_by_name;
 mod relocations;
+mod sections;
 mod shared;
 mod slot_places;
 mod symbol_names;

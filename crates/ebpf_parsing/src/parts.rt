@@ -2,20 +2,22 @@
 
 ghost use Rattle.std.specs.Prelude.{◌≡◌, ◌==◌, ◌∷◌, [], ℕ, filter, map, length, IfOk, OnOk, IfErr, Some, None, true};
 ghost use Rattle.std.specs.FinMap as finite;
+ghost use Rattle.std.specs.List.{flat_map};
 ghost use Rattle.ebpf_base.specs.Faults.{Refuses, or_else};
 ghost use Rattle.ebpf_base.specs.Keyed.{put_all};
 ghost use Rattle.ebpf_elf.specs.Relocations.{relocation_sections, target_of, relocations, entries_of};
 ghost use Rattle.ebpf_parsing.specs.DataMaps.{data_maps, data_map_fault};
 ghost use Rattle.ebpf_parsing.specs.FileSymbols.{file_symbols};
-ghost use Rattle.ebpf_parsing.specs.Groups.{group_at};
+ghost use Rattle.ebpf_parsing.specs.Groups.{group_at, AreTablesOf};
 ghost use Rattle.ebpf_parsing.specs.LastData.{added_last, last_data, last_maps};
 ghost use Rattle.ebpf_parsing.specs.LegacyMaps.{legacy_maps, legacy_maps_fault};
 ghost use Rattle.ebpf_parsing.specs.Contents.{object_sections, read_fault, sections_fault};
-ghost use Rattle.ebpf_parsing.specs.OfSection.{fault_in, program_section_fault};
+ghost use Rattle.ebpf_parsing.specs.OfSection.{fault_in, program_section_fault, relocations_in};
 ghost use Rattle.ebpf_parsing.specs.Parts.{added, parts_of, parts_from};
 ghost use Rattle.ebpf_parsing.specs.Programs.{programs_of, placed, program_functions};
 ghost use Rattle.ebpf_parsing.specs.Records.{said_of};
-ghost use Rattle.ebpf_parsing.specs.Relocations.{kept_at};
+ghost use Rattle.ebpf_parsing.specs.EntryPlaces.{AreOfOneFile};
+ghost use Rattle.ebpf_parsing.specs.Relocations.{kept_at, patched};
 ghost use Rattle.ebpf_parsing.specs.Symbols.{symbols_of};
 ghost use Rattle.ebpf_parsing.specs.Texts.{text_functions, text_fault};
 ghost use Rattle.ebpf_parts.specs.Memory.{is_memory};
@@ -31,12 +33,13 @@ use crate::legacy_maps::put_legacy_maps;
 use crate::program::Program;
 use crate::program_functions::{put_functions, put_programs};
 use crate::records_by_name::{Context, RecordsByName};
-use crate::relocations::{by_offset, read_relocation_sections};
+use crate::relocations::{RelocationTable, by_offset};
+use crate::sections::read_section;
 use crate::shared::Shared;
 use crate::symbols::NamedSymbol;
 use crate::text::{put_texts, text_functions};
 use ebpf_base::{ByKey, ByName, ByOffset, BySection, Text};
-use ebpf_elf::{ElfFile, ElfRelocationSection, ElfSection, SectionIndex};
+use ebpf_elf::{ElfFile, ElfSection, SectionIndex};
 use ebpf_parts::maps::Map;
 use ebpf_parts::{EbpfSectionKind, ParseError, ProgramSection, Relocation, Section};
 use ebpf_reloc::Function;
@@ -53,33 +56,43 @@ pub struct Parts {
 }
 
 /// Puts the relocations of a section that has some.
+#[tactic(auto, using(crate::proofs::Kept::none_kept, crate::proofs::Kept::some_kept))]
+fn put_table(
+    alloc: Global,
+    relocations: &mut BySection<ByOffset<Relocation>>,
+    section: usize,
+    tables: &[RelocationTable<'_>],
+) -> Result<(), ParseError>
+    requires { AreOfOneFile tables.now }
+    ensures put { OnOk result (relocations.new ≡ put_all relocations.old (kept_at section (flat_map entries_of tables.now))) }
+    ensures memory { IfErr result (λ e. is_memory e ≡ true) }
+{
+    let kept = by_offset(alloc, tables)?;
+    if kept.is_empty() {
+        return Ok(());
+    }
+    relocations.insert(section, kept)?;
+    Ok(())
+}
+
+/// Puts the relocations of a section of code.
+#[tactic(auto, unfolding(crate::specs::OfSection::relocations_in))]
 fn put_relocations(
     alloc: Global,
     relocations: &mut BySection<ByOffset<Relocation>>,
     section: &Section<'_>,
+    tables: &[RelocationTable<'_>],
 ) -> Result<(), ParseError>
-    ensures put { OnOk result (relocations.new ≡ put_all relocations.old (kept_at section.now.index.0 section.now.relocations)) }
+    requires { AreOfOneFile tables.now }
+    ensures put { OnOk result (relocations.new ≡ put_all relocations.old (relocations_in (patched (flat_map entries_of tables.now) section.now))) }
     ensures memory { IfErr result (λ e. is_memory e ≡ true) }
 {
-    if section.relocations.is_empty() {
-        return Ok(());
+    match section.kind {
+        EbpfSectionKind::Program | EbpfSectionKind::Text => {
+            put_table(alloc, relocations, section.index.0, tables)
+        }
+        _ => Ok(()),
     }
-    relocations.insert(section.index.0, by_offset(alloc, section)?)?;
-    Ok(())
-}
-
-/// A section of a file, of which these are the relocation sections.
-#[tactic(auto, unfolding(ebpf_parts::specs::Sections::section_of, ebpf_parts::specs::Sections::section_fault))]
-fn read_section<'a>(
-    alloc: Global,
-    section: &ElfSection<'a>,
-    tables: &[ElfRelocationSection<'_>],
-) -> Result<Section<'a>, ParseError>
-    requires { tables.now ≡ filter (λ r. target_of r == section.now.index) (relocation_sections section.now.file) }
-    ensures section { IfOk result (λ s. s ≡ section_of section.now) }
-    ensures fault { Refuses is_memory result (section_fault section.now) }
-{
-    Section::with_relocations(alloc, section, tables)
 }
 
 impl Parts {
@@ -105,7 +118,7 @@ impl Parts {
         section: &Section<'_>,
         symbols: &[NamedSymbol<'_>],
     ) -> Result<(), ParseError>
-        ensures put { OnOk result (self.new ≡ record self.old { programs = put_all self.old.programs (programs_of context.now.license context.now.kernel_version section.now symbols.now (program_section section.now.name)); functions = put_all self.old.functions (map placed (program_functions (said_of context.now.btf_ext section.now.name) section.now symbols.now)); relocations = put_all self.old.relocations (kept_at section.now.index.0 section.now.relocations) }) }
+        ensures put { OnOk result (self.new ≡ record self.old { programs = put_all self.old.programs (programs_of context.now.license context.now.kernel_version section.now symbols.now (program_section section.now.name)); functions = put_all self.old.functions (map placed (program_functions (said_of context.now.btf_ext section.now.name) section.now symbols.now)) }) }
         ensures fault { Refuses is_memory result (program_section_fault section.now symbols.now) }
     {
         let kind = ProgramSection::from_str(alloc, section.name)?;
@@ -123,8 +136,7 @@ impl Parts {
             kind,
             section,
             symbols,
-        )?;
-        put_relocations(alloc, &mut self.relocations, section)
+        )
     }
 
     /// Adds the functions of a Text section.
@@ -135,17 +147,16 @@ impl Parts {
         section: &Section<'_>,
         symbols: &[NamedSymbol<'_>],
     ) -> Result<(), ParseError>
-        ensures put { OnOk result (self.new ≡ record self.old { functions = put_all self.old.functions (map placed (text_functions (said_of context.now.btf_ext section.now.name) section.now symbols.now)); relocations = put_all self.old.relocations (kept_at section.now.index.0 section.now.relocations) }) }
+        ensures put { OnOk result (self.new ≡ record self.old { functions = put_all self.old.functions (map placed (text_functions (said_of context.now.btf_ext section.now.name) section.now symbols.now)) }) }
         ensures fault { Refuses is_memory result (text_fault section.now symbols.now) }
     {
         let records = context.records.of(section.name);
         let functions = text_functions(alloc, &records, section, symbols)?;
-        put_texts(&mut self.functions, functions)?;
-        put_relocations(alloc, &mut self.relocations, section)
+        put_texts(&mut self.functions, functions)
     }
 
-    /// Adds a section by its kind.
-    #[tactic(auto, unfolding(crate::specs::Parts::added, crate::specs::OfSection::fault_in, crate::specs::OfSection::maps_in, crate::specs::OfSection::programs_in, crate::specs::OfSection::functions_in, crate::specs::OfSection::relocations_in))]
+    /// Adds a section by its kind, but for its relocations and its name.
+    #[tactic(auto, unfolding(crate::specs::Parts::added, crate::specs::OfSection::fault_in, crate::specs::OfSection::maps_in, crate::specs::OfSection::programs_in, crate::specs::OfSection::functions_in))]
     fn add_kind(
         &mut self,
         alloc: Global,
@@ -154,7 +165,8 @@ impl Parts {
         section: &Section<'_>,
         symbols: &[NamedSymbol<'_>],
     ) -> Result<(), ParseError>
-        ensures put { OnOk result (record self.new { section_infos = put_all self.new.section_infos ((section.now.name, section.now.index) ∷ []) } ≡ added_last last.now context.now self.old section.now symbols.now) }
+        ensures others { OnOk result (self.new.relocations ≡ self.old.relocations) }
+        ensures put { OnOk result (record self.new { relocations = put_all self.old.relocations (relocations_in section.now); section_infos = put_all self.new.section_infos ((section.now.name, section.now.index) ∷ []) } ≡ added_last last.now context.now self.old section.now symbols.now) }
         ensures fault { Refuses is_memory result (fault_in context.now.btf section.now symbols.now) }
     {
         match section.kind {
@@ -172,13 +184,14 @@ impl Parts {
     }
 
     /// Adds a section of a file.
+    #[tactic(auto, using(crate::proofs::Bare::same_added, crate::proofs::Bare::same_fault, crate::proofs::Bare::section_patched, crate::proofs::FromFile::of_one_file))]
     fn add_section(
         &mut self,
         alloc: Global,
         context: &Context<'_>,
         last: &ByName<usize>,
         section: &ElfSection<'_>,
-        tables: &[ElfRelocationSection<'_>],
+        tables: &[RelocationTable<'_>],
         symbols: &[NamedSymbol<'_>],
     ) -> Result<(), ParseError>
         requires { tables.now ≡ filter (λ r. target_of r == section.now.index) (relocation_sections section.now.file) }
@@ -187,6 +200,7 @@ impl Parts {
     {
         let section = read_section(alloc, section, tables)?;
         self.add_kind(alloc, context, last, &section, symbols)?;
+        put_relocations(alloc, &mut self.relocations, &section, tables)?;
         remember(alloc, &mut self.section_infos, &section)
     }
 }
@@ -198,15 +212,16 @@ fn read_by_last(
     shared: &Shared,
     section_infos: ByName<SectionIndex>,
     file: &ElfFile<'_>,
+    tables: &Groups<RelocationTable<'_>>,
     symbols: &Groups<NamedSymbol<'_>>,
     last: &ByName<usize>,
 ) -> Result<Parts, ParseError>
+    requires tables { AreTablesOf file.now tables.now.groups }
     requires grouped { (q : ℕ) → group_at symbols.now.groups q ≡ symbols_of (file_symbols file.now) q }
     requires last { last.now ≡ last_data (object_sections file.now) }
     ensures parts { IfOk result (λ p. p ≡ parts_of shared.now section_infos file.now) }
     ensures fault { Refuses is_memory result (sections_fault shared.now.btf file.now) }
 {
-    let tables = read_relocation_sections(alloc, file)?;
     let records = RecordsByName::gather(alloc, &shared.btf_ext)?;
     let declared = find_declared_maps(alloc, &shared.btf, file)?;
     let context = Context {
@@ -238,12 +253,14 @@ pub fn read_sections(
     shared: &Shared,
     section_infos: ByName<SectionIndex>,
     file: &ElfFile<'_>,
+    tables: &Groups<RelocationTable<'_>>,
     symbols: &Groups<NamedSymbol<'_>>,
 ) -> Result<Parts, ParseError>
+    requires tables { AreTablesOf file.now tables.now.groups }
     requires grouped { (q : ℕ) → group_at symbols.now.groups q ≡ symbols_of (file_symbols file.now) q }
     ensures parts { IfOk result (λ p. p ≡ parts_of shared.now section_infos file.now) }
     ensures fault { Refuses is_memory result (sections_fault shared.now.btf file.now) }
 {
     let last = last_data_sections(alloc, file)?;
-    read_by_last(alloc, shared, section_infos, file, symbols, &last)
+    read_by_last(alloc, shared, section_infos, file, tables, symbols, &last)
 }

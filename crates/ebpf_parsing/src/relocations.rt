@@ -1,55 +1,171 @@
 //! The relocations of a file's sections.
 
-ghost use Rattle.std.specs.Prelude.{◌≡◌, ◌==◌, ◌++◌, ◌∷◌, [], ℕ, filter, map, IfOk, IfErr, true};
-ghost use Rattle.std.specs.BTreeMap.{IsFromIterResult};
-ghost use Rattle.std.specs.Ordering.{nat_cmp};
-ghost use Rattle.ebpf_elf.specs.Relocations.{relocation_sections, target_of};
-ghost use Rattle.ebpf_parsing.specs.Groups.{group_at};
+ghost use Rattle.std.specs.Prelude.{◌≡◌, map, IfOk, IfErr, OnOk, true};
+ghost use Rattle.std.specs.List.{flat_map};
+ghost use Rattle.ebpf_base.specs.Faults.{Refuses};
+ghost use Rattle.ebpf_base.specs.Keyed.{put_all};
+ghost use Rattle.ebpf_elf.specs.Relocations.{entries_of};
+ghost use Rattle.ebpf_parsing.specs.EntryPlaces.{AreNoted, AreOfOneFile, lacks_symbol, last_tables};
+ghost use Rattle.ebpf_parsing.specs.Groups.{AreTablesOf};
 ghost use Rattle.ebpf_parsing.specs.Relocations.{kept_relocations, offset_of};
 ghost use Rattle.ebpf_parts.specs.Memory.{is_memory};
+ghost use Rattle.ebpf_parts.specs.Sections.{target_fault};
 
+use crate::by_places::ByPlaces;
 use crate::groups::Groups;
+use crate::last_data::is_number;
 use ebpf_base::ByOffset;
 use ebpf_elf::{ElfFile, ElfRelocationSection};
-use ebpf_parts::{ParseError, Relocation, Section};
-use std::alloc::{AllocError, Global};
-use std::collections::BTreeMap;
+use ebpf_parts::{ParseError, Relocation};
+use std::alloc::Global;
+use std::marker::Model;
 
-/// The relocation sections of a file by the section that they patch.
-#[tactic(auto, using(crate::proofs::Grouped::target_more, crate::proofs::Grouped::target_all))]
+/// A section of relocations, and whether one of its entries names no symbol. Contracts see the section.
+#[derive(Drop)]
+pub struct RelocationTable<'a> {
+    section: ElfRelocationSection<'a>,
+    lacks: bool,
+    ghost read: { lacks ≡ lacks_symbol (entries_of section) },
+}
+
+impl<'a> Model for RelocationTable<'a> {
+    ghost use Rattle.ebpf_elf.specs.Sections.{SectionOf};
+
+    ghost Value = { SectionOf };
+
+    ghost view = { λ t. t.section };
+}
+
+impl RelocationTable<'_> {
+    /// Whether one of its entries names no symbol.
+    fn lacks_symbol(&self) -> bool
+        ensures { result ≡ lacks_symbol (entries_of self.now) }
+    {
+        self.lacks
+    }
+}
+
+/// Whether an entry of a section of relocations names no symbol.
+fn lacks_symbol(section: &ElfRelocationSection<'_>) -> bool
+    ensures { result ≡ lacks_symbol (entries_of section.now) }
+{
+    for relocation in section.relocations() {
+        if relocation.symbol_index == 0 {
+            return true;
+        }
+    }
+    false
+}
+
+/// A section of relocations, whose entries are read where none at their places were read before.
+#[tactic(auto, using(crate::proofs::TablePlaces::noted_is, crate::proofs::TablePlaces::noted_more))]
+fn read_table<'a>(
+    noted: &mut ByPlaces<bool>,
+    section: ElfRelocationSection<'a>,
+) -> Result<RelocationTable<'a>, ParseError>
+    requires { AreNoted section.file noted.old }
+    ensures table { IfOk result (λ table. table ≡ section.entry) }
+    ensures noted { OnOk result (AreNoted section.entry.file noted.new) }
+    ensures memory { IfErr result (λ e. is_memory e ≡ true) }
+{
+    if let Some(known) = noted.get(&section) {
+        let lacks = *known;
+        return Ok(RelocationTable { section, lacks });
+    }
+    let lacks = lacks_symbol(&section);
+    noted.insert(&section, lacks)?;
+    Ok(RelocationTable { section, lacks })
+}
+
+/// The sections of relocations of a file by the section that they patch.
 pub fn read_relocation_sections<'a>(
     alloc: Global,
     file: &ElfFile<'a>,
-) -> Result<Groups<ElfRelocationSection<'a>>, ParseError>
-    ensures groups { IfOk result (λ g. (q : ℕ) → group_at g.groups q ≡ filter (λ r. target_of r == q) (relocation_sections file.now)) }
+) -> Result<Groups<RelocationTable<'a>>, ParseError>
+    ensures groups { IfOk result (λ g. AreTablesOf file.now g.groups) }
     ensures memory { IfErr result (λ e. is_memory e ≡ true) }
 {
     let mut groups = Groups::new(alloc);
+    let mut noted = ByPlaces::new(alloc);
     for section in file.relocation_sections() {
-        groups.add(alloc, section.target(), section)?;
+        let target = section.target();
+        let table = read_table(&mut noted, section)?;
+        groups.add(alloc, target, table)?;
     }
     Ok(groups)
 }
 
-/// Relocations by offset, the later of two at one offset. The tree is built at once, as they mostly stand in order.
-fn tree_of(
-    alloc: Global,
-    relocations: &[Relocation],
-) -> Result<BTreeMap<u64, Relocation>, AllocError>
-    ensures { IfOk result (IsFromIterResult nat_cmp (map offset_of relocations.now)) }
+/// Refuses relocations of which one names no symbol.
+#[tactic(auto, using(crate::proofs::TablePlaces::targets_more, crate::proofs::TablePlaces::targets_none))]
+pub fn check_targets(tables: &[RelocationTable<'_>]) -> Result<(), ParseError>
+    ensures { Refuses is_memory result (target_fault (flat_map entries_of tables.now)) }
 {
-    relocations
-        .iter()
-        .map(|relocation| (relocation.offset, *relocation))
-        .collect(alloc)
+    for table in tables {
+        if table.lacks_symbol() {
+            return Err(ParseError::UnsupportedRelocationTarget);
+        }
+    }
+    Ok(())
+}
+
+/// The number of the last section of relocations whose entries stand at the same places.
+#[tactic(auto, using(crate::proofs::TablePlaces::row_more, ebpf_parts::proofs::Walks::rest_none))]
+fn last_tables(alloc: Global, tables: &[RelocationTable<'_>]) -> Result<ByPlaces<usize>, ParseError>
+    ensures last { IfOk result (λ last. last ≡ last_tables tables.now) }
+    ensures memory { IfErr result (λ e. is_memory e ≡ true) }
+{
+    let mut last = ByPlaces::new(alloc);
+    for table in tables {
+        last.insert(&table.section, table.section.index().0)?;
+    }
+    Ok(last)
+}
+
+/// Puts the entries of a section of relocations by offset, the later of two at one offset.
+fn put_entries(
+    kept: &mut ByOffset<Relocation>,
+    table: &RelocationTable<'_>,
+) -> Result<(), ParseError>
+    ensures put { OnOk result (kept.new ≡ put_all kept.old (map offset_of (entries_of table.now))) }
+    ensures memory { IfErr result (λ e. is_memory e ≡ true) }
+{
+    for relocation in table.section.relocations() {
+        kept.insert(relocation.offset, relocation)?;
+    }
+    Ok(())
+}
+
+/// Of sections whose entries stand at the same places, those of the last one alone.
+#[tactic(auto, using(ebpf_parts::proofs::Walks::rest_none))]
+fn put_last_tables(
+    alloc: Global,
+    tables: &[RelocationTable<'_>],
+    last: &ByPlaces<usize>,
+) -> Result<ByOffset<Relocation>, ParseError>
+    requires file { AreOfOneFile tables.now }
+    requires last { last.now ≡ last_tables tables.now }
+    ensures kept { IfOk result (λ m. m ≡ kept_relocations (flat_map entries_of tables.now)) }
+    ensures memory { IfErr result (λ e. is_memory e ≡ true) }
+{
+    let mut kept = ByOffset::new(alloc);
+    for table in tables {
+        if !is_number(table.section.index().0, last.get(&table.section)) {
+            continue;
+        }
+        put_entries(&mut kept, table)?;
+    }
+    Ok(kept)
 }
 
 /// The relocations of a section by offset, the later of two at one offset.
-#[tactic(auto, using(crate::proofs::Kept::tree_kept))]
-pub fn by_offset(alloc: Global, section: &Section<'_>) -> Result<ByOffset<Relocation>, ParseError>
-    ensures kept { IfOk result (λ m. m ≡ kept_relocations section.now.relocations) }
+pub fn by_offset(
+    alloc: Global,
+    tables: &[RelocationTable<'_>],
+) -> Result<ByOffset<Relocation>, ParseError>
+    requires { AreOfOneFile tables.now }
+    ensures kept { IfOk result (λ m. m ≡ kept_relocations (flat_map entries_of tables.now)) }
     ensures memory { IfErr result (λ e. is_memory e ≡ true) }
 {
-    let tree = tree_of(alloc, section.relocations.as_slice())?;
-    Ok(ByOffset::from_map(tree))
+    let last = last_tables(alloc, tables)?;
+    put_last_tables(alloc, tables, &last)
 }

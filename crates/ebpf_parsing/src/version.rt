@@ -2,14 +2,18 @@
 
 ghost use Rattle.std.specs.Prelude.{◌≡◌, IfOk};
 ghost use Rattle.ebpf_base.specs.Faults.{Refuses};
+ghost use Rattle.ebpf_parsing.specs.Groups.{AreTablesOf};
 ghost use Rattle.ebpf_parsing.specs.Terms.{version_number_fault, version_of, kernel_version_of, version_fault};
 ghost use Rattle.ebpf_parts.specs.Memory.{is_memory};
 
+use crate::groups::Groups;
+use crate::relocations::RelocationTable;
+use crate::sections::read_section_of;
 use ebpf_base::Items;
 use ebpf_btf::Endianness;
 use ebpf_btf::numbers::read_u32;
 use ebpf_elf::ElfFile;
-use ebpf_parts::{ParseError, Section};
+use ebpf_parts::ParseError;
 use std::alloc::Global;
 
 /// The version that stands for all kernels.
@@ -34,14 +38,19 @@ fn version_in(alloc: Global, order: Endianness, bytes: &[u8]) -> Result<Option<u
 }
 
 /// The kernel version of a file, none where it has no section `version`.
-#[tactic(auto, unfolding(crate::specs::Terms::kernel_version_of, crate::specs::Terms::version_fault))]
-pub fn read_version(alloc: Global, file: &ElfFile<'_>) -> Result<Option<u32>, ParseError>
+#[tactic(auto, using(crate::proofs::FromFile::found_from), unfolding(ebpf_parts::specs::Sections::section_of, ebpf_parts::specs::Sections::section_with, crate::specs::Terms::kernel_version_of, crate::specs::Terms::version_fault))]
+pub fn read_version(
+    alloc: Global,
+    file: &ElfFile<'_>,
+    tables: &Groups<RelocationTable<'_>>,
+) -> Result<Option<u32>, ParseError>
+    requires tables { AreTablesOf file.now tables.now.groups }
     ensures version { IfOk result (λ version. version ≡ kernel_version_of file.now) }
     ensures fault { Refuses is_memory result (version_fault file.now) }
 {
     let Some(section) = file.section_by_name("version") else {
         return Ok(None);
     };
-    let section = Section::from_elf(alloc, &section)?;
+    let section = read_section_of(alloc, file, tables, &section)?;
     version_in(alloc, file.endianness(), section.bytes)
 }

@@ -13,7 +13,8 @@ use Rattle.ebpf_parsing.specs.LastData.{data_row, last_data, added_last}
 use Rattle.ebpf_base.specs.Keys.{text_total}
 use Rattle.ebpf_parsing.proofs.LastData.{DataLasts, same_added}
 use Rattle.ebpf_parsing.proofs.Lasts.{all_lasts, fewer_lasts}
-use Rattle.ebpf_parsing.proofs.FromFile.{AllFrom, all_from}
+use Rattle.ebpf_parsing.proofs.FromFile.{all_from}
+use Rattle.ebpf_parsing.specs.EntryPlaces.{AreOf}
 use Rattle.ebpf_parsing.proofs.parts.read_by_last.Goals as goal
 use Rattle.ebpf_parts.specs.Memory.{is_memory}
 use Rattle.ebpf_parts.specs.declared.error.ParseError.{ParseError}
@@ -28,7 +29,7 @@ loop-section-init c =
     let empty : c.new-parts.result ≡ parts_from c.args.section_infos = search rules in
     let items : c.into_iter-section-iterator.result ≡ sections file = search rules in
     record {
-      from = subst (AllFrom file) (sym items) (all_from file);
+      from = subst (AreOf file) (sym items) (all_from file);
       lasts = all_lasts text_total data_row c.args.last.now (map section_of (others c.into_iter-section-iterator.result)) (c.requires.last ∙ ap (λ r. last_data (map section_of (others r))) (sym items));
       parts = ap (λ p. all_added shared p ys (map section_of (others c.into_iter-section-iterator.result))) empty
           ∙ ap (λ r. all_added shared (parts_from c.args.section_infos) ys (map section_of (others r))) items;
@@ -38,9 +39,9 @@ loop-section-init c =
 pub add_section-requires : goal.add_section-requires
 add_section-requires c =
     let front : c.loop-section.section-iterator ≡ c.in-Some.section ∷ c.next.new.self = search rules in
-    let of_file : c.in-Some.section.file ≡ c.args.file.now = (subst (AllFrom c.args.file.now) front c.loop-section.invariant.from).0 in
+    let of_file : c.in-Some.section.file ≡ c.args.file.now = (subst (AreOf c.args.file.now) front c.loop-section.invariant.from).0 in
     let found : c.of.result.now ≡ filter (λ r. target_of r == c.in-Some.section.index) (relocation_sections c.args.file.now) =
-    c.of.ensures ∙ c.in_ok-tables.ensures.groups c.index-index.result.0 ∙ ap (λ q. filter (λ r. target_of r == q) (relocation_sections c.args.file.now)) c.index-index.ensures in
+    c.of.ensures ∙ c.requires.tables c.index-index.result.0 ∙ ap (λ q. filter (λ r. target_of r == q) (relocation_sections c.args.file.now)) c.index-index.ensures in
     found ∙ ap (λ file. filter (λ r. target_of r == c.in-Some.section.index) (relocation_sections file)) (sym of_file)
 
 pub loop-section-preserved : goal.loop-section-preserved
@@ -58,7 +59,7 @@ loop-section-preserved c =
     let clear_there : or_else (section_fault s) (fault_in shared.btf (section_of s) c.of-in-loop-section.result.now) ≡ None = search rules in
     let clear : read_fault shared.btf file s ≡ None = ap (λ g. or_else (section_fault s) (fault_in shared.btf (section_of s) g)) (sym of_section) ∙ clear_there in
     record {
-      from = (subst (AllFrom file) front c.loop-section.invariant.from).1;
+      from = (subst (AreOf file) front c.loop-section.invariant.from).1;
       lasts = fewer_lasts text_total data_row c.args.last.now (section_of s) (map section_of (others c.next.new.self)) lasts;
       parts = ap (λ p. all_added shared p ys (map section_of (others c.next.new.self))) put
           ∙ same_added c.args.last.now (section_of s) (map section_of (others c.next.new.self)) lasts shared c.loop-section.parts ys c.of-in-loop-section.result.now

@@ -4,7 +4,7 @@ use Rattle.ebpf_parsing.specs.Contents.{read_fault, sections_fault}
 use Rattle.ebpf_parsing.specs.FileSymbols.{file_symbols}
 use Rattle.ebpf_parsing.specs.Parts.{all_added, parts_of}
 use Rattle.ebpf_parsing.proofs.AddedLemmas.{others}
-use Rattle.ebpf_parsing.proofs.FromFile.{AllFrom}
+use Rattle.ebpf_parsing.specs.EntryPlaces.{AreOf}
 use Rattle.ebpf_parsing.proofs.LastData.{DataLasts}
 use Rattle.ebpf_parsing.proofs.parts.read_by_last.Given as goal
 use Rattle.ebpf_parts.specs.Sections.{section_of}
@@ -12,7 +12,7 @@ use Rattle.ebpf_parts.specs.Sections.{section_of}
 -- what is left to do from here is what was to do from the start
 abbrev pub invariant-loop-section : goal.invariant-loop-section
 invariant-loop-section l = record {
-  from : AllFrom l.file l.section-iterator;
+  from : AreOf l.file l.section-iterator;
   lasts : DataLasts l.last (map section_of (others l.section-iterator));
   parts : all_added l.shared l.parts (file_symbols l.file) (map section_of (others l.section-iterator)) ≡ parts_of l.shared l.fn.section_infos l.file;
   fault : first_some (read_fault l.shared.btf l.file) (others l.section-iterator) ≡ sections_fault l.shared.btf l.file;

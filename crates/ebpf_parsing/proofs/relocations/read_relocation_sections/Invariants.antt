@@ -1,9 +1,14 @@
 use Rattle.std.proofs.Common.{◌≡◌, ◌++◌, ℕ, filter}
 use Rattle.std.specs.Prelude.{◌==◌}
 use Rattle.ebpf_elf.specs.Relocations.{relocation_sections, target_of}
+use Rattle.ebpf_parsing.specs.EntryPlaces.{AreNoted, AreOf}
 use Rattle.ebpf_parsing.specs.Groups.{group_at}
 use Rattle.ebpf_parsing.proofs.relocations.read_relocation_sections.Given as goal
 
 -- what is left to do from here is what was to do from the start
 abbrev pub invariant-loop-section : goal.invariant-loop-section
-invariant-loop-section l = (q : ℕ) → group_at l.groups.groups q ++ filter (λ r. target_of r == q) l.section-iterator ≡ filter (λ r. target_of r == q) (relocation_sections l.file)
+invariant-loop-section l = record {
+  from : AreOf l.file l.section-iterator;
+  noted : AreNoted l.file l.noted;
+  groups : (q : ℕ) → group_at l.groups.groups q ++ filter (λ r. target_of r == q) l.section-iterator ≡ filter (λ r. target_of r == q) (relocation_sections l.file);
+}

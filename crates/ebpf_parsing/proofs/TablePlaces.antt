@@ -1,0 +1,130 @@
+-- Sections of relocations whose entries stand at the same places.
+use Rattle.std.proofs.Common.{◌≡◌, ℕ, ◌+◌, ◌<◌, ◌≤◌, Bool, true, false, cond, ◌||◌, List, [], ◌∷◌, ◌++◌, map, length, drop, Some, None, refl, sym, ap, subst, ◌∙◌}
+use Rattle.std.proofs.lemmas.List.{map-append}
+use Rattle.std.proofs.lemmas.Option.{none-some}
+use Rattle.std.proofs.lemmas.Map.Lookups.{exact_pairs, exact_unsigned}
+use Rattle.std.specs.Cmp.{IsTotalOrder, nat_cmp_total}
+use Rattle.std.specs.FinMap.{FinMap, IsAntisymmetric, get, insert, empty, get-empty, get-insert, same_map, nat_cmp-IsAntisymmetric}
+use Rattle.std.specs.List.{flat_map}
+use Rattle.std.specs.Ordering.{nat_cmp, eq_by_cmp}
+use Rattle.std.specs.Prelude.{slice_index_or}
+use Rattle.std.specs.declared.cmp.Ordering.{Ordering}
+use Rattle.ebpf_base.proofs.Keyed.{later_stands, put_all-append}
+use Rattle.ebpf_base.proofs.Maps.{key_exact}
+use Rattle.ebpf_base.specs.Faults.{or_else}
+use Rattle.ebpf_base.specs.Keyed.{put_all, last_at}
+use Rattle.ebpf_elf.specs.Relocations.{entry_of, entries_of}
+use Rattle.ebpf_elf.specs.Sections.{SectionOf}
+use Rattle.ebpf_elf.specs.declared.entries.ElfRelocation.{ElfRelocation}
+use Rattle.ebpf_parsing.proofs.FromFile.{some_same}
+use Rattle.ebpf_parsing.proofs.LastEntries.{equal, last_at-append}
+use Rattle.ebpf_parsing.proofs.Lasts.{has, false_is_not, any-append, whatever, none_last, Lasts, another, fewer_lasts}
+use Rattle.ebpf_parsing.specs.EntryPlaces.{places_cmp, places_total, places_of, entries_at, lacks_symbol, AreNoted, AreOf, table_row}
+use Rattle.ebpf_parsing.specs.LastData.{is_number}
+use Rattle.ebpf_parsing.specs.Relocations.{offset_of}
+use Rattle.ebpf_parts.proofs.Tables.{tables_more, tables_none, target_append}
+use Rattle.ebpf_parts.proofs.Walks.{rest_more}
+use Rattle.ebpf_parts.specs.Sections.{target_fault}
+
+pub places_exact : IsAntisymmetric places_cmp
+places_exact = exact_pairs _ nat_cmp key_exact exact_unsigned
+
+-- the entries are those at its places
+pub at_places : (s : SectionOf) → entries_of s ≡ entries_at s.file (places_of s)
+unfolding entry_of
+at_places s = refl
+
+pub noted_is : (s : SectionOf) (noted : FinMap places_cmp Bool) (lacks : Bool) → AreNoted s.file noted → get noted (places_of s) ≡ Some lacks → lacks ≡ lacks_symbol (entries_of s)
+noted_is s noted lacks so at = so (places_of s) lacks at ∙ sym (ap lacks_symbol (at_places s))
+
+pub noted_more : (s : SectionOf) (noted : FinMap places_cmp Bool) (lacks : Bool) → AreNoted s.file noted → lacks ≡ lacks_symbol (entries_of s) → AreNoted s.file (insert noted (places_of s) lacks)
+noted_more s noted lacks so is p other at = step (eq_by_cmp places_cmp p (places_of s)) refl (sym (get-insert places_total noted (places_of s) lacks p) ∙ at)
+  where
+    step : (b : Bool) → eq_by_cmp places_cmp p (places_of s) ≡ b → cond b (Some lacks) (get noted p) ≡ Some other → other ≡ lacks_symbol (entries_at s.file p)
+    step true same found = sym (some_same lacks other found) ∙ is ∙ ap lacks_symbol (at_places s) ∙ sym (ap (λ q. lacks_symbol (entries_at s.file q)) (places_exact p (places_of s) (equal _ same)))
+    step false same found = so p other found
+
+-- nothing is noted at the start
+pub none_noted : (file : List ℕ) (noted : FinMap places_cmp Bool) → noted ≡ empty → AreNoted file noted
+none_noted file noted none p lacks at = absurd (none-some lacks (sym (ap (λ (m : FinMap places_cmp Bool). get m p) none ∙ get-empty places_cmp p) ∙ at))
+
+-- ---- faults
+
+pub targets_more : (xs : List SectionOf) (i : ℕ) (x : SectionOf) → i < length xs → x ≡ slice_index_or xs i x
+    → target_fault (flat_map entries_of (drop i xs)) ≡ or_else (target_fault (entries_of x)) (target_fault (flat_map entries_of (drop (i + 1) xs)))
+targets_more xs i x below here = ap target_fault (tables_more xs i x below here) ∙ target_append (entries_of x) (flat_map entries_of (drop (i + 1) xs))
+
+pub targets_none : (xs : List SectionOf) (i : ℕ) → length xs ≤ i → target_fault (flat_map entries_of (drop i xs)) ≡ None
+targets_none xs i past = ap target_fault (tables_none xs i past)
+
+-- ---- the last at each of the places
+
+pub row_more : (xs : List SectionOf) (i : ℕ) (x : SectionOf) → i < length xs → x ≡ slice_index_or xs i x
+    → flat_map table_row (drop i xs) ≡ (places_of x, x.index) ∷ flat_map table_row (drop (i + 1) xs)
+row_more xs i x below here = ap (flat_map table_row) (rest_more xs i x below here)
+
+abbrev pub TableLasts : FinMap places_cmp ℕ → List SectionOf → Type 0
+TableLasts last rest = Lasts places_total table_row last rest
+
+-- entries whose keys all come again need not be put
+pub put_all_again : {K X : Type 0} {R : K → K → Ordering} → IsTotalOrder R → IsAntisymmetric R → (m : FinMap R X) (es fs : List (K × X))
+    → ((q : K) → has R q es ≡ true → has R q fs ≡ true) → put_all m fs ≡ put_all m (es ++ fs)
+put_all_again {K = K} {R = R} o exact m es fs come = same_map o exact _ _ (λ q.
+    later_stands o m fs q ∙ step q (has R q es) refl ∙ sym (last_at-append R q (get m q) es fs) ∙ sym (later_stands o m (es ++ fs) q))
+  where
+    step : (q : K) (b : Bool) → has R q es ≡ b → last_at R q (get m q) fs ≡ last_at R q (last_at R q (get m q) es) fs
+    step q true at = whatever R q fs (come q at) _ _
+    step q false at = sym (ap (λ v. last_at R q v fs) (none_last R q es at (get m q)))
+
+abbrev offsets : List ElfRelocation → List (ℕ × ElfRelocation)
+offsets = map offset_of
+
+either : (a b : Bool) → a ≡ true → (a || b) ≡ true
+either true b e = refl
+either false b e = cc
+
+second : (a b : Bool) → b ≡ true → (a || b) ≡ true
+second true b e = refl
+second false b e = e
+
+module _ (file : List ℕ) (t : SectionOf) (own : t.file ≡ file) where
+  same_entries : (x : SectionOf) → x.file ≡ file → places_of t ≡ places_of x → entries_of t ≡ entries_of x
+  same_entries x of_file same =
+      at_places t ∙ ap (λ f. entries_at f (places_of t)) (own ∙ sym of_file) ∙ ap (entries_at x.file) same ∙ sym (at_places x)
+
+  -- where a later section's entries stand at its places, all its offsets come again
+  come_again : (q : ℕ) (rest : List SectionOf) → AreOf file rest → has places_cmp (places_of t) (flat_map table_row rest) ≡ true
+      → has nat_cmp q (offsets (entries_of t)) ≡ true → has nat_cmp q (offsets (flat_map entries_of rest)) ≡ true
+  come_again q [] of_file there h = false_is_not there
+  come_again q (x ∷ rest) of_file there h = ap (has nat_cmp q) (map-append offset_of (entries_of x) (flat_map entries_of rest)) ∙ any-append _ (offsets (entries_of x)) (offsets (flat_map entries_of rest)) ∙ step (λ behind. come_again q rest of_file.1 behind h) (eq_by_cmp places_cmp (places_of t) (places_of x)) refl
+    where
+      step : (has places_cmp (places_of t) (flat_map table_row rest) ≡ true → has nat_cmp q (offsets (flat_map entries_of rest)) ≡ true) → (b : Bool) → eq_by_cmp places_cmp (places_of t) (places_of x) ≡ b → (has nat_cmp q (offsets (entries_of x)) || has nat_cmp q (offsets (flat_map entries_of rest))) ≡ true
+      step again true same = either _ _ (sym (ap (λ es. has nat_cmp q (offsets es)) (same_entries x of_file.0 (places_exact _ _ (equal _ same)))) ∙ h)
+      step again false differ = second _ _ (again (sym (ap (λ b. b || has places_cmp (places_of t) (flat_map table_row rest)) differ) ∙ there))
+
+-- one more section whose entries are put
+pub put_more : (m n : FinMap nat_cmp ElfRelocation) (xs : List SectionOf) (i : ℕ) (x : SectionOf) → i < length xs → x ≡ slice_index_or xs i x
+    → n ≡ put_all m (offsets (entries_of x)) → put_all n (offsets (flat_map entries_of (drop (i + 1) xs))) ≡ put_all m (offsets (flat_map entries_of (drop i xs)))
+put_more m n xs i x below here put =
+    ap (λ k. put_all k (offsets (flat_map entries_of (drop (i + 1) xs)))) put
+    ∙ sym (put_all-append m (offsets (entries_of x)) (offsets (flat_map entries_of (drop (i + 1) xs))))
+    ∙ sym (ap (put_all m) (ap offsets (tables_more xs i x below here) ∙ map-append offset_of (entries_of x) (flat_map entries_of (drop (i + 1) xs))))
+
+module _ (file : List ℕ) (last : FinMap places_cmp ℕ) (xs : List SectionOf) (i : ℕ) (x : SectionOf) (below : i < length xs) (here : x ≡ slice_index_or xs i x) where
+  more : drop i xs ≡ x ∷ drop (i + 1) xs
+  more = rest_more xs i x below here
+
+  pub rest_of : AreOf file (drop i xs) → (x.file ≡ file) × AreOf file (drop (i + 1) xs)
+  rest_of h = subst (λ (l : List SectionOf). AreOf file l) more h
+
+  pub fewer : TableLasts last (drop i xs) → TableLasts last (drop (i + 1) xs)
+  fewer lasts = fewer_lasts places_total table_row last x (drop (i + 1) xs) (subst (λ (l : List SectionOf). TableLasts last l) more lasts)
+
+  -- one whose entries are those of a later section
+  pub put_passed : (m : FinMap nat_cmp ElfRelocation) → AreOf file (drop i xs) → TableLasts last (drop i xs) → is_number x.index (get last (places_of x)) ≡ false
+      → put_all m (offsets (flat_map entries_of (drop (i + 1) xs))) ≡ put_all m (offsets (flat_map entries_of (drop i xs)))
+  put_passed m of_file lasts differs =
+      let again = another places_total table_row last x (drop (i + 1) xs) (subst (λ (l : List SectionOf). TableLasts last l) more lasts) (places_of x) x.index refl differs in
+      put_all_again nat_cmp_total nat_cmp-IsAntisymmetric m (offsets (entries_of x)) (offsets (flat_map entries_of (drop (i + 1) xs)))
+      (λ q h. come_again file x (rest_of of_file).0 q (drop (i + 1) xs) (rest_of of_file).1 again h)
+      ∙ sym (ap (put_all m) (ap offsets (tables_more xs i x below here) ∙ map-append offset_of (entries_of x) (flat_map entries_of (drop (i + 1) xs))))

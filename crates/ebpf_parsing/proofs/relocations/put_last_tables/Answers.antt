@@ -1,0 +1,44 @@
+use Rattle.std.proofs.Common.{◌≡◌, ◌∙◌, false, ap, arith, rules, map}
+use Rattle.std.specs.FinMap.{get}
+use Rattle.std.specs.List.{flat_map}
+use Rattle.std.specs.Prelude.{slice_index_or}
+use Rattle.ebpf_base.specs.Keyed.{put_all}
+use Rattle.ebpf_elf.specs.Relocations.{entries_of}
+use Rattle.ebpf_parsing.proofs.Lasts.{all_lasts}
+use Rattle.ebpf_parsing.proofs.TablePlaces.{fewer, rest_of, put_more, put_passed}
+use Rattle.ebpf_parsing.specs.EntryPlaces.{file_of, places_of, places_total, table_row}
+use Rattle.ebpf_parsing.specs.LastData.{is_number}
+use Rattle.ebpf_parsing.specs.Relocations.{offset_of}
+use Rattle.ebpf_parsing.proofs.relocations.put_last_tables.Goals as goal
+
+pub loop-table-init : goal.loop-table-init
+loop-table-init c = record {
+  from = c.requires.file;
+  lasts = all_lasts places_total table_row c.args.last.now c.args.tables.now c.requires.last;
+  put = ap (λ m. put_all m (map offset_of (flat_map entries_of c.args.tables.now))) c.new-kept.ensures;
+}
+
+pub loop-table-preserved-then-not-is_number : goal.loop-table-preserved-then-not-is_number
+loop-table-preserved-then-not-is_number c =
+    let xs = c.args.tables.now in
+    let i = c.loop-table.table-index in
+    let x = c.table-item.result in
+    let item : x ≡ slice_index_or xs i x = search rules in
+    let differs : is_number x.index (get c.args.last.now (places_of x)) ≡ false = search rules in
+    record {
+      from = (rest_of (file_of xs) c.args.last.now xs i x (omega arith) item c.loop-table.invariant.from).1;
+      lasts = fewer (file_of xs) c.args.last.now xs i x (omega arith) item c.loop-table.invariant.lasts;
+      put = put_passed (file_of xs) c.args.last.now xs i x (omega arith) item c.loop-table.kept c.loop-table.invariant.from c.loop-table.invariant.lasts differs ∙ c.loop-table.invariant.put;
+    }
+
+pub loop-table-preserved : goal.loop-table-preserved
+loop-table-preserved c =
+    let xs = c.args.tables.now in
+    let i = c.loop-table.table-index in
+    let x = c.table-item.result in
+    let item : x ≡ slice_index_or xs i x = search rules in
+    record {
+      from = (rest_of (file_of xs) c.args.last.now xs i x (omega arith) item c.loop-table.invariant.from).1;
+      lasts = fewer (file_of xs) c.args.last.now xs i x (omega arith) item c.loop-table.invariant.lasts;
+      put = put_more c.loop-table.kept c.put_entries.new.kept xs i x (omega arith) item c.in_ok-put_entries.ensures.put ∙ c.loop-table.invariant.put;
+    }
