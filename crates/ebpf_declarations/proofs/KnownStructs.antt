@@ -98,7 +98,7 @@ module _ (info : TypeInfo) (n o : List ℕ) where
       via (members_at info.types id) (members_at info.types id) (λ ms. definitions info n ms) (λ ms. definitions info o ms) d (λ ms k. k)
       (λ ms k. with_same (saying info n) (saying info o) saying_same no_definitions d ms k) h
 
-equal_numbers : (k q : ℕ) → is_at (nat_cmp k) q ≡ true → k ≡ q
+pub equal_numbers : (k q : ℕ) → is_at (nat_cmp k) q ≡ true → k ≡ q
 equal_numbers k q h = grind (arith, nat_tests)
 
 -- one more struct is remembered, which says the same of maps of all names

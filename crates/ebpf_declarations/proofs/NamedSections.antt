@@ -31,7 +31,7 @@ use Rattle.ebpf_parts.specs.declared.error.ParseError.TheVariants as errors
 
 -- ---- names
 
-equal : (r : Ordering) → is_eq r ≡ true → r ≡ Equal
+pub equal : (r : Ordering) → is_eq r ≡ true → r ≡ Equal
 equal Less e = cc
 equal Equal e = refl
 equal Greater e = cc
@@ -106,19 +106,19 @@ sought_more longest more m n name before up here is = record { is = λ q ids at.
 
 -- ---- lists
 
-flat_map-append : {A X : Type 0} (f : A → List X) (xs ys : List A) → flat_map f (xs ++ ys) ≡ flat_map f xs ++ flat_map f ys
+pub flat_map-append : {A X : Type 0} (f : A → List X) (xs ys : List A) → flat_map f (xs ++ ys) ≡ flat_map f xs ++ flat_map f ys
 flat_map-append f [] ys = refl
 flat_map-append f (x ∷ xs) ys = ap (λ l. f x ++ l) (flat_map-append f xs ys) ∙ sym (append_assoc (f x) (flat_map f xs) (flat_map f ys))
 
-or_other : {E : Type 0} (a b c : Option E) → or_else (or_else a b) c ≡ or_else a (or_else b c)
+pub or_other : {E : Type 0} (a b c : Option E) → or_else (or_else a b) c ≡ or_else a (or_else b c)
 or_other None b c = refl
 or_other (Some e) b c = refl
 
-or_none : {E : Type 0} (a : Option E) → or_else a None ≡ a
+pub or_none : {E : Type 0} (a : Option E) → or_else a None ≡ a
 or_none None = refl
 or_none (Some e) = refl
 
-first_some-append : {A E : Type 0} (f : A → Option E) (xs ys : List A) → first_some f (xs ++ ys) ≡ or_else (first_some f xs) (first_some f ys)
+pub first_some-append : {A E : Type 0} (f : A → Option E) (xs ys : List A) → first_some f (xs ++ ys) ≡ or_else (first_some f xs) (first_some f ys)
 first_some-append f [] ys = refl
 first_some-append f (x ∷ xs) ys = ap (or_else (f x)) (first_some-append f xs ys) ∙ sym (or_other (f x) (first_some f xs) (first_some f ys))
 

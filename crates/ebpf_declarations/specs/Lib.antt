@@ -8,3 +8,4 @@ pub mod NamedSections
 pub mod Placeholders
 pub mod Sayings
 pub mod KnownStructs
+pub mod ExternNames

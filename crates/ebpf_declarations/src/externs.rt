@@ -1,18 +1,24 @@
 //! The externs of an object.
 
-ghost use Rattle.std.specs.Prelude.{◌≡◌, IfOk, OnOk, OnErr};
+ghost use Rattle.std.specs.Prelude.{◌≡◌, None, IfOk, OnOk, OnErr};
 ghost use Rattle.std.specs.FinMap as map;
-ghost use Rattle.ebpf_base.specs.Faults.{Gives, Refuses, or_else};
+ghost use Rattle.std.specs.List.{flat_map};
+ghost use Rattle.ebpf_base.specs.Faults.{Refuses, fault_of, first_some, or_else};
 ghost use Rattle.ebpf_btf.specs.Memory.{is_memory};
+ghost use Rattle.ebpf_declarations.specs.Attempts.{given};
+ghost use Rattle.ebpf_declarations.specs.ExternNames.{named, all_named, IsNamed, RemembersWeak};
 ghost use Rattle.ebpf_declarations.specs.Externs.{is_function, held, new_extern, extern_of, met_entry, first_met, types_with, types_fault, externs_of, entries_fault, extern_types, externs, externs_fault};
 ghost use Rattle.ebpf_declarations.specs.Placeholders.{Begins};
 
 use crate::data_sections::first_entries;
+use crate::extern_names::weak_at;
+use crate::externs_by_name::by_name;
 use crate::placeholders::add_placeholder;
-use ebpf_base::{ByName, Text};
+use ebpf_base::{ByName, Items};
 use ebpf_btf::{Btf, BtfError, BtfType, DataSecEntry};
 use ebpf_reloc::ExternDesc;
 use std::alloc::Global;
+use std::collections::BTreeMap;
 
 /// The DATASEC of externs.
 const EXTERNS: &str = ".ksyms";
@@ -83,29 +89,30 @@ fn prepare_types(btf: &mut Btf, entries: &[DataSecEntry]) -> Result<(), BtfError
     }
 }
 
-/// What an entry declares, with its name.
-#[tactic(auto, unfolding(crate::specs::Externs::extern_of))]
+/// What an entry declares, with the offset of its name.
+#[tactic(auto, unfolding(crate::specs::Externs::extern_of, crate::specs::ExternNames::named))]
 fn extern_of(
-    alloc: Global,
     btf: &Btf,
     weak: &ByName<bool>,
+    known: &mut BTreeMap<u32, bool>,
     entry: &DataSecEntry,
-) -> Result<(Text, ExternDesc), BtfError>
-    ensures { Gives is_memory result (extern_of btf.now (map.get weak.now) entry.now) }
+) -> Result<(u32, ExternDesc), BtfError>
+    requires { RemembersWeak btf.now (map.get weak.now) known.old }
+    ensures declared { IfOk result (λ found. IsNamed btf.now (extern_of btf.now (map.get weak.now) entry.now) found.0 found.1) }
+    ensures fault { Refuses is_memory result (fault_of (extern_of btf.now (map.get weak.now) entry.now)) }
+    ensures known { OnOk result (RemembersWeak btf.now (map.get weak.now) known.new) }
 {
     let ty = btf.type_by_id(entry.btf_type)?;
     let Some(held) = held(ty) else {
         return Err(BtfError::InvalidDatasec);
     };
-    let name = Text::from_str(alloc, btf.type_name(ty)?.as_str())?;
-    let Some(is_weak) = weak.get(name.as_str()) else {
-        return Err(BtfError::InvalidSymbolName);
-    };
+    let name = ty.name_offset();
+    let is_weak = weak_at(btf, weak, known, name)?;
     let resolved = btf.resolve_type(held)?;
     let declared = ExternDesc {
         btf_id: entry.btf_type,
         is_typed: is_function(ty) || resolved != 0,
-        is_weak: *is_weak,
+        is_weak,
         kernel_btf_id: None,
         ksym_addr: None,
         is_resolved: false,
@@ -113,8 +120,26 @@ fn extern_of(
     Ok((name, declared))
 }
 
-/// The externs that entries declare, by name.
-#[tactic(auto, using(crate::proofs::Put::entries_more, ebpf_parts::proofs::Walks::rest_more, ebpf_parts::proofs::Walks::rest_none))]
+/// The externs that entries declare, with the offsets of their names.
+fn all_externs(
+    alloc: Global,
+    btf: &Btf,
+    weak: &ByName<bool>,
+    entries: &[DataSecEntry],
+) -> Result<Items<(u32, ExternDesc)>, BtfError>
+    ensures externs { IfOk result (λ found. all_named btf.now found ≡ flat_map (λ entry. given (extern_of btf.now (map.get weak.now) entry)) entries.now) }
+    ensures readable { IfOk result (λ found. first_some (λ f. fault_of (named btf.now f.0 f.1)) found ≡ None) }
+    ensures fault { Refuses is_memory result (entries_fault btf.now (map.get weak.now) entries.now) }
+{
+    let mut found = Items::new(alloc);
+    let mut known = BTreeMap::new(alloc);
+    for entry in entries {
+        found.push(extern_of(btf, weak, &mut known, entry)?)?;
+    }
+    Ok(found)
+}
+
+/// The externs that entries declare, by name. What is said of a name, and the name itself, is read once.
 fn externs_of(
     alloc: Global,
     btf: &Btf,
@@ -124,12 +149,8 @@ fn externs_of(
     ensures externs { IfOk result (λ found. found ≡ externs_of btf.now (map.get weak.now) entries.now) }
     ensures fault { Refuses is_memory result (entries_fault btf.now (map.get weak.now) entries.now) }
 {
-    let mut externs = ByName::new(alloc);
-    for entry in entries {
-        let (name, declared) = extern_of(alloc, btf, weak, entry)?;
-        externs.insert(name.into_string(), declared)?;
-    }
-    Ok(externs)
+    let found = all_externs(alloc, btf, weak, entries)?;
+    by_name(alloc, btf, found.as_slice())
 }
 
 /// The externs that entries declare, by name, and where one is a function a placeholder among the types. After a
