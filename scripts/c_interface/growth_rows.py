@@ -7,9 +7,6 @@ from rows.elf import File
 
 MEMORY = "2"
 
-# Calls that let std collect items.
-COLLECTING = ["open", "prepare", "types", "resolve"]
-
 ALL = REFERENCES, KERNEL, LINES
 
 
@@ -18,10 +15,7 @@ class GrowthRow(Row):
 
     def __init__(self, program, name, files, *actions, answer="0"):
         super().__init__(f"growths: {name}", program, "-m", *files, *actions)
-        self.answer, self.last = answer, actions[-1].partition("=")[0]
-
-    def asks_again(self):
-        return self.last in COLLECTING
+        self.answer = answer
 
     def ample_fault(self, ample):
         parts = Parts(ample.out)

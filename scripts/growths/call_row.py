@@ -3,10 +3,6 @@ from growths.answers import ANSWERS
 from growths.run import GROWTHS, Row
 
 
-# The calls that let std collect the relocations of a section.
-PARSING = ["parse", "prepare", "inspect"]
-
-
 class Parts:
     """What a run of ebpf_growths printed: what stood before the call, its answer, and what stood behind it."""
 
@@ -32,13 +28,9 @@ class CallRow(Row):
         super().__init__(name, GROWTHS, object_file, types, lines, subject, *calls)
         key = subject if subject in ANSWERS else f"{subject} {calls[-1].partition('=')[0]}"
         self.memory_answers = ANSWERS[key]
-        self.collects = key in PARSING
         self.starts = starts
         if starts is None:
             self.endings = ("",)
-
-    def asks_again(self):
-        return self.collects
 
     def ample_fault(self, ample):
         parts = Parts(ample.out)

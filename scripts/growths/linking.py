@@ -21,9 +21,6 @@ class ProgramRow(Row):
         self.memory_lines = [f"{name}: {text}\n".encode() for text in texts]
         self.said = f"{name}: {said}\n".encode() if said else b""
 
-    def asks_again(self):
-        return True
-
     def ample_fault(self, ample):
         wanted = (1, True, self.said) if self.said else (0, False, b"")
         found = (ample.status, ample.out == b"", ample.err)

@@ -119,11 +119,6 @@ class Row:
         """What is wrong with a run that was refused memory."""
         raise NotImplementedError
 
-    def asks_again(self):
-        """Whether the call lets std collect items: that asks for the memory of all of them, and where it is refused for
-        less. So a run that was refused one growth alone may have found memory."""
-        return False
-
     def plain_fault(self, ample, run):
         """What is wrong with a run with the library that was refused nothing."""
         if not run.is_counted:
@@ -138,8 +133,6 @@ class Row:
             return "refused past the last growth" if run.refused else self.plain_fault(ample, run)
         if not run.is_counted or not run.refused:
             return f"nothing was refused: {run.status} {run.err[-200:]!r}"
-        if ending == "" and self.asks_again() and self.plain_fault(ample, run) is None:
-            return None
         return self.refused_fault(ample, run)
 
     def judge(self, runner):
