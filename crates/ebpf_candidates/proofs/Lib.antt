@@ -5,6 +5,7 @@ pub mod Comparing
 pub mod Fields
 pub mod FoundPairs
 pub mod OddTexts
+pub mod OneName
 pub mod Refusals
 pub mod RowRange
 pub mod Unions

@@ -139,4 +139,17 @@ impl<'a> TypeNames<'a> {
             None => (kind, &[]),
         }
     }
+
+    /// Whether the types with two ids are of one kind and have their names at one offset: then no name need be
+    /// compared.
+    #[tactic(auto, using(crate::proofs::OneName::same_key))]
+    pub fn is_one_name(&self, left: u32, right: u32) -> bool
+        ensures { OnTrue result (key_at self.now left ≡ key_at self.now right) }
+    {
+        let types = self.btf.types();
+        let (Some(left), Some(right)) = (types.get(left as usize), types.get(right as usize)) else {
+            return false;
+        };
+        left.name_offset() == right.name_offset() && left.kind() == right.kind()
+    }
 }

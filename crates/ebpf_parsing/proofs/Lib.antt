@@ -9,6 +9,7 @@ pub mod TextLemmas
 pub mod Places
 pub mod Tiles
 pub mod TypeErrors
+pub mod Walked
 pub mod Words
 pub mod LastData
 pub mod LastEntries

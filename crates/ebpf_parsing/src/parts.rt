@@ -37,7 +37,7 @@ use crate::relocations::{RelocationTable, by_offset};
 use crate::sections::read_section;
 use crate::shared::Shared;
 use crate::symbols::NamedSymbol;
-use crate::text::{put_texts, text_functions};
+use crate::text::put_text_functions;
 use ebpf_base::{ByKey, ByName, ByOffset, BySection, Text};
 use ebpf_elf::{ElfFile, ElfSection, SectionIndex};
 use ebpf_parts::maps::Map;
@@ -151,8 +151,7 @@ impl Parts {
         ensures fault { Refuses is_memory result (text_fault section.now symbols.now) }
     {
         let records = context.records.of(section.name);
-        let functions = text_functions(alloc, &records, section, symbols)?;
-        put_texts(&mut self.functions, functions)
+        put_text_functions(alloc, &mut self.functions, &records, section, symbols)
     }
 
     /// Adds a section by its kind, but for its relocations and its name.

@@ -1,6 +1,6 @@
 //! The functions of a Text section.
 
-ghost use Rattle.std.specs.Prelude.{◌≡◌, ◌+◌, ◌<◌, ◌≤◌, ◌∷◌, [], Some, IfOk, OnOk, IfErr, true, length, map};
+ghost use Rattle.std.specs.Prelude.{◌≡◌, ◌+◌, ◌<◌, ◌≤◌, ◌∷◌, [], Some, IfOk, OnOk, length, map};
 ghost use Rattle.ebpf_base.specs.Faults.{Refuses};
 ghost use Rattle.ebpf_base.specs.Keyed.{put_all};
 ghost use Rattle.ebpf_parsing.specs.Programs.{placed};
@@ -83,49 +83,39 @@ fn function_at(
     }
 }
 
-/// The functions from offset 0 up.
-#[tactic(auto, using(crate::proofs::Offsets::functions_more, crate::proofs::Offsets::fault_more, crate::proofs::Offsets::none_left))]
+/// Puts the functions from offset 0 up by section and address.
+#[tactic(auto, using(crate::proofs::Walked::start))]
 fn walk(
     alloc: Global,
+    functions: &mut ByKey<Function>,
     records: &SectionRecords<'_, '_>,
     section: &Section<'_>,
     symbols: &TextSymbols<'_, '_>,
-) -> Result<Items<Function>, ParseError>
-    ensures functions { IfOk result (λ fs. fs ≡ text_functions records.now section.now symbols.now.symbols.now) }
+) -> Result<(), ParseError>
+    ensures put { OnOk result (functions.new ≡ put_all functions.old (map placed (text_functions records.now section.now symbols.now.symbols.now))) }
     ensures fault { Refuses is_memory result (walk_fault section.now symbols.now.symbols.now) }
 {
-    let mut functions = Items::new(alloc);
     let mut offset = 0;
     while offset < section.bytes.len() {
         let (function, end) = function_at(alloc, records, section, symbols, offset)?;
-        functions.push(function)?;
+        functions.insert((function.section_index.0, function.address), function)?;
         offset = end;
     }
-    Ok(functions)
+    Ok(())
 }
 
-/// The functions of a Text section with these symbols.
+/// Puts the functions of a Text section with these symbols by section and address.
 #[tactic(auto, unfolding(crate::specs::Texts::text_fault))]
-pub fn text_functions(
+pub fn put_text_functions(
     alloc: Global,
+    functions: &mut ByKey<Function>,
     records: &SectionRecords<'_, '_>,
     section: &Section<'_>,
     symbols: &[NamedSymbol<'_>],
-) -> Result<Items<Function>, ParseError>
-    ensures functions { IfOk result (λ fs. fs ≡ text_functions records.now section.now symbols.now) }
+) -> Result<(), ParseError>
+    ensures put { OnOk result (functions.new ≡ put_all functions.old (map placed (text_functions records.now section.now symbols.now))) }
     ensures fault { Refuses is_memory result (text_fault section.now symbols.now) }
 {
     let symbols = TextSymbols::new(alloc, section.index.0, symbols)?;
-    walk(alloc, records, section, &symbols)
-}
-
-/// Puts functions by section and address.
-pub fn put_texts(functions: &mut ByKey<Function>, list: Items<Function>) -> Result<(), ParseError>
-    ensures put { OnOk result (functions.new ≡ put_all functions.old (map placed list)) }
-    ensures memory { IfErr result (λ e. is_memory e ≡ true) }
-{
-    for function in list.into_vec() {
-        functions.insert((function.section_index.0, function.address), function)?;
-    }
-    Ok(())
+    walk(alloc, functions, records, section, &symbols)
 }

@@ -1,7 +1,8 @@
-use Rattle.std.proofs.Common.{◌≡◌, ◌<◌, ◌≤◌, ◌∷◌, ◌+◌, [], rules, arith, length, length-append, None}
+use Rattle.std.proofs.Common.{◌≡◌, ◌<◌, ◌≤◌, ◌∷◌, ◌+◌, [], rules, arith, length, None}
+use Rattle.std.specs.FinMap.{insert}
 use Rattle.ebpf_parsing.specs.Texts.{function_at, size_at, fault_at}
-use Rattle.ebpf_parsing.proofs.Offsets.{functions_step, fault_step, functions_end}
 use Rattle.std.proofs.lemmas.Grind.{common_steps}
+use Rattle.ebpf_parsing.proofs.Walked.{more, fault_here, none_left, all_put}
 use Rattle.ebpf_parsing.proofs.text.walk.Goals as goal
 
 pub loop-offset-preserved : goal.loop-offset-preserved
@@ -10,22 +11,30 @@ loop-offset-preserved c =
     let s = c.args.section.now in
     let ys = c.args.symbols.now.symbols.now in
     let o = c.loop-offset.offset in
-    let fs = c.loop-offset.functions in
-    let inside : o < length s.bytes = search rules in
-    let few : length fs < length s.bytes = omega (arith, inside, c.loop-offset.invariant.few) in
-    let further : o < c.in_ok-function.end = search rules in
-    let here : function_at said s ys o ≡ c.in_ok-function.function ∷ [] = search rules in
-    let next : c.in_ok-function.end ≡ o + size_at s ys o = search rules in
-    let none : fault_at s ys o ≡ None = search rules in
-    let more : length c.push.new.self ≡ length fs + 1 = grind (arith, common_steps, length-append fs (c.in_ok-function.function ∷ [])) in
-    record {
-      functions = grind (arith, common_steps, functions_step said s ys fs c.in_ok-function.function o c.in_ok-function.end _ few inside here next c.loop-offset.invariant.functions);
-      fault = grind (arith, common_steps, fault_step s ys (length fs) (length c.push.new.self) o c.in_ok-function.end few inside none next more);
-      few = omega (arith, more, further, c.loop-offset.invariant.few);
-      inside = search rules;
-    }
+    let e = c.in_ok-function.end in
+    let f = c.in_ok-function.function in
+    let within : o < length s.bytes = search rules in
+    let here : function_at said s ys o ≡ f ∷ [] = search rules in
+    let next : e ≡ o + size_at s ys o = search rules in
+    let sound : fault_at s ys o ≡ None = search rules in
+    let further : o < e = search rules in
+    let ends : e ≤ length s.bytes = search rules in
+    let filled : c.insert.new.self ≡ insert c.loop-offset.functions (f.section_index.0, f.address) f = search rules in
+    more said s ys _ _ _ o e f filled within here next sound further ends c.loop-offset.invariant
 
-pub returns-clause-functions : goal.returns-clause-functions
-returns-clause-functions c =
+pub returns-in_err-function-clause-fault : goal.returns-in_err-function-clause-fault
+returns-in_err-function-clause-fault c =
+    let s = c.args.section.now in
+    let within : c.loop-offset.offset < length s.bytes = search rules in
+    let here = fault_here c.args.records.now s c.args.symbols.now.symbols.now _ _ c.loop-offset.offset within c.loop-offset.invariant in
+    grind (arith, common_steps, here.1)
+
+pub returns-clause-put : goal.returns-clause-put
+returns-clause-put c =
     let past : length c.args.section.now.bytes ≤ c.loop-offset.offset = search rules in
-    functions_end c.args.records.now c.args.section.now c.args.symbols.now.symbols.now _ _ _ _ past c.loop-offset.invariant.functions
+    all_put c.args.records.now c.args.section.now c.args.symbols.now.symbols.now _ _ c.loop-offset.offset past c.loop-offset.invariant
+
+pub returns-clause-fault : goal.returns-clause-fault
+returns-clause-fault c =
+    let past : length c.args.section.now.bytes ≤ c.loop-offset.offset = search rules in
+    none_left c.args.records.now c.args.section.now c.args.symbols.now.symbols.now _ _ c.loop-offset.offset past c.loop-offset.invariant

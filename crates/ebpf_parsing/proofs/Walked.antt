@@ -1,0 +1,76 @@
+-- The walk over the functions of a Text section, each of which is put into a table where it is met.
+use Rattle.std.proofs.Common.{◌≡◌, ℕ, zero, ◌+◌, ◌-◌, ◌<◌, ◌≤◌, List, [], ◌∷◌, ◌++◌, length, map, Option, Some, None, refl, sym, ap, ◌∙◌, arith}
+use Rattle.std.specs.FinMap.{FinMap, insert}
+use Rattle.std.specs.List.{flat_map}
+use Rattle.ebpf_base.specs.Faults.{or_else, first_some}
+use Rattle.ebpf_base.specs.Keyed.{put_all}
+use Rattle.ebpf_base.specs.Keys.{key_cmp}
+use Rattle.ebpf_reloc.specs.declared.function.Function.{Function}
+use Rattle.ebpf_parsing.specs.Programs.{placed}
+use Rattle.ebpf_parsing.specs.Records.{Said}
+use Rattle.ebpf_parsing.specs.Symbols.{SymbolValue}
+use Rattle.ebpf_parsing.specs.Texts.{offsets_from, function_at, fault_at, size_at, text_functions, walk_fault}
+use Rattle.ebpf_parsing.proofs.Offsets.{functions_more, fault_step, fault_more, none_left as no_offsets}
+use Rattle.ebpf_parts.specs.Sections.{SectionValue}
+use Rattle.ebpf_parts.specs.declared.error.ParseError.{ParseError}
+
+-- the functions from an offset on, of which so many were begun before
+abbrev pub from_here : Said → SectionValue → List SymbolValue → ℕ → ℕ → List Function
+from_here said s ys begun o = flat_map (function_at said s ys) (offsets_from (length s.bytes - begun) s ys o)
+
+abbrev pub fault_from : SectionValue → List SymbolValue → ℕ → ℕ → Option ParseError
+fault_from s ys begun o = first_some (fault_at s ys) (offsets_from (length s.bytes - begun) s ys o)
+
+-- what is left from an offset on gives, put into the table, what all gave from the start
+pub record IsWalked (said : Said) (s : SectionValue) (ys : List SymbolValue) (before now : FinMap key_cmp Function) (o : ℕ) : Type 0 where
+  pub begun : ℕ
+  pub few : begun ≤ o
+  pub inside : o ≤ length s.bytes
+  pub put : put_all now (map placed (from_here said s ys begun o)) ≡ put_all before (map placed (text_functions said s ys))
+  pub fault : fault_from s ys begun o ≡ walk_fault s ys
+
+pub start : (said : Said) (s : SectionValue) (ys : List SymbolValue) (m : FinMap key_cmp Function) → IsWalked said s ys m m 0
+start said s ys m =
+    let same : length s.bytes - 0 ≡ length s.bytes = omega arith in
+    record {
+      begun = 0;
+      few = omega arith;
+      inside = omega arith;
+      put = ap (λ n. put_all m (map placed (flat_map (function_at said s ys) (offsets_from n s ys 0)))) same;
+      fault = ap (λ n. first_some (fault_at s ys) (offsets_from n s ys 0)) same;
+    }
+
+pub more : (said : Said) (s : SectionValue) (ys : List SymbolValue) (m t u : FinMap key_cmp Function) (o e : ℕ) (f : Function)
+    → u ≡ insert t (f.section_index.0, f.address) f → o < length s.bytes → function_at said s ys o ≡ f ∷ [] → e ≡ o + size_at s ys o → fault_at s ys o ≡ None → o < e → e ≤ length s.bytes
+    → IsWalked said s ys m t o → IsWalked said s ys m u e
+more said s ys m t u o e f filled within here next sound further ends w =
+    let few : w.begun < length s.bytes = omega (arith, w.few, within) in
+    let rest : from_here said s ys w.begun o ≡ f ∷ from_here said s ys (w.begun + 1) e
+    = functions_more said s ys (length s.bytes) w.begun o few within
+    ∙ ap (λ xs. xs ++ flat_map (function_at said s ys) (offsets_from (length s.bytes - (w.begun + 1)) s ys (o + size_at s ys o))) here
+    ∙ ap (λ p. f ∷ flat_map (function_at said s ys) (offsets_from (length s.bytes - (w.begun + 1)) s ys p)) (sym next) in
+    record {
+      begun = w.begun + 1;
+      few = omega (arith, w.few, further);
+      inside = ends;
+      put = ap (λ n. put_all n (map placed (from_here said s ys (w.begun + 1) e))) filled ∙ sym (ap (λ fs. put_all t (map placed fs)) rest) ∙ w.put;
+      fault = fault_step s ys w.begun (w.begun + 1) o e few within sound next refl ∙ w.fault;
+    }
+
+-- the fault at an offset comes before those that are left
+pub fault_here : (said : Said) (s : SectionValue) (ys : List SymbolValue) (m t : FinMap key_cmp Function) (o : ℕ)
+    → o < length s.bytes → IsWalked said s ys m t o → (rest : Option ParseError) × (or_else (fault_at s ys o) rest ≡ walk_fault s ys)
+fault_here said s ys m t o within w =
+    let few : w.begun < length s.bytes = omega (arith, w.few, within) in (
+      first_some (fault_at s ys) (offsets_from (length s.bytes - (w.begun + 1)) s ys (o + size_at s ys o)),
+      sym (fault_more s ys (length s.bytes) w.begun o few within) ∙ w.fault,
+    )
+
+pub none_left : (said : Said) (s : SectionValue) (ys : List SymbolValue) (m t : FinMap key_cmp Function) (o : ℕ)
+    → length s.bytes ≤ o → IsWalked said s ys m t o → walk_fault s ys ≡ None
+none_left said s ys m t o past w = sym w.fault ∙ ap (first_some (fault_at s ys)) (no_offsets s ys (length s.bytes - w.begun) o past)
+
+pub all_put : (said : Said) (s : SectionValue) (ys : List SymbolValue) (m t : FinMap key_cmp Function) (o : ℕ)
+    → length s.bytes ≤ o → IsWalked said s ys m t o → t ≡ put_all m (map placed (text_functions said s ys))
+all_put said s ys m t o past w =
+    sym (ap (λ os. put_all t (map placed (flat_map (function_at said s ys) os))) (no_offsets s ys (length s.bytes - w.begun) o past)) ∙ w.put
