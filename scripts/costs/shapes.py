@@ -195,6 +195,17 @@ def maps_of_long_members(size):
 
 
 @shape
+def maps_of_many_sections(size):
+    """Sections of maps of one name, each with its symbol, beside a DATASEC that declares their map many times."""
+    types, file = Types(), with_program()
+    made = types.struct_of("", [("x", 0)])
+    types.datasec(".maps", [types.add(VAR, "m", made, 1)] * min(many(size // 2, 12), ENTRIES))
+    for _ in range(many(size // 2, 96)):
+        file.symbol("m", OBJECT, file.section(".maps", bytes(8)), 0, 8)
+    return file.types(types).bytes()
+
+
+@shape
 def maps_of_values(size):
     """A map whose struct says `values` many times, each of one struct of many members."""
     types, file = Types(), with_program()

@@ -36,8 +36,8 @@ ANSWERS = {
     "object kept_map": [err("AllocError")],
     "object kept_funcs": [err("AllocError")],
     "object kept_lines": [err("AllocError")],
-    "object kept_func_names": [err("AllocError")],
-    "object kept_line_names": [err("AllocError")],
+    "object kept_found_funcs": [err("AllocError")],
+    "object kept_found_lines": [err("AllocError")],
     "object kept_ext": [err("AllocError")],
     "object kept_text_sections": [err("AllocError")],
     "object kept_link_map": [err(CALLS)],
@@ -57,6 +57,6 @@ ANSWERS = {
     "types index": [NO_MEMORY],
     "types both": [err(NO_MEMORY)],
     "types fields": [err(NO_MEMORY)],
-    "types boxed": [err(NO_MEMORY)],
+    "types boxed": [err("AllocError")],
     "small": [err("AllocError")],
 }

@@ -61,7 +61,7 @@ def copying():
         for name, data in [("the small object", SMALL), ("all kinds of references", REFERENCES), ("clang", COUNTER)]
     ]
     kept = ["kept_inner=tables", "kept_map=tables", "kept_map=.rodata", "kept_funcs=.text", "kept_lines=.text"]
-    kept += ["kept_func_names", "kept_line_names", "kept_ext", "kept_text_sections", "kept_link_map=on_packet"]
+    kept += ["kept_found_funcs=.text", "kept_found_lines=.text", "kept_ext", "kept_text_sections", "kept_link_map=on_packet"]
     return rows + [on_file(f"{call}, an object of clang", COUNTER, "object", call) for call in kept]
 
 

@@ -3,6 +3,7 @@ pub mod Essentials
 pub mod InOrder
 pub mod KindRows
 pub mod Looks
+pub mod LongNames
 pub mod LossyTexts
 pub mod NearTexts
 pub mod OneAfterOther

@@ -5,7 +5,7 @@ ghost use Rattle.ebpf_btf.specs.Format.{has_list};
 ghost use Rattle.ebpf_btf.specs.Types.{kind_of};
 
 use crate::btf::Btf;
-use crate::fallback::{BoxedFallback, Enum64Fallback};
+use crate::fallback::Enum64Fallback;
 use crate::types::BtfType;
 use ebpf_base::Items;
 use std::alloc::AllocError;
@@ -27,16 +27,6 @@ impl Clone for Enum64Fallback {
             signed: self.signed,
             variants: copy_list(&self.variants)?,
         })
-    }
-}
-
-/// A copy of a fallback that may be there.
-fn copy_fallback(fallback: &Option<BoxedFallback>) -> Result<Option<BoxedFallback>, AllocError>
-    ensures { IfOk result (λ copy. copy ≡ fallback.now) }
-{
-    match fallback {
-        Some(fallback) => Ok(Some(fallback.clone()?)),
-        None => Ok(None),
     }
 }
 
@@ -189,7 +179,7 @@ impl Clone for BtfType {
                 size: *size,
                 kind_flag: *kind_flag,
                 members: copy_list(members)?,
-                enum64_fallback: copy_fallback(enum64_fallback)?,
+                enum64_fallback: enum64_fallback.clone()?,
             }),
             BtfType::FuncProto {
                 name_offset,

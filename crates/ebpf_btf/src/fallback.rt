@@ -1,12 +1,12 @@
 //! What an enumeration of 64 bits held before it was made a UNION.
 
-ghost use Rattle.std.specs.Prelude.{◌≡◌, IfOk, IfErr};
-ghost use Rattle.ebpf_btf.specs.declared.error.BtfError.TheVariants.{OutOfMemory};
+ghost use Rattle.std.specs.Prelude.{◌≡◌, IfOk};
+ghost use Rattle.std.specs.Option.{option_copied};
 
-use crate::error::BtfError;
 use crate::members::Enum64VariantFallback;
 use ebpf_base::Items;
 use std::alloc::{AllocError, Global};
+use std::fmt;
 use std::marker::Model;
 
 /// What an enumeration of 64 bits held before it was made a UNION for an older kernel.
@@ -18,46 +18,55 @@ pub struct Enum64Fallback {
     pub variants: Items<Enum64VariantFallback>,
 }
 
-/// An `Enum64Fallback` in memory of its own, which keeps the types small that have none. Contracts see the
-/// `Enum64Fallback` alone.
-#[derive(Debug, Drop)]
-pub struct BoxedFallback {
-    contents: Box<Enum64Fallback>,
+/// What a UNION holds of the enumeration of 64 bits that it was, if it was one. It lies in memory of its own, which keeps
+/// the types small; contracts see the option alone.
+#[derive(Drop)]
+pub struct UnionFallback {
+    contents: Box<Option<Enum64Fallback>>,
 }
 
-impl Model for BoxedFallback {
+impl Model for UnionFallback {
+    ghost use Rattle.std.specs.Prelude.{Option};
     ghost use Rattle.ebpf_btf.specs.declared.fallback.Enum64Fallback.{Enum64Fallback};
 
-    ghost Value = { Enum64Fallback };
+    ghost Value = { Option Enum64Fallback };
 
     ghost view = { λ b. b.contents.value };
 }
 
-impl BoxedFallback {
-    /// The fallback in memory of its own. `OutOfMemory` where that is refused.
-    pub fn new(alloc: Global, contents: Enum64Fallback) -> Result<BoxedFallback, BtfError>
-        ensures boxed { IfOk result (λ b. b ≡ contents) }
-        ensures memory { IfErr result (λ e. e ≡ OutOfMemory) }
+impl UnionFallback {
+    /// What a UNION holds, in memory of its own. An error only where that is refused.
+    pub fn new(alloc: Global, contents: Option<Enum64Fallback>) -> Result<UnionFallback, AllocError>
+        ensures { IfOk result (λ b. b ≡ contents) }
     {
-        Ok(BoxedFallback {
+        Ok(UnionFallback {
             contents: Box::new(alloc, contents)?,
         })
     }
 
-    /// The fallback.
-    pub fn contents(&self) -> &Enum64Fallback
-        ensures { result.now ≡ self.now }
+    /// The fallback; None of a UNION that was no enumeration.
+    pub fn get(&self) -> Option<&Enum64Fallback>
+        ensures { option_copied result ≡ self.now }
     {
-        &self.contents
+        match &*self.contents {
+            Some(fallback) => Some(fallback),
+            None => None,
+        }
     }
 }
 
-impl Clone for BoxedFallback {
+impl Clone for UnionFallback {
     ghost is_clone = { λ old copy. copy ≡ old };
 
-    fn clone(&self) -> Result<BoxedFallback, AllocError> {
-        Ok(BoxedFallback {
+    fn clone(&self) -> Result<UnionFallback, AllocError> {
+        Ok(UnionFallback {
             contents: self.contents.clone()?,
         })
+    }
+}
+
+impl fmt::Debug for UnionFallback {
+    fn fmt<W: fmt::Write>(&self, f: &mut fmt::Formatter<W>) -> fmt::Result {
+        fmt::Debug::fmt(&*self.contents, f)
     }
 }

@@ -20,7 +20,7 @@ mod read_type;
 mod readable;
 pub mod rows;
 mod steps;
-mod strings;
+pub mod strings;
 mod types;
 mod variants;
 
@@ -28,7 +28,7 @@ pub use array::BtfArray;
 pub use btf::Btf;
 pub use endianness::Endianness;
 pub use error::BtfError;
-pub use fallback::{BoxedFallback, Enum64Fallback};
+pub use fallback::{Enum64Fallback, UnionFallback};
 pub use flavors::essential_name;
 pub use kind::BtfKind;
 pub use members::{BtfEnum, BtfEnum64, BtfMember, BtfParam, DataSecEntry, Enum64VariantFallback};

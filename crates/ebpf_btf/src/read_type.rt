@@ -11,6 +11,7 @@ ghost use Rattle.ebpf_btf.specs.declared.error.BtfError.TheVariants.{InvalidType
 
 use crate::endianness::Endianness;
 use crate::error::BtfError;
+use crate::fallback::UnionFallback;
 use crate::kind::BtfKind;
 use crate::numbers::read_u32;
 use crate::rows::read_rows;
@@ -223,7 +224,7 @@ fn read_kind(
             size,
             kind_flag,
             members: read_rows(alloc, order, bytes, list, THREE_WORDS, count)?,
-            enum64_fallback: None,
+            enum64_fallback: UnionFallback::new(alloc, None)?,
         }),
         BtfKind::Enum => Ok(BtfType::Enum {
             name_offset,

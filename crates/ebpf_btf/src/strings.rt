@@ -1,6 +1,6 @@
 //! Texts in the strings.
 
-ghost use Rattle.std.specs.Prelude.{◌≡◌, ◌==◌, drop, take, IfOk, IfErr, Ok, Err};
+ghost use Rattle.std.specs.Prelude.{◌≡◌, ◌+◌, ◌==◌, drop, take, IfOk, IfErr, Ok, Err};
 ghost use Rattle.std.specs.List.{position};
 ghost use Rattle.std.specs.Option.{option_copied};
 ghost use Rattle.std.specs.Result.{result_ok};
@@ -68,6 +68,22 @@ fn first_bytes(bytes: &[u8], count: usize) -> &[u8]
         return bytes;
     }
     &bytes[..count]
+}
+
+/// The bytes from an offset of the strings on, one more than a text of a length has.
+#[tactic(auto, using(crate::proofs::LongNames::none_past, crate::proofs::LongNames::all_near))]
+pub fn near_bytes(strings: &[u8], offset: u32, longest: usize) -> &[u8]
+    ensures { result.now ≡ take (longest + 1) (drop offset strings.now) }
+{
+    let place = offset as usize;
+    if place >= strings.len() {
+        return &[];
+    }
+    let from = &strings[place..];
+    if from.len() <= longest {
+        return from;
+    }
+    &from[..longest + 1]
 }
 
 /// Whether the text at an offset of the strings is this one; one that can't be read is none. One byte more than the

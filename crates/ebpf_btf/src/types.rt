@@ -4,7 +4,7 @@ ghost use Rattle.std.specs.Prelude.{◌≡◌};
 ghost use Rattle.std.specs.Option.{option_copied};
 ghost use Rattle.ebpf_btf.specs.Types.{kind_of, name_of, size_word, type_word, members_of, has_bit_fields, bit_offset, bit_field_size, is_signed};
 
-use crate::fallback::BoxedFallback;
+use crate::fallback::UnionFallback;
 use crate::kind::BtfKind;
 use crate::members::{BtfEnum, BtfEnum64, BtfMember, BtfParam, DataSecEntry};
 use ebpf_base::Items;
@@ -49,7 +49,7 @@ pub enum BtfType {
         size: u32,
         kind_flag: bool,
         members: Items<BtfMember>,
-        enum64_fallback: Option<BoxedFallback>,
+        enum64_fallback: UnionFallback,
     },
     /// An enumeration with values of up to 32 bits, signed where `kind_flag` is set.
     Enum {

@@ -76,9 +76,9 @@ impl BtfType {
             BtfType::Enum { variants, .. } => Some(variants.len()),
             BtfType::Enum64 { variants, .. } => Some(variants.len()),
             BtfType::Union {
-                enum64_fallback: Some(fallback),
+                enum64_fallback,
                 ..
-            } => Some(fallback.contents().variants.len()),
+            } => Some(enum64_fallback.get()?.variants.len()),
             _ => None,
         }
     }
@@ -97,9 +97,9 @@ impl BtfType {
             } => Some(variant_of_32(*kind_flag, *variants.get(index)?)),
             BtfType::Enum64 { variants, .. } => Some(variant_of_64(*variants.get(index)?)),
             BtfType::Union {
-                enum64_fallback: Some(fallback),
+                enum64_fallback,
                 ..
-            } => fallback_variant(fallback.contents(), index),
+            } => fallback_variant(enum64_fallback.get()?, index),
             _ => None,
         }
     }

@@ -3,6 +3,6 @@ pub mod Beginnings
 pub mod LaterMembers
 pub mod Said
 pub mod KnownStructs
-pub mod LongNames
 pub mod NamedSections
 pub mod ExternNames
+pub mod Distinct

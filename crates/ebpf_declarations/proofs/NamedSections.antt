@@ -24,7 +24,7 @@ use Rattle.ebpf_btf.specs.declared.members.DataSecEntry.{DataSecEntry}
 use Rattle.ebpf_btf.specs.declared.types.BtfType.{BtfType}
 use Rattle.ebpf_declarations.specs.DataSections.{MetSection, met_if, met_section, entries_of}
 use Rattle.ebpf_declarations.specs.Maps.{entries_maps, entries_fault, maps_by, fault_by, type_maps, type_fault, btf_maps, btf_maps_fault}
-use Rattle.ebpf_declarations.proofs.LongNames.{too_long}
+use Rattle.ebpf_btf.proofs.LongNames.{too_long}
 use Rattle.ebpf_declarations.specs.NamedSections.{is_met, name_fault, noted, AreSought, AreWithin, AreNoted, entries_at, ids_maps, ids_fault, unreadable_fault, AreFound}
 use Rattle.ebpf_declarations.specs.declared.named_sections.NamedSections.{NamedSections}
 use Rattle.ebpf_parts.specs.declared.error.ParseError.TheVariants as errors

@@ -9,3 +9,4 @@ pub mod Placeholders
 pub mod Sayings
 pub mod KnownStructs
 pub mod ExternNames
+pub mod DistinctMaps

@@ -3,33 +3,25 @@
 ghost use Rattle.std.specs.Prelude.{◌≡◌, ◌++◌, IfOk, IfErr, OnOk, true};
 ghost use Rattle.std.specs.FinMap as map;
 ghost use Rattle.ebpf_base.specs.Faults.{Refuses};
+ghost use Rattle.ebpf_base.specs.Keyed.{put_all};
 ghost use Rattle.ebpf_btf.specs.Memory.{is_memory as is_btf_memory};
+ghost use Rattle.ebpf_declarations.specs.DistinctMaps.{AreKept};
 ghost use Rattle.ebpf_declarations.specs.KnownStructs.{Knows};
 ghost use Rattle.ebpf_declarations.specs.Maps.{btf_maps, btf_maps_fault};
-ghost use Rattle.ebpf_declarations.specs.NamedSections.{entries_at, ids_maps, ids_fault, AreFound};
+ghost use Rattle.ebpf_declarations.specs.NamedSections.{ids_maps, ids_fault, AreFound};
 ghost use Rattle.ebpf_parts.specs.Memory.{is_memory};
 
-use crate::data_sections::entries_of;
+use crate::distinct_maps::DistinctMaps;
+use crate::kept_sections::keep_sections;
 use crate::known_structs::KnownStructs;
 use crate::maps::{add_entries, collect_btf_maps};
-use crate::named_sections::NamedSections;
+use crate::named_sections::{NamedSections, entries_at};
 use ebpf_base::{ByName, Items, Text};
-use ebpf_btf::{Btf, BtfError, DataSecEntry};
+use ebpf_btf::{Btf, BtfError};
 use ebpf_parts::maps::Map;
 use ebpf_parts::{ParseError, Section};
 use std::alloc::Global;
 use std::marker::Model;
-
-/// The entries of the DATASEC with an id.
-#[tactic(auto, unfolding(crate::specs::NamedSections::entries_at))]
-fn entries_at(btf: &Btf, id: u32) -> &[DataSecEntry]
-    ensures { result.now ≡ entries_at btf.now.types id }
-{
-    let Ok(ty) = btf.type_by_id(id) else {
-        return &[];
-    };
-    entries_of(ty).unwrap_or(&[])
-}
 
 /// Adds the maps of the DATASECs with these ids.
 #[tactic(auto, using(crate::proofs::Added::more_added, ebpf_parts::proofs::Walks::rest_more, ebpf_parts::proofs::Walks::rest_none))]
@@ -70,12 +62,26 @@ fn collect_sections(
     Ok(found)
 }
 
-/// Types that declare maps, of which the DATASECs of some names were found before. Contracts see the types.
+/// Puts maps by name; the later of equal names stands.
+fn put_maps(maps: &mut ByName<Map>, found: Items<(Text, Map)>) -> Result<(), ParseError>
+    ensures put { OnOk result (maps.new ≡ put_all maps.old found) }
+    ensures memory { IfErr result (λ e. is_memory e ≡ true) }
+{
+    for (name, map) in found.into_vec() {
+        maps.insert(name.into_string(), map)?;
+    }
+    Ok(())
+}
+
+/// Types that declare maps, of which the DATASECs of some names were found before, and the maps of those names that
+/// have no fault, each name of a map once. Contracts see the types.
 #[derive(Drop)]
 pub struct DeclaredMaps<'b> {
     btf: &'b Btf,
     sections: NamedSections,
+    distinct: ByName<DistinctMaps>,
     ghost found: { AreFound btf.now sections },
+    ghost kept: { AreKept btf.now distinct },
 }
 
 impl<'b> Model for DeclaredMaps<'b> {
@@ -88,18 +94,49 @@ impl<'b> Model for DeclaredMaps<'b> {
 
 impl<'b> DeclaredMaps<'b> {
     /// The maps that types declare. The DATASECs of these names are found in one pass, in which of each DATASEC's
-    /// name no more is looked at than the longest of them has. `OutOfMemory` where memory is refused.
-    pub fn gather(alloc: Global, btf: &'b Btf, names: &[&str]) -> Result<DeclaredMaps<'b>, BtfError>
+    /// name no more is looked at than the longest of them has. Their entries are read once, up to the first that has
+    /// a fault or is of a name that is none of these symbols'. `OutOfMemory` where memory is refused.
+    pub fn gather(
+        alloc: Global,
+        btf: &'b Btf,
+        names: &[&str],
+        symbols: &ByName<usize>,
+    ) -> Result<DeclaredMaps<'b>, BtfError>
         ensures types { IfOk result (λ d. d ≡ btf.now) }
         ensures memory { IfErr result (λ e. is_btf_memory e ≡ true) }
     {
         let sections = NamedSections::gather(alloc, btf, names)?;
-        Ok(DeclaredMaps { btf, sections })
+        let distinct = keep_sections(alloc, btf, &sections, names, symbols)?;
+        Ok(DeclaredMaps {
+            btf,
+            sections,
+            distinct,
+        })
     }
 
-    /// The maps that the types declare in a section, with their names, as `collect_btf_maps` gives them. Where the
-    /// section's name is none of those that were given, its DATASECs are sought anew.
-    pub fn of(
+    /// Puts the maps that the types declare in a section by their names, as `collect_btf_maps` gives them; of equal
+    /// names the later stands. Of a section whose name was given, where no fault is, each name is put once, however
+    /// many entries declare it.
+    pub fn put(
+        &self,
+        alloc: Global,
+        maps: &mut ByName<Map>,
+        section: &Section<'_>,
+        symbols: &ByName<usize>,
+    ) -> Result<(), ParseError>
+        ensures put { OnOk result (maps.new ≡ put_all maps.old (btf_maps self.now (map.get symbols.now) section.now.index.0 section.now.name)) }
+        ensures fault { Refuses is_memory result (btf_maps_fault self.now (map.get symbols.now) section.now.index.0 section.now.name) }
+    {
+        if let Some(distinct) = self.distinct.get(section.name) {
+            return distinct.put(alloc, maps, section, symbols);
+        }
+        let found = self.of(alloc, section, symbols)?;
+        put_maps(maps, found)
+    }
+
+    /// The maps that the types declare in a section, with their names. Where the section's name is none of those that
+    /// were given, its DATASECs are sought anew.
+    fn of(
         &self,
         alloc: Global,
         section: &Section<'_>,

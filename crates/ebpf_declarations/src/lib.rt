@@ -4,10 +4,12 @@
 mod data_sections;
 mod declared_maps;
 mod definitions;
+mod distinct_maps;
 mod error;
 mod extern_names;
 mod externs;
 mod externs_by_name;
+mod kept_sections;
 mod known_structs;
 pub mod laws;
 mod map_member;

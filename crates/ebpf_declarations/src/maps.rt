@@ -5,7 +5,7 @@ ghost use Rattle.std.specs.FinMap as map;
 ghost use Rattle.ebpf_base.specs.Faults.{Gives, Refuses};
 ghost use Rattle.ebpf_btf.specs.Memory.{is_memory as is_btf_memory};
 ghost use Rattle.ebpf_declarations.specs.KnownStructs.{Knows};
-ghost use Rattle.ebpf_declarations.specs.Maps.{variable, declared, map_of, entries_maps, entries_fault, type_maps, type_fault, btf_maps, btf_maps_fault};
+ghost use Rattle.ebpf_declarations.specs.Maps.{variable, declared, map_at, map_of, entries_maps, entries_fault, type_maps, type_fault, btf_maps, btf_maps_fault};
 ghost use Rattle.ebpf_parts.specs.Memory.{is_memory};
 
 use crate::data_sections::section_entries;
@@ -32,7 +32,7 @@ fn variable(ty: &BtfType) -> Option<u32>
 
 /// What an entry declares, with its name.
 #[tactic(auto, unfolding(crate::specs::Maps::declared))]
-fn declared(
+pub fn declared(
     alloc: Global,
     btf: &Btf,
     known: &mut KnownStructs,
@@ -50,6 +50,24 @@ fn declared(
     let held = btf.resolve_type(held)?;
     let definitions = said_by_struct(alloc, btf, known, name.as_str(), held)?;
     Ok((name, definitions))
+}
+
+/// The map with these definitions, of a section and a symbol with these numbers.
+pub fn map_at(
+    alloc: Global,
+    definitions: &MapDefinitions,
+    section_index: usize,
+    symbol_index: usize,
+) -> Map
+    ensures { result ≡ map_at definitions.now section_index symbol_index }
+{
+    Map::Btf(BtfMap {
+        def: definitions.def,
+        inner_def: definitions.inner_def,
+        section_index,
+        symbol_index,
+        bytes: Items::new(alloc),
+    })
 }
 
 /// The map of an entry, with its name.
@@ -73,13 +91,7 @@ fn map_of(
     let Some(symbol_index) = symbols.get(name.as_str()) else {
         return Err(ParseError::SymbolNotFound { name });
     };
-    let map = Map::Btf(BtfMap {
-        def: definitions.def,
-        inner_def: definitions.inner_def,
-        section_index: section.index.0,
-        symbol_index: *symbol_index,
-        bytes: Items::new(alloc),
-    });
+    let map = map_at(alloc, &definitions, section.index.0, *symbol_index);
     Ok((name, map))
 }
 

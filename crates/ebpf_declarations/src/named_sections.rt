@@ -1,13 +1,14 @@
 //! The DATASECs of some names, found in one pass over the types.
 
-ghost use Rattle.std.specs.Prelude.{◌≡◌, ◌+◌, ◌==◌, drop, is_some, take, IfOk, IfErr, OnOk, true};
-ghost use Rattle.std.specs.List.{position};
+ghost use Rattle.std.specs.Prelude.{◌≡◌, is_some, IfOk, IfErr, OnOk, true};
 ghost use Rattle.ebpf_btf.specs.Memory.{is_memory};
 ghost use Rattle.ebpf_declarations.specs.DataSections.{entries_of};
-ghost use Rattle.ebpf_declarations.specs.NamedSections.{noted, AreSought, AreWithin, Looked, AreFound};
+ghost use Rattle.ebpf_declarations.specs.NamedSections.{noted, entries_at, AreSought, AreWithin, Looked, AreFound};
 
+use crate::data_sections::entries_of;
 use ebpf_base::{ByName, Items};
-use ebpf_btf::{Btf, BtfError, BtfType};
+use ebpf_btf::strings::{near_bytes, zero_place};
+use ebpf_btf::{Btf, BtfError, BtfType, DataSecEntry};
 use std::alloc::Global;
 
 /// The DATASECs of some names.
@@ -19,35 +20,23 @@ pub struct NamedSections {
     pub unreadable: Option<usize>,
 }
 
+/// The entries of the DATASEC with an id.
+#[tactic(auto, unfolding(crate::specs::NamedSections::entries_at))]
+pub fn entries_at(btf: &Btf, id: u32) -> &[DataSecEntry]
+    ensures { result.now ≡ entries_at btf.now.types id }
+{
+    let Ok(ty) = btf.type_by_id(id) else {
+        return &[];
+    };
+    entries_of(ty).unwrap_or(&[])
+}
+
 /// Whether a type is a DATASEC.
 #[tactic(auto, unfolding(crate::specs::DataSections::entries_of))]
 fn is_section(ty: &BtfType) -> bool
     ensures { result ≡ is_some (entries_of ty.now) }
 {
     matches!(ty, BtfType::DataSec { .. })
-}
-
-/// The bytes from an offset of the strings on, one more than a name may have.
-#[tactic(auto, using(crate::proofs::LongNames::none_past, crate::proofs::LongNames::all_near))]
-fn near_bytes(strings: &[u8], offset: u32, longest: usize) -> &[u8]
-    ensures { result.now ≡ take (longest + 1) (drop offset strings.now) }
-{
-    let place = offset as usize;
-    if place >= strings.len() {
-        return &[];
-    }
-    let from = &strings[place..];
-    if from.len() <= longest {
-        return from;
-    }
-    &from[..longest + 1]
-}
-
-/// The place of the first zero byte.
-fn zero_place(bytes: &[u8]) -> Option<usize>
-    ensures { result ≡ position (λ b. b == 0) bytes.now }
-{
-    bytes.iter().position(|b| *b == 0)
 }
 
 /// Adds an id to those of a name, where the name is sought.

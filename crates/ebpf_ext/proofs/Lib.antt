@@ -1,5 +1,6 @@
 pub mod ExtSections
 pub mod ExtSpelled
-pub mod LastSections
+pub mod Places
 pub mod RelocationLists
 pub mod RelocationRows
+pub mod SectionNames

@@ -2,5 +2,5 @@ pub mod ExtFormat
 pub mod ExtInfos
 pub mod ExtReading
 pub mod ExtSpelling
-pub mod LastSections
 pub mod RelocationKinds
+pub mod SectionNames

@@ -5,7 +5,8 @@ ghost use Rattle.std.specs.Prelude.{◌≡◌, IfOk};
 use crate::ext::BtfExt;
 use crate::ext_infos::{FuncInfo, FuncSecInfo, LineInfo, LineSecInfo};
 use crate::relocation::Relocation;
-use ebpf_base::{ByName, Items};
+use crate::sections_by_name::SectionsByName;
+use ebpf_base::Items;
 use std::alloc::AllocError;
 
 impl Clone for FuncSecInfo {
@@ -32,13 +33,24 @@ impl Clone for LineSecInfo {
     }
 }
 
-/// A copy of what is kept by names.
-#[tactic(auto, using(ebpf_base::proofs::Copies::exact_copy))]
-fn copy_names<V: Clone>(values: &ByName<V>) -> Result<ByName<V>, AllocError>
-    requires { (x y : V) → V.is_clone x y → y ≡ x }
-    ensures { IfOk result (λ copy. copy ≡ values.now) }
+/// A copy of sections.
+#[tactic(auto, using(ebpf_btf::proofs::Copies::same_list))]
+fn copy_sections<S: Clone>(sections: &Items<(u32, S)>) -> Result<Items<(u32, S)>, AllocError>
+    requires { (x y : S) → S.is_clone x y → y ≡ x }
+    ensures { IfOk result (λ copy. copy ≡ sections.now) }
 {
-    values.clone()
+    sections.clone()
+}
+
+/// A copy of sections by their names.
+fn copy_by_name<S: Clone>(by_name: &SectionsByName<S>) -> Result<SectionsByName<S>, AllocError>
+    requires { (x y : S) → S.is_clone x y → y ≡ x }
+    ensures { IfOk result (λ copy. copy ≡ by_name.now) }
+{
+    Ok(SectionsByName {
+        strings: by_name.strings.copied()?,
+        sections: copy_sections(&by_name.sections)?,
+    })
 }
 
 impl Clone for FuncInfo {
@@ -46,7 +58,7 @@ impl Clone for FuncInfo {
 
     fn clone(&self) -> Result<FuncInfo, AllocError> {
         Ok(FuncInfo {
-            sections: copy_names(&self.sections)?,
+            sections: copy_by_name(&self.sections)?,
             alloc: self.alloc,
         })
     }
@@ -57,7 +69,7 @@ impl Clone for LineInfo {
 
     fn clone(&self) -> Result<LineInfo, AllocError> {
         Ok(LineInfo {
-            sections: copy_names(&self.sections)?,
+            sections: copy_by_name(&self.sections)?,
             alloc: self.alloc,
         })
     }

@@ -2,13 +2,12 @@
 
 ghost use Rattle.std.specs.Prelude.{◌≡◌, IfOk};
 ghost use Rattle.std.specs.FinMap as map;
-ghost use Rattle.std.specs.Map.{keys_of};
 ghost use Rattle.std.specs.Option.{option_copied};
-ghost use Rattle.ebpf_base.specs.Copies.{maps_eq, maps_eq_laws};
-ghost use Rattle.ebpf_base.specs.Keys.{lent_bytes, text_total};
 ghost use Rattle.ebpf_ext.specs.ExtInfos.{func_info_at, line_info_at};
 
-use ebpf_base::{ByName, Items};
+use crate::found_sections::FoundSections;
+use crate::sections_by_name::SectionsByName;
+use ebpf_base::Items;
 use std::alloc::{AllocError, Global};
 use std::marker::Model;
 
@@ -63,7 +62,7 @@ pub struct LineSecInfo {
 /// What is said of functions, by the names of their sections. Contracts see a finite map.
 #[derive(Debug, Drop)]
 pub struct FuncInfo {
-    pub(crate) sections: ByName<FuncSecInfo>,
+    pub(crate) sections: SectionsByName<FuncSecInfo>,
     /// The memory that empty lists name.
     pub(crate) alloc: Global,
 }
@@ -71,7 +70,7 @@ pub struct FuncInfo {
 /// What is said of lines, by the names of their sections. Contracts see a finite map.
 #[derive(Debug, Drop)]
 pub struct LineInfo {
-    pub(crate) sections: ByName<LineSecInfo>,
+    pub(crate) sections: SectionsByName<LineSecInfo>,
     /// The memory that empty lists name.
     pub(crate) alloc: Global,
 }
@@ -125,11 +124,16 @@ impl FuncInfo {
         self.sections.get(name)
     }
 
-    /// The names of the sections of whose functions something is said, in the order of their bytes.
-    pub fn names(&self, alloc: Global) -> Result<Vec<&str>, AllocError>
-        ensures { IfOk result (λ names. lent_bytes names.items ≡ keys_of (map.entries self.now)) }
+    /// What is said of the functions of all sections, where the sections of these names are found in one pass, in which of
+    /// each section's name no more is looked at than the longest of them has. `Err` where memory is refused.
+    pub fn found(
+        &self,
+        alloc: Global,
+        names: &[&str],
+    ) -> Result<FoundSections<'_, FuncSecInfo>, AllocError>
+        ensures { IfOk result (λ found. found ≡ self.now) }
     {
-        self.sections.names(alloc)
+        self.sections.found(alloc, names)
     }
 }
 
@@ -156,34 +160,15 @@ impl LineInfo {
         self.sections.get(name)
     }
 
-    /// The names of the sections of whose lines something is said, in the order of their bytes.
-    pub fn names(&self, alloc: Global) -> Result<Vec<&str>, AllocError>
-        ensures { IfOk result (λ names. lent_bytes names.items ≡ keys_of (map.entries self.now)) }
+    /// What is said of the lines of all sections, where the sections of these names are found in one pass, in which of
+    /// each section's name no more is looked at than the longest of them has. `Err` where memory is refused.
+    pub fn found(
+        &self,
+        alloc: Global,
+        names: &[&str],
+    ) -> Result<FoundSections<'_, LineSecInfo>, AllocError>
+        ensures { IfOk result (λ found. found ≡ self.now) }
     {
-        self.sections.names(alloc)
-    }
-}
-
-impl PartialEq for FuncInfo {
-    ghost use Rattle.ebpf_ext.specs.contracts.ext_infos.FuncSecInfoPartialEq.TheImpl.Laws.{laws-law};
-
-    ghost eq = { maps_eq ⟦<FuncSecInfo as PartialEq>⟧.eq };
-
-    ghost laws = { maps_eq_laws text_total laws-law };
-
-    fn eq(&self, other: &Self) -> bool {
-        self.sections == other.sections
-    }
-}
-
-impl PartialEq for LineInfo {
-    ghost use Rattle.ebpf_ext.specs.contracts.ext_infos.LineSecInfoPartialEq.TheImpl.Laws.{laws-law};
-
-    ghost eq = { maps_eq ⟦<LineSecInfo as PartialEq>⟧.eq };
-
-    ghost laws = { maps_eq_laws text_total laws-law };
-
-    fn eq(&self, other: &Self) -> bool {
-        self.sections == other.sections
+        self.sections.found(alloc, names)
     }
 }

@@ -7,9 +7,12 @@ mod ext_infos;
 mod ext_part;
 mod ext_records;
 mod ext_sections;
+mod found_sections;
 pub mod laws;
 mod relocation;
+mod sections_by_name;
 
 pub use ext::BtfExt;
 pub use ext_infos::{FuncInfo, FuncSecInfo, LineInfo, LineSecInfo, bpf_func_info, bpf_line_info};
+pub use found_sections::FoundSections;
 pub use relocation::{Relocation, RelocationKind};

@@ -51,20 +51,32 @@ fn lines_of(rt: &impl Print, ext: &BtfExt, call: Call<'_>) -> io::Result<()> {
     println!(rt; "answer: {answer:?}")
 }
 
-/// The names of the sections of whose functions something is said.
-fn func_names(rt: &impl Print, alloc: Global, ext: &BtfExt) -> io::Result<()> {
+/// What is said of functions, where the section that the word names is found before.
+fn found_funcs(rt: &impl Print, alloc: Global, ext: &BtfExt, call: Call<'_>) -> io::Result<()> {
     begin(rt, true)?;
-    let answer = ext.func_info.names(alloc);
+    let answer = ext.func_info.found(alloc, &[call.word]);
     end(rt, true)?;
-    println!(rt; "answer: {answer:?}")
+    match answer {
+        Ok(found) => {
+            let said = found.get(call.word);
+            println!(rt; "answer: Ok({said:?})")
+        }
+        Err(error) => println!(rt; "answer: Err({error:?})"),
+    }
 }
 
-/// The names of the sections of whose lines something is said.
-fn line_names(rt: &impl Print, alloc: Global, ext: &BtfExt) -> io::Result<()> {
+/// What is said of lines, where the section that the word names is found before.
+fn found_lines(rt: &impl Print, alloc: Global, ext: &BtfExt, call: Call<'_>) -> io::Result<()> {
     begin(rt, true)?;
-    let answer = ext.line_info.names(alloc);
+    let answer = ext.line_info.found(alloc, &[call.word]);
     end(rt, true)?;
-    println!(rt; "answer: {answer:?}")
+    match answer {
+        Ok(found) => {
+            let said = found.get(call.word);
+            println!(rt; "answer: Ok({said:?})")
+        }
+        Err(error) => println!(rt; "answer: Err({error:?})"),
+    }
 }
 
 /// A copy of all that is said of instructions.
@@ -80,8 +92,8 @@ fn on_ext(rt: &impl Print, alloc: Global, ext: &BtfExt, call: Call<'_>) -> io::R
     match call.name {
         "kept_funcs" => funcs_of(rt, ext, call),
         "kept_lines" => lines_of(rt, ext, call),
-        "kept_func_names" => func_names(rt, alloc, ext),
-        "kept_line_names" => line_names(rt, alloc, ext),
+        "kept_found_funcs" => found_funcs(rt, alloc, ext, call),
+        "kept_found_lines" => found_lines(rt, alloc, ext, call),
         "kept_ext" => copied_ext(rt, ext),
         _ => println!(rt; "no such call"),
     }

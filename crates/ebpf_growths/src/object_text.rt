@@ -11,40 +11,23 @@ fn put_types(text: &mut String, types: &Option<Btf>) -> Result<(), AllocError> {
     writeln!(text, "types {types:?}")
 }
 
-/// What is said of functions, by the names of sections.
-fn put_funcs(alloc: Global, text: &mut String, ext: &BtfExt) -> Result<(), AllocError> {
-    for name in ext.func_info.names(alloc)? {
-        let said = ext.func_info.section(name);
-        writeln!(text, "functions of {name}: {said:?}")?;
-    }
-    Ok(())
-}
-
-/// What is said of lines, by the names of sections.
-fn put_lines(alloc: Global, text: &mut String, ext: &BtfExt) -> Result<(), AllocError> {
-    for name in ext.line_info.names(alloc)? {
-        let said = ext.line_info.section(name);
-        writeln!(text, "lines of {name}: {said:?}")?;
-    }
-    Ok(())
-}
-
 /// What is said of instructions.
-pub fn put_ext(alloc: Global, text: &mut String, ext: &BtfExt) -> Result<(), AllocError> {
+fn put_ext(text: &mut String, ext: &BtfExt) -> Result<(), AllocError> {
     let relocations = ext.relocations();
-    let (funcs, lines) = (ext.func_info_rec_size(), ext.line_info_rec_size());
+    let (func_size, line_size) = (ext.func_info_rec_size(), ext.line_info_rec_size());
+    let (funcs, lines) = (&ext.func_info, &ext.line_info);
     writeln!(
         text,
-        "records of {funcs} and {lines} bytes, {relocations:?}"
+        "records of {func_size} and {line_size} bytes, {relocations:?}"
     )?;
-    put_funcs(alloc, text, ext)?;
-    put_lines(alloc, text, ext)
+    writeln!(text, "functions {funcs:?}")?;
+    writeln!(text, "lines {lines:?}")
 }
 
 /// What may be said of instructions.
-fn put_option(alloc: Global, text: &mut String, ext: &Option<BtfExt>) -> Result<(), AllocError> {
+fn put_option(text: &mut String, ext: &Option<BtfExt>) -> Result<(), AllocError> {
     match ext {
-        Some(ext) => put_ext(alloc, text, ext),
+        Some(ext) => put_ext(text, ext),
         None => writeln!(text, "no records"),
     }
 }
@@ -97,7 +80,7 @@ fn text_of(alloc: Global, object: &Object) -> Result<String, AllocError> {
     let (license, version) = (&object.license, object.kernel_version);
     writeln!(text, "{order:?} {license:?} {version:?}")?;
     put_types(&mut text, &object.btf)?;
-    put_option(alloc, &mut text, &object.btf_ext)?;
+    put_option(&mut text, &object.btf_ext)?;
     put_names(alloc, &mut text, object)?;
     put_sections(alloc, &mut text, object)?;
     put_tables(alloc, &mut text, object)?;

@@ -4,7 +4,7 @@ use crate::call::Call;
 use crate::marks::{begin, end};
 use crate::still_types::still_types;
 use ebpf_base::Items;
-use ebpf_btf::{BoxedFallback, Btf, BtfError, BtfKind, BtfType, Enum64Fallback};
+use ebpf_btf::{Btf, BtfError, BtfKind, BtfType, Enum64Fallback, UnionFallback};
 use ebpf_candidates::{TypeIndex, fields_are_compatible};
 use std::alloc::Global;
 use std::io;
@@ -117,7 +117,7 @@ fn boxed(rt: &impl Print, alloc: Global) -> io::Result<()> {
         variants: Items::new(alloc),
     };
     begin(rt, true)?;
-    let answer = BoxedFallback::new(alloc, contents);
+    let answer = UnionFallback::new(alloc, Some(contents));
     end(rt, true)?;
     println!(rt; "answer: {answer:?}")
 }

@@ -4,7 +4,7 @@ pub mod FromFile
 pub mod Grouped
 pub mod Kept
 pub mod Offsets
-pub mod Rebuilt
+pub mod SaidTables
 pub mod TextLemmas
 pub mod Places
 pub mod Tiles

@@ -1,6 +1,6 @@
 -- What `.BTF.ext` says of a function: the records of its section that stand at its slots.
-use Rattle.std.specs.Prelude.{ℕ, ◌+◌, ◌-◌, ◌/◌, ◌&&◌, Bool, List, map, filter, Option, Some, None, ◌==◌, nat_le, nat_lt, slice_index_or}
-use Rattle.std.specs.FinMap.{FinMap, empty}
+use Rattle.std.specs.Prelude.{◌≡◌, ℕ, ◌+◌, ◌-◌, ◌/◌, ◌&&◌, Bool, List, map, filter, Option, Some, None, ◌==◌, nat_le, nat_lt, slice_index_or}
+use Rattle.std.specs.FinMap.{FinMap, empty, get}
 use Rattle.ebpf_base.specs.Keys.{text_cmp}
 use Rattle.ebpf_ext.specs.ExtInfos.{func_info_at, line_info_at}
 use Rattle.ebpf_ext.specs.ExtReading.{ExtInfo}
@@ -16,28 +16,38 @@ pub record Said : Type 0 where
   pub func_size : ℕ
   pub line_size : ℕ
 
--- what is said of all sections, by their names
-pub record Gathered : Type 0 where
-  pub funcs : FinMap text_cmp FuncSecInfo
-  pub lines : FinMap text_cmp LineSecInfo
-  pub func_size : ℕ
-  pub line_size : ℕ
+-- what is said of functions and of lines, by the names of sections; a file without `.BTF.ext` says nothing
+abbrev pub funcs_of : Option ExtInfo → FinMap text_cmp FuncSecInfo
+funcs_of None = empty
+funcs_of (Some x) = x.func_info
 
--- a file without `.BTF.ext` says nothing
-abbrev pub gathered_of : Option ExtInfo → Gathered
-gathered_of None = record { funcs = empty; lines = empty; func_size = 0; line_size = 0 }
-gathered_of (Some x) = record { funcs = x.func_info; lines = x.line_info; func_size = x.func_record_size; line_size = x.line_record_size }
+abbrev pub lines_of : Option ExtInfo → FinMap text_cmp LineSecInfo
+lines_of None = empty
+lines_of (Some x) = x.line_info
 
-abbrev pub said_at : Gathered → List ℕ → Said
-said_at g name = record {
-  funcs = func_info_at g.funcs name;
-  lines = line_info_at g.lines name;
-  func_size = g.func_size;
-  line_size = g.line_size;
-}
+-- the sizes of the records
+abbrev pub func_size_of : Option ExtInfo → ℕ
+func_size_of None = 0
+func_size_of (Some x) = x.func_record_size
+
+abbrev pub line_size_of : Option ExtInfo → ℕ
+line_size_of None = 0
+line_size_of (Some x) = x.line_record_size
 
 abbrev pub said_of : Option ExtInfo → List ℕ → Said
-said_of ext name = said_at (gathered_of ext) name
+said_of ext name = record {
+  funcs = func_info_at (funcs_of ext) name;
+  lines = line_info_at (lines_of ext) name;
+  func_size = func_size_of ext;
+  line_size = line_size_of ext;
+}
+
+-- a table has at its names what is said of the sections of these names
+pub record AreFuncsOf (said : FinMap text_cmp FuncSecInfo) (table : FinMap text_cmp FuncSecInfo) : Type 0 where
+  pub are : (name : List ℕ) (funcs : FuncSecInfo) → get table name ≡ Some funcs → funcs ≡ func_info_at said name
+
+pub record AreLinesOf (said : FinMap text_cmp LineSecInfo) (table : FinMap text_cmp LineSecInfo) : Type 0 where
+  pub are : (name : List ℕ) (lines : LineSecInfo) → get table name ≡ Some lines → lines ≡ line_info_at said name
 
 -- the number of the slot that a place in the section falls into; a slot has 8 bytes
 abbrev pub slot_of : ℕ → ℕ

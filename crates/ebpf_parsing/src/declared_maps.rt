@@ -6,36 +6,65 @@ ghost use Rattle.ebpf_base.specs.Keyed.{put_all};
 ghost use Rattle.ebpf_parsing.specs.DeclaredMaps.{declared_maps, declared_maps_fault};
 ghost use Rattle.ebpf_parts.specs.Memory.{is_memory};
 
+use crate::groups::Groups;
 use crate::last_data::name_or_empty;
+use crate::section_names::names_of_kinds;
 use crate::symbol_names::numbers_by_name;
 use crate::symbols::NamedSymbol;
-use ebpf_base::{ByName, Items, Text};
+use ebpf_base::{ByName, Text};
 use ebpf_btf::Btf;
 use ebpf_declarations::{DeclaredMaps, parse_error};
-use ebpf_elf::ElfFile;
+use ebpf_elf::{ElfFile, ElfSection};
 use ebpf_parts::maps::Map;
 use ebpf_parts::{EbpfSectionKind, ParseError, Section};
 use std::alloc::Global;
 
-/// The names of the sections of maps that types declare.
-fn map_section_names<'a>(alloc: Global, file: &ElfFile<'a>) -> Result<Vec<&'a str>, ParseError>
-    ensures memory { IfErr result (λ e. is_memory e ≡ true) }
-{
-    let mut names = Vec::new(alloc);
-    for section in file.sections() {
-        let name = name_or_empty(&section);
-        if EbpfSectionKind::from_elf(name, &section) == EbpfSectionKind::BtfMaps {
-            names.push(name)?;
-        }
-    }
-    Ok(names)
+/// Whether a section has maps that types declare.
+fn has_declared_maps(section: &ElfSection<'_>) -> bool {
+    EbpfSectionKind::from_elf(name_or_empty(section), section) == EbpfSectionKind::BtfMaps
 }
 
-/// The maps that types declare, where the DATASECs of all sections of maps are found in one pass.
+/// Adds the numbers of symbols by name.
+fn add_numbers(
+    alloc: Global,
+    numbers: &mut ByName<usize>,
+    symbols: &[NamedSymbol<'_>],
+) -> Result<(), ParseError>
+    ensures memory { IfErr result (λ e. is_memory e ≡ true) }
+{
+    for symbol in symbols {
+        if numbers.contains_key(symbol.name) {
+            continue;
+        }
+        numbers.insert(String::from_str(alloc, symbol.name)?, symbol.index)?;
+    }
+    Ok(())
+}
+
+/// The symbols of all sections of maps that types declare.
+fn map_symbols(
+    alloc: Global,
+    file: &ElfFile<'_>,
+    symbols: &Groups<NamedSymbol<'_>>,
+) -> Result<ByName<usize>, ParseError>
+    ensures memory { IfErr result (λ e. is_memory e ≡ true) }
+{
+    let mut numbers = ByName::new(alloc);
+    for section in file.sections() {
+        if has_declared_maps(&section) {
+            add_numbers(alloc, &mut numbers, symbols.of(section.index().0))?;
+        }
+    }
+    Ok(numbers)
+}
+
+/// The maps that types declare, where the DATASECs of all sections of maps are found in one pass, and what they
+/// declare is read as far as these sections have symbols of its names.
 pub fn find_declared_maps<'b>(
     alloc: Global,
     types: &'b Option<Btf>,
     file: &ElfFile<'_>,
+    symbols: &Groups<NamedSymbol<'_>>,
 ) -> Result<Option<DeclaredMaps<'b>>, ParseError>
     ensures types { IfOk result (λ declared. declared ≡ types.now) }
     ensures memory { IfErr result (λ e. is_memory e ≡ true) }
@@ -43,22 +72,12 @@ pub fn find_declared_maps<'b>(
     let Some(types) = types else {
         return Ok(None);
     };
-    let names = map_section_names(alloc, file)?;
-    match DeclaredMaps::gather(alloc, types, names.as_slice()) {
+    let names = names_of_kinds(alloc, file, &[EbpfSectionKind::BtfMaps])?;
+    let numbers = map_symbols(alloc, file, symbols)?;
+    match DeclaredMaps::gather(alloc, types, names.as_slice(), &numbers) {
         Ok(declared) => Ok(Some(declared)),
         Err(error) => Err(parse_error(error)),
     }
-}
-
-/// Puts maps by name; the later of equal names stands.
-fn put_maps(maps: &mut ByName<Map>, found: Items<(Text, Map)>) -> Result<(), ParseError>
-    ensures put { OnOk result (maps.new ≡ put_all maps.old found) }
-    ensures memory { IfErr result (λ e. is_memory e ≡ true) }
-{
-    for (name, map) in found.into_vec() {
-        maps.insert(name.into_string(), map)?;
-    }
-    Ok(())
 }
 
 /// Puts the maps that types declare in a section by name.
@@ -82,6 +101,5 @@ pub fn put_declared_maps(
         });
     }
     let numbers = numbers_by_name(alloc, symbols)?;
-    let found = types.of(alloc, section, &numbers)?;
-    put_maps(maps, found)
+    types.put(alloc, maps, section, &numbers)
 }

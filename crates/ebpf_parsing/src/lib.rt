@@ -18,6 +18,7 @@ mod program_functions;
 mod records;
 mod records_by_name;
 mod relocations;
+mod section_names;
 mod sections;
 mod shared;
 mod slot_places;

@@ -14,7 +14,7 @@ ghost use Rattle.ebpf_parsing.specs.LegacyMaps.{legacy_maps, legacy_maps_fault};
 ghost use Rattle.ebpf_parsing.specs.Contents.{object_sections, read_fault, sections_fault};
 ghost use Rattle.ebpf_parsing.specs.OfSection.{fault_in, program_section_fault, relocations_in};
 ghost use Rattle.ebpf_parsing.specs.Parts.{added, parts_of, parts_from};
-ghost use Rattle.ebpf_parsing.specs.Programs.{programs_of, placed, program_functions};
+ghost use Rattle.ebpf_parsing.specs.Programs.{programs_of, placed, program_functions, programs_fault};
 ghost use Rattle.ebpf_parsing.specs.Records.{said_of};
 ghost use Rattle.ebpf_parsing.specs.EntryPlaces.{AreOfOneFile};
 ghost use Rattle.ebpf_parsing.specs.Relocations.{kept_at, patched};
@@ -34,6 +34,7 @@ use crate::program::Program;
 use crate::program_functions::{put_functions, put_programs};
 use crate::records_by_name::{Context, RecordsByName};
 use crate::relocations::{RelocationTable, by_offset};
+use crate::section_names::names_of_kinds;
 use crate::sections::read_section;
 use crate::shared::Shared;
 use crate::symbols::NamedSymbol;
@@ -109,6 +110,24 @@ impl Parts {
         }
     }
 
+    /// Adds the functions of a Program section.
+    fn add_functions(
+        &mut self,
+        alloc: Global,
+        context: &Context<'_>,
+        section: &Section<'_>,
+        symbols: &[NamedSymbol<'_>],
+    ) -> Result<(), ParseError>
+        ensures put { OnOk result (self.new ≡ record self.old { functions = put_all self.old.functions (map placed (program_functions (said_of context.now.btf_ext section.now.name) section.now symbols.now)) }) }
+        ensures fault { Refuses is_memory result (programs_fault section.now symbols.now) }
+    {
+        if let Some(records) = context.records.of(section.name) {
+            return put_functions(alloc, &mut self.functions, &records, section, symbols);
+        }
+        let read = context.records.read(alloc, section.name)?;
+        put_functions(alloc, &mut self.functions, &read.lent(), section, symbols)
+    }
+
     /// Adds the programs of a Program section.
     #[tactic(auto, unfolding(crate::specs::OfSection::program_section_fault))]
     fn add_programs(
@@ -127,8 +146,7 @@ impl Parts {
                 section_name: Text::from_str(alloc, section.name)?,
             });
         }
-        let records = context.records.of(section.name);
-        put_functions(alloc, &mut self.functions, &records, section, symbols)?;
+        self.add_functions(alloc, context, section, symbols)?;
         put_programs(
             alloc,
             &mut self.programs,
@@ -150,8 +168,11 @@ impl Parts {
         ensures put { OnOk result (self.new ≡ record self.old { functions = put_all self.old.functions (map placed (text_functions (said_of context.now.btf_ext section.now.name) section.now symbols.now)) }) }
         ensures fault { Refuses is_memory result (text_fault section.now symbols.now) }
     {
-        let records = context.records.of(section.name);
-        put_text_functions(alloc, &mut self.functions, &records, section, symbols)
+        if let Some(records) = context.records.of(section.name) {
+            return put_text_functions(alloc, &mut self.functions, &records, section, symbols);
+        }
+        let read = context.records.read(alloc, section.name)?;
+        put_text_functions(alloc, &mut self.functions, &read.lent(), section, symbols)
     }
 
     /// Adds a section by its kind, but for its relocations and its name.
@@ -221,8 +242,13 @@ fn read_by_last(
     ensures parts { IfOk result (λ p. p ≡ parts_of shared.now section_infos file.now) }
     ensures fault { Refuses is_memory result (sections_fault shared.now.btf file.now) }
 {
-    let records = RecordsByName::gather(alloc, &shared.btf_ext)?;
-    let declared = find_declared_maps(alloc, &shared.btf, file)?;
+    let code = names_of_kinds(
+        alloc,
+        file,
+        &[EbpfSectionKind::Program, EbpfSectionKind::Text],
+    )?;
+    let records = RecordsByName::gather(alloc, &shared.btf_ext, code.as_slice())?;
+    let declared = find_declared_maps(alloc, &shared.btf, file, symbols)?;
     let context = Context {
         shared,
         records,

@@ -1,7 +1,8 @@
 //! What `.BTF.ext` says of the functions of a section.
 
-ghost use Rattle.std.specs.Prelude.{◌≡◌, ◌+◌, ◌<◌, ◌^◌, ℕ, IfOk, IfErr, true, map, filter, length};
-ghost use Rattle.ebpf_ext.specs.ExtInfos.{func_info_at, line_info_at, no_func_info, no_line_info};
+ghost use Rattle.std.specs.Prelude.{◌≡◌, ◌+◌, ◌<◌, ◌^◌, ℕ, IfOk, IfErr, true, map, filter, length, unwrap_or};
+ghost use Rattle.std.specs.Option.{option_copied};
+ghost use Rattle.ebpf_ext.specs.ExtInfos.{no_func_info, no_line_info};
 ghost use Rattle.std.specs.List.{All};
 ghost use Rattle.ebpf_parsing.specs.Records.{Said, is_func_at, is_line_in, func_at, func_slot, func_from, line_from, line_at, line_slot, funcs_at, lines_in};
 ghost use Rattle.ebpf_parsing.specs.SlotPlaces.{is_at, places_with};
@@ -9,7 +10,7 @@ ghost use Rattle.ebpf_parts.specs.Memory.{is_memory};
 
 use crate::slot_places::{Place, SlotPlaces, func_places, line_places};
 use ebpf_base::Items;
-use ebpf_ext::{FuncInfo, FuncSecInfo, LineInfo, LineSecInfo, bpf_func_info, bpf_line_info};
+use ebpf_ext::{FuncSecInfo, LineSecInfo, bpf_func_info, bpf_line_info};
 use ebpf_parts::ParseError;
 use std::alloc::Global;
 use std::marker::Model;
@@ -80,16 +81,12 @@ impl<'e> FuncRecords<'e> {
         FuncRecords::new(alloc, 0, 0, &[])
     }
 
-    /// Those of the section with a name.
-    pub fn named(
-        alloc: Global,
-        info: &'e FuncInfo,
-        name: &str,
-    ) -> Result<FuncRecords<'e>, ParseError>
-        ensures info { IfOk result (λ r. r ≡ func_info_at info.now name.now) }
+    /// Those of a section, none where nothing is said of it.
+    pub fn of(alloc: Global, said: Option<&'e FuncSecInfo>) -> Result<FuncRecords<'e>, ParseError>
+        ensures info { IfOk result (λ r. r ≡ unwrap_or (option_copied said.entry) no_func_info) }
         ensures memory { IfErr result (λ e. is_memory e ≡ true) }
     {
-        match info.section(name) {
+        match said {
             Some(said) => FuncRecords::new(
                 alloc,
                 said.sec_name_offset,
@@ -214,16 +211,12 @@ impl<'e> LineRecords<'e> {
         LineRecords::new(alloc, 0, 0, &[])
     }
 
-    /// Those of the section with a name.
-    pub fn named(
-        alloc: Global,
-        info: &'e LineInfo,
-        name: &str,
-    ) -> Result<LineRecords<'e>, ParseError>
-        ensures info { IfOk result (λ r. r ≡ line_info_at info.now name.now) }
+    /// Those of a section, none where nothing is said of it.
+    pub fn of(alloc: Global, said: Option<&'e LineSecInfo>) -> Result<LineRecords<'e>, ParseError>
+        ensures info { IfOk result (λ r. r ≡ unwrap_or (option_copied said.entry) no_line_info) }
         ensures memory { IfErr result (λ e. is_memory e ≡ true) }
     {
-        match info.section(name) {
+        match said {
             Some(said) => LineRecords::new(
                 alloc,
                 said.sec_name_offset,

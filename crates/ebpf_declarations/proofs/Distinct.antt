@@ -1,0 +1,324 @@
+-- Maps of which each name is put once, as its last map.
+use Rattle.std.proofs.Math.Seq.{take-suc}
+use Rattle.std.proofs.lemmas.List.{take_all}
+use Rattle.std.proofs.Common.{◌≡◌, ℕ, ◌+◌, ◌<◌, ◌≤◌, suc, Bool, true, false, cond, List, [], ◌∷◌, ◌++◌, length, take, Option, Some, None, Ok, Err, refl, sym, subst, ap, ◌∙◌, append-nil, arith}
+use Rattle.std.specs.Prelude.{slice_index_or, if◌then◌else◌}
+use Rattle.std.specs.FinMap.{FinMap, get, insert, empty, get-insert, get-empty, same_map}
+use Rattle.std.specs.List.{flat_map}
+use Rattle.std.specs.Ordering.{eq_by_cmp}
+use Rattle.ebpf_base.proofs.Keyed.{later_text_stands, put_all-append}
+use Rattle.ebpf_base.proofs.TextMaps.{text_exact}
+use Rattle.ebpf_base.specs.Faults.{first_some, or_else, fault_of}
+use Rattle.ebpf_base.specs.Keyed.{put_all, last_at}
+use Rattle.ebpf_base.specs.Keys.{text_cmp, text_total}
+use Rattle.ebpf_btf.specs.Next.{if_some}
+use Rattle.ebpf_btf.specs.TypeInfo.{TypeInfo}
+use Rattle.ebpf_btf.specs.declared.members.DataSecEntry.{DataSecEntry}
+use Rattle.ebpf_declarations.specs.Attempts.{given}
+use Rattle.ebpf_declarations.specs.DistinctMaps.{is_among, AreNamed, with_map, missing, last_map, distinct_maps, distinct_fault, Adds, AreKept}
+use Rattle.ebpf_declarations.specs.Maps.{declared, map_at, placed, map_of, entries_maps, entries_fault, btf_maps, btf_maps_fault}
+use Rattle.ebpf_declarations.specs.NamedSections.{entries_at, ids_maps, ids_fault, unreadable_fault, AreFound}
+use Rattle.ebpf_declarations.specs.declared.definitions.MapDefinitions.{MapDefinitions}
+use Rattle.ebpf_declarations.specs.declared.distinct_maps.DistinctMaps.{DistinctMaps}
+use Rattle.ebpf_declarations.specs.declared.named_sections.NamedSections.{NamedSections}
+use Rattle.ebpf_declarations.proofs.NamedSections.{equal, flat_map-append, or_none, or_other, first_some-append}
+use Rattle.ebpf_parts.specs.declared.error.ParseError.{ParseError}
+use Rattle.ebpf_parts.specs.declared.error.ParseError.TheVariants as errors
+use Rattle.ebpf_parts.specs.declared.maps.either.Map.{Map}
+
+-- ---- choices
+
+same_choice : {X : Type 0} (b : Bool) (x : X) → x ≡ (if b then x else x)
+same_choice true x = refl
+same_choice false x = refl
+
+or_twice : {X : Type 0} (v a : Option X) → or_else v (or_else v a) ≡ or_else v a
+or_twice None a = refl
+or_twice (Some x) a = refl
+
+-- what is put behind and before
+both_choices : {X : Type 0} (b later : Bool) (v a : Option X)
+    → (if later then or_else v (if b then or_else v a else a) else (if b then or_else v a else a)) ≡ (if (if b then true else later) then or_else v a else a)
+both_choices true true v a = or_twice v a
+both_choices true false v a = refl
+both_choices false true v a = refl
+both_choices false false v a = refl
+
+last_at-append : {X : Type 0} (q : List ℕ) (a : Option X) (es fs : List (List ℕ × X)) → last_at text_cmp q a (es ++ fs) ≡ last_at text_cmp q (last_at text_cmp q a es) fs
+last_at-append q a [] fs = refl
+last_at-append q a (e ∷ es) fs = last_at-append q (if eq_by_cmp text_cmp q e.0 then Some e.1 else a) es fs
+
+-- ---- one name
+
+-- the map of a name, by its definitions and its symbol
+abbrev map_by : ℕ → Option MapDefinitions → Option ℕ → Option Map
+map_by section o y = if_some y (λ y. if_some o (λ d. Some (map_at d section y)) None) None
+
+abbrev placed_by : ℕ → List ℕ → Option MapDefinitions → Option ℕ → List (List ℕ × Map)
+placed_by section name o y = if_some o (λ d. given (if_some y (λ y. Ok (name, map_at d section y)) (Err (errors.SymbolNotFound name)))) []
+
+one_at : (section : ℕ) (q name : List ℕ) (a : Option Map) (o : Option MapDefinitions) (y : Option ℕ)
+    → last_at text_cmp q a (placed_by section name o y) ≡ (if eq_by_cmp text_cmp q name then or_else (map_by section o y) a else a)
+one_at section q name a (Some d) (Some y) = refl
+one_at section q name a (Some d) None = same_choice (eq_by_cmp text_cmp q name) a
+one_at section q name a None (Some y) = same_choice (eq_by_cmp text_cmp q name) a
+one_at section q name a None None = same_choice (eq_by_cmp text_cmp q name) a
+
+over_before : (section : ℕ) (d : MapDefinitions) (o : Option MapDefinitions) (y : Option ℕ) (a : Option Map)
+    → or_else (map_by section (Some d) y) a ≡ or_else (map_by section (Some d) y) (or_else (map_by section o y) a)
+over_before section d o None a = refl
+over_before section d o (Some y) a = refl
+
+not_defined : (section : ℕ) (y : Option ℕ) → map_by section None y ≡ None
+not_defined section None = refl
+not_defined section (Some y) = refl
+
+missing_fault : (section : ℕ) (name : List ℕ) (d : MapDefinitions) (y : Option ℕ)
+    → fault_of {X = List ℕ × Map} (if_some y (λ y. Ok (name, map_at d section y)) (Err (errors.SymbolNotFound name))) ≡ if_some y (λ y. None) (Some (errors.SymbolNotFound name))
+missing_fault section name d None = refl
+missing_fault section name d (Some y) = refl
+
+-- ---- the names
+
+at_name : (q name : List ℕ) → eq_by_cmp text_cmp q name ≡ true → q ≡ name
+at_name q name is = text_exact q name (equal _ is)
+
+among_more : (q name : List ℕ) (names : List (List ℕ)) → is_among q (names ++ (name ∷ [])) ≡ (if is_among q names then true else eq_by_cmp text_cmp q name)
+among_more q name [] = by_test (eq_by_cmp text_cmp q name)
+  where
+    by_test : (b : Bool) → (if b then true else false) ≡ b
+    by_test true = refl
+    by_test false = refl
+among_more q name (n ∷ names) = ap (λ b. if eq_by_cmp text_cmp q n then true else b) (among_more q name names) ∙ by_test (eq_by_cmp text_cmp q n)
+  where
+    by_test : (b : Bool) → (if b then true else (if is_among q names then true else eq_by_cmp text_cmp q name)) ≡ (if (if b then true else is_among q names) then true else eq_by_cmp text_cmp q name)
+    by_test true = refl
+    by_test false = refl
+
+-- the fault of a name that is there already
+among_fault : {E : Type 0} (f : List ℕ → Option E) (name : List ℕ) (names : List (List ℕ)) → is_among name names ≡ true → first_some f names ≡ or_else (first_some f names) (f name)
+among_fault f name [] there = absurd (cc)
+among_fault f name (n ∷ names) there = by_test (eq_by_cmp text_cmp name n) refl (among_fault f name names) there
+  where
+    by_first : (o : Option _) → f n ≡ o → f name ≡ f n → or_else o (first_some f names) ≡ or_else (or_else o (first_some f names)) (f name)
+    by_first None is same = sym (ap (or_else (first_some f names)) (same ∙ is) ∙ or_none (first_some f names))
+    by_first (Some e) is same = refl
+
+    by_test : (b : Bool) → eq_by_cmp text_cmp name n ≡ b → (is_among name names ≡ true → first_some f names ≡ or_else (first_some f names) (f name)) → (if b then true else is_among name names) ≡ true
+        → or_else (f n) (first_some f names) ≡ or_else (or_else (f n) (first_some f names)) (f name)
+    by_test true at later there = by_first (f n) refl (ap f (at_name name n at))
+    by_test false at later there = ap (or_else (f n)) (later there) ∙ sym (or_other (f n) (first_some f names) (f name))
+
+module _ (symbols : List ℕ → Option ℕ) (section : ℕ) (last : FinMap text_cmp MapDefinitions) (q : List ℕ) where
+  here : (a : Option Map) (name : List ℕ) → last_at text_cmp q a (last_map symbols section last name) ≡ (if eq_by_cmp text_cmp q name then or_else (map_by section (get last q) (symbols q)) a else a)
+  unfolding last_map
+  here a name = one_at section q name a (get last name) (symbols name) ∙ by_test (eq_by_cmp text_cmp q name) refl
+    where
+      by_test : (b : Bool) → eq_by_cmp text_cmp q name ≡ b → (if b then or_else (map_by section (get last name) (symbols name)) a else a) ≡ (if b then or_else (map_by section (get last q) (symbols q)) a else a)
+      by_test true at = ap (λ n. or_else (map_by section (get last n) (symbols n)) a) (sym (at_name q name at))
+      by_test false at = refl
+
+  -- what stands at a name once the maps of names are put
+  at_names : (a : Option Map) (names : List (List ℕ))
+      → last_at text_cmp q a (flat_map (last_map symbols section last) names) ≡ (if is_among q names then or_else (map_by section (get last q) (symbols q)) a else a)
+  at_names a [] = refl
+  at_names a (name ∷ names) =
+      last_at-append q a (last_map symbols section last name) (flat_map (last_map symbols section last) names)
+      ∙ ap (λ x. last_at text_cmp q x (flat_map (last_map symbols section last) names)) (here a name)
+      ∙ at_names (if eq_by_cmp text_cmp q name then or_else (map_by section (get last q) (symbols q)) a else a) names
+      ∙ both_choices (eq_by_cmp text_cmp q name) (is_among q names) (map_by section (get last q) (symbols q)) a
+
+at_map : (symbols : List ℕ → Option ℕ) (section : ℕ) (kept : DistinctMaps) → AreNamed kept → (m : FinMap text_cmp Map) (q : List ℕ)
+    → get (put_all m (distinct_maps symbols section kept)) q ≡ or_else (map_by section (get kept.last q) (symbols q)) (get m q)
+at_map symbols section kept named m q =
+    later_text_stands m (distinct_maps symbols section kept) q
+    ∙ at_names symbols section kept.last q (get m q) kept.names
+    ∙ by_last (get kept.last q) refl
+  where
+    by_last : (o : Option MapDefinitions) → get kept.last q ≡ o
+        → (if is_among q kept.names then or_else (map_by section o (symbols q)) (get m q) else get m q) ≡ or_else (map_by section o (symbols q)) (get m q)
+    by_last None is =
+        ap (λ v. if is_among q kept.names then or_else v (get m q) else get m q) (not_defined section (symbols q))
+        ∙ sym (same_choice (is_among q kept.names) (get m q)) ∙ ap (λ v. or_else v (get m q)) (sym (not_defined section (symbols q)))
+    by_last (Some d) is = ap (λ b. if b then or_else (map_by section (Some d) (symbols q)) (get m q) else get m q) (named.is q d is)
+
+-- ---- one more map
+
+module _ (kept : DistinctMaps) (name : List ℕ) (d : MapDefinitions) (named : AreNamed kept) where
+  abbrev names_by : Option MapDefinitions → List (List ℕ)
+  names_by o = if_some o (λ before. kept.names) (kept.names ++ (name ∷ []))
+
+  name_there : (o : Option MapDefinitions) → get kept.last name ≡ o → (q : List ℕ) → eq_by_cmp text_cmp q name ≡ true → is_among q (names_by o) ≡ true
+  name_there None is q at = among_more q name kept.names ∙ by_test (is_among q kept.names)
+    where
+      by_test : (b : Bool) → (if b then true else eq_by_cmp text_cmp q name) ≡ true
+      by_test true = refl
+      by_test false = at
+  name_there (Some e) is q at = ap (λ n. is_among n kept.names) (at_name q name at) ∙ named.is name e is
+
+  others_there : (o : Option MapDefinitions) (q : List ℕ) → is_among q kept.names ≡ true → is_among q (names_by o) ≡ true
+  others_there None q there = among_more q name kept.names ∙ ap (λ b. if b then true else eq_by_cmp text_cmp q name) there
+  others_there (Some e) q there = there
+
+  still_named : AreNamed (with_map kept name d)
+  unfolding with_map
+  still_named = record { is = λ q e at. step q e (eq_by_cmp text_cmp q name) refl (sym (get-insert text_total kept.last name d q) ∙ at) }
+    where
+      step : (q : List ℕ) (e : MapDefinitions) (b : Bool) → eq_by_cmp text_cmp q name ≡ b → cond (eq_by_cmp text_cmp q name) (Some d) (get kept.last q) ≡ Some e → is_among q (names_by (get kept.last name)) ≡ true
+      step q e true here at = name_there (get kept.last name) refl q here
+      step q e false here at = others_there (get kept.last name) q (named.is q e (sym (ap (λ b. cond b (Some d) (get kept.last q)) here) ∙ at))
+
+  fault_more : (symbols : List ℕ → Option ℕ) (o : Option MapDefinitions) → get kept.last name ≡ o → first_some (missing symbols) (names_by o) ≡ or_else (first_some (missing symbols) kept.names) (missing symbols name)
+  fault_more symbols None is = first_some-append (missing symbols) kept.names (name ∷ []) ∙ ap (or_else (first_some (missing symbols) kept.names)) (or_none (missing symbols name))
+  fault_more symbols (Some e) is = among_fault (missing symbols) name kept.names (named.is name e is)
+
+  maps_more : (symbols : List ℕ → Option ℕ) (section : ℕ) (m : FinMap text_cmp Map) (q : List ℕ)
+      → get (put_all m (distinct_maps symbols section (with_map kept name d))) q
+      ≡ get (put_all (put_all m (distinct_maps symbols section kept)) (placed_by section name (Some d) (symbols name))) q
+  unfolding with_map
+  maps_more symbols section m q =
+      at_map symbols section (with_map kept name d) still_named m q
+      ∙ ap (λ o. or_else (map_by section o (symbols q)) (get m q)) (get-insert text_total kept.last name d q)
+      ∙ by_test (eq_by_cmp text_cmp q name) refl
+      ∙ sym (later_text_stands (put_all m (distinct_maps symbols section kept)) (placed_by section name (Some d) (symbols name)) q
+      ∙ one_at section q name (get (put_all m (distinct_maps symbols section kept)) q) (Some d) (symbols name)
+      ∙ ap (λ a. if eq_by_cmp text_cmp q name then or_else (map_by section (Some d) (symbols name)) a else a) (at_map symbols section kept named m q))
+    where
+      by_test : (b : Bool) → eq_by_cmp text_cmp q name ≡ b
+          → or_else (map_by section (cond b (Some d) (get kept.last q)) (symbols q)) (get m q)
+          ≡ (if b then or_else (map_by section (Some d) (symbols name)) (or_else (map_by section (get kept.last q) (symbols q)) (get m q)) else or_else (map_by section (get kept.last q) (symbols q)) (get m q))
+      by_test true at =
+          over_before section d (get kept.last q) (symbols q) (get m q)
+          ∙ ap (λ n. or_else (map_by section (Some d) (symbols n)) (or_else (map_by section (get kept.last q) (symbols q)) (get m q))) (at_name q name at)
+      by_test false at = refl
+
+  pub one_added : Adds kept (with_map kept name d) (λ symbols section. given (placed symbols section (Ok (name, d)))) (λ symbols section. fault_of (placed symbols section (Ok (name, d))))
+  unfolding with_map
+  one_added = record {
+    named = still_named;
+    maps = λ symbols section m. same_map text_total text_exact _ _ (maps_more symbols section m);
+    fault = λ symbols section. fault_more symbols (get kept.last name) refl ∙ ap (or_else (first_some (missing symbols) kept.names)) (sym (missing_fault section name d (symbols name)));
+  }
+
+-- ---- one after the other
+
+-- what all of some items declare is added
+abbrev pub AddsAll : {A : Type 0} → DistinctMaps → DistinctMaps → (A → (List ℕ → Option ℕ) → ℕ → List (List ℕ × Map)) → (A → (List ℕ → Option ℕ) → ℕ → Option ParseError) → List A → Type 0
+AddsAll before after more wrong items = Adds before after (λ symbols section. flat_map (λ x. more x symbols section) items) (λ symbols section. first_some (λ x. wrong x symbols section) items)
+
+pub none_added : {A : Type 0} (more : A → (List ℕ → Option ℕ) → ℕ → List (List ℕ × Map)) (wrong : A → (List ℕ → Option ℕ) → ℕ → Option ParseError) (kept : DistinctMaps) → AreNamed kept → AddsAll kept kept more wrong []
+none_added more wrong kept named = record {
+  named = named;
+  maps = λ symbols section m. refl;
+  fault = λ symbols section. sym (or_none (distinct_fault symbols kept));
+}
+
+taken_more : {A : Type 0} (items : List A) (i : ℕ) (x : A) → i < length items → take (i + 1) items ≡ take i items ++ (slice_index_or items i x ∷ [])
+taken_more items i x below = let on : i + 1 ≡ suc i = omega arith in ap (λ n. take n items) on ∙ take-suc items i x below
+
+module _ {A : Type 0} (more : A → (List ℕ → Option ℕ) → ℕ → List (List ℕ × Map)) (wrong : A → (List ℕ → Option ℕ) → ℕ → Option ParseError) (a b c : DistinctMaps) where
+  item_added : (items : List A) (x : A) → AddsAll a b more wrong items → Adds b c (more x) (wrong x) → AddsAll a c more wrong (items ++ (x ∷ []))
+  item_added items x before one = record {
+    named = one.named;
+    maps = λ symbols section m.
+        one.maps symbols section m
+        ∙ ap (λ n. put_all n (more x symbols section)) (before.maps symbols section m)
+        ∙ sym (put_all-append (put_all m (distinct_maps symbols section a)) (flat_map (λ x. more x symbols section) items) (more x symbols section))
+        ∙ ap (put_all (put_all m (distinct_maps symbols section a))) (ap (λ l. flat_map (λ x. more x symbols section) items ++ l) (sym (append-nil (more x symbols section))) ∙ sym (flat_map-append (λ x. more x symbols section) items (x ∷ [])));
+    fault = λ symbols section.
+        one.fault symbols section
+        ∙ ap (λ e. or_else e (wrong x symbols section)) (before.fault symbols section)
+        ∙ or_other (distinct_fault symbols a) (first_some (λ x. wrong x symbols section) items) (wrong x symbols section)
+        ∙ ap (or_else (distinct_fault symbols a)) (ap (or_else (first_some (λ x. wrong x symbols section) items)) (sym (or_none (wrong x symbols section))) ∙ sym (first_some-append (λ x. wrong x symbols section) items (x ∷ [])));
+  }
+
+  pub more_added : (items : List A) (i : ℕ) (x : A) → i < length items → AddsAll a b more wrong (take i items)
+      → Adds b c (more (slice_index_or items i x)) (wrong (slice_index_or items i x)) → AddsAll a c more wrong (take (i + 1) items)
+  more_added items i x below before one = subst (AddsAll a c more wrong) (sym (taken_more items i x below)) (item_added (take i items) (slice_index_or items i x) before one)
+
+pub all_added : {A : Type 0} (more : A → (List ℕ → Option ℕ) → ℕ → List (List ℕ × Map)) (wrong : A → (List ℕ → Option ℕ) → ℕ → Option ParseError) (a b : DistinctMaps) (items : List A) (i : ℕ)
+    → length items ≤ i → AddsAll a b more wrong (take i items) → AddsAll a b more wrong items
+all_added more wrong a b items i past = subst (AddsAll a b more wrong) (take_all i items past)
+
+-- an entry that is declared
+pub entry_added : (info : TypeInfo) (entry : DataSecEntry) (kept after : DistinctMaps) (name : List ℕ) (d : MapDefinitions) → AreNamed kept → declared info entry ≡ Ok (name, d) → after ≡ with_map kept name d
+    → Adds kept after (λ symbols section. given (map_of info symbols section entry)) (λ symbols section. fault_of (map_of info symbols section entry))
+unfolding map_of
+entry_added info entry kept after name d named is put =
+    subst (λ (k : DistinctMaps). Adds kept k (λ symbols section. given (placed symbols section (declared info entry))) (λ symbols section. fault_of (placed symbols section (declared info entry)))) (sym put)
+    (subst (λ r. Adds kept (with_map kept name d) (λ symbols section. given (placed symbols section r)) (λ symbols section. fault_of (placed symbols section r))) (sym is) (one_added kept name d named))
+
+pub entries_more : (info : TypeInfo) (a b c : DistinctMaps) (entries : List DataSecEntry) (i : ℕ) (x : DataSecEntry) (name : List ℕ) (d : MapDefinitions)
+    → i < length entries
+    → Adds a b (λ symbols section. entries_maps info symbols section (take i entries)) (λ symbols section. entries_fault info symbols section (take i entries))
+    → declared info (slice_index_or entries i x) ≡ Ok (name, d) → c ≡ with_map b name d
+    → Adds a c (λ symbols section. entries_maps info symbols section (take (i + 1) entries)) (λ symbols section. entries_fault info symbols section (take (i + 1) entries))
+entries_more info a b c entries i x name d below before is put =
+    more_added (λ entry symbols section. given (map_of info symbols section entry)) (λ entry symbols section. fault_of (map_of info symbols section entry)) a b c entries i x below before
+    (entry_added info (slice_index_or entries i x) b c name d before.named is put)
+
+pub sections_more : (info : TypeInfo) (a b c : DistinctMaps) (ids : List ℕ) (i id : ℕ) (entries : List DataSecEntry)
+    → i < length ids
+    → Adds a b (λ symbols section. ids_maps info symbols section (take i ids)) (λ symbols section. ids_fault info symbols section (take i ids))
+    → entries ≡ entries_at info.types (slice_index_or ids i id)
+    → Adds b c (λ symbols section. entries_maps info symbols section entries) (λ symbols section. entries_fault info symbols section entries)
+    → Adds a c (λ symbols section. ids_maps info symbols section (take (i + 1) ids)) (λ symbols section. ids_fault info symbols section (take (i + 1) ids))
+sections_more info a b c ids i id entries below before are more =
+    more_added (λ id symbols section. entries_maps info symbols section (entries_at info.types id)) (λ id symbols section. entries_fault info symbols section (entries_at info.types id)) a b c ids i id below before
+    (subst (λ l. Adds b c (λ symbols section. entries_maps info symbols section l) (λ symbols section. entries_fault info symbols section l)) are more)
+
+-- ---- by the names of sections
+
+pub none_named : (none : DistinctMaps) → none.last ≡ empty → AreNamed none
+none_named none last = record { is = λ q d at. let wrong : None ≡ Some d = sym (get-empty text_cmp q) ∙ ap (λ x. get x q) (sym last) ∙ at in absurd (cc) }
+
+pub none_kept : (info : TypeInfo) (kept : FinMap text_cmp DistinctMaps) → kept ≡ empty → AreKept info kept
+none_kept info kept is = record {
+  maps = λ name k at symbols section m q. let wrong : None ≡ Some k = sym (get-empty text_cmp name) ∙ ap (λ x. get x name) (sym is) ∙ at in absurd (cc);
+  fault = λ name k at symbols section. let wrong : None ≡ Some k = sym (get-empty text_cmp name) ∙ ap (λ x. get x name) (sym is) ∙ at in absurd (cc);
+}
+
+module _ (info : TypeInfo) (sections : NamedSections) (found : AreFound info sections) (readable : sections.unreadable ≡ None) (name ids : List ℕ) (there : get sections.by_name name ≡ Some ids)
+    (none k : DistinctMaps) (nameless : none.names ≡ []) (adds : Adds none k (λ symbols section. ids_maps info symbols section ids) (λ symbols section. ids_fault info symbols section ids)) where
+  all_maps : (symbols : List ℕ → Option ℕ) (section : ℕ) (m : FinMap text_cmp Map) → put_all m (distinct_maps symbols section k) ≡ put_all m (btf_maps info symbols section name)
+  all_maps symbols section m =
+      adds.maps symbols section m
+      ∙ ap (λ l. put_all (put_all m (flat_map (last_map symbols section none.last) l)) (ids_maps info symbols section ids)) nameless
+      ∙ ap (put_all m) (found.maps name ids there readable symbols section)
+
+  all_fault : (symbols : List ℕ → Option ℕ) (section : ℕ) → distinct_fault symbols k ≡ btf_maps_fault info symbols section name
+  all_fault symbols section =
+      adds.fault symbols section
+      ∙ ap (λ l. or_else (first_some (missing symbols) l) (ids_fault info symbols section ids)) nameless
+      ∙ sym (or_none (ids_fault info symbols section ids))
+      ∙ ap (λ u. or_else (ids_fault info symbols section ids) (unreadable_fault u)) (sym readable)
+      ∙ found.fault name ids there symbols section
+
+  pub one_kept : (kept after : FinMap text_cmp DistinctMaps) → AreKept info kept → after ≡ insert kept name k → AreKept info after
+  one_kept kept after before put = record {
+    maps = λ q e at symbols section m r. maps_step q e symbols section m r (eq_by_cmp text_cmp q name) refl (looked q ∙ at);
+    fault = λ q e at symbols section. fault_step q e symbols section (eq_by_cmp text_cmp q name) refl (looked q ∙ at);
+  }
+    where
+      looked : (q : List ℕ) → cond (eq_by_cmp text_cmp q name) (Some k) (get kept q) ≡ get after q
+      looked q = sym (ap (λ x. get x q) put ∙ get-insert text_total kept name k q)
+
+      maps_step : (q : List ℕ) (e : DistinctMaps) (symbols : List ℕ → Option ℕ) (section : ℕ) (m : FinMap text_cmp Map) (r : List ℕ) (b : Bool) → eq_by_cmp text_cmp q name ≡ b → cond (eq_by_cmp text_cmp q name) (Some k) (get kept q) ≡ Some e
+          → get (put_all m (distinct_maps symbols section e)) r ≡ get (put_all m (btf_maps info symbols section q)) r
+      maps_step q e symbols section m r true here at =
+          let value : Some k ≡ Some e = sym (ap (λ b. cond b (Some k) (get kept q)) here) ∙ at in
+          let same : k ≡ e = cc in
+          ap (λ (x : DistinctMaps). get (put_all m (distinct_maps symbols section x)) r) (sym same) ∙ ap (λ x. get x r) (all_maps symbols section m) ∙ ap (λ n. get (put_all m (btf_maps info symbols section n)) r) (sym (at_name q name here))
+      maps_step q e symbols section m r false here at = before.maps q e (sym (ap (λ b. cond b (Some k) (get kept q)) here) ∙ at) symbols section m r
+
+      fault_step : (q : List ℕ) (e : DistinctMaps) (symbols : List ℕ → Option ℕ) (section : ℕ) (b : Bool) → eq_by_cmp text_cmp q name ≡ b → cond (eq_by_cmp text_cmp q name) (Some k) (get kept q) ≡ Some e
+          → distinct_fault symbols e ≡ btf_maps_fault info symbols section q
+      fault_step q e symbols section true here at =
+          let value : Some k ≡ Some e = sym (ap (λ b. cond b (Some k) (get kept q)) here) ∙ at in
+          let same : k ≡ e = cc in
+          ap (λ (x : DistinctMaps). distinct_fault symbols x) (sym same) ∙ all_fault symbols section ∙ ap (btf_maps_fault info symbols section) (sym (at_name q name here))
+      fault_step q e symbols section false here at = before.fault q e (sym (ap (λ b. cond b (Some k) (get kept q)) here) ∙ at) symbols section
+
+pub kept_maps : (info : TypeInfo) (kept : FinMap text_cmp DistinctMaps) (name : List ℕ) (k : DistinctMaps) → AreKept info kept → get kept name ≡ Some k → (symbols : List ℕ → Option ℕ) (section : ℕ) (m : FinMap text_cmp Map)
+    → put_all m (distinct_maps symbols section k) ≡ put_all m (btf_maps info symbols section name)
+kept_maps info kept name k are at symbols section m = same_map text_total text_exact _ _ (are.maps name k at symbols section m)

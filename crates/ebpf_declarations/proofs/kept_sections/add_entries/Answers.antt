@@ -1,0 +1,24 @@
+use Rattle.ebpf_btf.specs.declared.members.DataSecEntry.{DataSecEntry}
+use Rattle.ebpf_declarations.specs.Attempts.{given}
+use Rattle.ebpf_declarations.specs.Maps.{map_of}
+use Rattle.ebpf_base.specs.Faults.{fault_of}
+use Rattle.ebpf_declarations.proofs.Distinct.{entries_more, none_added, all_added}
+use Rattle.ebpf_declarations.proofs.kept_sections.add_entries.Goals as goal
+
+pub loop-entry-init : goal.loop-entry-init
+loop-entry-init c = record {
+  known = c.requires.known;
+  added = none_added (λ (entry : DataSecEntry) symbols section. given (map_of c.args.btf.now symbols section entry)) (λ entry symbols section. fault_of (map_of c.args.btf.now symbols section entry)) c.args.distinct.now c.requires.named;
+}
+
+pub loop-entry-preserved : goal.loop-entry-preserved
+loop-entry-preserved c = record {
+  known = c.in_ok-name.ensures.known;
+  added = entries_more c.args.btf.now c.args.distinct.now c.loop-entry.distinct c.add.new.self c.args.entries.now c.loop-entry.entry-index _ c.in_ok-name.name c.in_ok-name.definitions
+      c.loop-entry-test.true c.loop-entry.invariant.added c.in_ok-name.ensures.declared c.in_ok-add.ensures.added;
+}
+
+pub returns-clause-added : goal.returns-clause-added
+returns-clause-added c =
+    all_added (λ (entry : DataSecEntry) symbols section. given (map_of c.args.btf.now symbols section entry)) (λ entry symbols section. fault_of (map_of c.args.btf.now symbols section entry)) c.args.distinct.now c.loop-entry.distinct c.args.entries.now c.loop-entry.entry-index
+    c.loop-entry-test.false c.loop-entry.invariant.added

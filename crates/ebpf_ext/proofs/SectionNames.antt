@@ -1,0 +1,102 @@
+-- Sections by the names at their offsets: one more, and the last of a name.
+use Rattle.std.proofs.Common.{◌≡◌, ℕ, suc, ◌+◌, ◌<◌, ◌≤◌, Bool, true, false, List, [], ◌∷◌, ◌++◌, length, drop, append_assoc, Option, Some, None, Result, Ok, Err, refl, sym, ap, ◌∙◌, arith}
+use Rattle.std.specs.Prelude.{if◌then◌else◌, slice_index_or}
+use Rattle.std.specs.Cmp.{eq_by_cmp_equiv}
+use Rattle.std.specs.FinMap.{empty, get, get-empty, insert}
+use Rattle.std.specs.Ordering.{eq_by_cmp, is_eq}
+use Rattle.std.specs.Str.{bytes_eq}
+use Rattle.std.specs.declared.cmp.Ordering.{Ordering}
+use Rattle.std.specs.declared.cmp.Ordering.TheVariants.{Less, Equal, Greater}
+use Rattle.std.proofs.Math.Seq.{drop-cons}
+use Rattle.std.proofs.lemmas.List.{drop_all}
+use Rattle.std.proofs.lemmas.Slice.Eq.{bytes_eq-Decides}
+use Rattle.ebpf_base.proofs.Keyed.{later_text_stands, put_all-append}
+use Rattle.ebpf_base.proofs.TextMaps.{text_exact}
+use Rattle.ebpf_base.specs.Keyed.{last_at, put_all}
+use Rattle.ebpf_base.specs.Keys.{text_cmp, text_total}
+use Rattle.ebpf_btf.specs.Strings.{is_text, text_at}
+use Rattle.ebpf_btf.specs.declared.error.BtfError.{BtfError}
+use Rattle.ebpf_ext.specs.SectionNames.{by_offsets, with_name, with_names}
+
+-- ---- names
+
+pub equal : (r : Ordering) → is_eq r ≡ true → r ≡ Equal
+equal Less e = cc
+equal Equal e = refl
+equal Greater e = cc
+
+-- two tests of one thing
+pub same_tests : (q name : List ℕ) → eq_by_cmp text_cmp q name ≡ bytes_eq name q
+same_tests q name = by_both (eq_by_cmp text_cmp q name) (bytes_eq name q) refl refl
+  where
+    by_both : (a b : Bool) → eq_by_cmp text_cmp q name ≡ a → bytes_eq name q ≡ b → a ≡ b
+    by_both true true p r = refl
+    by_both false false p r = refl
+    by_both true false p r =
+        let same : name ≡ q = sym (text_exact q name (equal _ p)) in
+        let yes : bytes_eq name q ≡ true = (bytes_eq-Decides name q).1 same in
+        cc
+    by_both false true p r =
+        let same : name ≡ q = (bytes_eq-Decides name q).0 r in
+        let yes : eq_by_cmp text_cmp q name ≡ true = ap (λ n. eq_by_cmp text_cmp q n) same ∙ (eq_by_cmp_equiv text_total).refl q in
+        cc
+
+-- ---- what is left from a place on
+
+-- what is left from an item on
+pub rest_more : {X : Type 0} (xs : List X) (i : ℕ) (x : X) → i < length xs → x ≡ slice_index_or xs i x → drop i xs ≡ x ∷ drop (i + 1) xs
+rest_more xs i x below here =
+    let on : suc i ≡ i + 1 = omega arith in
+    drop-cons xs i x below ∙ ap (λ y. y ∷ drop (suc i) xs) (sym here) ∙ ap (λ n. x ∷ drop n xs) on
+
+-- at the end nothing is left
+pub rest_none : {X : Type 0} (xs : List X) (i : ℕ) → length xs ≤ i → drop i xs ≡ []
+rest_none xs i past = drop_all i xs past
+
+module _ {S : Type 0} (strings : List ℕ) where
+  -- ---- one more section
+
+  with_names-append : (xs ys : List (ℕ × S)) → with_names strings (xs ++ ys) ≡ with_names strings xs ++ with_names strings ys
+  with_names-append [] ys = refl
+  with_names-append (x ∷ xs) ys =
+      let one = with_name x.1 (text_at strings x.0) in
+      ap (λ l. one ++ l) (with_names-append xs ys) ∙ sym (append_assoc one (with_names strings xs) (with_names strings ys))
+
+  pub no_sections : by_offsets {S = S} strings [] ≡ empty
+  unfolding by_offsets
+  no_sections = refl
+
+  pub one_more : (sections : List (ℕ × S)) (s : ℕ × S) (name : List ℕ) → text_at strings s.0 ≡ Ok name
+      → by_offsets strings (sections ++ s ∷ []) ≡ insert (by_offsets strings sections) name s.1
+  unfolding by_offsets
+  one_more sections s name is =
+      ap (put_all empty) (with_names-append sections (s ∷ []))
+      ∙ put_all-append empty (with_names strings sections) (with_names strings (s ∷ []))
+      ∙ ap (λ r. put_all (put_all empty (with_names strings sections)) (with_name s.1 r ++ [])) is
+
+  -- ---- the last section of a name
+
+  module _ (q : List ℕ) where
+    pub from_all : (sections : List (ℕ × S)) → last_at text_cmp q None (with_names strings sections) ≡ get (by_offsets strings sections) q
+    unfolding by_offsets
+    from_all sections =
+        ap (λ o. last_at text_cmp q o (with_names strings sections)) (sym (get-empty text_cmp q))
+        ∙ sym (later_text_stands empty (with_names strings sections) q)
+
+    pub one_last : (before : Option S) (s : S) (r : Result (List ℕ) BtfError) (rest : List (List ℕ × S))
+        → last_at text_cmp q before (with_name s r ++ rest) ≡ last_at text_cmp q (if is_text q r then Some s else before) rest
+    one_last before s (Ok name) rest = ap (λ b. last_at text_cmp q (if b then Some s else before) rest) (same_tests q name)
+    one_last before s (Err e) rest = refl
+
+    -- the next section, and then the others
+    pub last_more : (before : Option S) (sections : List (ℕ × S)) (i : ℕ) (s : ℕ × S) → i < length sections → s ≡ slice_index_or sections i s
+        → last_at text_cmp q before (with_names strings (drop i sections))
+        ≡ last_at text_cmp q (if is_text q (text_at strings s.0) then Some s.1 else before) (with_names strings (drop (i + 1) sections))
+    last_more before sections i s below here =
+        ap (λ l. last_at text_cmp q before (with_names strings l)) (rest_more sections i s below here)
+        ∙ one_last before s.1 (text_at strings s.0) (with_names strings (drop (i + 1) sections))
+
+    -- none is left
+    pub last_done : (before : Option S) (sections : List (ℕ × S)) (i : ℕ) → length sections ≤ i
+        → last_at text_cmp q before (with_names strings (drop i sections)) ≡ before
+    last_done before sections i past = ap (λ l. last_at text_cmp q before (with_names strings l)) (rest_none sections i past)

@@ -1,0 +1,87 @@
+//! Sections by the names at their offsets in some strings.
+
+ghost use Rattle.std.specs.Prelude.{◌≡◌, IfOk};
+ghost use Rattle.std.specs.FinMap as map;
+ghost use Rattle.std.specs.Option.{option_copied};
+ghost use Rattle.ebpf_ext.specs.SectionNames.{by_offsets};
+
+use crate::found_sections::FoundSections;
+use ebpf_base::Items;
+use ebpf_btf::strings::is_text_at;
+use std::alloc::{AllocError, Global};
+use std::marker::Model;
+
+/// The last of some sections with a name. Of each section's name at most as many bytes are looked at as this one has,
+/// and one.
+pub fn last_named<'s, S>(strings: &[u8], sections: &'s [(u32, S)], name: &str) -> Option<&'s S>
+    ensures { option_copied result ≡ map.get (by_offsets strings.now sections.now) name.now }
+{
+    let mut last = None;
+    for (offset, said) in sections {
+        if !is_text_at(strings, *offset, name) {
+            continue;
+        }
+        last = Some(said);
+    }
+    last
+}
+
+/// Sections, each with the offset of its name in strings that they share. Contracts see a finite map, by their names.
+#[derive(Debug, Drop)]
+pub struct SectionsByName<S> {
+    pub strings: Items<u8>,
+    pub sections: Items<(u32, S)>,
+}
+
+impl<S> Model for SectionsByName<S> {
+    ghost use Rattle.std.specs.FinMap as map;
+    ghost use Rattle.ebpf_base.specs.Keys.{coded_text, text_cmp};
+    ghost use Rattle.ebpf_ext.specs.SectionNames.{by_offsets};
+
+    ghost Value = { map.FinMap text_cmp S };
+
+    ghost coded = { map.code {R = text_cmp} coded_text S.code };
+
+    ghost view = { λ s. by_offsets s.strings s.sections };
+}
+
+impl<S: Drop> SectionsByName<S> {
+    /// Sections whose names are at offsets of these strings, which are copied where there are sections.
+    pub fn new(
+        alloc: Global,
+        strings: &[u8],
+        sections: Items<(u32, S)>,
+    ) -> Result<SectionsByName<S>, AllocError>
+        ensures { IfOk result (λ s. s ≡ by_offsets strings.now sections) }
+    {
+        if sections.is_empty() {
+            return Ok(SectionsByName {
+                strings: Items::new(alloc),
+                sections,
+            });
+        }
+        let strings = Items::from_vec(Vec::from_slice(alloc, strings)?);
+        Ok(SectionsByName { strings, sections })
+    }
+}
+
+impl<S> SectionsByName<S> {
+    /// The section with a name.
+    pub fn get(&self, name: &str) -> Option<&S>
+        ensures { option_copied result ≡ map.get self.now name.now }
+    {
+        last_named(self.strings.as_slice(), self.sections.as_slice(), name)
+    }
+
+    /// The same, where the sections of these names are found in one pass.
+    pub fn found(&self, alloc: Global, names: &[&str]) -> Result<FoundSections<'_, S>, AllocError>
+        ensures { IfOk result (λ f. f ≡ self.now) }
+    {
+        FoundSections::gather(
+            alloc,
+            self.strings.as_slice(),
+            self.sections.as_slice(),
+            names,
+        )
+    }
+}
