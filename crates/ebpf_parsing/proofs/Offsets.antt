@@ -1,10 +1,9 @@
 -- One step of the walk over the functions of a Text section.
-use Rattle.std.proofs.Common.{append_assoc, append-nil, length-append, ◌≡◌, ℕ, suc, zero, ◌+◌, ◌-◌, ◌<◌, ◌≤◌, true, false, List, [], ◌∷◌, ◌++◌, length, None, refl, sym, ap, ◌∙◌, arith, nat_lt}
+use Rattle.std.proofs.Common.{◌≡◌, ℕ, suc, zero, ◌+◌, ◌-◌, ◌<◌, ◌≤◌, true, false, List, [], ◌∷◌, ◌++◌, length, None, refl, sym, ap, ◌∙◌, arith, nat_lt}
 use Rattle.std.specs.Prelude.{if◌then◌else◌}
 use Rattle.std.specs.List.{flat_map}
 use Rattle.std.proofs.lemmas.Bool.Decides.{nat_tests}
 use Rattle.ebpf_base.specs.Faults.{or_else}
-use Rattle.ebpf_reloc.specs.declared.function.Function.{Function}
 use Rattle.ebpf_base.specs.Faults.{first_some}
 use Rattle.ebpf_parsing.specs.Records.{Said}
 use Rattle.ebpf_parsing.specs.Symbols.{SymbolValue}
@@ -36,20 +35,6 @@ pub fault_more : (s : SectionValue) (ys : List SymbolValue) (n k offset : ℕ) �
     → first_some (fault_at s ys) (offsets_from (n - k) s ys offset) ≡ or_else (fault_at s ys offset) (first_some (fault_at s ys) (offsets_from (n - (k + 1)) s ys (offset + size_at s ys offset)))
 fault_more s ys n k offset left inside = ap (first_some (fault_at s ys)) (offsets_more s ys n k offset left inside)
 
--- one more function, and one fewer to come
-pub functions_step : (said : Said) (s : SectionValue) (ys : List SymbolValue) (fs : List Function) (f : Function) (o e : ℕ) (all : List Function)
-    → length fs < length s.bytes → o < length s.bytes → function_at said s ys o ≡ f ∷ [] → e ≡ o + size_at s ys o
-    → fs ++ flat_map (function_at said s ys) (offsets_from (length s.bytes - length fs) s ys o) ≡ all
-    → (fs ++ f ∷ []) ++ flat_map (function_at said s ys) (offsets_from (length s.bytes - length (fs ++ f ∷ [])) s ys e) ≡ all
-functions_step said s ys fs f o e all few inside here next before =
-    let more : length (fs ++ f ∷ []) ≡ length fs + 1 = length-append fs (f ∷ []) in
-    let rest : flat_map (function_at said s ys) (offsets_from (length s.bytes - length fs) s ys o) ≡ f ∷ flat_map (function_at said s ys) (offsets_from (length s.bytes - (length fs + 1)) s ys (o + size_at s ys o))
-    = functions_more said s ys (length s.bytes) (length fs) o few inside ∙ ap (λ xs. xs ++ flat_map (function_at said s ys) (offsets_from (length s.bytes - (length fs + 1)) s ys (o + size_at s ys o))) here in
-    ap (λ n. (fs ++ f ∷ []) ++ flat_map (function_at said s ys) (offsets_from (length s.bytes - n) s ys e)) more
-    ∙ ap (λ p. (fs ++ f ∷ []) ++ flat_map (function_at said s ys) (offsets_from (length s.bytes - (length fs + 1)) s ys p)) next
-    ∙ append_assoc fs (f ∷ []) _
-    ∙ ap (λ xs. fs ++ xs) (sym rest) ∙ before
-
 pub fault_step : (s : SectionValue) (ys : List SymbolValue) (k m : ℕ) (o e : ℕ)
     → k < length s.bytes → o < length s.bytes → fault_at s ys o ≡ None → e ≡ o + size_at s ys o → m ≡ k + 1
     → first_some (fault_at s ys) (offsets_from (length s.bytes - m) s ys e) ≡ first_some (fault_at s ys) (offsets_from (length s.bytes - k) s ys o)
@@ -57,8 +42,3 @@ fault_step s ys k m o e few inside none next more =
     ap (λ n. first_some (fault_at s ys) (offsets_from (length s.bytes - n) s ys e)) more
     ∙ ap (λ p. first_some (fault_at s ys) (offsets_from (length s.bytes - (k + 1)) s ys p)) next
     ∙ sym (fault_more s ys (length s.bytes) k o few inside ∙ ap (λ x. or_else x (first_some (fault_at s ys) (offsets_from (length s.bytes - (k + 1)) s ys (o + size_at s ys o)))) none)
-
-pub functions_end : (said : Said) (s : SectionValue) (ys : List SymbolValue) (fs all : List Function) (n o : ℕ) → length s.bytes ≤ o
-    → fs ++ flat_map (function_at said s ys) (offsets_from n s ys o) ≡ all → fs ≡ all
-functions_end said s ys fs all n o past before =
-    sym (append-nil fs) ∙ sym (ap (λ os. fs ++ flat_map (function_at said s ys) os) (none_left s ys n o past)) ∙ before
