@@ -2,7 +2,7 @@
 use Rattle.std.proofs.Math.Seq.{take-suc}
 use Rattle.std.proofs.lemmas.List.{take_all}
 use Rattle.std.proofs.Common.{◌≡◌, ℕ, ◌+◌, ◌<◌, ◌≤◌, suc, Bool, true, false, cond, List, [], ◌∷◌, ◌++◌, length, take, Option, Some, None, Ok, Err, refl, sym, subst, ap, ◌∙◌, append-nil, arith}
-use Rattle.std.specs.Prelude.{slice_index_or, if◌then◌else◌}
+use Rattle.std.specs.Prelude.{slice_get, slice_index_or, if◌then◌else◌}
 use Rattle.std.specs.FinMap.{FinMap, get, insert, empty, get-insert, get-empty, same_map}
 use Rattle.std.specs.List.{flat_map}
 use Rattle.std.specs.Ordering.{eq_by_cmp}
@@ -15,12 +15,13 @@ use Rattle.ebpf_btf.specs.Next.{if_some}
 use Rattle.ebpf_btf.specs.TypeInfo.{TypeInfo}
 use Rattle.ebpf_btf.specs.declared.members.DataSecEntry.{DataSecEntry}
 use Rattle.ebpf_declarations.specs.Attempts.{given}
-use Rattle.ebpf_declarations.specs.DistinctMaps.{is_among, AreNamed, with_map, missing, last_map, distinct_maps, distinct_fault, Adds, AreKept}
+use Rattle.ebpf_declarations.specs.DistinctMaps.{is_among, AreNamed, IsWith, last_of, missing, last_map, distinct_maps, distinct_fault, Adds, AreKept}
 use Rattle.ebpf_declarations.specs.Maps.{declared, map_at, placed, map_of, entries_maps, entries_fault, btf_maps, btf_maps_fault}
 use Rattle.ebpf_declarations.specs.NamedSections.{entries_at, ids_maps, ids_fault, unreadable_fault, AreFound}
 use Rattle.ebpf_declarations.specs.declared.definitions.MapDefinitions.{MapDefinitions}
 use Rattle.ebpf_declarations.specs.declared.distinct_maps.DistinctMaps.{DistinctMaps}
 use Rattle.ebpf_declarations.specs.declared.named_sections.NamedSections.{NamedSections}
+use Rattle.ebpf_declarations.proofs.MoreMaps.{IsSame, defined_name, numbered_name, same_named}
 use Rattle.ebpf_declarations.proofs.NamedSections.{equal, flat_map-append, or_none, or_other, first_some-append}
 use Rattle.ebpf_parts.specs.declared.error.ParseError.{ParseError}
 use Rattle.ebpf_parts.specs.declared.error.ParseError.TheVariants as errors
@@ -109,95 +110,73 @@ among_fault f name (n ∷ names) there = by_test (eq_by_cmp text_cmp name n) ref
     by_test true at later there = by_first (f n) refl (ap f (at_name name n at))
     by_test false at later there = ap (or_else (f n)) (later there) ∙ sym (or_other (f n) (first_some f names) (f name))
 
-module _ (symbols : List ℕ → Option ℕ) (section : ℕ) (last : FinMap text_cmp MapDefinitions) (q : List ℕ) where
-  here : (a : Option Map) (name : List ℕ) → last_at text_cmp q a (last_map symbols section last name) ≡ (if eq_by_cmp text_cmp q name then or_else (map_by section (get last q) (symbols q)) a else a)
+module _ (symbols : List ℕ → Option ℕ) (section : ℕ) (last : List ℕ → Option MapDefinitions) (q : List ℕ) where
+  here : (a : Option Map) (name : List ℕ) → last_at text_cmp q a (last_map symbols section last name) ≡ (if eq_by_cmp text_cmp q name then or_else (map_by section (last q) (symbols q)) a else a)
   unfolding last_map
-  here a name = one_at section q name a (get last name) (symbols name) ∙ by_test (eq_by_cmp text_cmp q name) refl
+  here a name = one_at section q name a (last name) (symbols name) ∙ by_test (eq_by_cmp text_cmp q name) refl
     where
-      by_test : (b : Bool) → eq_by_cmp text_cmp q name ≡ b → (if b then or_else (map_by section (get last name) (symbols name)) a else a) ≡ (if b then or_else (map_by section (get last q) (symbols q)) a else a)
-      by_test true at = ap (λ n. or_else (map_by section (get last n) (symbols n)) a) (sym (at_name q name at))
+      by_test : (b : Bool) → eq_by_cmp text_cmp q name ≡ b → (if b then or_else (map_by section (last name) (symbols name)) a else a) ≡ (if b then or_else (map_by section (last q) (symbols q)) a else a)
+      by_test true at = ap (λ n. or_else (map_by section (last n) (symbols n)) a) (sym (at_name q name at))
       by_test false at = refl
 
   -- what stands at a name once the maps of names are put
   at_names : (a : Option Map) (names : List (List ℕ))
-      → last_at text_cmp q a (flat_map (last_map symbols section last) names) ≡ (if is_among q names then or_else (map_by section (get last q) (symbols q)) a else a)
+      → last_at text_cmp q a (flat_map (last_map symbols section last) names) ≡ (if is_among q names then or_else (map_by section (last q) (symbols q)) a else a)
   at_names a [] = refl
   at_names a (name ∷ names) =
       last_at-append q a (last_map symbols section last name) (flat_map (last_map symbols section last) names)
       ∙ ap (λ x. last_at text_cmp q x (flat_map (last_map symbols section last) names)) (here a name)
-      ∙ at_names (if eq_by_cmp text_cmp q name then or_else (map_by section (get last q) (symbols q)) a else a) names
-      ∙ both_choices (eq_by_cmp text_cmp q name) (is_among q names) (map_by section (get last q) (symbols q)) a
+      ∙ at_names (if eq_by_cmp text_cmp q name then or_else (map_by section (last q) (symbols q)) a else a) names
+      ∙ both_choices (eq_by_cmp text_cmp q name) (is_among q names) (map_by section (last q) (symbols q)) a
 
 at_map : (symbols : List ℕ → Option ℕ) (section : ℕ) (kept : DistinctMaps) → AreNamed kept → (m : FinMap text_cmp Map) (q : List ℕ)
-    → get (put_all m (distinct_maps symbols section kept)) q ≡ or_else (map_by section (get kept.last q) (symbols q)) (get m q)
+    → get (put_all m (distinct_maps symbols section kept)) q ≡ or_else (map_by section (last_of kept q) (symbols q)) (get m q)
 at_map symbols section kept named m q =
     later_text_stands m (distinct_maps symbols section kept) q
-    ∙ at_names symbols section kept.last q (get m q) kept.names
-    ∙ by_last (get kept.last q) refl
+    ∙ at_names symbols section (last_of kept) q (get m q) kept.names
+    ∙ by_last (last_of kept q) refl
   where
-    by_last : (o : Option MapDefinitions) → get kept.last q ≡ o
+    by_last : (o : Option MapDefinitions) → last_of kept q ≡ o
         → (if is_among q kept.names then or_else (map_by section o (symbols q)) (get m q) else get m q) ≡ or_else (map_by section o (symbols q)) (get m q)
     by_last None is =
         ap (λ v. if is_among q kept.names then or_else v (get m q) else get m q) (not_defined section (symbols q))
         ∙ sym (same_choice (is_among q kept.names) (get m q)) ∙ ap (λ v. or_else v (get m q)) (sym (not_defined section (symbols q)))
-    by_last (Some d) is = ap (λ b. if b then or_else (map_by section (Some d) (symbols q)) (get m q) else get m q) (named.is q d is)
+    by_last (Some d) is = ap (λ b. if b then or_else (map_by section (Some d) (symbols q)) (get m q) else get m q) (defined_name kept named q d is)
 
 -- ---- one more map
 
-module _ (kept : DistinctMaps) (name : List ℕ) (d : MapDefinitions) (named : AreNamed kept) where
-  abbrev names_by : Option MapDefinitions → List (List ℕ)
-  names_by o = if_some o (λ before. kept.names) (kept.names ++ (name ∷ []))
-
-  name_there : (o : Option MapDefinitions) → get kept.last name ≡ o → (q : List ℕ) → eq_by_cmp text_cmp q name ≡ true → is_among q (names_by o) ≡ true
-  name_there None is q at = among_more q name kept.names ∙ by_test (is_among q kept.names)
-    where
-      by_test : (b : Bool) → (if b then true else eq_by_cmp text_cmp q name) ≡ true
-      by_test true = refl
-      by_test false = at
-  name_there (Some e) is q at = ap (λ n. is_among n kept.names) (at_name q name at) ∙ named.is name e is
-
-  others_there : (o : Option MapDefinitions) (q : List ℕ) → is_among q kept.names ≡ true → is_among q (names_by o) ≡ true
-  others_there None q there = among_more q name kept.names ∙ ap (λ b. if b then true else eq_by_cmp text_cmp q name) there
-  others_there (Some e) q there = there
-
-  still_named : AreNamed (with_map kept name d)
-  unfolding with_map
-  still_named = record { is = λ q e at. step q e (eq_by_cmp text_cmp q name) refl (sym (get-insert text_total kept.last name d q) ∙ at) }
-    where
-      step : (q : List ℕ) (e : MapDefinitions) (b : Bool) → eq_by_cmp text_cmp q name ≡ b → cond (eq_by_cmp text_cmp q name) (Some d) (get kept.last q) ≡ Some e → is_among q (names_by (get kept.last name)) ≡ true
-      step q e true here at = name_there (get kept.last name) refl q here
-      step q e false here at = others_there (get kept.last name) q (named.is q e (sym (ap (λ b. cond b (Some d) (get kept.last q)) here) ∙ at))
-
-  fault_more : (symbols : List ℕ → Option ℕ) (o : Option MapDefinitions) → get kept.last name ≡ o → first_some (missing symbols) (names_by o) ≡ or_else (first_some (missing symbols) kept.names) (missing symbols name)
+module _ (kept : DistinctMaps) (name : List ℕ) (d : MapDefinitions) (named : AreNamed kept) (after : DistinctMaps) (more : IsWith kept name d after) where
+  fault_more : (symbols : List ℕ → Option ℕ) (o : Option ℕ) → get kept.numbers name ≡ o
+      → first_some (missing symbols) (if_some o (λ n. kept.names) (kept.names ++ (name ∷ []))) ≡ or_else (first_some (missing symbols) kept.names) (missing symbols name)
   fault_more symbols None is = first_some-append (missing symbols) kept.names (name ∷ []) ∙ ap (or_else (first_some (missing symbols) kept.names)) (or_none (missing symbols name))
-  fault_more symbols (Some e) is = among_fault (missing symbols) name kept.names (named.is name e is)
+  fault_more symbols (Some n) is = among_fault (missing symbols) name kept.names (numbered_name kept named name n is)
 
   maps_more : (symbols : List ℕ → Option ℕ) (section : ℕ) (m : FinMap text_cmp Map) (q : List ℕ)
-      → get (put_all m (distinct_maps symbols section (with_map kept name d))) q
+      → get (put_all m (distinct_maps symbols section after)) q
       ≡ get (put_all (put_all m (distinct_maps symbols section kept)) (placed_by section name (Some d) (symbols name))) q
-  unfolding with_map
   maps_more symbols section m q =
-      at_map symbols section (with_map kept name d) still_named m q
-      ∙ ap (λ o. or_else (map_by section o (symbols q)) (get m q)) (get-insert text_total kept.last name d q)
+      at_map symbols section after more.named m q
+      ∙ ap (λ o. or_else (map_by section o (symbols q)) (get m q)) (more.last q)
       ∙ by_test (eq_by_cmp text_cmp q name) refl
       ∙ sym (later_text_stands (put_all m (distinct_maps symbols section kept)) (placed_by section name (Some d) (symbols name)) q
       ∙ one_at section q name (get (put_all m (distinct_maps symbols section kept)) q) (Some d) (symbols name)
       ∙ ap (λ a. if eq_by_cmp text_cmp q name then or_else (map_by section (Some d) (symbols name)) a else a) (at_map symbols section kept named m q))
     where
       by_test : (b : Bool) → eq_by_cmp text_cmp q name ≡ b
-          → or_else (map_by section (cond b (Some d) (get kept.last q)) (symbols q)) (get m q)
-          ≡ (if b then or_else (map_by section (Some d) (symbols name)) (or_else (map_by section (get kept.last q) (symbols q)) (get m q)) else or_else (map_by section (get kept.last q) (symbols q)) (get m q))
+          → or_else (map_by section (if b then Some d else last_of kept q) (symbols q)) (get m q)
+          ≡ (if b then or_else (map_by section (Some d) (symbols name)) (or_else (map_by section (last_of kept q) (symbols q)) (get m q)) else or_else (map_by section (last_of kept q) (symbols q)) (get m q))
       by_test true at =
-          over_before section d (get kept.last q) (symbols q) (get m q)
-          ∙ ap (λ n. or_else (map_by section (Some d) (symbols n)) (or_else (map_by section (get kept.last q) (symbols q)) (get m q))) (at_name q name at)
+          over_before section d (last_of kept q) (symbols q) (get m q)
+          ∙ ap (λ n. or_else (map_by section (Some d) (symbols n)) (or_else (map_by section (last_of kept q) (symbols q)) (get m q))) (at_name q name at)
       by_test false at = refl
 
-  pub one_added : Adds kept (with_map kept name d) (λ symbols section. given (placed symbols section (Ok (name, d)))) (λ symbols section. fault_of (placed symbols section (Ok (name, d))))
-  unfolding with_map
+  pub one_added : Adds kept after (λ symbols section. given (placed symbols section (Ok (name, d)))) (λ symbols section. fault_of (placed symbols section (Ok (name, d))))
   one_added = record {
-    named = still_named;
+    named = more.named;
     maps = λ symbols section m. same_map text_total text_exact _ _ (maps_more symbols section m);
-    fault = λ symbols section. fault_more symbols (get kept.last name) refl ∙ ap (or_else (first_some (missing symbols) kept.names)) (sym (missing_fault section name d (symbols name)));
+    fault = λ symbols section.
+        ap (first_some (missing symbols)) more.names ∙ fault_more symbols (get kept.numbers name) refl
+        ∙ ap (or_else (first_some (missing symbols) kept.names)) (sym (missing_fault section name d (symbols name)));
   }
 
 -- ---- one after the other
@@ -241,21 +220,35 @@ pub all_added : {A : Type 0} (more : A → (List ℕ → Option ℕ) → ℕ →
 all_added more wrong a b items i past = subst (AddsAll a b more wrong) (take_all i items past)
 
 -- an entry that is declared
-pub entry_added : (info : TypeInfo) (entry : DataSecEntry) (kept after : DistinctMaps) (name : List ℕ) (d : MapDefinitions) → AreNamed kept → declared info entry ≡ Ok (name, d) → after ≡ with_map kept name d
+pub entry_added : (info : TypeInfo) (entry : DataSecEntry) (kept after : DistinctMaps) (name : List ℕ) (d : MapDefinitions) → AreNamed kept → declared info entry ≡ Ok (name, d) → IsWith kept name d after
     → Adds kept after (λ symbols section. given (map_of info symbols section entry)) (λ symbols section. fault_of (map_of info symbols section entry))
 unfolding map_of
-entry_added info entry kept after name d named is put =
-    subst (λ (k : DistinctMaps). Adds kept k (λ symbols section. given (placed symbols section (declared info entry))) (λ symbols section. fault_of (placed symbols section (declared info entry)))) (sym put)
-    (subst (λ r. Adds kept (with_map kept name d) (λ symbols section. given (placed symbols section r)) (λ symbols section. fault_of (placed symbols section r))) (sym is) (one_added kept name d named))
+entry_added info entry kept after name d named is more =
+    subst (λ r. Adds kept after (λ symbols section. given (placed symbols section r)) (λ symbols section. fault_of (placed symbols section r))) (sym is) (one_added kept name d named after more)
 
-pub entries_more : (info : TypeInfo) (a b c : DistinctMaps) (entries : List DataSecEntry) (i : ℕ) (x : DataSecEntry) (name : List ℕ) (d : MapDefinitions)
+-- what was added is there under other offsets too
+pub same_added : (a b c : DistinctMaps) (more : (List ℕ → Option ℕ) → ℕ → List (List ℕ × Map)) (wrong : (List ℕ → Option ℕ) → ℕ → Option ParseError) → Adds a b more wrong → IsSame b c → Adds a c more wrong
+same_added a b c more wrong adds same = record {
+  named = same_named b c same adds.named;
+  maps = λ symbols section m. ap (put_all m) (same_maps symbols section) ∙ adds.maps symbols section m;
+  fault = λ symbols section. ap (first_some (missing symbols)) same.names ∙ adds.fault symbols section;
+}
+  where
+    same_maps : (symbols : List ℕ → Option ℕ) (section : ℕ) → distinct_maps symbols section c ≡ distinct_maps symbols section b
+    same_maps symbols section =
+        ap (flat_map (last_map symbols section (last_of c))) same.names
+        ∙ ap (λ l. flat_map (last_map symbols section (λ q. if_some (get c.numbers q) (λ n. slice_get l n) None)) b.names) same.last
+        ∙ ap (λ x. flat_map (last_map symbols section (λ q. if_some (get x q) (λ n. slice_get b.last n) None)) b.names) same.numbers
+
+pub entries_more : (info : TypeInfo) (a b c : DistinctMaps) (entries : List DataSecEntry) (i : ℕ) (x entry : DataSecEntry)
     → i < length entries
     → Adds a b (λ symbols section. entries_maps info symbols section (take i entries)) (λ symbols section. entries_fault info symbols section (take i entries))
-    → declared info (slice_index_or entries i x) ≡ Ok (name, d) → c ≡ with_map b name d
+    → entry ≡ slice_index_or entries i x
+    → Adds b c (λ symbols section. given (map_of info symbols section entry)) (λ symbols section. fault_of (map_of info symbols section entry))
     → Adds a c (λ symbols section. entries_maps info symbols section (take (i + 1) entries)) (λ symbols section. entries_fault info symbols section (take (i + 1) entries))
-entries_more info a b c entries i x name d below before is put =
+entries_more info a b c entries i x entry below before is one =
     more_added (λ entry symbols section. given (map_of info symbols section entry)) (λ entry symbols section. fault_of (map_of info symbols section entry)) a b c entries i x below before
-    (entry_added info (slice_index_or entries i x) b c name d before.named is put)
+    (subst (λ (e : DataSecEntry). Adds b c (λ symbols section. given (map_of info symbols section e)) (λ symbols section. fault_of (map_of info symbols section e))) is one)
 
 pub sections_more : (info : TypeInfo) (a b c : DistinctMaps) (ids : List ℕ) (i id : ℕ) (entries : List DataSecEntry)
     → i < length ids
@@ -269,9 +262,6 @@ sections_more info a b c ids i id entries below before are more =
 
 -- ---- by the names of sections
 
-pub none_named : (none : DistinctMaps) → none.last ≡ empty → AreNamed none
-none_named none last = record { is = λ q d at. let wrong : None ≡ Some d = sym (get-empty text_cmp q) ∙ ap (λ x. get x q) (sym last) ∙ at in absurd (cc) }
-
 pub none_kept : (info : TypeInfo) (kept : FinMap text_cmp DistinctMaps) → kept ≡ empty → AreKept info kept
 none_kept info kept is = record {
   maps = λ name k at symbols section m q. let wrong : None ≡ Some k = sym (get-empty text_cmp name) ∙ ap (λ x. get x name) (sym is) ∙ at in absurd (cc);
@@ -283,7 +273,7 @@ module _ (info : TypeInfo) (sections : NamedSections) (found : AreFound info sec
   all_maps : (symbols : List ℕ → Option ℕ) (section : ℕ) (m : FinMap text_cmp Map) → put_all m (distinct_maps symbols section k) ≡ put_all m (btf_maps info symbols section name)
   all_maps symbols section m =
       adds.maps symbols section m
-      ∙ ap (λ l. put_all (put_all m (flat_map (last_map symbols section none.last) l)) (ids_maps info symbols section ids)) nameless
+      ∙ ap (λ l. put_all (put_all m (flat_map (last_map symbols section (last_of none)) l)) (ids_maps info symbols section ids)) nameless
       ∙ ap (put_all m) (found.maps name ids there readable symbols section)
 
   all_fault : (symbols : List ℕ → Option ℕ) (section : ℕ) → distinct_fault symbols k ≡ btf_maps_fault info symbols section name

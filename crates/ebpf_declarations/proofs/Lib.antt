@@ -5,4 +5,5 @@ pub mod Said
 pub mod KnownStructs
 pub mod NamedSections
 pub mod ExternNames
+pub mod MoreMaps
 pub mod Distinct

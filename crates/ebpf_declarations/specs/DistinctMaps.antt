@@ -1,16 +1,23 @@
 -- The maps that types declare for a section, each name once: the names in the order of their first maps, and what the
 -- last map of each is defined by.
-use Rattle.std.specs.Prelude.{◌≡◌, ◌++◌, ℕ, Bool, true, false, List, [], ◌∷◌, Option, Some, None, Ok, if◌then◌else◌}
-use Rattle.std.specs.FinMap.{FinMap, get, insert}
+use Rattle.std.specs.Prelude.{◌≡◌, ◌++◌, ℕ, Bool, true, false, List, [], ◌∷◌, length, Option, Some, None, Result, Ok, slice_get, if◌then◌else◌}
+use Rattle.std.specs.BTreeMap.{get as at_key}
+use Rattle.std.specs.FinMap.{FinMap, get}
 use Rattle.std.specs.List.{flat_map}
-use Rattle.std.specs.Ordering.{eq_by_cmp}
+use Rattle.std.specs.Ordering.{eq_by_cmp, nat_cmp}
 use Rattle.ebpf_base.specs.Faults.{first_some, or_else}
 use Rattle.ebpf_base.specs.Keyed.{put_all}
 use Rattle.ebpf_base.specs.Keys.{text_cmp}
-use Rattle.ebpf_btf.specs.Next.{if_some}
+use Rattle.ebpf_btf.specs.Next.{if_some, if_ok}
+use Rattle.ebpf_btf.specs.Steps.{type_at, resolved}
+use Rattle.ebpf_btf.specs.Strings.{text_at}
 use Rattle.ebpf_btf.specs.TypeInfo.{TypeInfo}
+use Rattle.ebpf_btf.specs.Types.{name_of}
+use Rattle.ebpf_btf.specs.declared.error.BtfError.{BtfError}
+use Rattle.ebpf_btf.specs.declared.members.DataSecEntry.{DataSecEntry}
+use Rattle.ebpf_btf.specs.declared.types.BtfType.{BtfType}
 use Rattle.ebpf_declarations.specs.Attempts.{given}
-use Rattle.ebpf_declarations.specs.Maps.{placed, btf_maps, btf_maps_fault}
+use Rattle.ebpf_declarations.specs.Maps.{variable, struct_says, placed, btf_maps, btf_maps_fault}
 use Rattle.ebpf_declarations.specs.declared.definitions.MapDefinitions.{MapDefinitions}
 use Rattle.ebpf_declarations.specs.declared.distinct_maps.DistinctMaps.{DistinctMaps}
 use Rattle.ebpf_parts.specs.declared.error.ParseError.{ParseError}
@@ -23,13 +30,34 @@ abbrev pub is_among : List ℕ → List (List ℕ) → Bool
 is_among q [] = false
 is_among q (name ∷ names) = if eq_by_cmp text_cmp q name then true else is_among q names
 
--- each name that is defined is among the names
+-- the number of a name is its place among the names, each of which has a last map
 pub record AreNamed (kept : DistinctMaps) : Type 0 where
-  pub is : (q : List ℕ) (d : MapDefinitions) → get kept.last q ≡ Some d → is_among q kept.names ≡ true
+  pub is : (q : List ℕ) (n : ℕ) → get kept.numbers q ≡ Some n → slice_get kept.names n ≡ Some q
+  pub defined : length kept.names ≡ length kept.last
 
--- with one more map
-unfoldable pub with_map : DistinctMaps → List ℕ → MapDefinitions → DistinctMaps
-with_map kept name d = record { names = if_some (get kept.last name) (λ before. kept.names) (kept.names ++ (name ∷ [])); last = insert kept.last name d }
+-- what the last map of a name is defined by
+abbrev pub last_of : DistinctMaps → List ℕ → Option MapDefinitions
+last_of kept q = if_some (get kept.numbers q) (λ n. slice_get kept.last n) None
+
+-- with one more map; the numbers that names have stay
+pub record IsWith (before : DistinctMaps) (name : List ℕ) (d : MapDefinitions) (after : DistinctMaps) : Type 0 where
+  pub names : after.names ≡ if_some (get before.numbers name) (λ n. before.names) (before.names ++ (name ∷ []))
+  pub last : (q : List ℕ) → last_of after q ≡ (if eq_by_cmp text_cmp q name then Some d else last_of before q)
+  pub named : AreNamed after
+  pub numbers : (q : List ℕ) (n : ℕ) → get before.numbers q ≡ Some n → get after.numbers q ≡ Some n
+  pub offsets : after.offsets ≡ before.offsets
+
+-- at the offsets that are remembered are names with these numbers
+pub record Remembers (info : TypeInfo) (kept : DistinctMaps) : Type 0 where
+  pub at : (offset n : ℕ) → at_key nat_cmp kept.offsets offset ≡ Some n → (name : List ℕ) × (text_at info.strings offset ≡ Ok name) × (get kept.numbers name ≡ Some n)
+
+-- the VAR of an entry holds the type with this id, and the offset of its name is remembered with this number
+abbrev pub IsKnown : TypeInfo → DistinctMaps → DataSecEntry → ℕ → ℕ → Type 0
+IsKnown info kept entry n held = (t : BtfType) × (type_at info.types entry.btf_type ≡ Ok t) × (variable t ≡ Some held) × (at_key nat_cmp kept.offsets (name_of t) ≡ Some n)
+
+-- what the type with an id says of the map with a name
+abbrev pub held_says : TypeInfo → List ℕ → ℕ → Result MapDefinitions BtfError
+held_says info name id = if_ok (resolved info.types id) (λ held. struct_says info name held)
 
 -- ---- as maps of a section with this number, the symbols of which have these numbers
 
@@ -38,11 +66,11 @@ abbrev pub missing : (List ℕ → Option ℕ) → List ℕ → Option ParseErro
 missing symbols name = if_some (symbols name) (λ y. None) (Some (errors.SymbolNotFound name))
 
 -- the last map of a name
-unfoldable pub last_map : (List ℕ → Option ℕ) → ℕ → FinMap text_cmp MapDefinitions → List ℕ → List (List ℕ × Map)
-last_map symbols section last name = if_some (get last name) (λ d. given (placed symbols section (Ok (name, d)))) []
+unfoldable pub last_map : (List ℕ → Option ℕ) → ℕ → (List ℕ → Option MapDefinitions) → List ℕ → List (List ℕ × Map)
+last_map symbols section last name = if_some (last name) (λ d. given (placed symbols section (Ok (name, d)))) []
 
 abbrev pub distinct_maps : (List ℕ → Option ℕ) → ℕ → DistinctMaps → List (List ℕ × Map)
-distinct_maps symbols section kept = flat_map (last_map symbols section kept.last) kept.names
+distinct_maps symbols section kept = flat_map (last_map symbols section (last_of kept)) kept.names
 
 abbrev pub distinct_fault : (List ℕ → Option ℕ) → DistinctMaps → Option ParseError
 distinct_fault symbols kept = first_some (missing symbols) kept.names

@@ -1,21 +1,123 @@
 //! The maps that types declare in sections of some names, read once for all sections.
 
-ghost use Rattle.std.specs.Prelude.{◌≡◌, ⊤, None, IfOk, IfErr, OnOk, true};
+ghost use Rattle.std.specs.Prelude.{◌≡◌, ⊤, ℕ, List, Ok, Some, None, IfOk, IfErr, IfSome, OnOk, true};
 ghost use Rattle.std.specs.Bool.{MatchBool};
 ghost use Rattle.std.specs.FinMap as map;
+ghost use Rattle.ebpf_base.specs.Faults.{Gives, fault_of};
 ghost use Rattle.ebpf_btf.specs.Memory.{is_memory};
-ghost use Rattle.ebpf_declarations.specs.DistinctMaps.{AreNamed, Adds, AreKept};
+ghost use Rattle.ebpf_declarations.specs.Attempts.{given};
+ghost use Rattle.ebpf_declarations.specs.DistinctMaps.{AreNamed, Remembers, IsKnown, IsWith, Adds, AreKept, held_says};
 ghost use Rattle.ebpf_declarations.specs.KnownStructs.{Knows};
-ghost use Rattle.ebpf_declarations.specs.Maps.{entries_maps, entries_fault};
+ghost use Rattle.ebpf_declarations.specs.Maps.{map_of, entries_maps, entries_fault};
 ghost use Rattle.ebpf_declarations.specs.NamedSections.{ids_maps, ids_fault, AreFound};
+ghost use Rattle.ebpf_declarations.specs.declared.definitions.MapDefinitions.{MapDefinitions};
 
+use crate::definitions::MapDefinitions;
 use crate::distinct_maps::DistinctMaps;
-use crate::known_structs::KnownStructs;
-use crate::maps::declared;
+use crate::known_structs::{KnownStructs, said_by_struct};
+use crate::maps::{declared, variable};
 use crate::named_sections::{NamedSections, entries_at};
 use ebpf_base::ByName;
 use ebpf_btf::{Btf, BtfError, DataSecEntry};
 use std::alloc::Global;
+
+/// The number of the name of an entry's VAR, where a name was read at its offset before, and the id of the type that
+/// the VAR holds.
+fn known_name(distinct: &DistinctMaps, btf: &Btf, entry: &DataSecEntry) -> Option<(usize, u32)>
+    ensures { IfSome result (λ r. IsKnown btf.now distinct.now entry.now r.0 r.1) }
+{
+    let Ok(ty) = btf.type_by_id(entry.btf_type) else {
+        return None;
+    };
+    let held = variable(ty)?;
+    let number = distinct.offsets.get(&ty.name_offset())?;
+    Some((*number, held))
+}
+
+/// What the type with an id says of the map with a name.
+fn held_says(
+    alloc: Global,
+    btf: &Btf,
+    known: &mut KnownStructs,
+    name: &str,
+    type_id: u32,
+) -> Result<MapDefinitions, BtfError>
+    requires { Knows btf.now known.old }
+    ensures says { Gives is_memory result (held_says btf.now name.now type_id) }
+    ensures known { OnOk result (Knows btf.now known.new) }
+{
+    let held = btf.resolve_type(type_id)?;
+    said_by_struct(alloc, btf, known, name, held)
+}
+
+/// Adds a map whose name has a number, and which a type defines.
+fn add_known(
+    alloc: Global,
+    distinct: &mut DistinctMaps,
+    btf: &Btf,
+    known: &mut KnownStructs,
+    number: usize,
+    type_id: u32,
+) -> Result<(), BtfError>
+    requires named { AreNamed distinct.old }
+    requires known { Knows btf.now known.old }
+    ensures known { OnOk result (Knows btf.now known.new) }
+    ensures added { (name : List ℕ) → map.get distinct.old.numbers name ≡ Some number → OnOk result ((d : MapDefinitions) × (held_says btf.now name type_id ≡ Ok d) × IsWith distinct.old name d distinct.new) }
+{
+    let Some(name) = distinct.names.get(number) else {
+        return Err(BtfError::InvalidSymbolName);
+    };
+    let definitions = held_says(alloc, btf, known, name.as_str(), type_id)?;
+    distinct.set(number, definitions);
+    Ok(())
+}
+
+/// Adds a map whose name is read, unless the entry has a fault or the name no symbol.
+fn add_read(
+    alloc: Global,
+    distinct: &mut DistinctMaps,
+    btf: &Btf,
+    known: &mut KnownStructs,
+    symbols: &ByName<usize>,
+    entry: &DataSecEntry,
+) -> Result<(), BtfError>
+    requires named { AreNamed distinct.old }
+    requires remembers { Remembers btf.now distinct.old }
+    requires known { Knows btf.now known.old }
+    ensures known { OnOk result (Knows btf.now known.new) }
+    ensures remembers { OnOk result (Remembers btf.now distinct.new) }
+    ensures added { OnOk result (Adds distinct.old distinct.new (λ symbols section. given (map_of btf.now symbols section entry.now)) (λ symbols section. fault_of (map_of btf.now symbols section entry.now))) }
+{
+    let (name, definitions) = declared(alloc, btf, known, entry)?;
+    if symbols.get(name.as_str()).is_none() {
+        return Err(BtfError::InvalidSymbolName);
+    }
+    let number = distinct.add(alloc, name, definitions)?;
+    let offset = btf.type_by_id(entry.btf_type)?.name_offset();
+    distinct.remember(offset, number)
+}
+
+/// Adds what an entry declares, unless it has a fault or a name that no symbol has. The name at an offset is read once.
+fn add_entry(
+    alloc: Global,
+    distinct: &mut DistinctMaps,
+    btf: &Btf,
+    known: &mut KnownStructs,
+    symbols: &ByName<usize>,
+    entry: &DataSecEntry,
+) -> Result<(), BtfError>
+    requires named { AreNamed distinct.old }
+    requires remembers { Remembers btf.now distinct.old }
+    requires known { Knows btf.now known.old }
+    ensures known { OnOk result (Knows btf.now known.new) }
+    ensures remembers { OnOk result (Remembers btf.now distinct.new) }
+    ensures added { OnOk result (Adds distinct.old distinct.new (λ symbols section. given (map_of btf.now symbols section entry.now)) (λ symbols section. fault_of (map_of btf.now symbols section entry.now))) }
+{
+    match known_name(distinct, btf, entry) {
+        Some((number, held)) => add_known(alloc, distinct, btf, known, number, held),
+        None => add_read(alloc, distinct, btf, known, symbols, entry),
+    }
+}
 
 /// Adds what entries declare, unless one has a fault or a name that no symbol has.
 fn add_entries(
@@ -27,16 +129,14 @@ fn add_entries(
     entries: &[DataSecEntry],
 ) -> Result<(), BtfError>
     requires named { AreNamed distinct.old }
+    requires remembers { Remembers btf.now distinct.old }
     requires known { Knows btf.now known.old }
     ensures known { OnOk result (Knows btf.now known.new) }
+    ensures remembers { OnOk result (Remembers btf.now distinct.new) }
     ensures added { OnOk result (Adds distinct.old distinct.new (λ symbols section. entries_maps btf.now symbols section entries.now) (λ symbols section. entries_fault btf.now symbols section entries.now)) }
 {
     for entry in entries {
-        let (name, definitions) = declared(alloc, btf, known, entry)?;
-        if symbols.get(name.as_str()).is_none() {
-            return Err(BtfError::InvalidSymbolName);
-        }
-        distinct.add(alloc, name, definitions)?;
+        add_entry(alloc, distinct, btf, known, symbols, entry)?;
     }
     Ok(())
 }
@@ -51,6 +151,7 @@ fn add_sections(
     ids: &[u32],
 ) -> Result<(), BtfError>
     requires named { AreNamed distinct.old }
+    requires remembers { Remembers btf.now distinct.old }
     requires known { Knows btf.now known.old }
     ensures known { OnOk result (Knows btf.now known.new) }
     ensures added { OnOk result (Adds distinct.old distinct.new (λ symbols section. ids_maps btf.now symbols section ids.now) (λ symbols section. ids_fault btf.now symbols section ids.now)) }

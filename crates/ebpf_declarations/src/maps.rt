@@ -21,7 +21,7 @@ use std::alloc::Global;
 
 /// The id of the type that a VAR holds.
 #[tactic(auto, unfolding(crate::specs::Maps::variable))]
-fn variable(ty: &BtfType) -> Option<u32>
+pub fn variable(ty: &BtfType) -> Option<u32>
     ensures { result ≡ variable ty.now }
 {
     match ty {

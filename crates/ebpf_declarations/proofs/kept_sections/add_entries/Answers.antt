@@ -1,3 +1,4 @@
+use Rattle.std.proofs.Common.{refl}
 use Rattle.ebpf_btf.specs.declared.members.DataSecEntry.{DataSecEntry}
 use Rattle.ebpf_declarations.specs.Attempts.{given}
 use Rattle.ebpf_declarations.specs.Maps.{map_of}
@@ -8,14 +9,16 @@ use Rattle.ebpf_declarations.proofs.kept_sections.add_entries.Goals as goal
 pub loop-entry-init : goal.loop-entry-init
 loop-entry-init c = record {
   known = c.requires.known;
+  remembers = c.requires.remembers;
   added = none_added (λ (entry : DataSecEntry) symbols section. given (map_of c.args.btf.now symbols section entry)) (λ entry symbols section. fault_of (map_of c.args.btf.now symbols section entry)) c.args.distinct.now c.requires.named;
 }
 
 pub loop-entry-preserved : goal.loop-entry-preserved
 loop-entry-preserved c = record {
-  known = c.in_ok-name.ensures.known;
-  added = entries_more c.args.btf.now c.args.distinct.now c.loop-entry.distinct c.add.new.self c.args.entries.now c.loop-entry.entry-index _ c.in_ok-name.name c.in_ok-name.definitions
-      c.loop-entry-test.true c.loop-entry.invariant.added c.in_ok-name.ensures.declared c.in_ok-add.ensures.added;
+  known = c.in_ok-add_entry.ensures.known;
+  remembers = c.in_ok-add_entry.ensures.remembers;
+  added = entries_more c.args.btf.now c.args.distinct.now c.loop-entry.distinct c.add_entry.new.distinct c.args.entries.now c.loop-entry.entry-index _ _
+      c.loop-entry-test.true c.loop-entry.invariant.added refl c.in_ok-add_entry.ensures.added;
 }
 
 pub returns-clause-added : goal.returns-clause-added

@@ -1,5 +1,5 @@
 use Rattle.std.proofs.Common.{take}
-use Rattle.ebpf_declarations.specs.DistinctMaps.{Adds}
+use Rattle.ebpf_declarations.specs.DistinctMaps.{Adds, Remembers}
 use Rattle.ebpf_declarations.specs.KnownStructs.{Knows}
 use Rattle.ebpf_declarations.specs.Maps.{entries_maps, entries_fault}
 use Rattle.ebpf_declarations.proofs.kept_sections.add_entries.Given as goal
@@ -8,5 +8,6 @@ use Rattle.ebpf_declarations.proofs.kept_sections.add_entries.Given as goal
 abbrev pub invariant-loop-entry : goal.invariant-loop-entry
 invariant-loop-entry l = record {
   known : Knows l.btf l.known;
+  remembers : Remembers l.btf l.distinct;
   added : Adds l.fn.distinct l.distinct (λ symbols section. entries_maps l.btf symbols section (take l.entry-index l.entries)) (λ symbols section. entries_fault l.btf symbols section (take l.entry-index l.entries));
 }

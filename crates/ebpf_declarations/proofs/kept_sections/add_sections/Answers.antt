@@ -7,6 +7,7 @@ use Rattle.ebpf_declarations.proofs.kept_sections.add_sections.Goals as goal
 pub loop-id-preserved : goal.loop-id-preserved
 loop-id-preserved c = record {
   known = c.in_ok-add_entries.ensures.known;
+  remembers = c.in_ok-add_entries.ensures.remembers;
   added = sections_more c.args.btf.now c.args.distinct.now c.loop-id.distinct c.add_entries.new.distinct c.args.ids.now c.loop-id.id-index _ c.entries_at.result.now
       c.loop-id-test.true c.loop-id.invariant.added c.entries_at.ensures c.in_ok-add_entries.ensures.added;
 }

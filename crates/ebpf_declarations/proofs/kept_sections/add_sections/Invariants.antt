@@ -1,5 +1,5 @@
 use Rattle.std.proofs.Common.{take}
-use Rattle.ebpf_declarations.specs.DistinctMaps.{Adds}
+use Rattle.ebpf_declarations.specs.DistinctMaps.{Adds, Remembers}
 use Rattle.ebpf_declarations.specs.KnownStructs.{Knows}
 use Rattle.ebpf_declarations.specs.NamedSections.{ids_maps, ids_fault}
 use Rattle.ebpf_declarations.proofs.kept_sections.add_sections.Given as goal
@@ -8,5 +8,6 @@ use Rattle.ebpf_declarations.proofs.kept_sections.add_sections.Given as goal
 abbrev pub invariant-loop-id : goal.invariant-loop-id
 invariant-loop-id l = record {
   known : Knows l.btf l.known;
+  remembers : Remembers l.btf l.distinct;
   added : Adds l.fn.distinct l.distinct (λ symbols section. ids_maps l.btf symbols section (take l.id-index l.ids)) (λ symbols section. ids_fault l.btf symbols section (take l.id-index l.ids));
 }

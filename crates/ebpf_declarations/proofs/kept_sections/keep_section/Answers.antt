@@ -1,10 +1,7 @@
 use Rattle.std.proofs.Common.{rules, ◌≡◌, ◌∙◌, Some, ap}
 use Rattle.std.specs.FinMap.{get, insert}
-use Rattle.ebpf_declarations.proofs.Distinct.{none_named, one_kept}
+use Rattle.ebpf_declarations.proofs.Distinct.{one_kept}
 use Rattle.ebpf_declarations.proofs.kept_sections.keep_section.Goals as goal
-
-pub add_sections-requires-clause-named : goal.add_sections-requires-clause-named
-add_sections-requires-clause-named c = none_named c.none-distinct.result c.none-distinct.ensures.last
 
 pub returns-clause-kept : goal.returns-clause-kept
 returns-clause-kept c =
