@@ -206,6 +206,18 @@ def maps_of_many_sections(size):
 
 
 @shape
+def maps_of_one_long_name(size):
+    """A DATASEC that declares one map of a long name many times, by VARs of their own and by one."""
+    types, file = Types(), with_program()
+    made = types.struct_of("", [("x", 0)])
+    at = types.strings.long(size // 4)
+    count = min(many(size // 2, 40), ENTRIES // 2)
+    types.datasec(".maps", [types.add(VAR, at, made, 1) for _ in range(count)] + [types.add(VAR, at, made, 1)] * count)
+    file.symbol(file.texts.long(size // 4), OBJECT, file.section(".maps", bytes(8)), 0, 8)
+    return file.types(types).bytes()
+
+
+@shape
 def maps_of_values(size):
     """A map whose struct says `values` many times, each of one struct of many members."""
     types, file = Types(), with_program()
