@@ -118,19 +118,45 @@ fn parse(rt: &HostRuntime, path: &str) -> Result<Object, BenchError> {
     }
 }
 
+/// Adapts an object to the kernel's types, where they were read.
+fn adapt(object: &mut Object, types: Option<&Btf>) -> Result<(), BenchError> {
+    let Some(types) = types else {
+        return Ok(());
+    };
+    match object.relocate_btf(types) {
+        Ok(()) => Ok(()),
+        Err(_) => Err(BenchError::Refused("types")),
+    }
+}
+
+/// Takes the steps of `ebpf-link` behind parsing, one after the other.
+fn pass_all(
+    rt: &HostRuntime,
+    sources: &Sources<'_>,
+    object: &mut Object,
+    types: Option<&Btf>,
+) -> Result<(), BenchError> {
+    adapt(object, types)?;
+    let sections = object.text_sections(rt.alloc())?;
+    describe(rt.alloc(), object, &sections)?;
+    resolve(rt, sources, object, types)?;
+    join(object, &sections)
+}
+
+/// The same, where the kernel's types are read first if the object needs them.
+fn read_and_pass(
+    rt: &HostRuntime,
+    sources: &Sources<'_>,
+    object: &mut Object,
+) -> Result<(), BenchError> {
+    let types = read_types(rt, sources, object)?;
+    pass_all(rt, sources, object, types.as_ref())
+}
+
 /// Takes the steps that `ebpf-link` takes, one after the other.
 fn prepare(rt: &HostRuntime, sources: &Sources<'_>) -> Result<Object, BenchError> {
     let mut object = parse(rt, sources.file)?;
-    let types = read_types(rt, sources, &object)?;
-    if let Some(types) = &types {
-        if object.relocate_btf(types).is_err() {
-            return Err(BenchError::Refused("types"));
-        }
-    }
-    let sections = object.text_sections(rt.alloc())?;
-    describe(rt.alloc(), &mut object, &sections)?;
-    resolve(rt, sources, &mut object, types.as_ref())?;
-    join(&mut object, &sections)?;
+    read_and_pass(rt, sources, &mut object)?;
     Ok(object)
 }
 
