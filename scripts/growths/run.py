@@ -133,6 +133,9 @@ class Row:
             return "refused past the last growth" if run.refused else self.plain_fault(ample, run)
         if not run.is_counted or not run.refused:
             return f"nothing was refused: {run.status} {run.err[-200:]!r}"
+        if not ending and self.plain_fault(ample, run) is None:
+            # std's `collect` asks for room by a hint, and where that is refused for less.
+            return None
         return self.refused_fault(ample, run)
 
     def judge(self, runner):

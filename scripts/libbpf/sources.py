@@ -32,6 +32,15 @@ def chain(count):
     return text + program("return f0(1);") + LICENSE
 
 
+def worked_chain(count):
+    """A program, and functions of some twenty slots on nine lines that each call the next."""
+    steps = "".join(f"\tx = (x * {at * 2 + 3}) ^ (x >> {at + 1});\n\t{KEEP}\n" for at in range(4))
+    text = PLAIN + f"{ALONE}long f{count - 1}(long x)\n{{\n{steps}\treturn x + 1;\n}}\n"
+    for at in range(count - 2, -1, -1):
+        text += f"{ALONE}long f{at}(long x)\n{{\n{steps}\treturn f{at + 1}(x) + {at % 97};\n}}\n"
+    return text + program("return f0(1);") + LICENSE
+
+
 def shared(count):
     """A program, and functions that each call the next two."""
     text = PLAIN

@@ -1,13 +1,13 @@
 //! The externs of an object.
 
-ghost use Rattle.std.specs.Prelude.{◌≡◌, None, IfOk, OnOk, OnErr};
+ghost use Rattle.std.specs.Prelude.{◌≡◌, None, IfOk, OnOk, OnErr, is_some};
 ghost use Rattle.std.specs.FinMap as map;
 ghost use Rattle.std.specs.List.{flat_map};
 ghost use Rattle.ebpf_base.specs.Faults.{Refuses, fault_of, first_some, or_else};
 ghost use Rattle.ebpf_btf.specs.Memory.{is_memory};
 ghost use Rattle.ebpf_declarations.specs.Attempts.{given};
 ghost use Rattle.ebpf_declarations.specs.ExternNames.{named, all_named, IsNamed, RemembersWeak};
-ghost use Rattle.ebpf_declarations.specs.Externs.{is_function, held, new_extern, extern_of, met_entry, first_met, types_with, types_fault, externs_of, entries_fault, extern_types, externs, externs_fault};
+ghost use Rattle.ebpf_declarations.specs.Externs.{is_function, held, new_extern, extern_of, met_entry, first_met, found_entries, types_with, types_fault, externs_of, entries_fault, extern_types, externs, externs_fault};
 ghost use Rattle.ebpf_declarations.specs.Placeholders.{Begins};
 
 use crate::data_sections::first_entries;
@@ -169,6 +169,13 @@ fn add_externs(
 {
     prepare_types(btf, entries)?;
     externs_of(alloc, btf, weak, entries)
+}
+
+/// Whether types may declare externs: they have a DATASEC `.ksyms`, or one before it whose name can't be read.
+pub fn may_declare_externs(btf: &Btf) -> bool
+    ensures { result ≡ is_some (found_entries btf.now) }
+{
+    !matches!(first_entries(btf, EXTERNS), Ok(None))
 }
 
 /// The externs of an object, by name: the entries of the first DATASEC `.ksyms`. `weak` says of each name that a

@@ -17,6 +17,7 @@ pub mod LastPrograms
 pub mod Lasts
 pub mod TablePlaces
 pub mod Bare
+pub mod BuiltTables
 pub mod OffsetOrder
 pub mod TextKeys
 pub mod SectionTables
@@ -25,3 +26,4 @@ pub mod Standing
 pub mod ClearSections
 pub mod CodeTables
 pub mod MapSymbols
+pub mod ByAddress

@@ -3,8 +3,8 @@ use Rattle.std.proofs.Common.{◌≡◌, ℕ, zero, suc, ◌+◌, ◌-◌, ◌<�
 use Rattle.std.specs.Prelude.{◌⊎◌, ◌==◌, nat_le, nat_lt}
 use Rattle.std.specs.Cmp.{nat_cmp_total, eq_by_cmp_equiv}
 use Rattle.std.specs.FinMap.{nat_cmp-IsAntisymmetric}
-use Rattle.std.specs.List.{AllWithin, flat_map, range_with_len, AllByRecursion, IsDistinct}
-use Rattle.std.specs.List.Sorted.{IsPartitionPoint, IsPermutation, IsSorted, IsStableByKey, IsStrictlySortedBy, ties}
+use Rattle.std.specs.List.{AllAdjacentBelow, AllWithin, flat_map, range_with_len, AllByRecursion, IsDistinct}
+use Rattle.std.specs.List.Sorted.{IsNonDecreasingBy, IsPermutation, IsSorted, IsStableByKey, IsStrictlySortedBy, ties}
 use Rattle.std.specs.Ordering.{nat_cmp, eq_by_cmp, is_lt}
 use Rattle.std.specs.declared.cmp.Ordering.TheVariants.{Less}
 use Rattle.std.proofs.lemmas.Bool.{cases_lt}
@@ -18,7 +18,7 @@ use Rattle.std.proofs.lemmas.Map.Keys.{IsDistinct-from_sorted, IsDistinct-IsPerm
 use Rattle.ebpf_ext.specs.declared.ext_infos.bpf_func_info.{bpf_func_info}
 use Rattle.ebpf_ext.specs.declared.ext_infos.bpf_line_info.{bpf_line_info}
 use Rattle.ebpf_parsing.specs.Records.{is_func_at, func_from, func_at, func_slot, is_line_in, line_from, line_at, line_slot}
-use Rattle.ebpf_parsing.specs.SlotPlaces.{is_at, is_among, places_with}
+use Rattle.ebpf_parsing.specs.SlotPlaces.{is_at, is_among, is_among_slots, places_with, Begins}
 use Rattle.ebpf_parsing.specs.declared.slot_places.Place.{Place}
 use Rattle.ebpf_base.proofs.Sorted.{strictly_sorted, same_keys}
 
@@ -105,33 +105,64 @@ tied slot p = rw (is_less slot p.slot, is_less p.slot slot) (bool_same _ _ (λ e
 pub stable_at : (xs ys : List Place) → IsStableByKey (λ p. p.slot) nat_cmp xs ys → (slot : ℕ) → filter (is_at slot) ys ≡ filter (is_at slot) xs
 stable_at xs ys stable slot = sym (filter_agree _ _ (tied slot) ys) ∙ stable (record { slot = slot; place = 0 }) ∙ filter_agree _ _ (tied slot) xs
 
--- so many stand before a slot
-abbrev pub Cuts : ℕ → List Place → ℕ → Type 0
-Cuts slot xs n = IsPartitionPoint (λ p. p.slot < slot) (λ p. slot ≤ p.slot) xs n
+module _ {X : Type 0} (slot : X → ℕ) where
+  pub begin_in_order : (a b : ℕ) (xs : List X) (i j : ℕ) → Begins slot a xs i → Begins slot b xs j → a ≤ b → i ≤ length xs → i ≤ j
+  begin_in_order a b [] i j low high up within = omega arith
+  begin_in_order a b (x ∷ xs) i j low high up within = by_case (cases_lt j i)
+    where
+      by_case : (j < i) ⊎ (i ≤ j) → i ≤ j
+      by_case (inl past) =
+          let below : slot (get_or (x ∷ xs) j x) < a = low.0 j x (omega arith) past in
+          let above : b ≤ slot (get_or (x ∷ xs) j x) = high.1 j x (omega arith) (omega arith) in
+          absurd (omega arith)
+      by_case (inr here) = here
 
-pub cuts_rise : (a b : ℕ) (xs : List Place) (i j : ℕ) → Cuts a xs i → Cuts b xs j → a ≤ b → i ≤ length xs → i ≤ j
-cuts_rise a b [] i j low high up within = omega arith
-cuts_rise a b (x ∷ xs) i j low high up within = by_case (cases_lt j i)
-  where
-    by_case : (j < i) ⊎ (i ≤ j) → i ≤ j
-    by_case (inl past) =
-        let below : (get_or (x ∷ xs) j x).slot < a = low.0 j x (omega arith) past in
-        let above : b ≤ (get_or (x ∷ xs) j x).slot = high.1 j x (omega arith) (omega arith) in
-        absurd (omega arith)
-    by_case (inr here) = here
+  pub part_among : (first count : ℕ) (xs : List X) (i j : ℕ) → Begins slot first xs i → Begins slot (first + count) xs j → i ≤ j → j ≤ length xs
+      → take (j - i) (drop i xs) ≡ filter (is_among_slots slot first count) xs
+  part_among first count xs i j low high up within =
+      sym (part_passes (is_among_slots slot first count) xs i (j - i) (omega arith)
+      (λ k d before. let below = low.0 k d (omega arith) before in grind (arith, nat_tests, below))
+      (λ k d from to. let above = low.1 k d from (omega arith) in let below = high.0 k d (omega arith) (omega arith) in grind (arith, nat_tests, above, below))
+      (λ k d from to. let above = high.1 k d (omega arith) to in grind (arith, nat_tests, above)))
 
-pub part_among : (first count : ℕ) (xs : List Place) (i j : ℕ) → Cuts first xs i → Cuts (first + count) xs j → i ≤ j → j ≤ length xs → take (j - i) (drop i xs) ≡ filter (is_among first count) xs
-part_among first count xs i j low high up within =
-    sym (part_passes (is_among first count) xs i (j - i) (omega arith)
-    (λ k d before. let below = low.0 k d (omega arith) before in grind (arith, nat_tests, below))
-    (λ k d from to. let above = low.1 k d from (omega arith) in let below = high.0 k d (omega arith) (omega arith) in grind (arith, nat_tests, above, below))
-    (λ k d from to. let above = high.1 k d (omega arith) to in grind (arith, nat_tests, above)))
+  -- what the rows beside a place say of all of them
+  pub begin_at : (s : ℕ) (xs : List X) (n : ℕ) → IsNonDecreasingBy slot xs → n ≤ length xs
+      → ((d : X) → 0 < n → slot (get_or xs (n - 1) d) < s) → ((d : X) → n < length xs → s ≤ slot (get_or xs n d)) → Begins slot s xs n
+  begin_at s xs n rising within before after = (
+    λ k d low high. let last = before d (omega arith) in let up : slot (get_or xs k d) ≤ slot (get_or xs (n - 1) d) = rising k (n - 1) d (omega arith) (omega arith) in omega (arith, last, up),
+    λ k d low high. let first = after d (omega arith) in let up : slot (get_or xs n d) ≤ slot (get_or xs k d) = rising n k d low high in omega (arith, first, up),
+  )
 
-at_is_among : (slot : ℕ) (p : Place) → is_among slot 1 p ≡ is_at slot p
-at_is_among slot p = bool_same _ _ (λ e. grind (arith, nat_tests)) (λ e. grind (arith, nat_tests))
+  -- rows of which those up to a place are below a limit, and the one there isn't
+  pub begin_behind : (limit : ℕ) (xs : List X) (n : ℕ) → IsNonDecreasingBy slot xs → ((k : ℕ) (d : X) → k < n → slot (get_or xs k d) < limit)
+      → ((d : X) → n < length xs → limit ≤ slot (get_or xs n d)) → Begins slot limit xs n
+  begin_behind limit xs n rising below after = (
+    λ k d low high. below k d high,
+    λ k d low high. let first = after d (omega arith) in let up : slot (get_or xs n d) ≤ slot (get_or xs k d) = rising n k d low high in omega (arith, first, up),
+  )
 
-pub part_at : (slot : ℕ) (xs : List Place) (i j : ℕ) → Cuts slot xs i → Cuts (slot + 1) xs j → i ≤ j → j ≤ length xs → take (j - i) (drop i xs) ≡ filter (is_at slot) xs
-part_at slot xs i j low high up within = part_among slot 1 xs i j low high up within ∙ filter_agree _ _ (at_is_among slot) xs
+  -- one more row that isn't below the one before it
+  pub adjacent_more : (xs : List X) (i last : ℕ) (x : X) → AllAdjacentBelow (λ y z. slot y ≤ slot z) xs i → ((d : X) → 0 < i → slot (get_or xs (i - 1) d) ≤ last)
+      → ((d : X) → slot (get_or xs i d) ≡ slot x) → last ≤ slot x → AllAdjacentBelow (λ y z. slot y ≤ slot z) xs (i + 1)
+  adjacent_more xs i last x before end here up = λ k d below. by_case k d below (cases_lt (k + 1) i)
+    where
+      by_case : (k : ℕ) (d : X) → k + 1 < i + 1 → (k + 1 < i) ⊎ (i ≤ k + 1) → slot (get_or xs k d) ≤ slot (get_or xs (k + 1) d)
+      by_case k d below (inl earlier) = before k d earlier
+      by_case k d below (inr at) =
+          let same : i ≡ k + 1 = omega arith in
+          let prior : i - 1 ≡ k = omega arith in
+          let lower : slot (get_or xs k d) ≤ last = subst (λ n. slot (get_or xs n d) ≤ last) prior (end d (omega arith)) in
+          let next : slot (get_or xs (k + 1) d) ≡ slot x = subst (λ n. slot (get_or xs n d) ≡ slot x) same (here d) in
+          omega (arith, lower, next, up)
+
+  one_slot : (s : ℕ) (x : X) → is_among_slots slot s 1 x ≡ (slot x == s)
+  one_slot s x = bool_same _ _ (λ e. grind (arith, nat_tests)) (λ e. grind (arith, nat_tests))
+
+  pub of_one_slot : (s : ℕ) (xs : List X) → filter (is_among_slots slot s 1) xs ≡ filter (λ x. slot x == s) xs
+  of_one_slot s xs = filter_agree _ _ (one_slot s) xs
+
+pub at_one_slot : (s : ℕ) (xs : List Place) → filter (is_among s 1) xs ≡ filter (is_at s) xs
+at_one_slot s xs = of_one_slot (λ p. p.slot) s xs
 
 -- ---- gathered slot by slot, they only stand in another order
 
@@ -239,6 +270,14 @@ module _ (first count : ℕ) (rows : List bpf_line_info) (places : List Place) (
       subst (All (λ i. i < length rows)) (sym (in_order (line_slot rows) (length rows) first count places sorted by_slot moved up))
       (All-filter (stands_in (line_slot rows) first count) (λ i. i < length rows) (range_with_len 0 (length rows)) (below_end (length rows)))
 
+-- slots that are counted from the first one
+pub lines_kept : (rows : List bpf_line_info) → map (line_from 0) rows ≡ rows
+lines_kept [] = refl
+lines_kept (r ∷ rows) =
+    let same : r.insn_off - 0 ≡ r.insn_off = omega arith in
+    let here : line_from 0 r ≡ r = ap (λ n. record r { insn_off = n }) same in
+    ap (λ x. x ∷ map (line_from 0) rows) here ∙ ap (λ l. r ∷ l) (lines_kept rows)
+
 -- ---- records on functions
 
 module _ (first : ℕ) (rows : List bpf_func_info) (places part : List Place) where
@@ -255,6 +294,13 @@ module _ (first : ℕ) (rows : List bpf_func_info) (places part : List Place) wh
       subst (All (λ p. p.place < length rows)) (sym (here ∙ same))
       (All-filter (is_at first) (λ p. p.place < length rows) (places_with (func_slot rows) (length rows))
       (All-map (λ p. p.place < length rows) (λ i. record { slot = func_slot rows i; place = i }) (range_with_len 0 (length rows)) (below_end (length rows))))
+
+pub funcs_kept : (rows : List bpf_func_info) → map (func_from 0) rows ≡ rows
+funcs_kept [] = refl
+funcs_kept (r ∷ rows) =
+    let same : r.insn_off - 0 ≡ r.insn_off = omega arith in
+    let here : func_from 0 r ≡ r = ap (λ n. record r { insn_off = n }) same in
+    ap (λ x. x ∷ map (func_from 0) rows) here ∙ ap (λ l. r ∷ l) (funcs_kept rows)
 
 -- ---- places one after the other
 

@@ -1,10 +1,7 @@
--- The walk over the functions of a Text section, each of which is put into a table where it is met.
-use Rattle.std.proofs.Common.{◌≡◌, ℕ, ◌+◌, ◌-◌, ◌<◌, ◌≤◌, List, [], ◌∷◌, ◌++◌, length, map, Option, None, refl, sym, ap, ◌∙◌, arith}
-use Rattle.std.specs.FinMap.{FinMap, insert}
+-- The walk over the functions of a Text section, each of which goes to the end of a list where it is met.
+use Rattle.std.proofs.Common.{◌≡◌, ℕ, ◌+◌, ◌-◌, ◌<◌, ◌≤◌, List, [], ◌∷◌, ◌++◌, length, map, Option, None, append_assoc, append-nil, refl, sym, ap, ◌∙◌, arith}
 use Rattle.std.specs.List.{flat_map}
 use Rattle.ebpf_base.specs.Faults.{or_else, first_some}
-use Rattle.ebpf_base.specs.Keyed.{put_all}
-use Rattle.ebpf_base.specs.Keys.{key_cmp}
 use Rattle.ebpf_reloc.specs.declared.function.Function.{Function}
 use Rattle.ebpf_parsing.specs.Programs.{placed}
 use Rattle.ebpf_parsing.specs.Records.{Said}
@@ -21,29 +18,33 @@ from_here said s ys begun o = flat_map (function_at said s ys) (offsets_from (le
 abbrev pub fault_from : SectionValue → List SymbolValue → ℕ → ℕ → Option ParseError
 fault_from s ys begun o = first_some (fault_at s ys) (offsets_from (length s.bytes - begun) s ys o)
 
--- what is left from an offset on gives, put into the table, what all gave from the start
-pub record IsWalked (said : Said) (s : SectionValue) (ys : List SymbolValue) (before now : FinMap key_cmp Function) (o : ℕ) : Type 0 where
+-- a function with its section and address
+abbrev pub Placed : Type 0
+Placed = (ℕ × ℕ) × Function
+
+-- what is kept, then what is left from an offset on, is all that there was from the start
+pub record IsWalked (said : Said) (s : SectionValue) (ys : List SymbolValue) (kept : List Placed) (o : ℕ) : Type 0 where
   pub begun : ℕ
   pub few : begun ≤ o
   pub inside : o ≤ length s.bytes
-  pub put : put_all now (map placed (from_here said s ys begun o)) ≡ put_all before (map placed (text_functions said s ys))
+  pub all : kept ++ map placed (from_here said s ys begun o) ≡ map placed (text_functions said s ys)
   pub fault : fault_from s ys begun o ≡ walk_fault s ys
 
-pub start : (said : Said) (s : SectionValue) (ys : List SymbolValue) (m : FinMap key_cmp Function) → IsWalked said s ys m m 0
-start said s ys m =
+pub start : (said : Said) (s : SectionValue) (ys : List SymbolValue) → IsWalked said s ys [] 0
+start said s ys =
     let same : length s.bytes - 0 ≡ length s.bytes = omega arith in
     record {
       begun = 0;
       few = omega arith;
       inside = omega arith;
-      put = ap (λ n. put_all m (map placed (flat_map (function_at said s ys) (offsets_from n s ys 0)))) same;
+      all = ap (λ n. map placed (flat_map (function_at said s ys) (offsets_from n s ys 0))) same;
       fault = ap (λ n. first_some (fault_at s ys) (offsets_from n s ys 0)) same;
     }
 
-pub more : (said : Said) (s : SectionValue) (ys : List SymbolValue) (m t u : FinMap key_cmp Function) (o e : ℕ) (f : Function)
-    → u ≡ insert t (f.section_index.0, f.address) f → o < length s.bytes → function_at said s ys o ≡ f ∷ [] → e ≡ o + size_at s ys o → fault_at s ys o ≡ None → o < e → e ≤ length s.bytes
-    → IsWalked said s ys m t o → IsWalked said s ys m u e
-more said s ys m t u o e f filled within here next sound further ends w =
+pub more : (said : Said) (s : SectionValue) (ys : List SymbolValue) (t u : List Placed) (o e : ℕ) (f : Function)
+    → u ≡ t ++ ((f.section_index.0, f.address), f) ∷ [] → o < length s.bytes → function_at said s ys o ≡ f ∷ [] → e ≡ o + size_at s ys o → fault_at s ys o ≡ None → o < e → e ≤ length s.bytes
+    → IsWalked said s ys t o → IsWalked said s ys u e
+more said s ys t u o e f pushed within here next sound further ends w =
     let few : w.begun < length s.bytes = omega (arith, w.few, within) in
     let rest : from_here said s ys w.begun o ≡ f ∷ from_here said s ys (w.begun + 1) e
     = functions_more said s ys (length s.bytes) w.begun o few within
@@ -53,24 +54,26 @@ more said s ys m t u o e f filled within here next sound further ends w =
       begun = w.begun + 1;
       few = omega (arith, w.few, further);
       inside = ends;
-      put = ap (λ n. put_all n (map placed (from_here said s ys (w.begun + 1) e))) filled ∙ sym (ap (λ fs. put_all t (map placed fs)) rest) ∙ w.put;
+      all = ap (λ l. l ++ map placed (from_here said s ys (w.begun + 1) e)) pushed
+          ∙ append_assoc t (placed f ∷ []) (map placed (from_here said s ys (w.begun + 1) e))
+          ∙ sym (ap (λ fs. t ++ map placed fs) rest) ∙ w.all;
       fault = fault_step s ys w.begun (w.begun + 1) o e few within sound next refl ∙ w.fault;
     }
 
 -- the fault at an offset comes before those that are left
-pub fault_here : (said : Said) (s : SectionValue) (ys : List SymbolValue) (m t : FinMap key_cmp Function) (o : ℕ)
-    → o < length s.bytes → IsWalked said s ys m t o → (rest : Option ParseError) × (or_else (fault_at s ys o) rest ≡ walk_fault s ys)
-fault_here said s ys m t o within w =
+pub fault_here : (said : Said) (s : SectionValue) (ys : List SymbolValue) (t : List Placed) (o : ℕ)
+    → o < length s.bytes → IsWalked said s ys t o → (rest : Option ParseError) × (or_else (fault_at s ys o) rest ≡ walk_fault s ys)
+fault_here said s ys t o within w =
     let few : w.begun < length s.bytes = omega (arith, w.few, within) in (
       first_some (fault_at s ys) (offsets_from (length s.bytes - (w.begun + 1)) s ys (o + size_at s ys o)),
       sym (fault_more s ys (length s.bytes) w.begun o few within) ∙ w.fault,
     )
 
-pub none_left : (said : Said) (s : SectionValue) (ys : List SymbolValue) (m t : FinMap key_cmp Function) (o : ℕ)
-    → length s.bytes ≤ o → IsWalked said s ys m t o → walk_fault s ys ≡ None
-none_left said s ys m t o past w = sym w.fault ∙ ap (first_some (fault_at s ys)) (no_offsets s ys (length s.bytes - w.begun) o past)
+pub none_left : (said : Said) (s : SectionValue) (ys : List SymbolValue) (t : List Placed) (o : ℕ)
+    → length s.bytes ≤ o → IsWalked said s ys t o → walk_fault s ys ≡ None
+none_left said s ys t o past w = sym w.fault ∙ ap (first_some (fault_at s ys)) (no_offsets s ys (length s.bytes - w.begun) o past)
 
-pub all_put : (said : Said) (s : SectionValue) (ys : List SymbolValue) (m t : FinMap key_cmp Function) (o : ℕ)
-    → length s.bytes ≤ o → IsWalked said s ys m t o → t ≡ put_all m (map placed (text_functions said s ys))
-all_put said s ys m t o past w =
-    sym (ap (λ os. put_all t (map placed (flat_map (function_at said s ys) os))) (no_offsets s ys (length s.bytes - w.begun) o past)) ∙ w.put
+pub all_kept : (said : Said) (s : SectionValue) (ys : List SymbolValue) (t : List Placed) (o : ℕ)
+    → length s.bytes ≤ o → IsWalked said s ys t o → t ≡ map placed (text_functions said s ys)
+all_kept said s ys t o past w =
+    sym (append-nil t) ∙ sym (ap (λ os. t ++ map placed (flat_map (function_at said s ys) os)) (no_offsets s ys (length s.bytes - w.begun) o past)) ∙ w.all

@@ -58,6 +58,10 @@ slot_of place = place / 8
 abbrev pub is_func_at : ℕ → bpf_func_info → Bool
 is_func_at first r = r.insn_off == first
 
+-- the slot that a record names
+abbrev pub slot_of_func : bpf_func_info → ℕ
+slot_of_func r = r.insn_off
+
 -- a record of a list, by its place, and the slot that it names
 abbrev pub func_at : List bpf_func_info → ℕ → bpf_func_info
 func_at rows i = slice_index_or rows i (record { insn_off = 0; type_id = 0 })
@@ -76,6 +80,10 @@ funcs_at said first base = record said { func_info = map (func_from base) (filte
 
 abbrev pub is_line_in : ℕ → ℕ → bpf_line_info → Bool
 is_line_in first count r = nat_le first r.insn_off && nat_lt r.insn_off (first + count)
+
+-- the slot that a record names
+abbrev pub slot_of_line : bpf_line_info → ℕ
+slot_of_line r = r.insn_off
 
 -- a record of a list, by its place, and the slot that it names
 abbrev pub line_at : List bpf_line_info → ℕ → bpf_line_info

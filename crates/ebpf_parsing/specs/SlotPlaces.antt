@@ -1,6 +1,7 @@
 -- The places of records in a list, each with the slot that the record there names.
-use Rattle.std.specs.Prelude.{ℕ, ◌+◌, ◌&&◌, Bool, List, map, ◌==◌, nat_le, nat_lt}
+use Rattle.std.specs.Prelude.{ℕ, ◌+◌, ◌<◌, ◌≤◌, ◌&&◌, Bool, List, map, ◌==◌, nat_le, nat_lt}
 use Rattle.std.specs.List.{range_with_len}
+use Rattle.std.specs.List.Sorted.{IsPartitionPoint}
 use Rattle.ebpf_parsing.specs.declared.slot_places.Place.{Place}
 
 -- the places 0, 1 .. of so many records, of which the first function gives the slots
@@ -10,6 +11,13 @@ places_with slot count = map (λ i. record { slot = slot i; place = i }) (range_
 abbrev pub is_at : ℕ → Place → Bool
 is_at slot p = p.slot == slot
 
--- among so many slots from a slot on
+-- whether a row names one of so many slots from a slot on
+abbrev pub is_among_slots : {X : Type 0} → (X → ℕ) → ℕ → ℕ → X → Bool
+is_among_slots slot first count x = nat_le first (slot x) && nat_lt (slot x) (first + count)
+
 abbrev pub is_among : ℕ → ℕ → Place → Bool
-is_among first count p = nat_le first p.slot && nat_lt p.slot (first + count)
+is_among first count p = is_among_slots (λ q. q.slot) first count p
+
+-- the rows of a slot, and of those after it, begin at a place
+abbrev pub Begins : {X : Type 0} → (X → ℕ) → ℕ → List X → ℕ → Type 0
+Begins slot s xs n = IsPartitionPoint (λ x. slot x < s) (λ x. s ≤ slot x) xs n

@@ -10,7 +10,7 @@ ghost use Rattle.ebpf_parts.specs.Memory.{is_memory};
 use crate::symbol_names::weak_by_name;
 use ebpf_base::ByName;
 use ebpf_btf::Btf;
-use ebpf_declarations::{collect_externs, parse_error};
+use ebpf_declarations::{collect_externs, may_declare_externs, parse_error};
 use ebpf_elf::ElfFile;
 use ebpf_parts::ParseError;
 use ebpf_reloc::ExternDesc;
@@ -25,7 +25,7 @@ pub struct FileExterns {
 
 impl FileExterns {
     /// Those of a file, whose symbols have names, beside its types.
-    #[tactic(auto, using(crate::proofs::TypeErrors::said))]
+    #[tactic(auto, using(crate::proofs::TypeErrors::said), unfolding(ebpf_declarations::specs::Externs::types_with, ebpf_declarations::specs::Externs::types_fault))]
     pub fn read(
         alloc: Global,
         file: &ElfFile<'_>,
@@ -42,6 +42,12 @@ impl FileExterns {
                 externs: ByName::new(alloc),
             });
         };
+        if !may_declare_externs(&btf) {
+            return Ok(FileExterns {
+                btf: Some(btf),
+                externs: ByName::new(alloc),
+            });
+        }
         let weak = weak_by_name(alloc, file)?;
         match collect_externs(alloc, &mut btf, &weak) {
             Ok(externs) => Ok(FileExterns {

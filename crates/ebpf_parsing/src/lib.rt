@@ -2,6 +2,7 @@
 #![tactic(auto)]
 
 mod by_places;
+mod by_slot;
 mod contents;
 mod data_maps;
 mod declared_maps;

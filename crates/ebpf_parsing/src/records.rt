@@ -1,31 +1,54 @@
 //! What `.BTF.ext` says of the functions of a section.
 
-ghost use Rattle.std.specs.Prelude.{◌≡◌, ◌+◌, ◌<◌, ◌^◌, ℕ, IfOk, IfErr, true, map, filter, length, unwrap_or};
+ghost use Rattle.std.specs.Prelude.{◌≡◌, ◌<◌, ℕ, IfOk, IfErr, true, false, map, filter, length, unwrap_or};
 ghost use Rattle.std.specs.Option.{option_copied};
 ghost use Rattle.ebpf_ext.specs.ExtInfos.{no_func_info, no_line_info};
 ghost use Rattle.std.specs.List.{All};
-ghost use Rattle.ebpf_parsing.specs.Records.{Said, is_func_at, is_line_in, func_at, func_slot, func_from, line_from, line_at, line_slot, funcs_at, lines_in};
+ghost use Rattle.std.specs.List.Sorted.{IsNonDecreasingBy};
+ghost use Rattle.ebpf_parsing.specs.Records.{Said, is_func_at, is_line_in, func_at, func_slot, func_from, line_from, line_at, line_slot, funcs_at, lines_in, slot_of_func, slot_of_line};
 ghost use Rattle.ebpf_parsing.specs.SlotPlaces.{is_at, places_with};
 ghost use Rattle.ebpf_parts.specs.Memory.{is_memory};
 
+use crate::by_slot::{NamesSlot, is_in_order, rows_among};
 use crate::slot_places::{Place, SlotPlaces, func_places, line_places};
 use ebpf_base::Items;
 use ebpf_ext::{FuncSecInfo, LineSecInfo, bpf_func_info, bpf_line_info};
 use ebpf_parts::ParseError;
 use std::alloc::Global;
+use std::cell::Cell;
 use std::marker::Model;
 
 /// The length of a slot in bytes.
 pub const SLOT: usize = 8;
 
-/// What is said of the functions of a section, lent.
+impl NamesSlot for bpf_func_info {
+    ghost slot_of = { slot_of_func };
+
+    fn slot(&self) -> u32 {
+        self.insn_off
+    }
+}
+
+impl NamesSlot for bpf_line_info {
+    ghost slot_of = { slot_of_line };
+
+    fn slot(&self) -> u32 {
+        self.insn_off
+    }
+}
+
+/// What is said of the functions of a section, lent. Places are gathered only where the records are not in the order
+/// of their slots.
 #[derive(Drop)]
 pub struct FuncRecords<'e> {
     name_offset: u32,
     count: u32,
     records: &'e [bpf_func_info],
+    in_order: bool,
+    next: Cell<usize>,
     places: SlotPlaces,
-    ghost grouped: { (q : ℕ) → filter (is_at q) places ≡ filter (is_at q) (places_with (func_slot records.now) (length records.now)) },
+    ghost rising: { in_order ≡ true → IsNonDecreasingBy slot_of_func records.now },
+    ghost grouped: { in_order ≡ false → (q : ℕ) → filter (is_at q) places ≡ filter (is_at q) (places_with (func_slot records.now) (length records.now)) },
 }
 
 impl<'e> Model for FuncRecords<'e> {
@@ -36,14 +59,18 @@ impl<'e> Model for FuncRecords<'e> {
     ghost view = { λ r. record { sec_name_offset = r.name_offset; num_info = r.count; func_info = r.records.now } };
 }
 
-/// What is said of the lines of a section, lent.
+/// What is said of the lines of a section, lent. Places are gathered only where the records are not in the order of
+/// their slots.
 #[derive(Drop)]
 pub struct LineRecords<'e> {
     name_offset: u32,
     count: u32,
     records: &'e [bpf_line_info],
+    in_order: bool,
+    next: Cell<usize>,
     places: SlotPlaces,
-    ghost grouped: { (q : ℕ) → filter (is_at q) places ≡ filter (is_at q) (places_with (line_slot records.now) (length records.now)) },
+    ghost rising: { in_order ≡ true → IsNonDecreasingBy slot_of_line records.now },
+    ghost grouped: { in_order ≡ false → (q : ℕ) → filter (is_at q) places ≡ filter (is_at q) (places_with (line_slot records.now) (length records.now)) },
 }
 
 impl<'e> Model for LineRecords<'e> {
@@ -64,11 +91,23 @@ impl<'e> FuncRecords<'e> {
         ensures info { IfOk result (λ r. r ≡ record { sec_name_offset = name_offset; num_info = count; func_info = records.now }) }
         ensures memory { IfErr result (λ e. is_memory e ≡ true) }
     {
+        if is_in_order(records) {
+            return Ok(FuncRecords {
+                name_offset,
+                count,
+                records,
+                in_order: true,
+                next: Cell::new(0),
+                places: SlotPlaces::none(alloc),
+            });
+        }
         let places = SlotPlaces::sorted(func_places(alloc, records)?)?;
         Ok(FuncRecords {
             name_offset,
             count,
             records,
+            in_order: false,
+            next: Cell::new(0),
             places,
         })
     }
@@ -108,6 +147,9 @@ impl<'e> FuncRecords<'e> {
         ensures records { IfOk result (λ kept. kept ≡ map (func_from base) (filter (is_func_at first) self.now.func_info)) }
         ensures memory { IfErr result (λ e. is_memory e ≡ true) }
     {
+        if self.in_order {
+            return funcs_counted_from(alloc, rows_among(self.records, &self.next, first, 1), base);
+        }
         let kept = funcs_from(alloc, self.records, self.places.at(first), base)?;
         Ok(kept)
     }
@@ -134,6 +176,26 @@ fn func_from(base: usize, row: &bpf_func_info) -> bpf_func_info
         insn_off: (row.insn_off as usize).saturating_sub(base) as u32,
         type_id: row.type_id,
     }
+}
+
+/// A copy of records, their slots counted from another one.
+#[tactic(auto, using(crate::proofs::Places::funcs_kept))]
+fn funcs_counted_from(
+    alloc: Global,
+    rows: &[bpf_func_info],
+    base: usize,
+) -> Result<Items<bpf_func_info>, ParseError>
+    ensures records { IfOk result (λ kept. kept ≡ map (func_from base) rows.now) }
+    ensures memory { IfErr result (λ e. is_memory e ≡ true) }
+{
+    if base == 0 {
+        return Ok(Items::from_vec(Vec::from_slice(alloc, rows)?));
+    }
+    let mut kept = Vec::with_capacity(alloc, rows.len())?;
+    for row in rows {
+        kept.push(func_from(base, row))?;
+    }
+    Ok(Items::from_vec(kept))
 }
 
 /// The records at some places, their slots counted from another one.
@@ -166,6 +228,26 @@ fn line_from(base: usize, row: &bpf_line_info) -> bpf_line_info
     }
 }
 
+/// A copy of records, their slots counted from another one.
+#[tactic(auto, using(crate::proofs::Places::lines_kept))]
+fn lines_counted_from(
+    alloc: Global,
+    rows: &[bpf_line_info],
+    base: usize,
+) -> Result<Items<bpf_line_info>, ParseError>
+    ensures records { IfOk result (λ kept. kept ≡ map (line_from base) rows.now) }
+    ensures memory { IfErr result (λ e. is_memory e ≡ true) }
+{
+    if base == 0 {
+        return Ok(Items::from_vec(Vec::from_slice(alloc, rows)?));
+    }
+    let mut kept = Vec::with_capacity(alloc, rows.len())?;
+    for row in rows {
+        kept.push(line_from(base, row))?;
+    }
+    Ok(Items::from_vec(kept))
+}
+
 /// The records at some places, their slots counted from another one.
 fn lines_from(
     alloc: Global,
@@ -194,11 +276,23 @@ impl<'e> LineRecords<'e> {
         ensures info { IfOk result (λ r. r ≡ record { sec_name_offset = name_offset; num_info = count; line_info = records.now }) }
         ensures memory { IfErr result (λ e. is_memory e ≡ true) }
     {
+        if is_in_order(records) {
+            return Ok(LineRecords {
+                name_offset,
+                count,
+                records,
+                in_order: true,
+                next: Cell::new(0),
+                places: SlotPlaces::none(alloc),
+            });
+        }
         let places = SlotPlaces::sorted(line_places(alloc, records)?)?;
         Ok(LineRecords {
             name_offset,
             count,
             records,
+            in_order: false,
+            next: Cell::new(0),
             places,
         })
     }
@@ -236,10 +330,13 @@ impl<'e> LineRecords<'e> {
         count: usize,
         base: usize,
     ) -> Result<Items<bpf_line_info>, ParseError>
-        requires { first + count < 2 ^ 64 }
         ensures records { IfOk result (λ kept. kept ≡ map (line_from base) (filter (is_line_in first count) self.now.line_info)) }
         ensures memory { IfErr result (λ e. is_memory e ≡ true) }
     {
+        if self.in_order {
+            let among = rows_among(self.records, &self.next, first, count);
+            return lines_counted_from(alloc, among, base);
+        }
         let places = self.places.within(alloc, first, count)?;
         let kept = lines_from(alloc, self.records, &places, base)?;
         Ok(kept)
@@ -254,7 +351,6 @@ impl<'e> LineRecords<'e> {
         count: usize,
         base: usize,
     ) -> Result<LineSecInfo, ParseError>
-        requires { first + count < 2 ^ 64 }
         ensures info { IfOk result (λ info. info ≡ lines_in self.now first count base) }
         ensures memory { IfErr result (λ e. is_memory e ≡ true) }
     {

@@ -16,7 +16,14 @@ use ebpf_elf::{ElfFile, ElfSymbol, SymbolKind};
 use ebpf_parts::ParseError;
 use ebpf_reloc::Symbol;
 use std::alloc::Global;
+use std::collections::HashMap;
 use std::marker::Model;
+
+/// The kind of a section that is a symbol table (SHT_SYMTAB).
+const SYMBOL_TABLE: u32 = 2;
+
+/// The length in bytes of an entry of a symbol table.
+const ENTRY: usize = 24;
 
 /// A symbol with its name, which is borrowed from the file.
 #[derive(Debug, Drop)]
@@ -109,6 +116,24 @@ impl<'a> FileSymbols<'a> {
     }
 }
 
+/// About how many symbols a file has, as far as its first symbol table tells, so that the table takes its memory once.
+fn count_of(file: &ElfFile<'_>) -> usize {
+    for section in file.sections() {
+        if section.kind_number() == SYMBOL_TABLE {
+            return section.size() as usize / ENTRY;
+        }
+    }
+    0
+}
+
+/// A table of symbols, with room for those of a file.
+fn table_for(alloc: Global, file: &ElfFile<'_>) -> Result<ByIndex<Symbol>, ParseError>
+    ensures empty { IfOk result (λ table. table ≡ map.empty) }
+    ensures memory { IfErr result (λ e. is_memory e ≡ true) }
+{
+    Ok(ByIndex::from_map(HashMap::with_capacity(alloc, count_of(file))?))
+}
+
 /// The symbols of a file.
 #[tactic(auto, using(crate::proofs::Grouped::group_more, crate::proofs::Grouped::group_all))]
 pub fn read_symbols<'a>(alloc: Global, file: &ElfFile<'a>) -> Result<FileSymbols<'a>, ParseError>
@@ -117,7 +142,7 @@ pub fn read_symbols<'a>(alloc: Global, file: &ElfFile<'a>) -> Result<FileSymbols
     ensures fault { Refuses is_memory result (symbols_fault file.now) }
 {
     let mut symbols = FileSymbols {
-        table: ByIndex::new(alloc),
+        table: table_for(alloc, file)?,
         groups: Groups::new(alloc),
     };
     for symbol in file.symbols() {

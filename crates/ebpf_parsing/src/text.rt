@@ -1,6 +1,7 @@
 //! The functions of a Text section.
 
 ghost use Rattle.std.specs.Prelude.{◌≡◌, ◌+◌, ◌<◌, ◌≤◌, ◌∷◌, [], Some, IfOk, OnOk, length, map};
+ghost use Rattle.std.specs.FinMap.{empty};
 ghost use Rattle.ebpf_base.specs.Faults.{Refuses};
 ghost use Rattle.ebpf_base.specs.Keyed.{put_all};
 ghost use Rattle.ebpf_parsing.specs.Programs.{placed};
@@ -14,7 +15,7 @@ use ebpf_base::{ByKey, Items, Text};
 use ebpf_parts::insn::copy_instructions;
 use ebpf_parts::{ParseError, Section};
 use ebpf_reloc::Function;
-use std::alloc::Global;
+use std::alloc::{AllocError, Global};
 
 /// The function that a symbol begins at an offset, and where it ends.
 #[tactic(auto, unfolding(crate::specs::Texts::text_function))]
@@ -83,23 +84,51 @@ fn function_at(
     }
 }
 
-/// Puts the functions from offset 0 up by section and address.
+/// The functions from offset 0 up, each behind its section and address.
 #[tactic(auto, using(crate::proofs::Walked::start))]
-fn walk(
+fn gather(
     alloc: Global,
-    functions: &mut ByKey<Function>,
     records: &SectionRecords<'_, '_>,
     section: &Section<'_>,
     symbols: &TextSymbols<'_, '_>,
-) -> Result<(), ParseError>
-    ensures put { OnOk result (functions.new ≡ put_all functions.old (map placed (text_functions records.now section.now symbols.now.symbols.now))) }
+) -> Result<Vec<((usize, u64), Function)>, ParseError>
+    ensures all { IfOk result (λ entries. entries.items ≡ map placed (text_functions records.now section.now symbols.now.symbols.now)) }
     ensures fault { Refuses is_memory result (walk_fault section.now symbols.now.symbols.now) }
 {
+    let mut entries = Vec::new(alloc);
     let mut offset = 0;
     while offset < section.bytes.len() {
         let (function, end) = function_at(alloc, records, section, symbols, offset)?;
-        functions.insert((function.section_index.0, function.address), function)?;
+        entries.push(((function.section_index.0, function.address), function))?;
         offset = end;
+    }
+    Ok(entries)
+}
+
+/// The table of these entries alone, of those at one key the last one.
+fn table_of(
+    alloc: Global,
+    entries: Vec<((usize, u64), Function)>,
+) -> Result<ByKey<Function>, AllocError>
+    ensures all { IfOk result (λ table. table ≡ put_all empty entries.items) }
+{
+    Ok(ByKey::from_map(entries.into_iter().collect(alloc)?))
+}
+
+/// Puts entries into a table, one after the other; an empty table is built of them in one go.
+fn put_entries(
+    alloc: Global,
+    functions: &mut ByKey<Function>,
+    entries: Vec<((usize, u64), Function)>,
+) -> Result<(), AllocError>
+    ensures put { OnOk result (functions.new ≡ put_all functions.old entries.items) }
+{
+    if functions.is_empty() {
+        *functions = table_of(alloc, entries)?;
+        return Ok(());
+    }
+    for (key, function) in entries {
+        functions.insert(key, function)?;
     }
     Ok(())
 }
@@ -117,5 +146,7 @@ pub fn put_text_functions(
     ensures fault { Refuses is_memory result (text_fault section.now symbols.now) }
 {
     let symbols = TextSymbols::new(alloc, section.index.0, symbols)?;
-    walk(alloc, functions, records, section, &symbols)
+    let entries = gather(alloc, records, section, &symbols)?;
+    put_entries(alloc, functions, entries)?;
+    Ok(())
 }

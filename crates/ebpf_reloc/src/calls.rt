@@ -11,6 +11,7 @@ use crate::linkable::Linkable;
 use crate::numbers::number_in;
 use crate::place::{Place, own_place, relocated_place};
 use crate::walk::Walk;
+use ebpf_linker::slot::is_pseudo_call;
 use ebpf_linker::{Call, Fault, Target};
 use ebpf_parts::Relocation;
 use ebpf_parts::insn::bpf_insn;
@@ -51,6 +52,11 @@ fn target_of(keys: &[(usize, u64)], caller: usize, place: Place) -> Option<Targe
     }
 }
 
+/// How many slots call a function of the program, so that a list of these calls takes its memory once.
+fn count_calls(slots: &[bpf_insn]) -> usize {
+    slots.iter().filter(|slot| is_pseudo_call(**slot)).count()
+}
+
 /// The calls of the function with this number, in the order of its slots.
 #[tactic(auto, using(crate::proofs::CallSteps::call_here, crate::proofs::CallSteps::no_call_here, crate::proofs::CallSteps::calls_end, crate::proofs::CallSteps::next_slot))]
 pub fn calls_of(
@@ -65,8 +71,8 @@ pub fn calls_of(
 {
     let kept = parts.relocations.get(function.section_index.0);
     let mut walk = Walk::new(kept, function.section_offset as u64);
-    let mut calls = Vec::new(alloc);
     let slots = function.instructions.as_slice();
+    let mut calls = Vec::with_capacity(alloc, count_calls(slots))?;
     for slot in 0..slots.len() {
         let relocation = walk.relocation_of(function, slot);
         let place = place_of(parts, function, slot, slots[slot], relocation);
@@ -89,7 +95,7 @@ pub fn all_calls(
     requires { IsStrictlySortedBy key_cmp keys.now }
     ensures { IfOk result (λ calls. map (λ v. v.items) calls.items ≡ calls_from (read parts.now) keys.now 0 (map (λ f. f.now) functions.now)) }
 {
-    let mut calls = Vec::new(alloc);
+    let mut calls = Vec::with_capacity(alloc, functions.len())?;
     for number in 0..functions.len() {
         calls.push(calls_of(alloc, parts, keys, number, functions[number])?)?;
     }

@@ -16,7 +16,7 @@ pub fn function_keys(
 ) -> Result<Vec<(usize, u64)>, AllocError>
     ensures { IfOk result (λ keys. keys.items ≡ function_keys functions.now) }
 {
-    let mut keys = Vec::new(alloc);
+    let mut keys = Vec::with_capacity(alloc, functions.len())?;
     for (key, _) in functions.iter() {
         keys.push(*key)?;
     }
@@ -30,7 +30,7 @@ pub fn function_list<'a>(
 ) -> Result<Vec<&'a Function>, AllocError>
     ensures { IfOk result (λ list. map (λ f. f.now) list.items ≡ function_list functions.now) }
 {
-    let mut list = Vec::new(alloc);
+    let mut list = Vec::with_capacity(alloc, functions.len())?;
     for (_, function) in functions.iter() {
         list.push(function)?;
     }

@@ -3,8 +3,8 @@ use Rattle.std.specs.Prelude.{slice_index_or}
 use Rattle.std.proofs.lemmas.Grind.{common_steps}
 use Rattle.ebpf_parsing.specs.Texts.{is_text_at}
 use Rattle.ebpf_parsing.proofs.TextLemmas.{find_front, repeated_more}
-use Rattle.ebpf_parsing.proofs.text_symbols.by_address.Goals as goal
-use Rattle.ebpf_parsing.proofs.text_symbols.by_address.Goals.{then-is_defined_text+else-contains_key+in_ok-insert, else-is_defined_text}
+use Rattle.ebpf_parsing.proofs.text_symbols.check_conflicts.Goals as goal
+use Rattle.ebpf_parsing.proofs.text_symbols.check_conflicts.Goals.{then-is_defined_text+in_ok-insert+else-not-branch, else-is_defined_text}
 
 pub loop-symbol-preserved : goal.loop-symbol-preserved
 loop-symbol-preserved c =
@@ -14,7 +14,7 @@ loop-symbol-preserved c =
     let below : i < length ys = omega arith in
     let here : y ≡ slice_index_or ys i y = search rules in
     elim c.if-is_defined_text.branch [
-      | then-is_defined_text+else-contains_key+in_ok-insert w ↦ record {
+      | then-is_defined_text+in_ok-insert+else-not-branch w ↦ record {
         found = λ q. grind (arith, common_steps, c.loop-symbol.invariant.found q, c.loop-symbol.invariant.found y.address, find_front (is_text_at q) ys i y below here, find_front (is_text_at y.address) ys i y below here);
         repeated = grind (arith, common_steps, c.loop-symbol.invariant.found y.address, repeated_more ys i y below here);
       }

@@ -1,9 +1,8 @@
-use Rattle.std.proofs.Common.{◌≡◌, ◌<◌, ◌≤◌, ◌∷◌, ◌+◌, [], rules, arith, length, None}
-use Rattle.std.specs.FinMap.{insert}
+use Rattle.std.proofs.Common.{◌≡◌, ◌<◌, ◌≤◌, ◌∷◌, ◌+◌, [], ◌++◌, rules, arith, length, None}
 use Rattle.ebpf_parsing.specs.Texts.{function_at, size_at, fault_at}
 use Rattle.std.proofs.lemmas.Grind.{common_steps}
-use Rattle.ebpf_parsing.proofs.Walked.{more, fault_here, none_left, all_put}
-use Rattle.ebpf_parsing.proofs.text.walk.Goals as goal
+use Rattle.ebpf_parsing.proofs.Walked.{more, fault_here, none_left, all_kept}
+use Rattle.ebpf_parsing.proofs.text.gather.Goals as goal
 
 pub loop-offset-preserved : goal.loop-offset-preserved
 loop-offset-preserved c =
@@ -19,22 +18,22 @@ loop-offset-preserved c =
     let sound : fault_at s ys o ≡ None = search rules in
     let further : o < e = search rules in
     let ends : e ≤ length s.bytes = search rules in
-    let filled : c.insert.new.self ≡ insert c.loop-offset.functions (f.section_index.0, f.address) f = search rules in
-    more said s ys _ _ _ o e f filled within here next sound further ends c.loop-offset.invariant
+    let pushed : c.push.new.self.items ≡ c.loop-offset.entries.items ++ ((f.section_index.0, f.address), f) ∷ [] = search rules in
+    more said s ys _ _ o e f pushed within here next sound further ends c.loop-offset.invariant
 
 pub returns-in_err-function-clause-fault : goal.returns-in_err-function-clause-fault
 returns-in_err-function-clause-fault c =
     let s = c.args.section.now in
     let within : c.loop-offset.offset < length s.bytes = search rules in
-    let here = fault_here c.args.records.now s c.args.symbols.now.symbols.now _ _ c.loop-offset.offset within c.loop-offset.invariant in
+    let here = fault_here c.args.records.now s c.args.symbols.now.symbols.now _ c.loop-offset.offset within c.loop-offset.invariant in
     grind (arith, common_steps, here.1)
 
-pub returns-clause-put : goal.returns-clause-put
-returns-clause-put c =
+pub returns-clause-all : goal.returns-clause-all
+returns-clause-all c =
     let past : length c.args.section.now.bytes ≤ c.loop-offset.offset = search rules in
-    all_put c.args.records.now c.args.section.now c.args.symbols.now.symbols.now _ _ c.loop-offset.offset past c.loop-offset.invariant
+    all_kept c.args.records.now c.args.section.now c.args.symbols.now.symbols.now _ c.loop-offset.offset past c.loop-offset.invariant
 
 pub returns-clause-fault : goal.returns-clause-fault
 returns-clause-fault c =
     let past : length c.args.section.now.bytes ≤ c.loop-offset.offset = search rules in
-    none_left c.args.records.now c.args.section.now c.args.symbols.now.symbols.now _ _ c.loop-offset.offset past c.loop-offset.invariant
+    none_left c.args.records.now c.args.section.now c.args.symbols.now.symbols.now _ c.loop-offset.offset past c.loop-offset.invariant
