@@ -3,12 +3,13 @@
 
 usage: growth.py EBPF_BENCH [--functions N..] [--small N..] [--times N]
 
-EBPF_BENCH is the built crates/ebpf_bench/out/ebpf_bench. Needs what beside_libbpf.py needs. Of a chain of so many
-functions of some twenty slots, and of so many of three slots, as clang compiles them, it prints the least time of three
-runs of `ebpf_bench prepare`, and the most memory that the process held in one run, as a multiple of the file too. Of the
-running kernel's types, once and N times over, it prints the times of `btf__new`, of `Btf::parse` and of the index, of the
-first two also in memory that the process has already, and the most memory, the file in it. Times are in microseconds, of
-types the least of five processes.
+EBPF_BENCH is the built crates/ebpf_bench/out/ebpf_bench. Needs gcc, libbpf and its headers, and a kernel that shows its
+types. Of a chain of so many functions of some twenty slots, and of so many of three slots, it prints the least time of
+three runs of `ebpf_bench prepare`, and the most memory that the process held in one run, as a multiple of the file too.
+The files are what clang and `llvm-strip -g` make of such chains, but libbpf/chain_objects.py makes them here. Of the
+running kernel's types, once and N times over, it prints the times of `btf__new`, of `Btf::parse` and of the index, of
+the first two also in memory that the process has already, and the most memory, the file in it. Times are in
+microseconds, of types the least of five processes.
 """
 import argparse
 import re
@@ -16,20 +17,21 @@ import subprocess
 import tempfile
 from pathlib import Path
 
+from libbpf.chain_objects import chain_object
 from libbpf.kernel_types import VMLINUX
 from libbpf.many_types import repeated
 from libbpf.sources import chain, worked_chain
 
 HERE = Path(__file__).parent
-CLANG = "clang -target bpfel -O2 -g -w".split()
 PROCESSES = 5
+COUNTS = [2000, 20000, 100000]
 
 
 def words():
     parser = argparse.ArgumentParser()
     parser.add_argument("bench")
-    parser.add_argument("--functions", type=int, nargs="*", default=[2000, 20000, 100000])
-    parser.add_argument("--small", type=int, nargs="*", default=[2000, 8000, 20000])
+    parser.add_argument("--functions", type=int, nargs="*", default=COUNTS)
+    parser.add_argument("--small", type=int, nargs="*", default=COUNTS)
     parser.add_argument("--times", type=int, default=10)
     return parser.parse_args()
 
@@ -50,9 +52,8 @@ def least(pattern, texts):
 
 def functions(bench, folder, make, count):
     source = folder / f"{make.__name__}-{count}.c"
-    source.write_text(make(count))
     made = source.with_suffix(".o")
-    subprocess.run([*CLANG, "-I/usr/include/x86_64-linux-gnu", "-c", source, "-o", made], check=True)
+    made.write_bytes(chain_object(make(count), source))
     size = made.stat().st_size
     time = number(r"least (\d+) us", run(bench, "prepare", made, "--runs", 3))
     peak = number(r"peak (\d+) KB", run(bench, "prepare", made, "--runs", 1)) * 1024

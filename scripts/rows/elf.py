@@ -16,8 +16,8 @@ def header(start, count, names):
     return ident + struct.pack("<HHIQQQIHHHHHH", 1, 247, 1, 0, 0, start, 0, 64, 0, 0, 64, count, names)
 
 
-def section_row(name, kind, flags, address, offset, size, link, info):
-    return struct.pack("<IIQQQQIIQQ", name, kind, flags, address, offset, size, link, info, 0, 0)
+def section_row(name, kind, flags, address, offset, size, link, info, alignment=0, each=0):
+    return struct.pack("<IIQQQQIIQQ", name, kind, flags, address, offset, size, link, info, alignment, each)
 
 
 class File:
