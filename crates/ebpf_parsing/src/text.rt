@@ -95,7 +95,7 @@ fn gather(
     ensures all { IfOk result (λ entries. entries.items ≡ map placed (text_functions records.now section.now symbols.now.symbols.now)) }
     ensures fault { Refuses is_memory result (walk_fault section.now symbols.now.symbols.now) }
 {
-    let mut entries = Vec::new(alloc);
+    let mut entries = Vec::with_capacity(alloc, symbols.count())?;
     let mut offset = 0;
     while offset < section.bytes.len() {
         let (function, end) = function_at(alloc, records, section, symbols, offset)?;

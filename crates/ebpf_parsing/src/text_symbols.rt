@@ -188,6 +188,11 @@ impl<'s, 'a> TextSymbols<'s, 'a> {
         })
     }
 
+    /// How many there are; no clause says so, since it tells only how much memory to take.
+    pub fn count(&self) -> usize {
+        self.rows.len()
+    }
+
     /// The symbol at an address.
     pub fn at(&self, address: u64) -> Option<&'s NamedSymbol<'a>>
         ensures { option_map (λ y. y.now) result ≡ find (is_text_at address) self.now.symbols.now }
