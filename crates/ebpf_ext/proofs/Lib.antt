@@ -1,3 +1,4 @@
+pub mod CopiedNames
 pub mod ExtSections
 pub mod ExtSpelled
 pub mod Places

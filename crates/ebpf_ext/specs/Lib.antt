@@ -1,3 +1,4 @@
+pub mod CopiedNames
 pub mod ExtFormat
 pub mod ExtInfos
 pub mod ExtReading

@@ -1,6 +1,7 @@
 //! `.BTF.ext` of an eBPF object file: what is said of functions and lines, and the CO-RE relocations.
 #![tactic(auto)]
 
+mod copied_names;
 mod ext;
 mod ext_clones;
 mod ext_infos;

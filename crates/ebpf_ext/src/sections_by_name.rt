@@ -5,6 +5,7 @@ ghost use Rattle.std.specs.FinMap as map;
 ghost use Rattle.std.specs.Option.{option_copied};
 ghost use Rattle.ebpf_ext.specs.SectionNames.{by_offsets};
 
+use crate::copied_names::{copy_names, with_offsets};
 use crate::found_sections::FoundSections;
 use ebpf_base::Items;
 use ebpf_btf::strings::is_text_at;
@@ -46,7 +47,9 @@ impl<S> Model for SectionsByName<S> {
 }
 
 impl<S: Drop> SectionsByName<S> {
-    /// Sections whose names are at offsets of these strings, which are copied where there are sections.
+    /// Sections whose names are at offsets of these strings. Of the strings the names alone are copied; all of them
+    /// where the names together would be longer, or where one can't be read.
+    #[tactic(auto, using(crate::proofs::CopiedNames::same_sections))]
     pub fn new(
         alloc: Global,
         strings: &[u8],
@@ -54,14 +57,14 @@ impl<S: Drop> SectionsByName<S> {
     ) -> Result<SectionsByName<S>, AllocError>
         ensures { IfOk result (λ s. s ≡ by_offsets strings.now sections) }
     {
-        if sections.is_empty() {
-            return Ok(SectionsByName {
-                strings: Items::new(alloc),
-                sections,
-            });
-        }
-        let strings = Items::from_vec(Vec::from_slice(alloc, strings)?);
-        Ok(SectionsByName { strings, sections })
+        let Some(copied) = copy_names(alloc, strings, sections.as_slice())? else {
+            let strings = Items::from_vec(Vec::from_slice(alloc, strings)?);
+            return Ok(SectionsByName { strings, sections });
+        };
+        Ok(SectionsByName {
+            strings: copied.names,
+            sections: with_offsets(sections, copied.offsets.as_slice()),
+        })
     }
 }
 

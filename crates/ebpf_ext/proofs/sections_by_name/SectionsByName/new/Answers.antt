@@ -1,9 +1,10 @@
-use Rattle.std.proofs.Common.{◌≡◌, ◌∙◌, [], ap, sym}
-use Rattle.ebpf_ext.specs.SectionNames.{by_offsets}
-use Rattle.ebpf_ext.proofs.SectionNames.{no_sections}
+use Rattle.std.proofs.Common.{◌∙◌, length, ap}
+use Rattle.ebpf_ext.proofs.CopiedNames.{as_many}
 use Rattle.ebpf_ext.proofs.sections_by_name.SectionsByName.new.Goals as goal
 
-pub returns-then-is_empty : goal.returns-then-is_empty
-returns-then-is_empty g c =
-    let none : c.args.sections ≡ [] = c.is_empty.ensures.0 c.if-is_empty.true in
-    ap (by_offsets c.new.result) none ∙ no_sections c.new.result ∙ sym (no_sections c.args.strings.now) ∙ ap (by_offsets c.args.strings.now) (sym none)
+pub with_offsets-requires : goal.with_offsets-requires
+with_offsets-requires g c =
+    let copied = c.in-Some.copied in
+    let sections = c.as_slice.result.now in
+    let are = rw c.in-Some.is at c.in_ok-copied.ensures in
+    ap length c.as_slice-2.ensures.value ∙ as_many c.args.strings.now copied.names sections copied.offsets.items are ∙ ap length c.as_slice.ensures

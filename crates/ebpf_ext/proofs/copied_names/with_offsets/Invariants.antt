@@ -1,0 +1,7 @@
+use Rattle.std.proofs.Common.{◌≡◌, take}
+use Rattle.ebpf_ext.specs.CopiedNames.{with_offsets}
+use Rattle.ebpf_ext.proofs.copied_names.with_offsets.Given as goal
+
+-- the sections so far have their new offsets
+abbrev pub invariant-loop-place : goal.invariant-loop-place
+invariant-loop-place g l = l.sections.items ≡ with_offsets (take l.place l.offsets) l.fn.sections
