@@ -1,6 +1,7 @@
 //! The relocations of a file's sections.
 
-ghost use Rattle.std.specs.Prelude.{◌≡◌, map, IfOk, IfErr, OnOk, true};
+ghost use Rattle.std.specs.Prelude.{◌≡◌, ◌++◌, map, IfOk, IfErr, OnOk, true};
+ghost use Rattle.std.specs.FinMap.{empty};
 ghost use Rattle.std.specs.List.{flat_map};
 ghost use Rattle.ebpf_base.specs.Faults.{Refuses};
 ghost use Rattle.ebpf_base.specs.Keyed.{put_all};
@@ -17,7 +18,7 @@ use crate::last_data::is_number;
 use ebpf_base::ByOffset;
 use ebpf_elf::{ElfFile, ElfRelocationSection};
 use ebpf_parts::{ParseError, Relocation};
-use std::alloc::Global;
+use std::alloc::{AllocError, Global};
 use std::marker::Model;
 
 /// A section of relocations, and whether one of its entries names no symbol. Contracts see the section.
@@ -121,18 +122,28 @@ fn last_tables(alloc: Global, tables: &[RelocationTable<'_>]) -> Result<ByPlaces
     Ok(last)
 }
 
-/// Puts the entries of a section of relocations by offset, the later of two at one offset.
-fn put_entries(
-    kept: &mut ByOffset<Relocation>,
+/// Gathers the entries of a section of relocations, each behind its offset.
+fn gather_entries(
+    entries: &mut Vec<(u64, Relocation)>,
     table: &RelocationTable<'_>,
 ) -> Result<(), ParseError>
-    ensures put { OnOk result (kept.new ≡ put_all kept.old (map offset_of (entries_of table.now))) }
+    ensures gathered { OnOk result (entries.new.items ≡ entries.old.items ++ map offset_of (entries_of table.now)) }
     ensures memory { IfErr result (λ e. is_memory e ≡ true) }
 {
     for relocation in table.section.relocations() {
-        kept.insert(relocation.offset, relocation)?;
+        entries.push((relocation.offset, relocation))?;
     }
     Ok(())
+}
+
+/// The table of these entries, the later of two at one offset.
+fn table_of(
+    alloc: Global,
+    entries: Vec<(u64, Relocation)>,
+) -> Result<ByOffset<Relocation>, AllocError>
+    ensures all { IfOk result (λ table. table ≡ put_all empty entries.items) }
+{
+    Ok(ByOffset::from_map(entries.into_iter().collect(alloc)?))
 }
 
 /// Of sections whose entries stand at the same places, those of the last one alone.
@@ -147,14 +158,14 @@ fn put_last_tables(
     ensures kept { IfOk result (λ m. m ≡ kept_relocations (flat_map entries_of tables.now)) }
     ensures memory { IfErr result (λ e. is_memory e ≡ true) }
 {
-    let mut kept = ByOffset::new(alloc);
+    let mut entries = Vec::new(alloc);
     for table in tables {
         if !is_number(table.section.index().0, last.get(&table.section)) {
             continue;
         }
-        put_entries(&mut kept, table)?;
+        gather_entries(&mut entries, table)?;
     }
-    Ok(kept)
+    Ok(table_of(alloc, entries)?)
 }
 
 /// The relocations of a section by offset, the later of two at one offset.

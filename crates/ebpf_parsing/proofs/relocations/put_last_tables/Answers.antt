@@ -1,7 +1,8 @@
 use Rattle.std.proofs.Common.{◌≡◌, ◌∙◌, false, ap, arith, rules, map}
-use Rattle.std.specs.FinMap.{get}
+use Rattle.std.specs.FinMap.{empty, get}
 use Rattle.std.specs.List.{flat_map}
 use Rattle.std.specs.Prelude.{slice_index_or}
+use Rattle.ebpf_base.proofs.Keyed.{put_all-append}
 use Rattle.ebpf_base.specs.Keyed.{put_all}
 use Rattle.ebpf_elf.specs.Relocations.{entries_of}
 use Rattle.ebpf_parsing.proofs.Lasts.{all_lasts}
@@ -15,7 +16,7 @@ pub loop-table-init : goal.loop-table-init
 loop-table-init c = record {
   from = c.requires.file;
   lasts = all_lasts places_total table_row c.args.last.now c.args.tables.now c.requires.last;
-  put = ap (λ m. put_all m (map offset_of (flat_map entries_of c.args.tables.now))) c.new-kept.ensures;
+  put = ap (λ es. put_all (put_all empty es) (map offset_of (flat_map entries_of c.args.tables.now))) c.new-entries.ensures.items;
 }
 
 pub loop-table-preserved-then-not-is_number : goal.loop-table-preserved-then-not-is_number
@@ -28,17 +29,19 @@ loop-table-preserved-then-not-is_number c =
     record {
       from = (rest_of (file_of xs) c.args.last.now xs i x (omega arith) item c.loop-table.invariant.from).1;
       lasts = fewer (file_of xs) c.args.last.now xs i x (omega arith) item c.loop-table.invariant.lasts;
-      put = put_passed (file_of xs) c.args.last.now xs i x (omega arith) item c.loop-table.kept c.loop-table.invariant.from c.loop-table.invariant.lasts differs ∙ c.loop-table.invariant.put;
+      put = put_passed (file_of xs) c.args.last.now xs i x (omega arith) item (put_all empty c.loop-table.entries.items) c.loop-table.invariant.from c.loop-table.invariant.lasts differs ∙ c.loop-table.invariant.put;
     }
 
 pub loop-table-preserved : goal.loop-table-preserved
 loop-table-preserved c =
+    let es = c.loop-table.entries.items in
     let xs = c.args.tables.now in
     let i = c.loop-table.table-index in
     let x = c.table-item.result in
     let item : x ≡ slice_index_or xs i x = search rules in
+    let put = ap (put_all empty) c.in_ok-gather_entries.ensures.gathered ∙ put_all-append empty es (map offset_of (entries_of x)) in
     record {
       from = (rest_of (file_of xs) c.args.last.now xs i x (omega arith) item c.loop-table.invariant.from).1;
       lasts = fewer (file_of xs) c.args.last.now xs i x (omega arith) item c.loop-table.invariant.lasts;
-      put = put_more c.loop-table.kept c.put_entries.new.kept xs i x (omega arith) item c.in_ok-put_entries.ensures.put ∙ c.loop-table.invariant.put;
+      put = put_more (put_all empty es) (put_all empty c.gather_entries.new.entries.items) xs i x (omega arith) item put ∙ c.loop-table.invariant.put;
     }

@@ -1,4 +1,5 @@
 use Rattle.std.proofs.Common.{◌≡◌, drop, map}
+use Rattle.std.specs.FinMap.{empty}
 use Rattle.std.specs.List.{flat_map}
 use Rattle.ebpf_base.specs.Keyed.{put_all}
 use Rattle.ebpf_elf.specs.Relocations.{entries_of}
@@ -12,5 +13,5 @@ abbrev pub invariant-loop-table : goal.invariant-loop-table
 invariant-loop-table l = record {
   from : AreOf (file_of l.tables) (drop l.table-index l.tables);
   lasts : TableLasts l.last (drop l.table-index l.tables);
-  put : put_all l.kept (map offset_of (flat_map entries_of (drop l.table-index l.tables))) ≡ kept_relocations (flat_map entries_of l.tables);
+  put : put_all (put_all empty l.entries.items) (map offset_of (flat_map entries_of (drop l.table-index l.tables))) ≡ kept_relocations (flat_map entries_of l.tables);
 }

@@ -1,9 +1,0 @@
-use Rattle.std.proofs.Common.{◌≡◌, map}
-use Rattle.ebpf_base.specs.Keyed.{put_all}
-use Rattle.ebpf_elf.specs.Relocations.{entries_of}
-use Rattle.ebpf_parsing.specs.Relocations.{offset_of}
-use Rattle.ebpf_parsing.proofs.relocations.put_entries.Given as goal
-
--- what is left to do from here is what was to do from the start
-abbrev pub invariant-loop-relocation : goal.invariant-loop-relocation
-invariant-loop-relocation l = put_all l.kept (map offset_of l.relocation-iterator) ≡ put_all l.fn.kept (map offset_of (entries_of l.table))
