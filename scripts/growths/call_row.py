@@ -29,6 +29,7 @@ class CallRow(Row):
         key = subject if subject in ANSWERS else f"{subject} {calls[-1].partition('=')[0]}"
         self.memory_answers = ANSWERS[key]
         self.starts = starts
+        self.may_do_without = subject in ("parse", "prepare", "inspect")
         if starts is None:
             self.endings = ("",)
 

@@ -14,6 +14,8 @@ class ProgramRow(Row):
 
     is_marked = False
 
+    may_do_without = True
+
     def __init__(self, crate, what, *words, said=None):
         name = crate.removesuffix("_program").replace("_", "-")
         super().__init__(f"{name} on {what}", CRATES / crate / "out" / crate, *words)

@@ -102,6 +102,10 @@ class Row:
 
     is_marked = True
 
+    # Whether files are parsed, of whose tables some are made by std's `collect`: that asks for room by a hint, and where
+    # one growth is refused, for less.
+    may_do_without = False
+
     # What stands behind the number of the growth, for the library.
     endings = ("", "-")
 
@@ -133,8 +137,7 @@ class Row:
             return "refused past the last growth" if run.refused else self.plain_fault(ample, run)
         if not run.is_counted or not run.refused:
             return f"nothing was refused: {run.status} {run.err[-200:]!r}"
-        if not ending and self.plain_fault(ample, run) is None:
-            # std's `collect` asks for room by a hint, and where that is refused for less.
+        if self.may_do_without and not ending and self.plain_fault(ample, run) is None:
             return None
         return self.refused_fault(ample, run)
 
