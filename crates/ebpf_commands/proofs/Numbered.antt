@@ -1,11 +1,15 @@
 -- Names with descriptors, one after the other.
-use Rattle.std.proofs.Common.{◌≡◌, ℕ, ◌+◌, ◌<◌, List, [], ◌∷◌, ◌++◌, map, length, drop, Bor, sym, ap, ◌∙◌}
+use Rattle.std.proofs.Common.{◌≡◌, ℕ, ◌+◌, ◌<◌, true, List, [], ◌∷◌, ◌++◌, map, length, drop, Option, Some, Bor, sym, ap, ◌∙◌}
 use Rattle.std.proofs.lemmas.List.{append_assoc, map-append}
-use Rattle.std.specs.Prelude.{ℤ, slice_index_or}
-use Rattle.ebpf_base.specs.Keys.{lent_bytes}
-use Rattle.ebpf_commands.specs.Linked.{following, numbered}
-use Rattle.ebpf_object.specs.Steps.{descriptor_of}
+use Rattle.std.specs.Prelude.{ℤ, pos, slice_index_or}
+use Rattle.std.specs.FinMap.{FinMap, entries}
+use Rattle.std.specs.Map.{keys_of}
+use Rattle.ebpf_base.specs.Keys.{lent_bytes, text_cmp}
+use Rattle.ebpf_btf.specs.TypeInfo.{TypeInfo}
+use Rattle.ebpf_commands.specs.Linked.{asked, following, numbered}
+use Rattle.ebpf_object.specs.Steps.{Chosen, Descriptor, descriptor_of}
 use Rattle.ebpf_parts.proofs.Walks.{rest_more}
+use Rattle.ebpf_parts.specs.declared.maps.either.Map.{Map}
 
 pub one_numbered : (before : List (Bor (List ℕ) × ℤ)) (lent : Bor (List ℕ)) (d e : ℤ) (names : List (List ℕ)) (i : ℕ) (name : List ℕ)
     → i < length names → name ≡ slice_index_or names i name → lent.now ≡ name → e ≡ following d
@@ -25,3 +29,8 @@ one_copied before copy names i name below here same =
     append_assoc before (copy ∷ []) (lent_bytes (drop (i + 1) names))
     ∙ ap (λ n. before ++ n ∷ lent_bytes (drop (i + 1) names)) same
     ∙ ap (λ rest. before ++ lent_bytes rest) (sym (rest_more names i name below here))
+
+-- all passes with these descriptors are those that are asked for, where the descriptors are numbered by the maps' names
+pub all_asked : (types : Option TypeInfo) (maps : FinMap text_cmp Map) (s : Chosen) (ds : List Descriptor)
+    → s ≡ record { target = types; descriptors = Some ds; kernel = Some types; calls = true } → ds ≡ numbered (pos 0) (keys_of (entries maps)) → s ≡ asked types maps
+all_asked types maps s ds is of_names = is ∙ ap (λ (n : List Descriptor). record { target = types; descriptors = Some n; kernel = Some types; calls = true }) of_names

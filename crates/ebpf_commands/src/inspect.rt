@@ -1,21 +1,23 @@
 //! What `ebpf-inspect` does once its files are open.
 
-ghost use Rattle.std.specs.Prelude.{◌≡◌, ◌≤◌, ⊤, true, Some, None, IfOk, IfErr, OnOk, IsSome, MatchBool, MatchOption};
+ghost use Rattle.std.specs.Prelude.{◌≡◌, ◌≤◌, ⊤, ℕ, List, true, Some, None, IfOk, IfErr, OnOk, IsSome, MatchBool, MatchOption};
 ghost use Rattle.std.specs.Io.KnownBytes.{Appends};
 ghost use Rattle.std.specs.Option.{option_copied};
 ghost use Rattle.ebpf_commands.specs.Failures.{is_outside, Stands, CannotPrepare};
-ghost use Rattle.ebpf_commands.specs.Linked.{asked_of};
+ghost use Rattle.ebpf_commands.specs.Linked.{asked};
 ghost use Rattle.ebpf_commands.specs.Listed.{report_named, listed, HasInspected, HasListed, LacksReport, LacksAskedReport};
 ghost use Rattle.ebpf_inspect.specs.Inspected.{IsInspected};
+ghost use Rattle.ebpf_object.specs.Prepared.{IsParsed};
 
 use crate::arguments::Words;
 use crate::failure::{Failure, report};
 use crate::link::finish;
 use crate::preparation::{all_passes, map_names, numbered, read_types};
 use crate::report_text::write_report;
-use ebpf_base::{Items, Text};
+use ebpf_base::Items;
 use ebpf_btf::Btf;
-use ebpf_inspect::{ProgramReport, inspect};
+use ebpf_inspect::{ProgramReport, inspect_object};
+use ebpf_object::Object;
 use ebpf_object::prepare::PrepareError;
 use std::alloc::Global;
 use std::io::{BufRead, Write};
@@ -97,28 +99,30 @@ fn print_listed<'a, W: Write>(
     }
 }
 
-/// Inspects a file after all passes, maps of these names numbered, and the kernel's types where they are known.
-fn inspect_with<K: BufRead + Drop>(
+/// What the programs of an object are made of after all passes: types where the kernel's are known, descriptors of its
+/// own maps, externs, calls.
+fn inspect_all<K: BufRead + Drop>(
     alloc: Global,
-    file: &[u8],
+    object: Object,
     types: Option<&Btf>,
-    names: &[Text],
     kallsyms: K,
 ) -> Result<Items<ProgramReport>, Failure<'static>>
-    ensures inspected { IfOk result (IsInspected (asked_of (option_copied types.entry) names.now) (K.remaining kallsyms) file.now) }
-    ensures refused { IfErr result (λ f. MatchBool (is_outside f) ⊤ (CannotPrepare (asked_of (option_copied types.entry) names.now) (K.remaining kallsyms) file.now f)) }
+    ensures inspected { (file : List ℕ) → IsParsed file object → IfOk result (IsInspected (asked (option_copied types.entry) object.maps) (K.remaining kallsyms) file) }
+    ensures refused { (file : List ℕ) → IsParsed file object → IfErr result (λ f. MatchBool (is_outside f) ⊤ (CannotPrepare (asked (option_copied types.entry) object.maps) (K.remaining kallsyms) file f)) }
 {
-    let Ok(descriptors) = numbered(alloc, names) else {
+    let Ok(names) = map_names(alloc, &object) else {
         return Err(Failure::Memory);
     };
-    match inspect(alloc, file, &all_passes(types, &descriptors), kallsyms) {
+    let Ok(descriptors) = numbered(alloc, names.as_slice()) else {
+        return Err(Failure::Memory);
+    };
+    match inspect_object(alloc, object, &all_passes(types, &descriptors), kallsyms) {
         Ok(reports) => Ok(reports),
         Err(error) => Err(Failure::Preparing(error)),
     }
 }
 
-/// What the programs of a file are made of after all passes: types where the kernel's are known, descriptors of its
-/// own maps, externs, calls.
+/// What the programs of a file are made of after all passes.
 fn inspected<K: BufRead + Drop>(
     alloc: Global,
     file: &[u8],
@@ -132,11 +136,11 @@ fn inspected<K: BufRead + Drop>(
         Ok(types) => types,
         Err(error) => return Err(Failure::Btf(error)),
     };
-    let names = match map_names(alloc, file) {
-        Ok(names) => names,
+    let object = match Object::parse(alloc, file) {
+        Ok(object) => object,
         Err(error) => return Err(Failure::Preparing(PrepareError::Parse(error))),
     };
-    inspect_with(alloc, file, types.as_ref(), names.as_slice(), kallsyms)
+    inspect_all(alloc, object, types.as_ref(), kallsyms)
 }
 
 /// Inspects a file after all passes, and writes what the programs that are asked for are made of.

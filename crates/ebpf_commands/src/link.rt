@@ -1,25 +1,24 @@
 //! What `ebpf-link` does once its files are open.
 
-ghost use Rattle.std.specs.Prelude.{◌≡◌, ◌≤◌, ⊤, true, None, IfOk, IfErr, OnOk, IsSome, MatchBool, MatchOption};
+ghost use Rattle.std.specs.Prelude.{◌≡◌, ◌≤◌, ⊤, ℕ, List, true, None, IfOk, IfErr, OnOk, IsSome, MatchBool, MatchOption};
 ghost use Rattle.std.specs.Io.KnownBytes.{Appends, Keeps};
 ghost use Rattle.std.specs.List.{flat_map};
 ghost use Rattle.std.specs.Option.{option_copied};
 ghost use Rattle.ebpf_base.specs.Keys.{lent_bytes};
 ghost use Rattle.ebpf_object.specs.Headline.{Headline};
-ghost use Rattle.ebpf_object.specs.Objects.{object_of};
+ghost use Rattle.ebpf_object.specs.Prepared.{IsParsed};
 ghost use Rattle.ebpf_commands.specs.Done.{HasPrinted};
 ghost use Rattle.ebpf_commands.specs.Failures.{is_outside, Stands, Lacks, LacksAsked, CannotPrepare};
-ghost use Rattle.ebpf_commands.specs.Linked.{asked_of, IsLinked};
+ghost use Rattle.ebpf_commands.specs.Linked.{asked, IsLinked};
 ghost use Rattle.ebpf_commands.specs.Printed.{function_named, lines_of, printed};
 
 use crate::arguments::Words;
 use crate::failure::{Failure, report};
 use crate::preparation::{all_passes, map_names, numbered, read_types};
 use crate::program_text::write_program;
-use ebpf_base::Text;
 use ebpf_btf::Btf;
 use ebpf_object::Object;
-use ebpf_object::prepare::{PrepareError, prepare};
+use ebpf_object::prepare::{PrepareError, prepare_object};
 use ebpf_reloc::Function;
 use std::alloc::Global;
 use std::io::{BufRead, Write};
@@ -126,28 +125,29 @@ fn print_object<'a, W: Write>(
     }
 }
 
-/// Prepares a file with all passes, maps of these names numbered, and the kernel's types where they are known.
-fn prepare_with<K: BufRead + Drop>(
+/// An object after all passes: types where the kernel's are known, descriptors of its own maps, externs, calls.
+fn prepare_all<K: BufRead + Drop>(
     alloc: Global,
-    file: &[u8],
+    object: Object,
     types: Option<&Btf>,
-    names: &[Text],
     kallsyms: K,
 ) -> Result<Object, Failure<'static>>
-    ensures headline { IfOk result (Headline (asked_of (option_copied types.entry) names.now) (K.remaining kallsyms) file.now) }
-    ensures refused { IfErr result (λ f. MatchBool (is_outside f) ⊤ (CannotPrepare (asked_of (option_copied types.entry) names.now) (K.remaining kallsyms) file.now f)) }
+    ensures headline { (file : List ℕ) → IsParsed file object → IfOk result (Headline (asked (option_copied types.entry) object.maps) (K.remaining kallsyms) file) }
+    ensures refused { (file : List ℕ) → IsParsed file object → IfErr result (λ f. MatchBool (is_outside f) ⊤ (CannotPrepare (asked (option_copied types.entry) object.maps) (K.remaining kallsyms) file f)) }
 {
-    let Ok(descriptors) = numbered(alloc, names) else {
+    let Ok(names) = map_names(alloc, &object) else {
         return Err(Failure::Memory);
     };
-    match prepare(alloc, file, &all_passes(types, &descriptors), kallsyms) {
+    let Ok(descriptors) = numbered(alloc, names.as_slice()) else {
+        return Err(Failure::Memory);
+    };
+    match prepare_object(alloc, object, &all_passes(types, &descriptors), kallsyms) {
         Ok(object) => Ok(object),
         Err(error) => Err(Failure::Preparing(error)),
     }
 }
 
-/// The object of a file after all passes: types where the kernel's are known, descriptors of its own maps, externs,
-/// calls.
+/// The object of a file after all passes.
 fn prepared<K: BufRead + Drop>(
     alloc: Global,
     file: &[u8],
@@ -161,11 +161,11 @@ fn prepared<K: BufRead + Drop>(
         Ok(types) => types,
         Err(error) => return Err(Failure::Btf(error)),
     };
-    let names = match map_names(alloc, file) {
-        Ok(names) => names,
+    let object = match Object::parse(alloc, file) {
+        Ok(object) => object,
         Err(error) => return Err(Failure::Preparing(PrepareError::Parse(error))),
     };
-    prepare_with(alloc, file, types.as_ref(), names.as_slice(), kallsyms)
+    prepare_all(alloc, object, types.as_ref(), kallsyms)
 }
 
 /// Prepares the object of a file with all passes, and writes the programs that are asked for.

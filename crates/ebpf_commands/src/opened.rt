@@ -4,7 +4,7 @@ use crate::arguments::{Words, WordsError, read_words};
 use crate::failure::cannot_read;
 use ebpf_base::Text;
 use std::alloc::Global;
-use std::io::{self, BufRead, BufReader, BufWriter, ErrorKind, Write};
+use std::io::{self, BufRead, BufReader, BufWriter, ErrorKind, Read, Write};
 use std::process::ExitCode;
 use std::{env, fs};
 
@@ -48,9 +48,18 @@ fn gather(rt: &HostRuntime) -> io::Result<Vec<String>> {
     Ok(words)
 }
 
+/// The bytes of a file. Their memory is taken once where the file tells its size, as those of /proc don't.
+fn read_bytes(rt: &HostRuntime, path: &str) -> io::Result<Vec<u8>> {
+    let mut file = fs::open(rt, path)?;
+    let size = file.metadata()?.len() as usize;
+    let mut bytes = Vec::with_capacity(rt.alloc(), size.saturating_add(1))?;
+    file.read_to_end(&mut bytes)?;
+    Ok(bytes)
+}
+
 /// The bytes of a file, or the status with which its failure was told.
 fn read_file<C: Command>(rt: &HostRuntime, path: &str) -> Result<Vec<u8>, u8> {
-    match fs::read(rt, path) {
+    match read_bytes(rt, path) {
         Ok(bytes) => Ok(bytes),
         Err(error) if matches!(error.kind(), ErrorKind::OutOfMemory) => Err(no_memory::<C>(rt)),
         Err(_) => Err(cannot_read(C::NAME, path, &mut rt.stderr())),

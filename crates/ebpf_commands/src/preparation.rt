@@ -4,11 +4,9 @@ ghost use Rattle.std.specs.Prelude.{◌≡◌, map, pos, true, Some, IfOk};
 ghost use Rattle.std.specs.FinMap.{entries};
 ghost use Rattle.std.specs.Map.{keys_of};
 ghost use Rattle.std.specs.Option.{option_copied};
-ghost use Rattle.ebpf_base.specs.Faults.{Gives, Refuses};
+ghost use Rattle.ebpf_base.specs.Faults.{Gives};
 ghost use Rattle.ebpf_base.specs.Keys.{lent_bytes};
 ghost use Rattle.ebpf_btf.specs.Memory.{is_memory as types_memory};
-ghost use Rattle.ebpf_parts.specs.Memory.{is_memory as parse_memory};
-ghost use Rattle.ebpf_object.specs.Objects.{object_of, parse_fault};
 ghost use Rattle.ebpf_object.specs.Steps.{chosen, descriptor_of};
 ghost use Rattle.ebpf_commands.specs.Linked.{kernel_types, numbered};
 
@@ -16,7 +14,6 @@ use ebpf_base::{Items, Text};
 use ebpf_btf::{Btf, BtfError, Endianness};
 use ebpf_object::Object;
 use ebpf_object::prepare::Steps;
-use ebpf_parts::ParseError;
 use std::alloc::{AllocError, Global};
 
 /// The names of maps with descriptors, 1 and on.
@@ -58,18 +55,12 @@ fn copied(alloc: Global, names: &[&str]) -> Result<Items<Text>, AllocError>
     Ok(copies)
 }
 
-/// The names of the file's own maps in byte order. Nothing else of the object is kept.
-pub fn map_names(alloc: Global, file: &[u8]) -> Result<Items<Text>, ParseError>
-    ensures names { IfOk result (λ names. names ≡ keys_of (entries (object_of file.now).maps)) }
-    ensures fault { Refuses parse_memory result (parse_fault file.now) }
+/// The names of an object's own maps in byte order, copied.
+pub fn map_names(alloc: Global, object: &Object) -> Result<Items<Text>, AllocError>
+    ensures { IfOk result (λ names. names ≡ keys_of (entries object.now.maps)) }
 {
-    let object = match Object::parse(alloc, file) {
-        Ok(object) => object,
-        Err(error) => return Err(error),
-    };
     let names = object.maps.names(alloc)?;
-    let copies = copied(alloc, &names)?;
-    Ok(copies)
+    copied(alloc, &names)
 }
 
 /// All passes: types where the kernel's are known, these descriptors of maps, externs, calls.

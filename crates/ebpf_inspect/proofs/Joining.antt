@@ -1,11 +1,11 @@
--- A file that is prepared without joining its programs, and then joined.
-use Rattle.std.proofs.Common.{◌≡◌, ℕ, Bool, true, false, List, Option, Some, None, refl, sym, ap, ◌∙◌, subst}
-use Rattle.ebpf_inspect.specs.Inspected.{joining, AreReports, IsInspected}
+-- An object that is prepared without joining its programs, and then joined.
+use Rattle.std.proofs.Common.{◌≡◌, ℕ, true, false, List, Option, None, sym, subst}
+use Rattle.ebpf_inspect.specs.Inspected.{joining, AreReports, AreReportsOf, IsInspected}
 use Rattle.ebpf_inspect.specs.declared.report.ProgramReport.{ProgramReport}
 use Rattle.ebpf_object.proofs.Headline.{headline}
 use Rattle.ebpf_object.specs.Joined.{programs_in_order}
 use Rattle.ebpf_object.specs.Objects.{object_of, parse_fault}
-use Rattle.ebpf_object.specs.Prepared.{AfterMaps, AfterResolution, AfterExterns, AfterCalls, IsFault, IsFirstFault, IsPrepared}
+use Rattle.ebpf_object.specs.Prepared.{AfterMaps, AfterResolution, AfterExterns, AfterCalls, IsFault, IsParsed, IsPrepared}
 use Rattle.ebpf_object.specs.StageFaults.{OfCalls}
 use Rattle.ebpf_object.specs.Stages.{Joins, JoiningFault}
 use Rattle.ebpf_object.specs.Steps.{Chosen}
@@ -27,7 +27,8 @@ module _ (s : Chosen) (lines : Option (List ℕ)) where
   externs_after : (o a : Object) → AfterExterns alone lines o a → AfterExterns (joining s) lines o a
   externs_after o a m = record { before = m.before; resolution = resolution_after o m.before m.resolution; sound = m.sound; is = m.is }
 
-  same_fault : (o : Object) (e : PrepareError) → IsFault alone lines o e → IsFault (joining s) lines o e
+  -- a fault before joining
+  pub same_fault : (o : Object) (e : PrepareError) → IsFault alone lines o e → IsFault (joining s) lines o e
   same_fault o (Parse e) f = elim f [ ]
   same_fault o (Types e) f = f
   same_fault o (Maps e) f = f
@@ -36,40 +37,39 @@ module _ (s : Chosen) (lines : Option (List ℕ)) where
   same_fault o (Calls e) f = absurd f.2
   same_fault o OutOfMemory f = elim f [ ]
 
-  module _ (bytes : List ℕ) where
-    -- a fault before joining
-    pub unjoined : (e : PrepareError) → IsFirstFault alone lines bytes e → IsFirstFault (joining s) lines bytes e
-    unjoined (Parse e) f = f
-    unjoined (Types e) f = (f.0, same_fault (object_of bytes) (Types e) f.1)
-    unjoined (Maps e) f = (f.0, same_fault (object_of bytes) (Maps e) f.1)
-    unjoined (Ksyms e) f = (f.0, same_fault (object_of bytes) (Ksyms e) f.1)
-    unjoined (Externs e) f = (f.0, same_fault (object_of bytes) (Externs e) f.1)
-    unjoined (Calls e) f = (f.0, same_fault (object_of bytes) (Calls e) f.1)
-    unjoined OutOfMemory f = (f.0, same_fault (object_of bytes) OutOfMemory f.1)
+  module _ (o d : Object) (stages : AfterCalls alone lines o d) where
+    before_joining : AfterExterns (joining s) lines o d
+    before_joining = subst (λ a. AfterExterns (joining s) lines o a) (sym stages.joins) (externs_after o stages.before stages.externs)
 
-    module _ (o : Object) (prepared : IsPrepared alone lines bytes o) where
-      before_joining : AfterExterns (joining s) lines (object_of bytes) o
-      before_joining = subst (λ a. AfterExterns (joining s) lines (object_of bytes) a) (sym prepared.stages.joins) (externs_after (object_of bytes) prepared.stages.before prepared.stages.externs)
+    -- a fault of joining
+    pub unlinked : (e : PrepareError) → OfCalls (JoiningFault true d) e → IsFault (joining s) lines o e
+    unlinked (Calls e) f = (d, before_joining, f)
+    unlinked (Parse e) f = elim f [ ]
+    unlinked (Types e) f = elim f [ ]
+    unlinked (Maps e) f = elim f [ ]
+    unlinked (Ksyms e) f = elim f [ ]
+    unlinked (Externs e) f = elim f [ ]
+    unlinked OutOfMemory f = elim f [ ]
 
-      -- a fault of joining
-      pub unlinked : (e : PrepareError) → OfCalls (JoiningFault true o) e → IsFirstFault (joining s) lines bytes e
-      unlinked (Calls e) f = (prepared.sound, (o, before_joining, f))
-      unlinked (Parse e) f = elim f [ ]
-      unlinked (Types e) f = elim f [ ]
-      unlinked (Maps e) f = elim f [ ]
-      unlinked (Ksyms e) f = elim f [ ]
-      unlinked (Externs e) f = elim f [ ]
-      unlinked OutOfMemory f = elim f [ ]
+    pub reported : (linked : Object) (joins : Joins true d linked) (rs : List ProgramReport) → AreReports d linked (programs_in_order d.programs) rs → AreReportsOf s lines o rs
+    reported linked joins rs each =
+        record {
+          linked = linked;
+          stages = record { before = d; externs = before_joining; joins = joins };
+          each = subst (λ (x : Object). AreReports d linked (programs_in_order x.programs) rs) (sym joins.1) each;
+        }
 
-      module _ (linked : Object) (joins : Joins true o linked) where
-        abbrev whole : IsPrepared (joining s) lines bytes linked
-        whole = record { sound = prepared.sound; stages = record { before = o; externs = before_joining; joins = joins } }
+  -- of a file
+  module _ (bytes : List ℕ) (rs : List ProgramReport) where
+    inspected_parsed : parse_fault bytes ≡ None → AreReportsOf s lines (object_of bytes) rs → IsInspected s lines bytes rs
+    inspected_parsed sound of =
+        let whole : IsPrepared (joining s) lines bytes of.linked = record { sound = sound; stages = of.stages } in
+        record {
+          linked = of.linked;
+          headline = headline (joining s) lines bytes of.linked whole;
+          prepared = whole;
+          each = of.each;
+        }
 
-        pub inspected : (rs : List ProgramReport) → AreReports o linked (programs_in_order o.programs) rs → IsInspected s lines bytes rs
-        inspected rs each =
-            record {
-              linked = linked;
-              headline = headline (joining s) lines bytes linked whole;
-              prepared = whole;
-              each = subst (λ (x : Object). AreReports o linked (programs_in_order x.programs) rs) (sym joins.1) each;
-            }
+    pub inspected : (o : Object) → IsParsed bytes o → AreReportsOf s lines o rs → IsInspected s lines bytes rs
+    inspected o parsed of = inspected_parsed parsed.sound (subst (λ (x : Object). AreReportsOf s lines x rs) parsed.is of)

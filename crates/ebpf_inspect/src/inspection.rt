@@ -1,10 +1,10 @@
 //! The programs of a file, linked, with what they are made of.
 
-ghost use Rattle.std.specs.Prelude.{◌≡◌, false, true, map, IfOk, IfErr, OnOk};
-ghost use Rattle.ebpf_inspect.specs.Inspected.{joining, AreReports, IsInspected};
+ghost use Rattle.std.specs.Prelude.{◌≡◌, ℕ, List, false, true, map, IfOk, IfErr, OnOk};
+ghost use Rattle.ebpf_inspect.specs.Inspected.{joining, AreReports, AreReportsOf, IsInspected};
 ghost use Rattle.ebpf_inspect.specs.Named.{report_of, slots_at};
 ghost use Rattle.ebpf_object.specs.Joined.{programs_in_order};
-ghost use Rattle.ebpf_object.specs.Prepared.{IsFirstFault, Refuses};
+ghost use Rattle.ebpf_object.specs.Prepared.{IsParsed, IsFault, IsFirstFault, Refuses};
 ghost use Rattle.ebpf_object.specs.StageFaults.{OfCalls};
 ghost use Rattle.ebpf_object.specs.Stages.{Joins, JoiningFault};
 ghost use Rattle.ebpf_object.specs.Steps.{chosen};
@@ -14,7 +14,7 @@ use crate::report::ProgramReport;
 use ebpf_base::Items;
 use ebpf_object::Object;
 use ebpf_object::insn::bpf_insn;
-use ebpf_object::prepare::{PrepareError, Steps, prepare};
+use ebpf_object::prepare::{PrepareError, Steps, prepare_object};
 use std::alloc::{AllocError, Global};
 use std::io::BufRead;
 
@@ -84,6 +84,43 @@ fn report(alloc: Global, object: &mut Object) -> Result<Items<ProgramReport>, Pr
     Ok(reports_of(alloc, object, maps)?)
 }
 
+/// Prepares an object with the chosen passes, joins its programs, and reports what each is made of.
+fn inspect_all<K: BufRead + Drop>(
+    alloc: Global,
+    object: Object,
+    steps: &Steps<'_>,
+    kallsyms: K,
+) -> Result<Items<ProgramReport>, PrepareError>
+    ensures reports { IfOk result (AreReportsOf (chosen steps.now) (K.remaining kallsyms) object) }
+    ensures fault { IfErr result (Refuses (IsFault (joining (chosen steps.now)) (K.remaining kallsyms) object)) }
+{
+    let mut prepared = match prepare_object(alloc, object, &without_calls(steps), kallsyms) {
+        Ok(prepared) => prepared,
+        Err(error) => return Err(error),
+    };
+    report(alloc, &mut prepared)
+}
+
+/// The programs of an object after the chosen passes, as `inspect` gives them of a file. After a refusal the object is
+/// gone.
+///
+/// # Errors
+///
+/// Those of `inspect`, but `Parse`.
+pub fn inspect_object<K: BufRead + Drop>(
+    alloc: Global,
+    object: Object,
+    steps: &Steps<'_>,
+    kallsyms: K,
+) -> Result<Items<ProgramReport>, PrepareError>
+    ensures reports { IfOk result (AreReportsOf (chosen steps.now) (K.remaining kallsyms) object) }
+    ensures inspected { (file : List ℕ) → IsParsed file object → IfOk result (IsInspected (chosen steps.now) (K.remaining kallsyms) file) }
+    ensures fault { IfErr result (Refuses (IsFault (joining (chosen steps.now)) (K.remaining kallsyms) object)) }
+    ensures first_fault { (file : List ℕ) → IsParsed file object → IfErr result (Refuses (IsFirstFault (joining (chosen steps.now)) (K.remaining kallsyms) file)) }
+{
+    inspect_all(alloc, object, steps, kallsyms)
+}
+
 /// The programs of a file after the chosen passes, each joined with the functions that it reaches, whatever `steps`
 /// says of that: in byte order of their names, with their slots and what these are made of. `kallsyms` has the lines
 /// of the kernel's symbols.
@@ -101,9 +138,8 @@ pub fn inspect<K: BufRead + Drop>(
     ensures reports { IfOk result (IsInspected (chosen steps.now) (K.remaining kallsyms) bytes.now) }
     ensures fault { IfErr result (Refuses (IsFirstFault (joining (chosen steps.now)) (K.remaining kallsyms) bytes.now)) }
 {
-    let mut object = match prepare(alloc, bytes, &without_calls(steps), kallsyms) {
-        Ok(object) => object,
-        Err(error) => return Err(error),
-    };
-    report(alloc, &mut object)
+    match Object::parse(alloc, bytes) {
+        Ok(object) => inspect_object(alloc, object, steps, kallsyms),
+        Err(error) => Err(PrepareError::Parse(error)),
+    }
 }

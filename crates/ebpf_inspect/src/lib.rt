@@ -5,5 +5,5 @@ mod inspection;
 mod maps;
 mod report;
 
-pub use inspection::inspect;
+pub use inspection::{inspect, inspect_object};
 pub use report::ProgramReport;

@@ -1,7 +1,7 @@
 -- The stages of preparing an object, put together.
 use Rattle.std.proofs.Common.{◌≡◌, ℕ, Bool, true, false, List, Option, Some, None, subst, sym}
 use Rattle.std.specs.Prelude.{MatchBool, Result, Ok, Err, OnOk, IfOk, IfErr, IsErrAnd}
-use Rattle.ebpf_object.specs.Prepared.{AfterMaps, AfterResolution, AfterExterns, AfterCalls, IsFault, IsFirstFault, IsPrepared, Refuses, NamesNothing, is_memory}
+use Rattle.ebpf_object.specs.Prepared.{AfterMaps, AfterResolution, AfterExterns, AfterCalls, IsFault, IsFirstFault, IsPrepared, IsParsed, Refuses, NamesNothing, is_memory}
 use Rattle.ebpf_object.specs.Objects.{object_of, parse_fault}
 use Rattle.ebpf_object.specs.StageFaults.{OfTypes, OfMaps, OfKsyms, OfExterns, OfCalls}
 use Rattle.ebpf_object.specs.Stages.{Adapts, AdaptingFault, described, describing_fault, Resolves, ResolvingFault, externs_known, knowing_fault, Joins, JoiningFault}
@@ -140,3 +140,15 @@ stage_refused steps lines bytes o is sound e r =
 
 pub prepared : (steps : Chosen) (lines : Option (List ℕ)) (bytes : List ℕ) (o after : Object) → o ≡ object_of bytes → parse_fault bytes ≡ None → AfterCalls steps lines o after → IsPrepared steps lines bytes after
 prepared steps lines bytes o after is sound stages = record { sound = sound; stages = subst (λ (x : Object). AfterCalls steps lines x after) is stages }
+
+-- ---- an object as the bytes of a file are parsed
+
+pub parsed : (bytes : List ℕ) (o : Object) → o ≡ object_of bytes → parse_fault bytes ≡ None → IsParsed bytes o
+parsed bytes o is sound = record { sound = sound; is = is }
+
+module _ (steps : Chosen) (lines : Option (List ℕ)) (bytes : List ℕ) (o : Object) (from : IsParsed bytes o) where
+  pub prepared_file : (after : Object) → AfterCalls steps lines o after → IsPrepared steps lines bytes after
+  prepared_file after stages = prepared steps lines bytes o after from.is from.sound stages
+
+  pub file_refused : (e : PrepareError) → Refuses (IsFault steps lines o) e → Refuses (IsFirstFault steps lines bytes) e
+  file_refused e r = stage_refused steps lines bytes o from.is from.sound e r

@@ -55,6 +55,11 @@ module _ (steps : Chosen) (lines : Option (List ℕ)) where
   IsFirstFault bytes (Parse e) = parse_fault bytes ≡ Some e
   IsFirstFault bytes e = (parse_fault bytes ≡ None) × IsFault (object_of bytes) e
 
+-- an object as the bytes of a file are parsed
+pub record IsParsed (bytes : List ℕ) (o : Object) : Type 0 where
+  pub sound : parse_fault bytes ≡ None
+  pub is : o ≡ object_of bytes
+
 -- ---- want of memory
 
 -- the one answer that no definition states, of a stage or between them

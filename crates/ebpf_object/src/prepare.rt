@@ -1,10 +1,10 @@
 //! A file's bytes to finished programs.
 
-ghost use Rattle.std.specs.Prelude.{IfOk, IfErr};
+ghost use Rattle.std.specs.Prelude.{ℕ, List, IfOk, IfErr};
 ghost use Rattle.ebpf_object.specs.Headline.{Headline};
 ghost use Rattle.ebpf_object.specs.KeptParts.{KeepsOthers};
 ghost use Rattle.ebpf_object.specs.Objects.{object_of};
-ghost use Rattle.ebpf_object.specs.Prepared.{IsPrepared, IsFirstFault, Refuses};
+ghost use Rattle.ebpf_object.specs.Prepared.{AfterCalls, IsParsed, IsFault, IsFirstFault, Refuses};
 ghost use Rattle.ebpf_object.specs.Steps.{chosen};
 
 use crate::object::Object;
@@ -29,25 +29,43 @@ pub struct Steps<'a> {
     pub calls: bool,
 }
 
-/// Parses a file, and runs the chosen passes over its object.
+/// Runs the chosen passes over an object, which comes back.
 fn run_all<K: BufRead + Drop>(
     alloc: Global,
-    bytes: &[u8],
+    object: Object,
     steps: &Steps<'_>,
     kallsyms: K,
 ) -> Result<Object, PrepareError>
-    ensures prepared { IfOk result (IsPrepared (chosen steps.now) (K.remaining kallsyms) bytes.now) }
-    ensures others_stay { IfOk result (λ o. KeepsOthers (object_of bytes.now) o) }
-    ensures fault { IfErr result (Refuses (IsFirstFault (chosen steps.now) (K.remaining kallsyms) bytes.now)) }
+    ensures stages { IfOk result (AfterCalls (chosen steps.now) (K.remaining kallsyms) object) }
+    ensures others_stay { IfOk result (KeepsOthers object) }
+    ensures fault { IfErr result (Refuses (IsFault (chosen steps.now) (K.remaining kallsyms) object)) }
 {
-    let mut object = match Object::parse(alloc, bytes) {
-        Ok(object) => object,
-        Err(error) => return Err(PrepareError::Parse(error)),
-    };
-    match run_stages(alloc, &mut object, steps, kallsyms) {
-        Ok(()) => Ok(object),
+    let mut prepared = object;
+    match run_stages(alloc, &mut prepared, steps, kallsyms) {
+        Ok(()) => Ok(prepared),
         Err(error) => Err(error),
     }
+}
+
+/// An object after the chosen passes, in the order in which `prepare` has them. So a loader parses a file, makes the maps
+/// that the object lists, and prepares the same object with their descriptors. After a refusal the object is gone.
+///
+/// # Errors
+///
+/// Those of `prepare`, but `Parse`.
+pub fn prepare_object<K: BufRead + Drop>(
+    alloc: Global,
+    object: Object,
+    steps: &Steps<'_>,
+    kallsyms: K,
+) -> Result<Object, PrepareError>
+    ensures stages { IfOk result (AfterCalls (chosen steps.now) (K.remaining kallsyms) object) }
+    ensures headline { (file : List ℕ) → IsParsed file object → IfOk result (Headline (chosen steps.now) (K.remaining kallsyms) file) }
+    ensures others_stay { IfOk result (KeepsOthers object) }
+    ensures fault { IfErr result (Refuses (IsFault (chosen steps.now) (K.remaining kallsyms) object)) }
+    ensures first_fault { (file : List ℕ) → IsParsed file object → IfErr result (Refuses (IsFirstFault (chosen steps.now) (K.remaining kallsyms) file)) }
+{
+    run_all(alloc, object, steps, kallsyms)
 }
 
 /// The object that the bytes of an ELF64 file are, after the chosen passes in this order: functions adapted to a
@@ -71,5 +89,8 @@ pub fn prepare<K: BufRead + Drop>(
     ensures others_stay { IfOk result (λ o. KeepsOthers (object_of bytes.now) o) }
     ensures fault { IfErr result (Refuses (IsFirstFault (chosen steps.now) (K.remaining kallsyms) bytes.now)) }
 {
-    run_all(alloc, bytes, steps, kallsyms)
+    match Object::parse(alloc, bytes) {
+        Ok(object) => prepare_object(alloc, object, steps, kallsyms),
+        Err(error) => Err(PrepareError::Parse(error)),
+    }
 }

@@ -1,8 +1,10 @@
-use Rattle.ebpf_object.specs.Steps.{chosen}
-use Rattle.ebpf_object.proofs.Headline.{headline}
-use Rattle.ebpf_object.proofs.Staging.{of_prepared}
+use Rattle.ebpf_object.proofs.Staging.{parsed}
 use Rattle.ebpf_object.proofs.prepare.prepare.Goals as goal
 
-pub returns-clause-headline : goal.returns-clause-headline
-returns-clause-headline g c =
-    of_prepared c.run_all.result (headline (chosen c.args.steps.now) (g.K.Read.remaining c.args.kallsyms) c.args.bytes.now) c.run_all.ensures.prepared
+pub returns-in-Ok-clause-headline : goal.returns-in-Ok-clause-headline
+returns-in-Ok-clause-headline g c =
+    c.prepare_object.ensures.headline c.args.bytes.now (parsed c.args.bytes.now c.in-Ok.object c.in-Ok.ensures.object c.in-Ok.ensures.fault)
+
+pub returns-in-Ok-clause-fault : goal.returns-in-Ok-clause-fault
+returns-in-Ok-clause-fault g c =
+    c.prepare_object.ensures.first_fault c.args.bytes.now (parsed c.args.bytes.now c.in-Ok.object c.in-Ok.ensures.object c.in-Ok.ensures.fault)

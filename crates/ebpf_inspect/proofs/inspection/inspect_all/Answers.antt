@@ -1,0 +1,37 @@
+use Rattle.std.proofs.Common.{◌≡◌, true, subst}
+use Rattle.ebpf_inspect.proofs.Answering.{both_ok}
+use Rattle.ebpf_inspect.proofs.Gathered.{refused_by}
+use Rattle.ebpf_inspect.proofs.Joining.{alone, reported, same_fault, unlinked}
+use Rattle.ebpf_inspect.specs.Inspected.{joining}
+use Rattle.ebpf_object.proofs.Staging.{of_error}
+use Rattle.ebpf_object.specs.Prepared.{AfterCalls, IsFault, Refuses}
+use Rattle.ebpf_object.specs.StageFaults.{OfCalls}
+use Rattle.ebpf_object.specs.Stages.{JoiningFault}
+use Rattle.ebpf_object.specs.Steps.{chosen}
+use Rattle.ebpf_inspect.proofs.inspection.inspect_all.Goals as goal
+
+pub returns-in-Err-clause-fault : goal.returns-in-Err-clause-fault
+returns-in-Err-clause-fault g c =
+    let s = chosen c.args.steps.now in
+    let lines = g.K.Read.remaining c.args.kallsyms in
+    let o = c.args.object in
+    refused_by (IsFault (alone s lines) lines o) (IsFault (joining s) lines o) c.in-Err.error (same_fault s lines o c.in-Err.error)
+    (subst (λ steps. Refuses (IsFault steps lines o) c.in-Err.error) c.without_calls.ensures c.in-Err.ensures.fault)
+
+pub returns-clause-reports : goal.returns-clause-reports
+returns-clause-reports g c =
+    let s = chosen c.args.steps.now in
+    let lines = g.K.Read.remaining c.args.kallsyms in
+    let o = c.args.object in
+    let d = c.in-Ok.prepared in
+    let stages = subst (λ steps. AfterCalls steps lines o d) c.without_calls.ensures c.in-Ok.ensures.stages in
+    both_ok c.report.result (λ joins rs each. reported s lines o d stages c.report.new.object joins rs each) c.report.ensures.joined c.report.ensures.reports
+
+pub returns-clause-fault : goal.returns-clause-fault
+returns-clause-fault g c =
+    let s = chosen c.args.steps.now in
+    let lines = g.K.Read.remaining c.args.kallsyms in
+    let o = c.args.object in
+    let d = c.in-Ok.prepared in
+    let stages = subst (λ steps. AfterCalls steps lines o d) c.without_calls.ensures c.in-Ok.ensures.stages in
+    of_error c.report.result (λ e r. refused_by (OfCalls (JoiningFault true d)) (IsFault (joining s) lines o) e (unlinked s lines o d stages e) r) c.report.ensures.fault
