@@ -5,6 +5,7 @@ use Rattle.std.specs.BTreeMap.{BTreeMap}
 use Rattle.std.specs.Global.{Vec}
 use Rattle.ebpf_elf.specs.Relocations.{relocation_sections, target_of}
 use Rattle.ebpf_elf.specs.Sections.{SectionOf}
+use Rattle.ebpf_parsing.specs.FileSymbols.{names_of}
 use Rattle.ebpf_parsing.specs.Groups.{group_at, AreTablesOf}
 use Rattle.ebpf_parsing.specs.Symbols.{SymbolValue, symbols_of, is_in}
 
@@ -24,6 +25,14 @@ group_more group group' y rest q e =
 pub group_all : (group : List SymbolValue) (q : ℕ) → group ++ symbols_of [] q ≡ group
 unfolding symbols_of
 group_all group q = append-nil group
+
+-- one more symbol's name behind those before it
+pub names_more : (names names' : List (List ℕ)) (y : SymbolValue) (rest : List SymbolValue) → names' ≡ names ++ y.name ∷ [] → names' ++ names_of rest ≡ names ++ names_of (y ∷ rest)
+names_more names names' y rest e = ap (λ n. n ++ names_of rest) e ∙ append_assoc names (y.name ∷ []) (names_of rest)
+
+-- no symbol's name is left
+pub names_all : (names : List (List ℕ)) → names ++ names_of [] ≡ names
+names_all names = append-nil names
 
 -- one more relocation section in the group of its target
 pub target_more : (group group' : List SectionOf) (r : SectionOf) (rest : List SectionOf) (q : ℕ)

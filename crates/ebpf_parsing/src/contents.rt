@@ -11,7 +11,7 @@ use crate::license::read_license;
 use crate::parts::{Parts, read_sections};
 use crate::relocations::read_relocation_sections;
 use crate::shared::Shared;
-use crate::symbols::read_symbols;
+use crate::symbols::{keep_symbols, read_symbols};
 use crate::version::read_version;
 use ebpf_base::{ByIndex, ByName};
 use ebpf_btf::Endianness;
@@ -72,11 +72,14 @@ impl Contents {
             &tables,
             &symbols.groups,
         )?;
+        // The table takes the memory of what the sections needed for a while.
+        drop(symbols.groups);
+        let symbol_table = keep_symbols(alloc, &file, symbols.names.as_slice())?;
         Ok(Contents {
             endianness: file.endianness(),
             shared,
             externs: declared.externs,
-            symbol_table: symbols.table,
+            symbol_table,
             parts,
         })
     }

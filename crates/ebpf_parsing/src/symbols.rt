@@ -1,10 +1,11 @@
 //! The symbols of a file.
 
-ghost use Rattle.std.specs.Prelude.{◌≡◌, ◌∷◌, ◌++◌, [], ℕ, true, IfOk, OnOk, IfErr, Some, None};
+ghost use Rattle.std.specs.Prelude.{◌≡◌, ◌∷◌, ◌++◌, [], ℕ, true, IfOk, OnOk, IfErr, Some, None, unwrap_or};
 ghost use Rattle.std.specs.FinMap as map;
 ghost use Rattle.ebpf_base.specs.Faults.{Refuses, fault_of};
+ghost use Rattle.ebpf_base.specs.Keys.{lent_bytes};
 ghost use Rattle.ebpf_elf.specs.Symbols.{symbol_name};
-ghost use Rattle.ebpf_parsing.specs.FileSymbols.{symbol_of, symbol_fault, symbols_fault, file_symbols, symbol_table, kept_of};
+ghost use Rattle.ebpf_parsing.specs.FileSymbols.{symbol_of, symbol_fault, symbols_fault, file_symbols, names_of, symbol_table, kept_of};
 ghost use Rattle.ebpf_parsing.specs.Groups.{group_at};
 ghost use Rattle.ebpf_parsing.specs.Symbols.{SymbolValue, symbols_of};
 ghost use Rattle.ebpf_parts.specs.Memory.{is_memory};
@@ -56,14 +57,12 @@ fn name_of<'a>(symbol: &ElfSymbol<'a>) -> Result<&'a str, ParseError>
 }
 
 impl<'a> NamedSymbol<'a> {
-    /// A symbol of a file, with its name.
+    /// A symbol of a file whose name is known.
     #[tactic(auto, unfolding(crate::specs::FileSymbols::symbol_of))]
-    pub fn from_elf(symbol: &ElfSymbol<'a>) -> Result<NamedSymbol<'a>, ParseError>
-        ensures symbol { IfOk result (λ y. y ≡ symbol_of symbol.now) }
-        ensures fault { fault_of result ≡ symbol_fault symbol.now }
+    fn named(symbol: &ElfSymbol<'_>, name: &'a str) -> NamedSymbol<'a>
+        ensures { name.now ≡ unwrap_or (symbol_name symbol.now) [] → result ≡ symbol_of symbol.now }
     {
-        let name = name_of(symbol)?;
-        Ok(NamedSymbol {
+        NamedSymbol {
             index: symbol.index(),
             section_index: symbol.section_index(),
             name,
@@ -72,7 +71,16 @@ impl<'a> NamedSymbol<'a> {
             kind: symbol.kind(),
             is_definition: symbol.is_definition(),
             is_weak: symbol.is_weak(),
-        })
+        }
+    }
+
+    /// A symbol of a file, with its name.
+    pub fn from_elf(symbol: &ElfSymbol<'a>) -> Result<NamedSymbol<'a>, ParseError>
+        ensures symbol { IfOk result (λ y. y ≡ symbol_of symbol.now) }
+        ensures fault { fault_of result ≡ symbol_fault symbol.now }
+    {
+        let name = name_of(symbol)?;
+        Ok(NamedSymbol::named(symbol, name))
     }
 
     /// What an object keeps of it.
@@ -93,10 +101,10 @@ impl<'a> NamedSymbol<'a> {
     }
 }
 
-/// The symbols of a file, as an object keeps them and by their section.
+/// The symbols of a file by their section, and the names of all in order.
 #[derive(Drop)]
 pub struct FileSymbols<'a> {
-    pub table: ByIndex<Symbol>,
+    pub names: Vec<&'a str>,
     pub groups: Groups<NamedSymbol<'a>>,
 }
 
@@ -104,11 +112,11 @@ impl<'a> FileSymbols<'a> {
     /// Takes one more symbol.
     #[tactic(auto, unfolding(crate::specs::Symbols::symbols_of))]
     fn add(&mut self, alloc: Global, symbol: NamedSymbol<'a>) -> Result<(), ParseError>
-        ensures table { OnOk result (self.new.table ≡ map.insert self.old.table (kept_of symbol.entry).0 (kept_of symbol.entry).1) }
+        ensures names { OnOk result (lent_bytes self.new.names.items ≡ lent_bytes self.old.names.items ++ symbol.entry.name ∷ []) }
         ensures groups { OnOk result ((q : ℕ) → group_at self.new.groups.groups q ≡ group_at self.old.groups.groups q ++ symbols_of (symbol.entry ∷ []) q) }
         ensures memory { IfErr result (λ e. is_memory e ≡ true) }
     {
-        self.table.insert(symbol.index, symbol.kept(alloc)?)?;
+        self.names.push(symbol.name)?;
         match symbol.section_index {
             None => Ok(()),
             Some(section) => self.groups.add(alloc, section, symbol),
@@ -116,7 +124,7 @@ impl<'a> FileSymbols<'a> {
     }
 }
 
-/// About how many symbols a file has, as far as its first symbol table tells, so that the table takes its memory once.
+/// About how many symbols a file has, as far as its first symbol table tells, so that a list takes its memory once.
 fn count_of(file: &ElfFile<'_>) -> usize {
     for section in file.sections() {
         if section.kind_number() == SYMBOL_TABLE {
@@ -126,23 +134,15 @@ fn count_of(file: &ElfFile<'_>) -> usize {
     0
 }
 
-/// A table of symbols, with room for those of a file.
-fn table_for(alloc: Global, file: &ElfFile<'_>) -> Result<ByIndex<Symbol>, ParseError>
-    ensures empty { IfOk result (λ table. table ≡ map.empty) }
-    ensures memory { IfErr result (λ e. is_memory e ≡ true) }
-{
-    Ok(ByIndex::from_map(HashMap::with_capacity(alloc, count_of(file))?))
-}
-
 /// The symbols of a file.
-#[tactic(auto, using(crate::proofs::Grouped::group_more, crate::proofs::Grouped::group_all))]
+#[tactic(auto, using(crate::proofs::Grouped::group_more, crate::proofs::Grouped::group_all, crate::proofs::Grouped::names_more, crate::proofs::Grouped::names_all))]
 pub fn read_symbols<'a>(alloc: Global, file: &ElfFile<'a>) -> Result<FileSymbols<'a>, ParseError>
-    ensures table { IfOk result (λ s. s.table ≡ symbol_table (file_symbols file.now)) }
+    ensures names { IfOk result (λ s. lent_bytes s.names.items ≡ names_of (file_symbols file.now)) }
     ensures groups { IfOk result (λ s. (q : ℕ) → group_at s.groups.groups q ≡ symbols_of (file_symbols file.now) q) }
     ensures fault { Refuses is_memory result (symbols_fault file.now) }
 {
     let mut symbols = FileSymbols {
-        table: table_for(alloc, file)?,
+        names: Vec::with_capacity(alloc, count_of(file))?,
         groups: Groups::new(alloc),
     };
     for symbol in file.symbols() {
@@ -150,4 +150,23 @@ pub fn read_symbols<'a>(alloc: Global, file: &ElfFile<'a>) -> Result<FileSymbols
         symbols.add(alloc, symbol)?;
     }
     Ok(symbols)
+}
+
+/// The symbols of a file as an object keeps them. Their names are given, so that they are read once.
+#[tactic(auto, unfolding(crate::specs::FileSymbols::symbol_of))]
+pub fn keep_symbols(
+    alloc: Global,
+    file: &ElfFile<'_>,
+    names: &[&str],
+) -> Result<ByIndex<Symbol>, ParseError>
+    requires names { lent_bytes names.now ≡ names_of (file_symbols file.now) }
+    ensures table { IfOk result (λ table. table ≡ symbol_table (file_symbols file.now)) }
+    ensures memory { IfErr result (λ e. is_memory e ≡ true) }
+{
+    let mut table = ByIndex::from_map(HashMap::with_capacity(alloc, names.len())?);
+    for (symbol, name) in file.symbols().zip(names) {
+        let symbol = NamedSymbol::named(&symbol, *name);
+        table.insert(symbol.index, symbol.kept(alloc)?)?;
+    }
+    Ok(table)
 }

@@ -1,7 +1,7 @@
 use Rattle.std.proofs.Common.{◌≡◌, ◌++◌, ℕ, map}
 use Rattle.ebpf_base.specs.Faults.{first_some}
-use Rattle.ebpf_base.specs.Keyed.{put_all}
-use Rattle.ebpf_parsing.specs.FileSymbols.{symbol_of, symbol_fault, symbols_fault, file_symbols, kept_of, symbol_table}
+use Rattle.ebpf_base.specs.Keys.{lent_bytes}
+use Rattle.ebpf_parsing.specs.FileSymbols.{symbol_of, symbol_fault, symbols_fault, file_symbols, names_of}
 use Rattle.ebpf_parsing.specs.Groups.{group_at}
 use Rattle.ebpf_parsing.specs.Symbols.{symbols_of}
 use Rattle.ebpf_parsing.proofs.symbols.read_symbols.Given as goal
@@ -9,7 +9,7 @@ use Rattle.ebpf_parsing.proofs.symbols.read_symbols.Given as goal
 -- what is left to do from here is what was to do from the start
 abbrev pub invariant-loop-symbol : goal.invariant-loop-symbol
 invariant-loop-symbol l = record {
-  table : put_all l.symbols.table (map kept_of (map symbol_of l.symbol-iterator)) ≡ symbol_table (file_symbols l.file);
+  names : lent_bytes l.symbols.names.items ++ names_of (map symbol_of l.symbol-iterator) ≡ names_of (file_symbols l.file);
   groups : (q : ℕ) → group_at l.symbols.groups.groups q ++ symbols_of (map symbol_of l.symbol-iterator) q ≡ symbols_of (file_symbols l.file) q;
   fault : first_some symbol_fault l.symbol-iterator ≡ symbols_fault l.file;
 }
