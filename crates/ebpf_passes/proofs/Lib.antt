@@ -1,3 +1,4 @@
+pub mod Idle
 mod InOrder
 pub mod MapChains
 mod OneEdit

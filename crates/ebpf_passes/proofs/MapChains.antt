@@ -1,5 +1,5 @@
 -- Places in maps' data add up along slots in a row.
-use Rattle.std.proofs.Common.{◌≡◌, ℕ, zero, suc, ◌+◌, ◌-◌, ◌*◌, ◌/◌, ◌%◌, ◌<◌, ◌≤◌, Bool, true, false, cond, List, [], ◌∷◌, ◌++◌, length, map, Some, None, IsSome, Option, Result, Ok, Err, refl, sym, ap, subst, ◌∙◌, arith, nat_lt, add-one}
+use Rattle.std.proofs.Common.{◌≡◌, ℕ, zero, suc, ◌+◌, ◌-◌, ◌*◌, ◌/◌, ◌%◌, ◌<◌, Bool, true, false, cond, List, [], ◌∷◌, length, map, Some, None, IsSome, Option, Result, Ok, Err, refl, sym, ap, subst, ◌∙◌, arith, nat_lt}
 use Rattle.std.proofs.lemmas.Bool.Decides.{nat_tests}
 use Rattle.std.proofs.lemmas.Int.{ints}
 use Rattle.std.proofs.lemmas.List.FromFn.{sum_by-map-range_with_len_more}
@@ -19,11 +19,10 @@ use Rattle.ebpf_passes.specs.declared.edit.Edit.{Edit}
 use Rattle.ebpf_passes.specs.declared.edit.Edit.TheVariants.{Stay, Slot, Pair}
 use Rattle.ebpf_passes.specs.declared.map_tables.MapTarget.{MapTarget}
 use Rattle.ebpf_passes.specs.declared.refusal.Fault.{Fault}
-use Rattle.ebpf_passes.specs.declared.refusal.Refusal.{Refusal}
 use Rattle.ebpf_passes.specs.Edits.{slot_at, edited_next, found}
 use Rattle.ebpf_passes.specs.MapChains.{address_in, section_address, symbol_address, address_by, data_address, IsChain, addresses, PlacesAddUp}
 use Rattle.ebpf_passes.specs.Maps.{MapInputs, fits, value_edit, shifted, target_edit, found_edit, target_at, section_edit, in_section, to_symbol, map_edit}
-use Rattle.ebpf_passes.specs.Relocated.{Kept, edit_of, edit_by, edit_at, is_among, refused, refusal_among, refusal_at, first_refusal}
+use Rattle.ebpf_passes.specs.Relocated.{Kept, edit_of, edit_by, edit_at, is_among, refused, refusal_at, first_refusal}
 
 -- ---- no relocation is refused: the one at an offset isn't
 

@@ -1,5 +1,5 @@
 -- The places in maps' data that slots in a row add up.
-use Rattle.std.specs.Prelude.{◌≡◌, ◌⊎◌, ◌≤◌, ◌<◌, ℕ, pos, ◌+◌, ◌*◌, ◌+ℤ◌, ◌||◌, if◌then◌else◌, length, map, sum, Option, Some, None, IsSome, unwrap_or}
+use Rattle.std.specs.Prelude.{◌≡◌, ◌≤◌, ◌<◌, ℕ, pos, ◌+◌, ◌*◌, ◌+ℤ◌, ◌||◌, if◌then◌else◌, length, map, sum, Option, Some, None, IsSome, unwrap_or}
 use Rattle.std.specs.FinMap.{get}
 use Rattle.std.specs.List.{range_with_len}
 use Rattle.ebpf_elf.specs.declared.entries.ElfRelocation.{ElfRelocation}

@@ -1,6 +1,6 @@
 //! A pass over the functions of an object.
 
-ghost use Rattle.std.specs.Prelude.{◌≡◌, true, OnOk, OnErr, IfErr, MatchBool};
+ghost use Rattle.std.specs.Prelude.{◌≡◌, true, false, IfOk, OnOk, OnErr, IfErr, MatchBool};
 ghost use Rattle.ebpf_base.specs.Faults.{Refuses};
 ghost use Rattle.ebpf_base.specs.Mapped.{map_values};
 ghost use Rattle.ebpf_reloc.specs.Memory.{is_memory_at};
@@ -9,47 +9,53 @@ ghost use Rattle.ebpf_passes.specs.Rules.{says_of, symbols_of};
 
 use crate::errors::refused;
 use crate::rule::Rule;
-use crate::search::first_refusal;
+use crate::search::edits_or_refusal;
 use crate::slots::write_slots;
 use ebpf_base::{ByKey, ByOffset, BySection};
 use ebpf_parts::Relocation;
 use ebpf_reloc::{EbpfRelocationError, Function};
 use std::alloc::Global;
 
-/// Refuses for the first relocation of a function that can't be applied.
+/// Refuses for the first relocation of a function that can't be applied; else tells whether one of them edits a slot.
+#[tactic(auto, unfolding(crate::specs::Relocated::relocated))]
 fn check_function(
     alloc: Global,
     rule: &Rule<'_>,
     relocations: &BySection<ByOffset<Relocation>>,
     function: &Function,
-) -> Result<(), EbpfRelocationError>
+) -> Result<bool, EbpfRelocationError>
+    ensures stays { IfOk result (λ edits. edits ≡ false → relocated (says_of rule.now) relocations.now function.now ≡ function.now) }
     ensures fault { Refuses is_memory_at result (function_fault (says_of rule.now) (symbols_of rule.now) relocations.now function.now) }
     ensures memory { IfErr result (λ e. is_memory_at e ≡ true → e ≡ out_of_memory) }
 {
     let Some(kept) = relocations.get(function.section_index.0) else {
-        return Ok(());
+        return Ok(false);
     };
-    match first_refusal(rule, kept, function) {
-        Some(refusal) => Err(refused(alloc, rule.symbols(), kept, function, refusal)),
-        None => Ok(()),
+    match edits_or_refusal(rule, kept, function) {
+        Ok(edits) => Ok(edits),
+        Err(refusal) => Err(refused(alloc, rule.symbols(), kept, function, refusal)),
     }
 }
 
-/// Refuses for the first function, by its key, with a relocation that can't be applied.
-#[tactic(auto, unfolding(crate::specs::Relocated::first_fault))]
+/// Refuses for the first function, by its key, with a relocation that can't be applied; else tells whether a relocation
+/// of one of them edits a slot.
+#[tactic(auto, unfolding(crate::specs::Relocated::first_fault), using(crate::proofs::Idle::one_stays, crate::proofs::Idle::all_stay))]
 fn check_functions(
     alloc: Global,
     rule: &Rule<'_>,
     relocations: &BySection<ByOffset<Relocation>>,
     functions: &ByKey<Function>,
-) -> Result<(), EbpfRelocationError>
+) -> Result<bool, EbpfRelocationError>
+    ensures stay { IfOk result (λ edits. edits ≡ false → map_values (relocated (says_of rule.now) relocations.now) functions.now ≡ functions.now) }
     ensures fault { Refuses is_memory_at result (first_fault (says_of rule.now) (symbols_of rule.now) relocations.now functions.now) }
     ensures memory { IfErr result (λ e. is_memory_at e ≡ true → e ≡ out_of_memory) }
 {
+    let mut edits = false;
     for (_, function) in functions.iter() {
-        check_function(alloc, rule, relocations, function)?;
+        let edited = check_function(alloc, rule, relocations, function)?;
+        edits = edits || edited;
     }
-    Ok(())
+    Ok(edits)
 }
 
 /// Writes the relocations of a function.
@@ -81,7 +87,9 @@ pub fn relocate(
     ensures memory { IfErr result (λ e. is_memory_at e ≡ true → e ≡ out_of_memory) }
     ensures err { OnErr result (functions.new ≡ functions.old) }
 {
-    check_functions(alloc, rule, relocations, functions)?;
+    if !check_functions(alloc, rule, relocations, functions)? {
+        return Ok(());
+    }
     functions.write_values(|function| write_function(rule, relocations, function));
     Ok(())
 }

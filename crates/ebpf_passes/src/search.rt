@@ -1,9 +1,12 @@
-//! The first relocation of a function that can't be applied.
+//! The first relocation of a function that can't be applied, and whether one of them edits a slot.
 
-ghost use Rattle.std.specs.Prelude.{◌≡◌, ◌/◌, ◌<◌, ◌^◌, length};
-ghost use Rattle.ebpf_passes.specs.Relocated.{first_refusal};
+ghost use Rattle.std.specs.Prelude.{◌≡◌, ◌/◌, ◌<◌, ◌^◌, length, None, Ok, false, IfOk};
+ghost use Rattle.ebpf_base.specs.Faults.{fault_of};
+ghost use Rattle.ebpf_passes.specs.Edits.{slots_after};
+ghost use Rattle.ebpf_passes.specs.Relocated.{first_refusal, edit_at};
 ghost use Rattle.ebpf_passes.specs.Rules.{says_of};
-ghost use Rattle.ebpf_passes.specs.Turns.{pending_slot, left_by, tried};
+ghost use Rattle.ebpf_passes.specs.Turns.{pending_slot, pending_of, left_by, tried, turn};
+ghost use Rattle.ebpf_passes.specs.declared.edit.Edit.TheVariants.{Stay};
 
 use crate::edit::Edit;
 use crate::refusal::{Fault, Refusal};
@@ -27,56 +30,62 @@ fn pending_slot(pending: Pending, at: usize, slot: bpf_insn) -> bpf_insn
 }
 
 /// What the edit of a slot leaves to be found.
-fn left_by(at: usize, edit: Result<Edit, Fault>) -> Result<Pending, Fault>
+fn pending_of(at: usize, edit: Edit) -> Pending
     requires { at < 2 ^ 63 }
-    ensures { result ≡ left_by at edit }
+    ensures { result ≡ pending_of at edit }
 {
     match edit {
-        Ok(Edit::Pair(_, next)) => Ok(Some((at + 1, next))),
-        Ok(_) => Ok(None),
-        Err(fault) => Err(fault),
+        Edit::Pair(_, next) => Some((at + 1, next)),
+        _ => None,
     }
 }
 
-/// What a relocation at a distance from the first slot leaves to be found.
-fn tried(
+/// What a relocation at a distance from the first slot makes of the slot that is found there.
+fn edit_of(
     rule: &Rule<'_>,
     slots: &[bpf_insn],
     pending: Pending,
     distance: u64,
     relocation: Relocation,
-) -> Result<Pending, Fault>
+) -> Result<Edit, Fault>
     requires { distance / 8 < length slots.now }
-    ensures { result ≡ tried (says_of rule.now) slots.now pending distance relocation }
+    ensures tried { left_by (distance / 8) result ≡ tried (says_of rule.now) slots.now pending distance relocation }
+    ensures stays { pending ≡ None → result ≡ Ok Stay → turn (says_of rule.now) distance relocation slots.now ≡ slots.now }
 {
     if distance % 8 != 0 {
         return Err(Fault::InvalidOffset);
     }
     let at = (distance / 8) as usize;
     let slot = pending_slot(pending, at, slots[at]);
-    left_by(at, rule.edit(relocation, slot, at + 1 < slots.len()))
+    rule.edit(relocation, slot, at + 1 < slots.len())
 }
 
-/// The first relocation of a function, by offset, that can't be applied.
-pub fn first_refusal(
+/// Whether a relocation of a function edits its slots; else the first one, by offset, that can't be applied.
+#[tactic(auto, using(crate::proofs::Idle::stays_on, crate::proofs::Idle::stays_past, crate::proofs::Idle::stays_all))]
+pub fn edits_or_refusal(
     rule: &Rule<'_>,
     kept: &ByOffset<Relocation>,
     function: &Function,
-) -> Option<Refusal>
-    ensures { result ≡ first_refusal (says_of rule.now) kept.now function.now }
+) -> Result<bool, Refusal>
+    ensures refusal { fault_of result ≡ first_refusal (says_of rule.now) kept.now function.now }
+    ensures stays { IfOk result (λ edits. edits ≡ false → slots_after (edit_at (says_of rule.now) kept.now function.now.section_offset (length function.now.instructions)) function.now.instructions ≡ function.now.instructions) }
 {
     let slots = function.instructions.as_slice();
     let start = function.section_offset as u64;
     let mut pending = None;
+    let mut edits = false;
     for (offset, relocation) in kept.from_offset(start) {
         let distance = offset.saturating_sub(start);
         if distance / 8 >= slots.len() as u64 {
-            return None;
+            return Ok(edits);
         }
-        match tried(rule, slots, pending, distance, *relocation) {
-            Ok(left) => pending = left,
+        match edit_of(rule, slots, pending, distance, *relocation) {
+            Ok(edit) => {
+                pending = pending_of((distance / 8) as usize, edit);
+                edits = edits || !edit.stays();
+            }
             Err(fault) => {
-                return Some(Refusal {
+                return Err(Refusal {
                     offset: *offset,
                     relocation: *relocation,
                     fault,
@@ -84,5 +93,5 @@ pub fn first_refusal(
             }
         }
     }
-    None
+    Ok(edits)
 }

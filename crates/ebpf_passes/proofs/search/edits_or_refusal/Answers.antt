@@ -5,25 +5,25 @@ use Rattle.ebpf_passes.specs.Relocated.{first_refusal}
 use Rattle.ebpf_passes.specs.Rules.{says_of}
 use Rattle.ebpf_passes.specs.Turns.{scan}
 use Rattle.ebpf_passes.proofs.Scans.{finds_first}
-use Rattle.ebpf_passes.proofs.search.first_refusal.Goals as goal
+use Rattle.ebpf_passes.proofs.search.edits_or_refusal.Goals as goal
 
-pub returns-then-distance-slots : goal.returns-then-distance-slots
+pub returns-then-distance-slots-clause-refusal : goal.returns-then-distance-slots-clause-refusal
 unfolding first_refusal
-returns-then-distance-slots c =
+returns-then-distance-slots-clause-refusal c =
     let f = c.args.function.now in
     let all : None ≡ scan (says_of c.args.rule.now) f.section_offset f.instructions None (entries_from f.section_offset (entries c.args.kept.now)) = search rules in
     all ∙ finds_first (says_of c.args.rule.now) c.args.kept.now f.section_offset f.instructions
 
-pub returns-in-Err : goal.returns-in-Err
+pub returns-in-Err-clause-refusal : goal.returns-in-Err-clause-refusal
 unfolding first_refusal
-returns-in-Err c =
+returns-in-Err-clause-refusal c =
     let f = c.args.function.now in
     let all : Some (record { offset = c.in-Some.offset.now; relocation = c.in-Some.relocation.now; fault = c.in-Err.fault }) ≡ scan (says_of c.args.rule.now) f.section_offset f.instructions None (entries_from f.section_offset (entries c.args.kept.now)) = search rules in
     all ∙ finds_first (says_of c.args.rule.now) c.args.kept.now f.section_offset f.instructions
 
-pub returns : goal.returns
+pub returns-clause-refusal : goal.returns-clause-refusal
 unfolding first_refusal
-returns c =
+returns-clause-refusal c =
     let f = c.args.function.now in
     let all : None ≡ scan (says_of c.args.rule.now) f.section_offset f.instructions None (entries_from f.section_offset (entries c.args.kept.now)) = search rules in
     all ∙ finds_first (says_of c.args.rule.now) c.args.kept.now f.section_offset f.instructions
