@@ -1,13 +1,11 @@
 -- One step of a walk along the slots of a function.
 use Rattle.std.proofs.Common.{◌≡◌, ◌≤◌, ◌<◌, ◌+◌, ◌*◌, ℕ, List, [], ◌∷◌, length, drop, map, Bor, Option, Some, None, sym, ap, ◌∙◌, arith}
 use Rattle.std.specs.Prelude.{slice_index_or}
-use Rattle.std.specs.FinMap.{FinMap}
-use Rattle.std.specs.Ordering.{nat_cmp}
-use Rattle.ebpf_elf.specs.declared.entries.ElfRelocation.{ElfRelocation}
 use Rattle.ebpf_linker.specs.declared.reference.Target.{Target}
 use Rattle.ebpf_parts.proofs.Walks.{rest_more, rest_none}
 use Rattle.ebpf_parts.specs.declared.insn.bpf_insn.{bpf_insn}
 use Rattle.ebpf_reloc.specs.declared.function.Function.{Function}
+use Rattle.ebpf_reloc.specs.declared.walk.Walk.{Walk}
 use Rattle.ebpf_reloc.specs.Numbers.{calls_by, calls_of, calls_from, with_call}
 use Rattle.ebpf_reloc.specs.Places.{LinkableValue}
 use Rattle.ebpf_reloc.specs.References.{content_of}
@@ -33,8 +31,8 @@ module _ (leads : ℕ → bpf_insn → Option Target) (slots : List bpf_insn) wh
   calls_end i past = ap (calls_by leads i) (rest_none slots i past)
 
 -- before a slot is before the next one
-pub next_slot : (kept : Option (FinMap nat_cmp ElfRelocation)) (next : Option (ℕ × ElfRelocation)) (start i : ℕ) → IsBefore kept next (start + 8 * i) → IsBefore kept next (start + 8 * (i + 1))
-next_slot kept next start i h = record { from = h.from; before = omega (arith, h.before); first = h.first }
+pub next_slot : (walk : Walk) (start i : ℕ) → IsBefore walk (start + 8 * i) → IsBefore walk (start + 8 * (i + 1))
+next_slot walk start i h = record { from = h.from; before = omega (arith, h.before); are_left = h.are_left }
 
 module _ (parts : LinkableValue) (keys : List (ℕ × ℕ)) (functions : List (Bor Function)) where
   -- the calls of one function, then those of the others

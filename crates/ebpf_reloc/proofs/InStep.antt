@@ -1,53 +1,83 @@
--- The first relocation from an offset on, and the one at that offset.
-use Rattle.std.proofs.Common.{◌≡◌, ◌<◌, ◌≤◌, ℕ, Bool, true, false, cond, List, [], ◌∷◌, Option, Some, None, refl, sym, subst, ◌∙◌, arith}
-use Rattle.std.specs.Prelude.{◌==◌, nat_lt, ◌^◌}
+-- What is left of the relocations of a section from an offset on, and the one at that offset.
+use Rattle.std.proofs.Common.{◌≡◌, ◌<◌, ◌≤◌, ◌+◌, ℕ, Bool, true, false, cond, List, [], ◌∷◌, Option, Some, None, refl, sym, ap, subst, ◌∙◌, arith}
+use Rattle.std.specs.Prelude.{◌==◌, nat_lt, nat_le, ◌^◌}
 use Rattle.std.specs.declared.cmp.Ordering.{Ordering}
 use Rattle.std.specs.declared.cmp.Ordering.TheVariants.{Less, Equal, Greater}
 use Rattle.std.specs.FinMap.{FinMap, entries, find as value_at, get-entries}
-use Rattle.std.specs.List.{find, AllByRecursion}
+use Rattle.std.specs.List.{AllByRecursion}
 use Rattle.std.specs.List.Sorted.{IsStrictlySortedBy}
 use Rattle.std.specs.Map.{keys_of}
-use Rattle.std.specs.Ordering.{nat_cmp, is_le}
+use Rattle.std.specs.Ordering.{nat_cmp}
 use Rattle.std.proofs.lemmas.Bool.Decides.{nat_tests}
+use Rattle.std.proofs.lemmas.List.Kept.{IsStrictlySortedBy-filter}
+use Rattle.ebpf_base.proofs.Lists.{filter-map}
 use Rattle.ebpf_base.proofs.Sorted.{entries_rise}
+use Rattle.ebpf_base.specs.Parts.{entries_from}
 use Rattle.ebpf_elf.specs.declared.entries.ElfRelocation.{ElfRelocation}
+use Rattle.ebpf_reloc.specs.declared.walk.Walk.{Walk}
 use Rattle.ebpf_reloc.specs.Places.{found_at}
-use Rattle.ebpf_reloc.specs.Walks.{first_from, entries_in, at_offset, IsBefore}
+use Rattle.ebpf_reloc.specs.Walks.{entries_in, ahead_in, left, walked, is_passed, at_offset, IsBefore}
 
 abbrev Entries : Type 0
 Entries = List (ℕ × ElfRelocation)
 
-abbrev is_from : ℕ → ℕ × ElfRelocation → Bool
-is_from offset e = is_le (nat_cmp offset e.0)
+-- those that stand above an offset stay, whatever offset up to it they are taken from
+all_stay : (es : Entries) (a from : ℕ) → from ≤ a + 1 → AllByRecursion (λ y. nat_cmp a y ≡ Less) (keys_of es) → entries_from from es ≡ es
+all_stay [] a from low h = refl
+all_stay (e ∷ es) a from low h =
+    let up : a < e.0 = grind (arith, nat_tests, h.0) in
+    let stays : nat_le from e.0 ≡ true = grind (arith, nat_tests) in
+    rw stays (ap (λ xs. e ∷ xs) (all_stay es a from low h.1))
 
-later_too : (from offset place : ℕ) → from ≤ offset → is_le (nat_cmp from place) ≡ false → is_le (nat_cmp offset place) ≡ false
-later_too from offset place before h = grind (arith, nat_tests)
-
-none_later : (es : Entries) (from offset : ℕ) → from ≤ offset → None ≡ find (is_from from) es → None ≡ find (is_from offset) es
-none_later [] from offset before h = refl
-none_later (e ∷ es) from offset before h = step (is_from from e) refl h (none_later es from offset before)
+-- the first of those from an offset on is not before it
+first_there : (es : Entries) (from : ℕ) (e : ℕ × ElfRelocation) (rest : Entries) → e ∷ rest ≡ entries_from from es → from ≤ e.0
+first_there [] from e rest h = cc
+first_there (d ∷ es) from e rest h = step (nat_le from d.0) refl h (first_there es from e rest)
   where
-    step : (b : Bool) → is_from from e ≡ b → None ≡ cond b (Some e) (find (is_from from) es) → (None ≡ find (is_from from) es → None ≡ find (is_from offset) es) → None ≡ find (is_from offset) (e ∷ es)
-    step true at g rest = cc
-    step false at g rest = rw (later_too from offset e.0 before at) (rest g)
+    step : (b : Bool) → nat_le from d.0 ≡ b → e ∷ rest ≡ cond b (d ∷ entries_from from es) (entries_from from es) → (e ∷ rest ≡ entries_from from es → from ≤ e.0) → from ≤ e.0
+    step true at g next =
+        let same : e ≡ d = cc in
+        let low : from ≤ d.0 = grind (arith, nat_tests) in
+        subst (λ x. from ≤ x.0) (sym same) low
+    step false at g next = next g
 
-first_later : (es : Entries) (from offset : ℕ) (f : ℕ × ElfRelocation) → from ≤ offset → offset ≤ f.0 → Some f ≡ find (is_from from) es → Some f ≡ find (is_from offset) es
-first_later [] from offset f before past h = cc
-first_later (e ∷ es) from offset f before past h = step (is_from from e) refl h (first_later es from offset f before past)
+pub none_passed : (es : Entries) (from : ℕ) (next : Option (ℕ × ElfRelocation)) (ahead : Option Entries) → left next ahead ≡ entries_from from es → is_passed next from ≡ false
+none_passed es from None ahead h = refl
+none_passed es from (Some e) ahead h =
+    let low : from ≤ e.0 = first_there es from e (ahead_in ahead) h in
+    grind (arith, nat_tests)
+
+-- behind the first of those from an offset on are those past it
+behind : (es : Entries) (from : ℕ) (e : ℕ × ElfRelocation) (rest : Entries) → IsStrictlySortedBy nat_cmp (keys_of es) → e ∷ rest ≡ entries_from from es → rest ≡ entries_from (e.0 + 1) es
+unfolding IsStrictlySortedBy
+behind [] from e rest up h = cc
+behind (d ∷ es) from e rest up h = step (nat_le from d.0) refl h (behind es from e rest up.1)
   where
-    step : (b : Bool) → is_from from e ≡ b → Some f ≡ cond b (Some e) (find (is_from from) es) → (Some f ≡ find (is_from from) es → Some f ≡ find (is_from offset) es) → Some f ≡ find (is_from offset) (e ∷ es)
-    step true at g rest =
-        let same : f ≡ e = cc in
-        let there : offset ≤ e.0 = subst (λ x. offset ≤ x.0) same past in
-        let passes : is_from offset e ≡ true = grind (arith, nat_tests) in
-        rw passes g
-    step false at g rest = rw (later_too from offset e.0 before at) (rest g)
+    step : (b : Bool) → nat_le from d.0 ≡ b → e ∷ rest ≡ cond b (d ∷ entries_from from es) (entries_from from es) → (e ∷ rest ≡ entries_from from es → rest ≡ entries_from (e.0 + 1) es) → rest ≡ entries_from (e.0 + 1) (d ∷ es)
+    step true at g next =
+        let same : e ≡ d = cc in
+        let others : rest ≡ entries_from from es = cc in
+        let low : from ≤ d.0 + 1 = grind (arith, nat_tests) in
+        let past : nat_le (d.0 + 1) d.0 ≡ false = grind (arith, nat_tests) in
+        let at_d : rest ≡ entries_from (d.0 + 1) (d ∷ es) = rw past (others ∙ all_stay es d.0 from low up.0 ∙ sym (all_stay es d.0 (d.0 + 1) (omega (arith)) up.0)) in
+        subst (λ x. rest ≡ entries_from (x.0 + 1) (d ∷ es)) (sym same) at_d
+    step false at g next =
+        let low : from ≤ e.0 = first_there es from e rest g in
+        let past : nat_le (e.0 + 1) d.0 ≡ false = grind (arith, nat_tests) in
+        rw past (next g)
 
-pub still_none : (kept : Option (FinMap nat_cmp ElfRelocation)) (offset : ℕ) → IsBefore kept None offset → None ≡ first_from kept offset
-still_none kept offset h = none_later (entries_in kept) h.from offset h.before h.first
-
-pub still_first : (kept : Option (FinMap nat_cmp ElfRelocation)) (next : Option (ℕ × ElfRelocation)) (offset place : ℕ) (r : ElfRelocation) → IsBefore kept next offset → next ≡ Some (place, r) → offset ≤ place → Some (place, r) ≡ first_from kept offset
-still_first kept next offset place r h there past = first_later (entries_in kept) h.from offset (place, r) h.before past (sym there ∙ h.first)
+-- an offset's value is that among those from an earlier offset on
+value_left : (es : Entries) (from offset : ℕ) → from ≤ offset → value_at nat_cmp offset es ≡ value_at nat_cmp offset (entries_from from es)
+value_left [] from offset before = refl
+value_left (e ∷ es) from offset before = step (nat_le from e.0) refl (nat_cmp offset e.0) refl (value_left es from offset before)
+  where
+    step : (b : Bool) → nat_le from e.0 ≡ b → (r : Ordering) → nat_cmp offset e.0 ≡ r → value_at nat_cmp offset es ≡ value_at nat_cmp offset (entries_from from es) → value_at nat_cmp offset (e ∷ es) ≡ value_at nat_cmp offset (cond b (e ∷ entries_from from es) (entries_from from es))
+    step true at Less is rest = rw is rest
+    step true at Equal is rest = rw is refl
+    step true at Greater is rest = rw is rest
+    step false at r is rest =
+        let above : nat_cmp offset e.0 ≡ Greater = grind (arith, nat_tests) in
+        rw above rest
 
 above_all : (es : Entries) (a offset : ℕ) → offset < a → AllByRecursion (λ y. nat_cmp a y ≡ Less) (keys_of es) → value_at nat_cmp offset es ≡ None
 above_all [] a offset below h = refl
@@ -56,27 +86,62 @@ above_all (e ∷ es) a offset below h =
     let less : nat_cmp offset e.0 ≡ Less = grind (arith, nat_tests) in
     rw less (above_all es a offset below h.1)
 
-at_first : (es : Entries) (offset : ℕ) → IsStrictlySortedBy nat_cmp (keys_of es) → value_at nat_cmp offset es ≡ at_offset (find (is_from offset) es) offset
+-- the value of the first, where it is not before the offset
+value_first : (next : Option (ℕ × ElfRelocation)) (ahead : Option Entries) (offset : ℕ) → IsStrictlySortedBy nat_cmp (keys_of (left next ahead)) → is_passed next offset ≡ false → value_at nat_cmp offset (left next ahead) ≡ at_offset next offset
 unfolding IsStrictlySortedBy
-at_first [] offset up = refl
-at_first (e ∷ es) offset up = step (nat_cmp offset e.0) refl (at_first es offset up.1)
+value_first None ahead offset up none = refl
+value_first (Some e) ahead offset up none = step (nat_cmp offset e.0) refl
   where
-    step : (r : Ordering) → nat_cmp offset e.0 ≡ r → value_at nat_cmp offset es ≡ at_offset (find (is_from offset) es) offset → value_at nat_cmp offset (e ∷ es) ≡ at_offset (find (is_from offset) (e ∷ es)) offset
-    step Less at rest =
+    step : (r : Ordering) → nat_cmp offset e.0 ≡ r → value_at nat_cmp offset (e ∷ ahead_in ahead) ≡ at_offset (Some e) offset
+    step Less at =
         let below : offset < e.0 = grind (arith, nat_tests) in
         let other : (e.0 == offset) ≡ false = grind (arith, nat_tests) in
-        rw (at, other) (above_all es e.0 offset below up.0)
-    step Equal at rest =
+        rw (at, other) (above_all (ahead_in ahead) e.0 offset below up.0)
+    step Equal at =
         let same : (e.0 == offset) ≡ true = grind (arith, nat_tests) in
         rw (at, same) refl
-    step Greater at rest = rw at rest
+    step Greater at = absurd (grind (arith, nat_tests))
 
--- what stands at an offset is the first from there on, if that is there
-pub found_first : (kept : Option (FinMap nat_cmp ElfRelocation)) (offset : ℕ) → offset < 2 ^ 64 → found_at kept offset ≡ at_offset (first_from kept offset) offset
-found_first None offset fits = refl
-found_first (Some kept) offset fits =
-    let small : nat_lt offset (2 ^ 64) ≡ true = grind (arith, nat_tests) in
-    rw (small, get-entries kept offset) (at_first (entries kept) offset (entries_rise kept))
+-- those from an offset on rise too
+from_up : (es : Entries) (from : ℕ) → IsStrictlySortedBy nat_cmp (keys_of es) → IsStrictlySortedBy nat_cmp (keys_of (entries_from from es))
+from_up es from up = subst (IsStrictlySortedBy nat_cmp) (filter-map (λ k. nat_le from k) (λ e. e.0) es) (IsStrictlySortedBy-filter nat_cmp (λ k. nat_le from k) (keys_of es) up)
+
+entries_up : (kept : Option (FinMap nat_cmp ElfRelocation)) → IsStrictlySortedBy nat_cmp (keys_of (entries_in kept))
+unfolding IsStrictlySortedBy
+entries_up None = tt
+entries_up (Some kept) = entries_rise kept
+
+-- the next one is passed, and the first of those behind it is next
+pub one_passed : (walk after : Walk) (offset : ℕ) → IsBefore walk offset → is_passed walk.next offset ≡ true → walked after ≡ walked walk → left after.next after.ahead ≡ ahead_in walk.ahead → IsBefore after offset
+one_passed walk after offset h passed same taken = step walk.next refl
+  where
+    step : (next : Option (ℕ × ElfRelocation)) → walk.next ≡ next → IsBefore after offset
+    step None is = cc
+    step (Some e) is =
+        let below : nat_lt e.0 offset ≡ true = cc in
+        let low : e.0 < offset = grind (arith, nat_tests) in
+        let all : e ∷ ahead_in walk.ahead ≡ entries_from h.from (entries_in (walked walk)) = sym (ap (λ n. left n walk.ahead) is) ∙ h.are_left in
+        let rest : ahead_in walk.ahead ≡ entries_from (e.0 + 1) (entries_in (walked walk)) = behind (entries_in (walked walk)) h.from e (ahead_in walk.ahead) (entries_up (walked walk)) all in
+        record { from = e.0 + 1; before = omega (arith, low); are_left = taken ∙ rest ∙ ap (λ k. entries_from (e.0 + 1) (entries_in k)) (sym same) }
+
+-- what stands at an offset is the next one, if that is there
+pub found_next : (walk : Walk) (offset : ℕ) → offset < 2 ^ 64 → IsBefore walk offset → is_passed walk.next offset ≡ false → found_at (walked walk) offset ≡ at_offset walk.next offset
+found_next walk offset fits h none = step (walked walk) refl
+  where
+    up : IsStrictlySortedBy nat_cmp (keys_of (left walk.next walk.ahead))
+    up = subst (λ es. IsStrictlySortedBy nat_cmp (keys_of es)) (sym h.are_left) (from_up (entries_in (walked walk)) h.from (entries_up (walked walk)))
+
+    there : value_at nat_cmp offset (left walk.next walk.ahead) ≡ at_offset walk.next offset
+    there = value_first walk.next walk.ahead offset up none
+
+    step : (kept : Option (FinMap nat_cmp ElfRelocation)) → walked walk ≡ kept → found_at kept offset ≡ at_offset walk.next offset
+    step None is =
+        let nothing : left walk.next walk.ahead ≡ [] = h.are_left ∙ ap (λ k. entries_from h.from (entries_in k)) is in
+        sym (ap (value_at nat_cmp offset) nothing) ∙ there
+    step (Some kept) is =
+        let small : nat_lt offset (2 ^ 64) ≡ true = grind (arith, nat_tests) in
+        let some : left walk.next walk.ahead ≡ entries_from h.from (entries kept) = h.are_left ∙ ap (λ k. entries_from h.from (entries_in k)) is in
+        rw (small, get-entries kept offset) (value_left (entries kept) h.from offset h.before ∙ sym (ap (value_at nat_cmp offset) some) ∙ there)
 
 -- past 64 bits nothing stands
 pub found_past : (kept : Option (FinMap nat_cmp ElfRelocation)) (offset : ℕ) → 2 ^ 64 ≤ offset → found_at kept offset ≡ None

@@ -1,9 +1,9 @@
 -- A walk along the slots of a function, in step with the relocations of its section.
-use Rattle.std.specs.Prelude.{◌≡◌, ◌≤◌, ◌==◌, ℕ, if◌then◌else◌, List, [], Option, Some, None}
+use Rattle.std.specs.Prelude.{◌≡◌, ◌≤◌, ◌==◌, ℕ, Bool, false, nat_lt, if◌then◌else◌, List, [], ◌∷◌, Option, Some, None}
 use Rattle.std.specs.FinMap.{FinMap, entries}
-use Rattle.std.specs.List.{find}
 use Rattle.std.specs.Option.{option_copied}
-use Rattle.std.specs.Ordering.{nat_cmp, is_le}
+use Rattle.std.specs.Ordering.{nat_cmp}
+use Rattle.ebpf_base.specs.Parts.{entries_from}
 use Rattle.ebpf_elf.specs.declared.entries.ElfRelocation.{ElfRelocation}
 use Rattle.ebpf_reloc.specs.declared.walk.Walk.{Walk}
 
@@ -15,17 +15,27 @@ abbrev pub entries_in : Option (FinMap nat_cmp ElfRelocation) → List (ℕ × E
 entries_in None = []
 entries_in (Some kept) = entries kept
 
--- the first relocation from an offset on
-abbrev pub first_from : Option (FinMap nat_cmp ElfRelocation) → ℕ → Option (ℕ × ElfRelocation)
-first_from kept offset = find (λ e. is_le (nat_cmp offset e.0)) (entries_in kept)
+abbrev pub ahead_in : Option (List (ℕ × ElfRelocation)) → List (ℕ × ElfRelocation)
+ahead_in None = []
+ahead_in (Some list) = list
 
--- that one, if it is at the offset
+-- the next one and those ahead of it; where there is no next one there are none
+abbrev pub left : Option (ℕ × ElfRelocation) → Option (List (ℕ × ElfRelocation)) → List (ℕ × ElfRelocation)
+left None ahead = []
+left (Some e) ahead = e ∷ ahead_in ahead
+
+-- the next one stands before the offset
+abbrev pub is_passed : Option (ℕ × ElfRelocation) → ℕ → Bool
+is_passed None offset = false
+is_passed (Some e) offset = nat_lt e.0 offset
+
+-- the next one, if it is at the offset
 abbrev pub at_offset : Option (ℕ × ElfRelocation) → ℕ → Option ElfRelocation
 at_offset None offset = None
 at_offset (Some e) offset = if e.0 == offset then Some e.1 else None
 
--- the next one is the first from some offset on, which is not past this one
-pub record IsBefore (kept : Option (FinMap nat_cmp ElfRelocation)) (next : Option (ℕ × ElfRelocation)) (offset : ℕ) : Type 0 where
+-- what is left are the relocations from some offset on, which is not past this one
+pub record IsBefore (walk : Walk) (offset : ℕ) : Type 0 where
   pub from : ℕ
   pub before : from ≤ offset
-  pub first : next ≡ first_from kept from
+  pub are_left : left walk.next walk.ahead ≡ entries_from from (entries_in (walked walk))

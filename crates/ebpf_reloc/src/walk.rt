@@ -1,13 +1,15 @@
 //! A walk along the slots of a function, in step with the relocations of its section.
 
-ghost use Rattle.std.specs.Prelude.{◌≡◌, ◌+◌, ◌*◌, ◌≤◌, ◌^◌, MatchOption};
+ghost use Rattle.std.specs.Prelude.{◌≡◌, ◌+◌, ◌*◌, ◌≤◌, ◌^◌, IsTrue, MatchOption, false};
 ghost use Rattle.std.specs.Option.{option_copied};
+ghost use Rattle.ebpf_base.specs.Parts.{entries_from};
 ghost use Rattle.ebpf_reloc.specs.Places.{found_at};
-ghost use Rattle.ebpf_reloc.specs.Walks.{first_from, at_offset, walked, IsBefore};
+ghost use Rattle.ebpf_reloc.specs.Walks.{at_offset, ahead_in, entries_in, left, walked, is_passed, IsBefore};
 
 use crate::function::Function;
 use ebpf_base::ByOffset;
 use ebpf_parts::Relocation;
+use std::collections::btree_map;
 
 /// A walk over the relocations of a section, at offsets that rise.
 #[derive(Drop)]
@@ -16,6 +18,8 @@ pub struct Walk<'a> {
     pub kept: Option<&'a ByOffset<Relocation>>,
     /// The first relocation that is not passed, with its offset.
     pub next: Option<(u64, Relocation)>,
+    /// The relocations behind that one, where the section has some.
+    pub ahead: Option<btree_map::Range<'a, u64, Relocation>>,
 }
 
 /// The offset of a slot in its section, where it fits.
@@ -28,39 +32,45 @@ fn offset_of(function: &Function, slot: usize) -> Option<u64>
     bytes.checked_add(function.section_offset as u64)
 }
 
-/// The first relocation from an offset on.
-fn first_from(kept: Option<&ByOffset<Relocation>>, offset: u64) -> Option<(u64, Relocation)>
-    ensures { result ≡ first_from (option_copied kept.entry) offset }
+/// The relocations from an offset on.
+fn all_from(
+    kept: Option<&ByOffset<Relocation>>,
+    offset: u64,
+) -> Option<btree_map::Range<'_, u64, Relocation>>
+    ensures { ahead_in result ≡ entries_from offset (entries_in (option_copied kept.entry)) }
 {
-    let Some(kept) = kept else {
-        return None;
-    };
-    match kept.first_from(offset) {
-        Some((place, relocation)) => Some((place, *relocation)),
+    match kept {
+        Some(kept) => Some(kept.from_offset(offset)),
         None => None,
     }
 }
 
-/// The first relocation from an offset on, by the first one from an earlier offset on.
-#[tactic(auto, using(crate::proofs::InStep::still_none))]
-fn next_from(
-    kept: Option<&ByOffset<Relocation>>,
-    next: Option<(u64, Relocation)>,
-    offset: u64,
+/// Takes the first of the relocations ahead.
+fn take_first(
+    ahead: &mut Option<btree_map::Range<'_, u64, Relocation>>,
 ) -> Option<(u64, Relocation)>
-    requires { IsBefore (option_copied kept) next offset }
-    ensures { result ≡ first_from (option_copied kept.entry) offset }
+    ensures { left result ahead.new ≡ ahead_in ahead.old }
 {
-    let Some((place, relocation)) = next else {
+    let Some(range) = ahead else {
         return None;
     };
-    if place < offset {
-        return first_from(kept, offset);
+    match range.next() {
+        Some((offset, relocation)) => Some((*offset, *relocation)),
+        None => None,
     }
-    Some((place, relocation))
 }
 
-/// The relocation at an offset, if the first one from there on is.
+/// Whether a relocation stands before an offset.
+fn is_passed(next: Option<(u64, Relocation)>, offset: u64) -> bool
+    ensures { result ≡ is_passed next offset }
+{
+    match next {
+        Some((place, _)) => place < offset,
+        None => false,
+    }
+}
+
+/// The relocation at an offset, if the first one that is not passed is there.
 fn at_offset(next: Option<(u64, Relocation)>, offset: u64) -> Option<Relocation>
     ensures { result ≡ at_offset next offset }
 {
@@ -74,33 +84,60 @@ impl<'a> Walk<'a> {
     /// A walk from an offset on.
     pub fn new(kept: Option<&'a ByOffset<Relocation>>, start: u64) -> Walk<'a>
         ensures kept { walked result ≡ option_copied kept.entry }
-        ensures before { IsBefore (walked result) result.next start }
+        ensures before { IsBefore result start }
+        ensures none { is_passed result.next start ≡ false }
     {
-        Walk {
-            kept,
-            next: first_from(kept, start),
+        let mut ahead = all_from(kept, start);
+        let next = take_first(&mut ahead);
+        Walk { kept, next, ahead }
+    }
+
+    /// Passes the next relocation, which stands before an offset.
+    #[tactic(auto, using(crate::proofs::InStep::one_passed))]
+    fn pass(&mut self, offset: u64)
+        requires before { IsBefore self.old offset }
+        requires passed { IsTrue (is_passed self.old.next offset) }
+        ensures kept { walked self.new ≡ walked self.old }
+        ensures before { IsBefore self.new offset }
+    {
+        self.next = take_first(&mut self.ahead);
+    }
+
+    /// Passes the relocations before an offset. One alone is the rule, since the next slot has the next one;
+    /// past more of them the walk begins anew.
+    fn pass_all(&mut self, offset: u64)
+        requires { IsBefore self.old offset }
+        ensures kept { walked self.new ≡ walked self.old }
+        ensures before { IsBefore self.new offset }
+        ensures none { is_passed self.new.next offset ≡ false }
+    {
+        if is_passed(self.next, offset) {
+            self.pass(offset);
+        }
+        if is_passed(self.next, offset) {
+            *self = Walk::new(self.kept, offset);
         }
     }
 
     /// Goes on to an offset, and gives the relocation there.
-    #[tactic(auto, using(crate::proofs::InStep::found_first))]
+    #[tactic(auto, using(crate::proofs::InStep::found_next))]
     fn at(&mut self, offset: u64) -> Option<Relocation>
-        requires { IsBefore (walked self.old) self.old.next offset }
+        requires { IsBefore self.old offset }
         ensures relocation { result ≡ found_at (walked self.old) offset }
         ensures kept { walked self.new ≡ walked self.old }
-        ensures before { IsBefore (walked self.new) self.new.next offset }
+        ensures before { IsBefore self.new offset }
     {
-        self.next = next_from(self.kept, self.next, offset);
+        self.pass_all(offset);
         at_offset(self.next, offset)
     }
 
     /// The relocation of a slot of a function, after those of the slots before it.
     #[tactic(auto, using(crate::proofs::InStep::found_past))]
     pub fn relocation_of(&mut self, function: &Function, slot: usize) -> Option<Relocation>
-        requires { IsBefore (walked self.old) self.old.next (function.now.section_offset + 8 * slot) }
+        requires { IsBefore self.old (function.now.section_offset + 8 * slot) }
         ensures relocation { result ≡ found_at (walked self.old) (function.now.section_offset + 8 * slot) }
         ensures kept { walked self.new ≡ walked self.old }
-        ensures before { IsBefore (walked self.new) self.new.next (function.now.section_offset + 8 * slot) }
+        ensures before { IsBefore self.new (function.now.section_offset + 8 * slot) }
     {
         match offset_of(function, slot) {
             Some(offset) => self.at(offset),

@@ -10,5 +10,5 @@ abbrev pub invariant-loop-slot : goal.invariant-loop-slot
 invariant-loop-slot l = record {
   calls : l.calls.items ++ calls_by (target_at (read l.parts) l.keys l.caller l.function) l.slot (drop l.slot l.function.instructions) ≡ calls_of (read l.parts) l.keys l.caller l.function;
   kept : walked l.walk ≡ get (read l.parts).relocations l.function.section_index.0;
-  before : IsBefore (walked l.walk) l.walk.next (l.function.section_offset + 8 * l.slot);
+  before : IsBefore l.walk (l.function.section_offset + 8 * l.slot);
 }
