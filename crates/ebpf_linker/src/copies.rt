@@ -51,9 +51,11 @@ fn append(
     Ok(())
 }
 
-/// Copies of these functions, one after the other, each reference leading to where its function begins.
+/// Copies of these functions, one after the other, each reference leading to where its function begins. Memory is
+/// taken for so many slots first.
 pub fn lay(
     alloc: Global,
+    size: usize,
     bodies: &[Body<'_>],
     calls: &[Vec<Call>],
     order: &[usize],
@@ -67,7 +69,7 @@ pub fn lay(
     requires below { All (λ b. b < 2 ^ 31) bases.now }
     ensures { IfOk result (λ out. out.items ≡ laid bodies.now calls.now bases.now 0 order.now) }
 {
-    let mut out = Vec::new(alloc);
+    let mut out = Vec::with_capacity(alloc, size)?;
     for function in order {
         append(&mut out, bodies[*function].slots, &calls[*function], bases)?;
     }

@@ -1,6 +1,6 @@
 //! Linking a program.
 
-ghost use Rattle.std.specs.Prelude.{◌≡◌, ℕ, ◌+◌, ◌<◌, ◌∷◌, length, IfOk};
+ghost use Rattle.std.specs.Prelude.{◌≡◌, ℕ, ◌+◌, ◌<◌, ◌∷◌, length, IfOk, All};
 ghost use Rattle.ebpf_linker.specs.Numbered.{Sound, functions};
 ghost use Rattle.ebpf_linker.specs.Ready.{IsReady};
 ghost use Rattle.ebpf_linker.specs.Result.{IsLinking, IsProgram};
@@ -14,6 +14,18 @@ use crate::search::search;
 use crate::tables::Tables;
 use ebpf_base::Items;
 use std::alloc::{AllocError, Global};
+
+// How many slots a program has, where its last copy begins at this place.
+fn size_of(bodies: &[Body<'_>], bases: &[usize], start: usize, copies: &[usize]) -> usize
+    requires start { start < length bodies.now }
+    requires copies { All (λ k. k < length bodies.now) copies.now }
+    requires places { length bases.now ≡ length bodies.now }
+{
+    match copies.last() {
+        Some(copy) => bases[*copy].saturating_add(bodies[*copy].slots.len()),
+        None => bodies[start].slots.len(),
+    }
+}
 
 // The program with copies of these functions; `order` is the program and them.
 fn assemble(
@@ -32,7 +44,8 @@ fn assemble(
     ensures { IfOk result (λ program. IsProgram (functions bodies.now calls.now) start copies.now program) }
 {
     let bases = places(alloc, tables, bodies, bodies[start].slots.len(), copies)?;
-    let slots = lay(alloc, bodies, calls, order, &bases)?;
+    let size = size_of(bodies, &bases, start, copies);
+    let slots = lay(alloc, size, bodies, calls, order, &bases)?;
     tables.keep_places(bases);
     let func_info = func_records(alloc, bodies, start, copies)?;
     let line_info = line_records(alloc, bodies, start, copies)?;

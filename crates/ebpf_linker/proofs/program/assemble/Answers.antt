@@ -8,10 +8,15 @@ use Rattle.ebpf_linker.proofs.RecordWalks.{some_if}
 use Rattle.ebpf_linker.proofs.Readying.{is_program}
 use Rattle.ebpf_linker.proofs.program.assemble.Goals as goal
 
+pub size_of-size-requires-clause-places : goal.size_of-size-requires-clause-places
+size_of-size-requires-clause-places c =
+    let (before, count, is) = c.in_ok-bases.ensures.places in
+    ap length (c.deref.ensures.value ∙ is) ∙ length-placed c.args.bodies.now _ before c.args.copies.now ∙ count
+
 pub lay-requires-clause-bases : goal.lay-requires-clause-bases
 lay-requires-clause-bases c =
     let (before, count, is) = c.in_ok-bases.ensures.places in
-    ap length (c.deref.ensures.value ∙ is) ∙ length-placed c.args.bodies.now _ before c.args.copies.now ∙ count
+    ap length (c.deref-2.ensures.value ∙ is) ∙ length-placed c.args.bodies.now _ before c.args.copies.now ∙ count
 
 pub returns : goal.returns
 returns c =
@@ -23,9 +28,9 @@ returns c =
     let (before, count, is) = c.in_ok-bases.ensures.places in
     let places = subst (λ (n : ℕ). c.in_ok-bases.bases.items ≡ placed B n before ks) (sym first) is in
     let some : has_some ks ≡ _ = some_if ks c.is_empty.result c.is_empty.ensures in
-    is_program B C p ks c.deref.result.now _ c.requires.ready before count (c.deref.ensures.value ∙ places)
-    (c.from_vec.ensures ∙ c.in_ok-slots.ensures ∙ ap (laid B C c.deref.result.now 0) c.requires.order)
+    is_program B C p ks c.deref-2.result.now _ c.requires.ready before count (c.deref-2.ensures.value ∙ places)
+    (c.from_vec.ensures ∙ c.in_ok-slots.ensures ∙ ap (laid B C c.deref-2.result.now 0) c.requires.order)
     (c.from_vec-2.ensures ∙ c.in_ok-func_info.ensures)
     (c.from_vec-3.ensures ∙ c.in_ok-line_info.ensures)
-    (c.count_if-func_count.ensures ∙ ap (λ (b : Bool). count_if b c.deref-2.result.now) (sym some) ∙ ap (count_if (has_some ks)) (c.deref-2.ensures.value ∙ sym c.from_vec-2.ensures))
-    (c.count_if-line_count.ensures ∙ ap (λ (b : Bool). count_if b c.deref-3.result.now) c.has_lines.ensures ∙ ap (count_if (has_lines (functions B C) ks)) (c.deref-3.ensures.value ∙ sym c.from_vec-3.ensures))
+    (c.count_if-func_count.ensures ∙ ap (λ (b : Bool). count_if b c.deref-3.result.now) (sym some) ∙ ap (count_if (has_some ks)) (c.deref-3.ensures.value ∙ sym c.from_vec-2.ensures))
+    (c.count_if-line_count.ensures ∙ ap (λ (b : Bool). count_if b c.deref-4.result.now) c.has_lines.ensures ∙ ap (count_if (has_lines (functions B C) ks)) (c.deref-4.ensures.value ∙ sym c.from_vec-3.ensures))
