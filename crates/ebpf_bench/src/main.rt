@@ -6,6 +6,7 @@
 #![tactic(auto)]
 
 mod error;
+mod files;
 mod found;
 mod many_types;
 mod peak;

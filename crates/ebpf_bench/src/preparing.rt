@@ -1,6 +1,7 @@
 //! How long an object takes from its file to finished programs.
 
 use crate::error::BenchError;
+use crate::files::read_bytes;
 use crate::peak::peak_kilobytes;
 use crate::words::Sources;
 use ebpf_btf::{Btf, Endianness};
@@ -39,7 +40,7 @@ fn read_types(
     if !needs_types(object) {
         return Ok(None);
     }
-    let bytes = fs::read(rt, path)?;
+    let bytes = read_bytes(rt, path)?;
     Ok(Some(Btf::parse(rt.alloc(), &bytes, Endianness::Little)?))
 }
 
@@ -111,7 +112,7 @@ fn join(object: &mut Object, sections: &HashSet<usize>) -> Result<(), BenchError
 
 /// The object of a file.
 fn parse(rt: &HostRuntime, path: &str) -> Result<Object, BenchError> {
-    let bytes = fs::read(rt, path)?;
+    let bytes = read_bytes(rt, path)?;
     match Object::parse(rt.alloc(), &bytes) {
         Ok(object) => Ok(object),
         Err(_) => Err(BenchError::Refused("parse")),

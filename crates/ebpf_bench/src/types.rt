@@ -1,11 +1,11 @@
 //! How long type information takes to be read, to be indexed, and to be asked.
 
 use crate::error::BenchError;
+use crate::files::read_bytes;
 use crate::found::{print_counts, print_last};
 use crate::many_types::{KERNEL_GROUPS, many_types};
 use ebpf_btf::{Btf, Endianness};
 use ebpf_candidates::TypeIndex;
-use std::fs;
 use std::time::Instant;
 
 /// The bytes of a file, or those that are made.
@@ -13,7 +13,7 @@ fn bytes_of(rt: &HostRuntime, word: &str) -> Result<Vec<u8>, BenchError> {
     if word == "--generated" {
         return Ok(many_types(rt.alloc(), KERNEL_GROUPS)?);
     }
-    Ok(fs::read(rt, word)?)
+    Ok(read_bytes(rt, word)?)
 }
 
 /// Says how long a step took.
