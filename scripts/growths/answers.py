@@ -58,5 +58,6 @@ ANSWERS = {
     "types both": [err(NO_MEMORY)],
     "types fields": [err(NO_MEMORY)],
     "types boxed": [err("AllocError")],
+    "types boxed_members": [err("AllocError")],
     "small": [err("AllocError")],
 }

@@ -91,7 +91,7 @@ ODD = btf(
 def types():
     data = inputs.section(REFERENCES.read_bytes(), ".BTF")
     calls = ["add_string=name", "add_type=2", "string_at=5", "type_name=2", "err_type_name=1", "err_type_name=2"]
-    calls += ["clone_type=2", "clone", "id_of=none", "index=s", "both=s", "fields=2", "boxed"]
+    calls += ["clone_type=2", "clone", "id_of=none", "index=s", "both=s", "fields=2", "boxed", "boxed_members"]
     starts = {"err_type_name=1": "Some", "err_type_name=2": "Some", "id_of=none": "Err"}
     rows = [
         CallRow(f"{call}, odd types", (b"", ODD, b""), "types", call, starts=starts.get(call, "Ok")) for call in calls

@@ -178,7 +178,7 @@ impl Clone for BtfType {
                 name_offset: *name_offset,
                 size: *size,
                 kind_flag: *kind_flag,
-                members: copy_list(members)?,
+                members: members.clone()?,
                 enum64_fallback: enum64_fallback.clone()?,
             }),
             BtfType::FuncProto {

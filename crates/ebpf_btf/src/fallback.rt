@@ -18,29 +18,32 @@ pub struct Enum64Fallback {
     pub variants: Items<Enum64VariantFallback>,
 }
 
-/// What a UNION holds of the enumeration of 64 bits that it was, if it was one. It lies in memory of its own, which keeps
+/// What a UNION holds of the enumeration of 64 bits that it was, if it was one. That lies in memory of its own, which keeps
 /// the types small; contracts see the option alone.
 #[derive(Drop)]
 pub struct UnionFallback {
-    contents: Box<Option<Enum64Fallback>>,
+    contents: Option<Box<Enum64Fallback>>,
 }
 
 impl Model for UnionFallback {
-    ghost use Rattle.std.specs.Prelude.{Option};
+    ghost use Rattle.std.specs.Prelude.{Option, option_map};
     ghost use Rattle.ebpf_btf.specs.declared.fallback.Enum64Fallback.{Enum64Fallback};
 
     ghost Value = { Option Enum64Fallback };
 
-    ghost view = { λ b. b.contents.value };
+    ghost view = { λ b. option_map (λ held. held.value) b.contents };
 }
 
 impl UnionFallback {
-    /// What a UNION holds, in memory of its own. An error only where that is refused.
+    /// What a UNION holds. None takes no memory; an error comes only where memory is refused.
     pub fn new(alloc: Global, contents: Option<Enum64Fallback>) -> Result<UnionFallback, AllocError>
         ensures { IfOk result (λ b. b ≡ contents) }
     {
         Ok(UnionFallback {
-            contents: Box::new(alloc, contents)?,
+            contents: match contents {
+                Some(held) => Some(Box::new(alloc, held)?),
+                None => None,
+            },
         })
     }
 
@@ -48,8 +51,8 @@ impl UnionFallback {
     pub fn get(&self) -> Option<&Enum64Fallback>
         ensures { option_copied result ≡ self.now }
     {
-        match &*self.contents {
-            Some(fallback) => Some(fallback),
+        match &self.contents {
+            Some(held) => Some(&**held),
             None => None,
         }
     }
@@ -67,6 +70,6 @@ impl Clone for UnionFallback {
 
 impl fmt::Debug for UnionFallback {
     fn fmt<W: fmt::Write>(&self, f: &mut fmt::Formatter<W>) -> fmt::Result {
-        fmt::Debug::fmt(&*self.contents, f)
+        fmt::Debug::fmt(&self.contents, f)
     }
 }

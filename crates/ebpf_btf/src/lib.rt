@@ -22,6 +22,7 @@ pub mod rows;
 mod steps;
 pub mod strings;
 mod types;
+mod union_members;
 mod variants;
 
 pub use array::BtfArray;
@@ -33,4 +34,5 @@ pub use flavors::essential_name;
 pub use kind::BtfKind;
 pub use members::{BtfEnum, BtfEnum64, BtfMember, BtfParam, DataSecEntry, Enum64VariantFallback};
 pub use types::BtfType;
+pub use union_members::UnionMembers;
 pub use variants::BtfVariant;

@@ -16,6 +16,7 @@ use crate::kind::BtfKind;
 use crate::numbers::read_u32;
 use crate::rows::read_rows;
 use crate::types::BtfType;
+use crate::union_members::UnionMembers;
 use std::alloc::{AllocError, Global};
 
 /// The length in bytes of the words that each type begins with: name, info, size or type.
@@ -223,7 +224,10 @@ fn read_kind(
             name_offset,
             size,
             kind_flag,
-            members: read_rows(alloc, order, bytes, list, THREE_WORDS, count)?,
+            members: UnionMembers::new(
+                alloc,
+                read_rows(alloc, order, bytes, list, THREE_WORDS, count)?,
+            )?,
             enum64_fallback: UnionFallback::new(alloc, None)?,
         }),
         BtfKind::Enum => Ok(BtfType::Enum {

@@ -7,6 +7,7 @@ ghost use Rattle.ebpf_btf.specs.Types.{kind_of, name_of, size_word, type_word, m
 use crate::fallback::UnionFallback;
 use crate::kind::BtfKind;
 use crate::members::{BtfEnum, BtfEnum64, BtfMember, BtfParam, DataSecEntry};
+use crate::union_members::UnionMembers;
 use ebpf_base::Items;
 
 /// A type (`struct btf_type` and what follows it), by its kind; the kinds are in the order of their numbers.
@@ -48,7 +49,7 @@ pub enum BtfType {
         name_offset: u32,
         size: u32,
         kind_flag: bool,
-        members: Items<BtfMember>,
+        members: UnionMembers,
         enum64_fallback: UnionFallback,
     },
     /// An enumeration with values of up to 32 bits, signed where `kind_flag` is set.
@@ -234,9 +235,8 @@ impl BtfType {
         ensures { option_copied result ≡ members_of self.now }
     {
         match self {
-            BtfType::Struct { members, .. } | BtfType::Union { members, .. } => {
-                Some(members.as_slice())
-            }
+            BtfType::Struct { members, .. } => Some(members.as_slice()),
+            BtfType::Union { members, .. } => Some(members.as_slice()),
             _ => None,
         }
     }

@@ -4,7 +4,7 @@ use crate::call::Call;
 use crate::marks::{begin, end};
 use crate::still_types::still_types;
 use ebpf_base::Items;
-use ebpf_btf::{Btf, BtfError, BtfKind, BtfType, Enum64Fallback, UnionFallback};
+use ebpf_btf::{Btf, BtfError, BtfKind, BtfType, Enum64Fallback, UnionFallback, UnionMembers};
 use ebpf_candidates::{TypeIndex, fields_are_compatible};
 use std::alloc::Global;
 use std::io;
@@ -122,6 +122,15 @@ fn boxed(rt: &impl Print, alloc: Global) -> io::Result<()> {
     println!(rt; "answer: {answer:?}")
 }
 
+/// The members of a UNION, in memory of their own.
+fn boxed_members(rt: &impl Print, alloc: Global) -> io::Result<()> {
+    let members = Items::new(alloc);
+    begin(rt, true)?;
+    let answer = UnionMembers::new(alloc, members);
+    end(rt, true)?;
+    println!(rt; "answer: {answer:?}")
+}
+
 /// A question about the type whose id the word is.
 fn of_type(rt: &impl Print, types: &Btf, call: Call<'_>) -> io::Result<()> {
     let Ok(ty) = types.type_by_id(call.number()) else {
@@ -147,6 +156,7 @@ pub fn asked(rt: &impl Print, alloc: Global, types: &Btf, call: Call<'_>) -> io:
         "fields" => fields(rt, types, call.number()),
         "still" => still_types(rt, types),
         "boxed" => boxed(rt, alloc),
+        "boxed_members" => boxed_members(rt, alloc),
         _ => of_type(rt, types, call),
     }
 }
