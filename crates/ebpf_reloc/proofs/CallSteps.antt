@@ -34,6 +34,10 @@ module _ (leads : ℕ → bpf_insn → Option Target) (slots : List bpf_insn) wh
 pub next_slot : (walk : Walk) (start i : ℕ) → IsBefore walk (start + 8 * i) → IsBefore walk (start + 8 * (i + 1))
 next_slot walk start i h = record { from = h.from; before = omega (arith, h.before); are_left = h.are_left }
 
+-- before an offset is before a later one
+pub later : (walk : Walk) (end offset : ℕ) → IsBefore walk end → end ≤ offset → IsBefore walk offset
+later walk end offset h up = record { from = h.from; before = omega (arith, h.before, up); are_left = h.are_left }
+
 module _ (parts : LinkableValue) (keys : List (ℕ × ℕ)) (functions : List (Bor Function)) where
   -- the calls of one function, then those of the others
   pub function_here : (i : ℕ) (f : Bor Function) → i < length functions → f ≡ slice_index_or functions i f

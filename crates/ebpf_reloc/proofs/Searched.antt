@@ -3,7 +3,7 @@ use Rattle.std.proofs.Common.{◌≡◌, ◌<◌, ◌≤◌, ◌+◌, ℕ, zero,
 use Rattle.std.specs.declared.cmp.Ordering.{Ordering}
 use Rattle.std.specs.declared.cmp.Ordering.TheVariants.{Less, Equal, Greater}
 use Rattle.std.specs.Prelude.{Err}
-use Rattle.std.specs.Cmp.{IsTotalOrder}
+use Rattle.std.specs.Cmp.{IsTotalOrder, tied_itself}
 use Rattle.std.specs.List.{position_from, HoldsAt}
 use Rattle.std.specs.List.Sorted.{IsStrictlySortedBy, IsBinarySearchResult, IsNonDecreasingBy}
 use Rattle.std.specs.Ordering.{ordering_index, ordering_reverse, eq_by_cmp, is_eq}
@@ -76,6 +76,9 @@ module _ {K : Type 0} {R : K → K → Ordering} (o : IsTotalOrder R) where
 
 pub found_key : (keys : List (ℕ × ℕ)) (key : ℕ × ℕ) (n : ℕ) → IsStrictlySortedBy key_cmp keys → n < length keys → HoldsAt (λ y. key_cmp y key ≡ Equal) keys n → Some n ≡ number_in keys key
 found_key keys key n up lt h = sym (present key_total keys key 0 n up lt h ∙ ap Some (omega arith))
+
+pub key_here : (keys : List (ℕ × ℕ)) (key : ℕ × ℕ) (n : ℕ) → IsStrictlySortedBy key_cmp keys → n < length keys → ((d : ℕ × ℕ) → get_or keys n d ≡ key) → Some n ≡ number_in keys key
+key_here keys key n up lt same = found_key keys key n up lt (λ d. ap (λ k. key_cmp k key) (same d) ∙ tied_itself key_total key)
 
 pub no_key : (keys : List (ℕ × ℕ)) (key : ℕ × ℕ) (i : ℕ) → IsStrictlySortedBy key_cmp keys → IsBinarySearchResult (λ y. key_cmp y key) keys (Err i) → None ≡ number_in keys key
 no_key keys key i up h = sym (absent key_total keys key i up h)

@@ -1,14 +1,16 @@
 //! The calls of functions, which are found once before anything is linked.
 
-ghost use Rattle.std.specs.Prelude.{◌≡◌, map, IfOk};
-ghost use Rattle.ebpf_reloc.specs.Numbers.{function_keys, function_list, target_of, calls_of, calls_from};
+ghost use Rattle.std.specs.Prelude.{◌≡◌, ◌+◌, ◌*◌, length, map, IfOk, OnOk};
+ghost use Rattle.std.specs.FinMap.{get};
+ghost use Rattle.ebpf_reloc.specs.Numbers.{target_of, calls_of, calls_from};
 ghost use Rattle.ebpf_reloc.specs.Places.{place_of, found_at, relocation_of, read};
+ghost use Rattle.ebpf_reloc.specs.Walks.{walked, IsBefore};
 ghost use Rattle.std.specs.List.Sorted.{IsStrictlySortedBy};
 ghost use Rattle.ebpf_base.specs.Keys.{key_cmp};
 
 use crate::function::Function;
+use crate::key_numbers::KeyNumbers;
 use crate::linkable::Linkable;
-use crate::numbers::number_in;
 use crate::place::{Place, own_place, relocated_place};
 use crate::walk::Walk;
 use ebpf_linker::slot::is_pseudo_call;
@@ -35,9 +37,8 @@ fn place_of(
 }
 
 /// Where a slot of the function with this number leads, by where it points.
-fn target_of(keys: &[(usize, u64)], caller: usize, place: Place) -> Option<Target>
-    requires { IsStrictlySortedBy key_cmp keys.now }
-    ensures { result ≡ target_of keys.now caller place }
+fn target_of(numbers: &KeyNumbers<'_>, caller: usize, place: Place) -> Option<Target>
+    ensures { result ≡ target_of numbers.now.keys.now caller place }
 {
     let (section, address) = match place {
         Place::Absent => return None,
@@ -46,7 +47,7 @@ fn target_of(keys: &[(usize, u64)], caller: usize, place: Place) -> Option<Targe
         }
         Place::At(section, address) => (section, address),
     };
-    match number_in(keys, section, address) {
+    match numbers.number_of(section, address) {
         Some(number) => Some(Target::Function(number)),
         None => Some(Target::Nowhere(Fault::UnknownFunction { address, caller })),
     }
@@ -57,31 +58,63 @@ fn count_calls(slots: &[bpf_insn]) -> usize {
     slots.iter().filter(|slot| is_pseudo_call(**slot)).count()
 }
 
-/// The calls of the function with this number, in the order of its slots.
+/// The calls of the function with this number, in the order of its slots. The walk, which has not passed the function,
+/// goes on to its last slot.
 #[tactic(auto, using(crate::proofs::CallSteps::call_here, crate::proofs::CallSteps::no_call_here, crate::proofs::CallSteps::calls_end, crate::proofs::CallSteps::next_slot))]
-pub fn calls_of(
+fn calls_of(
     alloc: Global,
     parts: &Linkable<'_>,
-    keys: &[(usize, u64)],
+    numbers: &KeyNumbers<'_>,
+    walk: &mut Walk<'_>,
     caller: usize,
     function: &Function,
 ) -> Result<Vec<Call>, AllocError>
-    requires { IsStrictlySortedBy key_cmp keys.now }
-    ensures { IfOk result (λ calls. calls.items ≡ calls_of (read parts.now) keys.now caller function.now) }
+    requires kept { walked walk.old ≡ get (read parts.now).relocations function.now.section_index.0 }
+    requires before { IsBefore walk.old function.now.section_offset }
+    ensures calls { IfOk result (λ calls. calls.items ≡ calls_of (read parts.now) numbers.now.keys.now caller function.now) }
+    ensures kept { walked walk.new ≡ walked walk.old }
+    ensures before { OnOk result (IsBefore walk.new (function.now.section_offset + 8 * length function.now.instructions)) }
 {
-    let kept = parts.relocations.get(function.section_index.0);
-    let mut walk = Walk::new(kept, function.section_offset as u64);
     let slots = function.instructions.as_slice();
     let mut calls = Vec::with_capacity(alloc, count_calls(slots))?;
     for slot in 0..slots.len() {
         let relocation = walk.relocation_of(function, slot);
         let place = place_of(parts, function, slot, slots[slot], relocation);
-        let Some(target) = target_of(keys, caller, place) else {
+        let Some(target) = target_of(numbers, caller, place) else {
             continue;
         };
         calls.push(Call { slot, target })?;
     }
     Ok(calls)
+}
+
+/// Brings a walk over the relocations of a section, which has not passed the offset `end`, to a function. It goes on where
+/// the function is behind that offset in the same section, and begins anew else.
+#[tactic(auto, using(crate::proofs::CallSteps::later))]
+fn walk_to<'a>(
+    parts: &Linkable<'a>,
+    walk: &mut Walk<'a>,
+    section: usize,
+    end: u128,
+    function: &Function,
+)
+    requires kept { walked walk.old ≡ get (read parts.now).relocations section }
+    requires before { IsBefore walk.old end }
+    ensures kept { walked walk.new ≡ get (read parts.now).relocations function.now.section_index.0 }
+    ensures before { IsBefore walk.new function.now.section_offset }
+{
+    let index = function.section_index.0;
+    if index == section && end <= function.section_offset as u128 {
+        return;
+    }
+    *walk = Walk::new(parts.relocations.get(index), function.section_offset as u64);
+}
+
+/// Where a function ends in its section, in bytes.
+fn end_of(function: &Function) -> u128
+    ensures { result ≡ function.now.section_offset + 8 * length function.now.instructions }
+{
+    function.section_offset as u128 + 8 * function.instructions.len() as u128
 }
 
 /// The calls of each function, which are numbered from 0 on.
@@ -95,9 +128,17 @@ pub fn all_calls(
     requires { IsStrictlySortedBy key_cmp keys.now }
     ensures { IfOk result (λ calls. map (λ v. v.items) calls.items ≡ calls_from (read parts.now) keys.now 0 (map (λ f. f.now) functions.now)) }
 {
+    let numbers = KeyNumbers::new(keys);
     let mut calls = Vec::with_capacity(alloc, functions.len())?;
+    let mut section = 0;
+    let mut end = 0;
+    let mut walk = Walk::new(parts.relocations.get(section), 0);
     for number in 0..functions.len() {
-        calls.push(calls_of(alloc, parts, keys, number, functions[number])?)?;
+        let function = functions[number];
+        walk_to(parts, &mut walk, section, end, function);
+        calls.push(calls_of(alloc, parts, &numbers, &mut walk, number, function)?)?;
+        section = function.section_index.0;
+        end = end_of(function);
     }
     Ok(calls)
 }

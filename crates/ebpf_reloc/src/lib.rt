@@ -6,6 +6,7 @@ mod error;
 mod extern_desc;
 mod function;
 mod kept_relocations;
+mod key_numbers;
 pub mod laws;
 mod link_map;
 mod linkable;

@@ -103,6 +103,15 @@ impl<'a> Walk<'a> {
         self.next = take_first(&mut self.ahead);
     }
 
+    /// Begins anew at an offset.
+    fn begin_anew(&mut self, offset: u64)
+        ensures kept { walked self.new ≡ walked self.old }
+        ensures before { IsBefore self.new offset }
+        ensures none { is_passed self.new.next offset ≡ false }
+    {
+        *self = Walk::new(self.kept, offset);
+    }
+
     /// Passes the relocations before an offset. One alone is the rule, since the next slot has the next one;
     /// past more of them the walk begins anew.
     fn pass_all(&mut self, offset: u64)
@@ -115,7 +124,7 @@ impl<'a> Walk<'a> {
             self.pass(offset);
         }
         if is_passed(self.next, offset) {
-            *self = Walk::new(self.kept, offset);
+            self.begin_anew(offset);
         }
     }
 

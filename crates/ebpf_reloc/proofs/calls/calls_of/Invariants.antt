@@ -1,5 +1,4 @@
 use Rattle.std.proofs.Common.{◌≡◌, ◌+◌, ◌*◌, ◌++◌, drop}
-use Rattle.std.specs.FinMap.{get}
 use Rattle.ebpf_reloc.specs.Numbers.{target_at, calls_by, calls_of}
 use Rattle.ebpf_reloc.specs.Places.{read}
 use Rattle.ebpf_reloc.specs.Walks.{walked, IsBefore}
@@ -8,7 +7,7 @@ use Rattle.ebpf_reloc.proofs.calls.calls_of.Given as goal
 -- the calls so far, and those of what is left; the walk has not passed the next slot
 abbrev pub invariant-loop-slot : goal.invariant-loop-slot
 invariant-loop-slot l = record {
-  calls : l.calls.items ++ calls_by (target_at (read l.parts) l.keys l.caller l.function) l.slot (drop l.slot l.function.instructions) ≡ calls_of (read l.parts) l.keys l.caller l.function;
-  kept : walked l.walk ≡ get (read l.parts).relocations l.function.section_index.0;
+  calls : l.calls.items ++ calls_by (target_at (read l.parts) l.numbers.keys.now l.caller l.function) l.slot (drop l.slot l.function.instructions) ≡ calls_of (read l.parts) l.numbers.keys.now l.caller l.function;
+  kept : walked l.walk ≡ walked l.fn.walk;
   before : IsBefore l.walk (l.function.section_offset + 8 * l.slot);
 }
