@@ -1,4 +1,4 @@
-use Rattle.std.proofs.Common.{◌≡◌, ℕ, ◌<◌, length, get_or, sym, ap, ◌∙◌, rules}
+use Rattle.std.proofs.Common.{◌≡◌, ℕ, sym, ap, ◌∙◌}
 use Rattle.ebpf_reloc.proofs.Searched.{key_here}
 use Rattle.ebpf_reloc.proofs.key_numbers.number_if.Goals as goal
 
