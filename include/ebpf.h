@@ -1,7 +1,7 @@
 /*
  * eBPF object files made ready to load: the C interface of ebpf-object.
  *
- * Link libebpf.a, which has the library and the functions by which it takes memory (scripts/c_interface.sh builds
+ * Link libebpf.a, which has the library and the functions by which it takes memory (tests/c_interface.sh builds
  * it). docs/C.md goes from a file to a running program.
  *
  * What a caller upholds, in one place. No call checks these, and no call asks for more:

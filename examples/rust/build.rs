@@ -1,4 +1,4 @@
-// libebpf.a lies where scripts/c_interface.sh puts it, or in the folder that EBPF_LIBRARY names.
+// libebpf.a lies where tests/c_interface.sh puts it, or in the folder that EBPF_LIBRARY names.
 fn main() {
     let here = std::env::var("CARGO_MANIFEST_DIR").expect("cargo sets it");
     let folder = std::env::var("EBPF_LIBRARY").unwrap_or(format!("{here}/../out"));

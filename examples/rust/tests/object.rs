@@ -38,7 +38,7 @@ fn one_call_does_all() {
 
 #[test]
 fn maps_are_listed_and_described() {
-    let mut object = Object::open(&file("ebpf_rows/data/counter.o")).expect("an object");
+    let mut object = Object::open(&file("test_rows/data/counter.o")).expect("an object");
     let maps = object.maps().expect("maps");
     let names: Vec<&str> = maps.iter().map(|map| map.name.as_str()).collect();
     assert_eq!(names, [".bss", ".rodata", "counts", "tables"]);

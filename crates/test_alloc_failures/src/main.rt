@@ -1,0 +1,59 @@
+//! One call between two marks, so that a library that is preloaded can refuse the memory that it takes. Prints what the
+//! call answers, and what it works on before and afterwards.
+//!
+//! `test_alloc_failures OBJECT TYPES LINES SUBJECT CALL..` reads an object, a kernel's types (little endian; an empty file:
+//! none) and a kernel's symbols. The calls are made one after the other on one value, the last one between the marks. A
+//! call is a name, and a word behind `=` where it asks for one.
+#![tactic(auto)]
+
+mod call;
+mod code;
+mod given;
+mod inspected;
+mod kept;
+mod marks;
+mod object;
+mod object_text;
+mod passes;
+mod prepared;
+mod resolving;
+mod run;
+mod small;
+mod still;
+mod still_numbers;
+mod still_types;
+mod type_questions;
+mod types;
+
+use crate::given::Files;
+use crate::run::run;
+use std::{env, fs, io};
+
+/// The words of the command line after the program's own name.
+fn gather(rt: &HostRuntime) -> io::Result<Vec<String>> {
+    let mut words = Vec::new(rt.alloc());
+    for word in env::args(rt)?.skip(1) {
+        words.push(word)?;
+    }
+    Ok(words)
+}
+
+/// The bytes of the files that the first three words name.
+fn read_files(rt: &HostRuntime, words: &[String]) -> io::Result<Option<Files>> {
+    let [object, types, lines, ..] = words else {
+        return Ok(None);
+    };
+    Ok(Some(Files {
+        object: fs::read(rt, object.as_str())?,
+        types: fs::read(rt, types.as_str())?,
+        lines: fs::read(rt, lines.as_str())?,
+    }))
+}
+
+fn main(rt: HostRuntime) -> io::Result<()> {
+    let words = gather(&rt)?;
+    match read_files(&rt, words.as_slice())? {
+        Some(files) => run(&rt, rt.alloc(), &files, words.get(3..).unwrap_or(&[])),
+        None => println!(rt; "usage: test_alloc_failures OBJECT TYPES LINES SUBJECT CALL.."),
+    }
+}

@@ -1,0 +1,94 @@
+//! The actions, by name. Their words say the externs, or none where the file `object` is prepared; the lines are the
+//! file `kallsyms`.
+
+use crate::answers::{Question, Sought};
+use crate::failing_reader::FailingReader;
+use crate::given::externs_by;
+use crate::prepared::File;
+use ebpf_base::ByName;
+use ebpf_btf::Btf;
+use ebpf_reloc::ExternDesc;
+use std::alloc::{AllocError, Global};
+use std::io::ErrorKind;
+use test_cases::{Action, Files, Outcomes, Tally, no_action};
+
+/// What actions on lists of addresses give.
+#[derive(Clone, Copy, Debug)]
+pub struct LineOutcomes;
+
+/// What is answered where these bytes are read and then the end or a failure, and whether they were asked for.
+fn answer_behind<Q: Question>(
+    alloc: Global,
+    question: &Q,
+    bytes: &[u8],
+    failure: Option<ErrorKind>,
+) -> Result<String, AllocError> {
+    let mut reader = FailingReader::new(bytes, failure);
+    let mut text = question.answer(alloc, &mut reader)?;
+    let asked = reader.is_asked();
+    write!(text, "\nreader asked {asked}")?;
+    Ok(text)
+}
+
+/// How many times each answer comes where a failure stands behind the first bytes, for each number of them.
+fn answers_at_each<Q: Question>(
+    alloc: Global,
+    question: &Q,
+    bytes: &[u8],
+) -> Result<String, AllocError> {
+    let mut tally = Tally::new(alloc);
+    for place in 0..=bytes.len() {
+        let front = bytes.get(..place).unwrap_or(bytes);
+        let text = answer_behind(alloc, question, front, Some(ErrorKind::Other))?;
+        tally.count(text.as_str())?;
+    }
+    tally.text()
+}
+
+/// What an action gives of a question.
+fn of_question<Q: Question>(
+    alloc: Global,
+    question: &Q,
+    bytes: &[u8],
+    action: &str,
+) -> Result<String, AllocError> {
+    match action {
+        "found" => answer_behind(alloc, question, bytes, None),
+        "failing" => answer_behind(alloc, question, bytes, Some(ErrorKind::Other)),
+        "without_memory" => answer_behind(alloc, question, bytes, Some(ErrorKind::OutOfMemory)),
+        "failing_at_each" => answers_at_each(alloc, question, bytes),
+        _ => no_action(alloc),
+    }
+}
+
+/// What an action gives of externs, of an object whose types are void alone.
+fn of_externs(
+    alloc: Global,
+    externs: ByName<ExternDesc>,
+    bytes: &[u8],
+    action: &str,
+) -> Result<String, AllocError> {
+    match Btf::new(alloc) {
+        Ok(types) => of_question(alloc, &Sought { externs, types }, bytes, action),
+        Err(error) => format!(in alloc; "{error:?}"),
+    }
+}
+
+impl Outcomes for LineOutcomes {
+    fn outcome(
+        &self,
+        alloc: Global,
+        files: &Files,
+        action: &Action<'_>,
+    ) -> Result<String, AllocError> {
+        let lines = files.get("kallsyms");
+        if let Some(name) = action.name.strip_prefix("prepared_") {
+            let bytes = files.get("object");
+            return of_question(alloc, &File { bytes }, lines, name);
+        }
+        match externs_by(alloc, action.words.as_slice())? {
+            Some(externs) => of_externs(alloc, externs, lines, action.name),
+            None => no_action(alloc),
+        }
+    }
+}

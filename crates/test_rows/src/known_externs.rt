@@ -1,0 +1,25 @@
+//! What is known of externs, written into slots.
+
+use crate::known::set_externs;
+use crate::slots::answer_and_slots;
+use ebpf_object::Object;
+use std::alloc::{AllocError, Global};
+use test_cases::{Action, no_action};
+
+/// What writing the externs of an object gives, and the slots then.
+pub fn written(alloc: Global, object: &mut Object) -> Result<String, AllocError> {
+    let answer = object.relocate_externs();
+    answer_and_slots(alloc, &answer, object)
+}
+
+/// What writing the externs gives of which words say what is known, and the slots then.
+pub fn known_externs(
+    alloc: Global,
+    object: &mut Object,
+    action: &Action<'_>,
+) -> Result<String, AllocError> {
+    if !set_externs(alloc, &mut object.externs, action.words.as_slice())? {
+        return no_action(alloc);
+    }
+    written(alloc, object)
+}

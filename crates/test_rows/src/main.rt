@@ -1,0 +1,30 @@
+//! Rows over all crates: reads cases of files, and prints what each of their actions gives.
+#![tactic(auto)]
+
+mod adapted;
+mod changed;
+mod declared;
+mod joined;
+mod known;
+mod known_externs;
+mod mapped;
+mod maps;
+mod names;
+mod objects;
+mod outcomes;
+mod patched;
+mod prepared;
+mod printed;
+mod records;
+mod resolved;
+mod sanitized;
+mod slots;
+mod tables;
+
+use crate::outcomes::ObjectOutcomes;
+use std::io;
+use test_cases::run_cases;
+
+fn main(rt: HostRuntime) -> io::Result<()> {
+    run_cases(&rt, &ObjectOutcomes)
+}

@@ -1,0 +1,104 @@
+//! Files that are prepared in one call.
+
+use crate::joined::put_slots;
+use ebpf_btf::{Btf, BtfError, Endianness};
+use ebpf_object::Object;
+use ebpf_object::prepare::{PrepareError, Steps, prepare};
+use std::alloc::{AllocError, Global};
+use test_cases::{Action, Files};
+
+/// The name of a map and its descriptor, as `NAME=DESCRIPTOR`.
+fn descriptor(word: &str) -> Option<(&str, i32)> {
+    let (name, number) = word.split_once('=')?;
+    Some((name, number.parse::<i32>().ok()?))
+}
+
+/// The descriptors that words give, in their order.
+fn descriptors<'a>(alloc: Global, words: &[&'a str]) -> Result<Vec<(&'a str, i32)>, AllocError> {
+    let mut given = Vec::new(alloc);
+    for word in words {
+        let Some(named) = descriptor(word) else {
+            continue;
+        };
+        given.push(named)?;
+    }
+    Ok(given)
+}
+
+/// Whether a word is among words.
+fn has(words: &[&str], asked: &str) -> bool {
+    words.iter().any(|word| *word == asked)
+}
+
+/// What words choose: `types`, `maps` with the descriptors, `externs` without a kernel's types or `known_externs` with
+/// them, and `calls`.
+fn steps<'a>(words: &[&str], types: &'a Btf, given: &'a [(&'a str, i32)]) -> Steps<'a> {
+    let externs = if has(words, "known_externs") {
+        Some(Some(types))
+    } else if has(words, "externs") {
+        Some(None)
+    } else {
+        None
+    };
+    Steps {
+        target_btf: if has(words, "types") {
+            Some(types)
+        } else {
+            None
+        },
+        map_fds: if has(words, "maps") {
+            Some(given)
+        } else {
+            None
+        },
+        externs,
+        calls: has(words, "calls"),
+    }
+}
+
+/// The slots of the programs, and how many maps there are.
+fn programs(alloc: Global, object: &Object) -> Result<String, AllocError> {
+    let mut text = String::new(alloc);
+    let maps = object.maps.len();
+    writeln!(text, "maps {maps}")?;
+    put_slots(alloc, &mut text, object, false)?;
+    Ok(text)
+}
+
+/// Why a file can't be prepared, in a line.
+fn refusal(alloc: Global, error: &PrepareError) -> Result<String, AllocError> {
+    format!(in alloc; "{error:?}\n")
+}
+
+/// What preparing a file with these types gives.
+fn prepared_with(
+    alloc: Global,
+    files: &Files,
+    types: &Btf,
+    words: &[&str],
+) -> Result<String, AllocError> {
+    let given = descriptors(alloc, words)?;
+    let steps = steps(words, types, &given);
+    match prepare(alloc, files.get("object"), &steps, files.get("kallsyms")) {
+        Ok(object) => programs(alloc, &object),
+        Err(error) => refusal(alloc, &error),
+    }
+}
+
+/// Why bytes are no types.
+fn no_types(alloc: Global, error: &BtfError) -> Result<String, AllocError> {
+    format!(in alloc; "no types: {error:?}")
+}
+
+/// What preparing a file gives as the words choose; without a file of types there are none but void.
+pub fn prepared(alloc: Global, files: &Files, action: &Action<'_>) -> Result<String, AllocError> {
+    let types = if files.get("types").is_empty() {
+        Btf::new(alloc)
+    } else {
+        Btf::parse(alloc, files.get("types"), Endianness::Little)
+    };
+    match types {
+        Ok(types) => prepared_with(alloc, files, &types, action.words.as_slice()),
+        Err(error) => no_types(alloc, &error),
+    }
+}

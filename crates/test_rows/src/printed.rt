@@ -1,0 +1,78 @@
+//! What the programs of the command line print of a file.
+
+use ebpf_base::Text;
+use ebpf_commands::{Words, run_inspect, run_link};
+use std::alloc::{AllocError, Global};
+use test_cases::{Action, Files};
+
+/// What stands behind `NAME=` in a word of the action.
+fn named<'a>(action: &Action<'a>, name: &str) -> Option<&'a str> {
+    for word in &action.words {
+        if let Some((key, value)) = word.split_once('=')
+            && key == name
+        {
+            return Some(value);
+        }
+    }
+    None
+}
+
+/// Words that ask for the program that the action names, or for all.
+fn words_of(alloc: Global, action: &Action<'_>) -> Result<Words, AllocError> {
+    let program = match named(action, "program") {
+        Some(name) => Some(Text::from_str(alloc, name)?),
+        None => None,
+    };
+    Ok(Words {
+        file: Text::from_str(alloc, "file.o")?,
+        btf: None,
+        kallsyms: None,
+        program,
+    })
+}
+
+/// The kernel's types, where the action names a file of them.
+fn types_of<'a>(files: &'a Files, action: &Action<'_>) -> Option<&'a [u8]> {
+    Some(files.get(named(action, "types")?))
+}
+
+/// A status, and what was written.
+fn told(alloc: Global, status: u8, out: &[u8], err: &[u8]) -> Result<String, AllocError> {
+    let out = str::from_utf8(out).unwrap_or("no text\n");
+    let err = str::from_utf8(err).unwrap_or("no text\n");
+    format!(in alloc; "status {status}\n{out}{err}")
+}
+
+/// What `ebpf-link` prints.
+pub fn linked(alloc: Global, files: &Files, action: &Action<'_>) -> Result<String, AllocError> {
+    let words = words_of(alloc, action)?;
+    let mut out = Vec::new(alloc);
+    let mut err = Vec::new(alloc);
+    let status = run_link(
+        alloc,
+        &words,
+        files.get("object"),
+        types_of(files, action),
+        files.get("kallsyms"),
+        &mut out,
+        &mut err,
+    );
+    told(alloc, status, &out, &err)
+}
+
+/// What `ebpf-inspect` prints.
+pub fn inspected(alloc: Global, files: &Files, action: &Action<'_>) -> Result<String, AllocError> {
+    let words = words_of(alloc, action)?;
+    let mut out = Vec::new(alloc);
+    let mut err = Vec::new(alloc);
+    let status = run_inspect(
+        alloc,
+        &words,
+        files.get("object"),
+        types_of(files, action),
+        files.get("kallsyms"),
+        &mut out,
+        &mut err,
+    );
+    told(alloc, status, &out, &err)
+}

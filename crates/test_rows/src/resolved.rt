@@ -1,0 +1,75 @@
+//! Externs that are found in a kernel: its types are the file `kernel`, if there is one, and its addresses the file
+//! `kallsyms`.
+
+use crate::declared::put_externs;
+use crate::known::set_externs;
+use crate::known_externs::written;
+use ebpf_btf::Btf;
+use ebpf_object::Object;
+use ebpf_object::extern_types::KsymsError;
+use std::alloc::{AllocError, Global};
+use test_cases::{Action, Files, no_action};
+
+/// The kernel's types, where there are some.
+fn kernel_types(alloc: Global, object: &Object, bytes: &[u8]) -> Option<Btf> {
+    if bytes.is_empty() {
+        return None;
+    }
+    Btf::parse(alloc, bytes, object.endianness).ok()
+}
+
+/// What resolving answers, in a line.
+fn said(alloc: Global, answer: &Result<(), KsymsError>) -> Result<String, AllocError> {
+    format!(in alloc; "{answer:?}\n")
+}
+
+/// Resolves the externs: what that answers, in a line.
+fn resolve(
+    alloc: Global,
+    object: &mut Object,
+    kernel: Option<&Btf>,
+    kallsyms: &[u8],
+) -> Result<String, AllocError> {
+    let answer = object.resolve_externs(kernel, kallsyms);
+    said(alloc, &answer)
+}
+
+/// Looks the externs up in the kernel of the files: what that answers, in a line.
+fn looked_up(alloc: Global, files: &Files, object: &mut Object) -> Result<String, AllocError> {
+    let kernel = kernel_types(alloc, object, files.get("kernel"));
+    resolve(alloc, object, kernel.as_ref(), files.get("kallsyms"))
+}
+
+/// Adds the externs by name, or what writing them gives.
+fn put_found(
+    alloc: Global,
+    text: &mut String,
+    object: &mut Object,
+    what: &str,
+) -> Result<(), AllocError> {
+    match what {
+        "externs" => put_externs(alloc, text, object),
+        "slots" => {
+            let slots = written(alloc, object)?;
+            write!(text, "{slots}")
+        }
+        _ => write!(text, "no such outcome {what}"),
+    }
+}
+
+/// What resolving the externs answers, and then the externs by name, or what writing them gives. Further words say what
+/// is known before.
+pub fn resolved(
+    alloc: Global,
+    files: &Files,
+    object: &mut Object,
+    action: &Action<'_>,
+) -> Result<String, AllocError> {
+    let words = action.words.get(1..).unwrap_or(&[]);
+    if !set_externs(alloc, &mut object.externs, words)? {
+        return no_action(alloc);
+    }
+    let mut text = looked_up(alloc, files, object)?;
+    put_found(alloc, &mut text, object, action.word(0))?;
+    Ok(text)
+}

@@ -1,0 +1,32 @@
+#!/usr/bin/env bash
+# Builds examples/out/libebpf.a, which is the static library with the functions by which it takes memory, and on it the
+# test programs of c_interface/ and the examples, with gcc and clang; runs them, under the address and
+# undefined-behaviour sanitizers too, and with each growth of memory refused; builds and tests the wrapper where Rust is
+# there, and runs the Python of docs/C.md; loads examples/counter.bpf.c into the running kernel where that is allowed.
+# Ends with 'N passed, M failed'.
+# usage: c_interface.sh [--no-kernel | --build]      --build: makes libebpf.a and runs nothing
+set -euo pipefail
+cd "$(dirname "$0")/.."
+crate=crates/ebpf_c
+archive=$crate/out/libebpf_c.a
+if [ ! -e $archive ] || [ -n "$(find crates/*/src -name '*.rt' -newer $archive -print -quit)" ]; then
+    python3 -B tests/c_interface/archive.py
+fi
+mkdir -p examples/out
+kit=$(dirname "$(rt doc)")
+"${AR:-ar}" -M <<END
+CREATE examples/out/libebpf.a
+ADDLIB $archive
+ADDLIB $kit/c/liblibc_c.a
+SAVE
+END
+if [ "${1:-}" = --build ]; then
+    exit
+fi
+folder=$(mktemp -d)
+trap 'rm -rf "$folder"' EXIT
+compiler=${CC:-cc}
+"$compiler" -O2 -Wall -shared -fPIC -o "$folder/refused_growths.so" tests/refused_growths.c
+library=$PWD/examples/out/libebpf.a
+cd tests
+python3 -B -m c_interface "$folder" "$library" "$@"

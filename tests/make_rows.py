@@ -1,0 +1,83 @@
+#!/usr/bin/env python3
+"""Writes the cases of the test programs and what each has to print of them: data/cases.txt and stdout of
+crates/test_rows, crates/test_btf_rows and crates/test_ksyms_rows, and stdout of crates/bench_prepare.
+usage: make_rows.py
+
+A new row: in the module of rows/ on its subject, or in a new one listed below, add to its cases() a
+    Case("its name", bytes or {"name of a file": bytes}, {"action and its words": "the lines that it has to give"})
+with files made by rows/elf.py and rows/btf.py. What has to be given is written by hand, from the definitions or from
+another reader, and never taken from what the program prints. A new action is a function that gives its text and an arm of
+the `match` in src/objects.rt of test_rows (in src/outcomes.rt of the others): it borrows the object and doesn't hold it,
+or its proof takes minutes. Then run this script, and `rt ci` compares.
+"""
+from pathlib import Path
+
+from rows import (
+    btf_added,
+    btf_candidates,
+    btf_ext,
+    btf_ext_faults,
+    btf_fits,
+    btf_kinds,
+    btf_one_int,
+    compiled,
+    core_bit_fields,
+    core_candidates,
+    core_conflicts,
+    core_fields,
+    core_limits,
+    core_matches,
+    core_order,
+    core_paths,
+    core_places,
+    core_slots,
+    core_values,
+    declared_maps,
+    externs,
+    joined,
+    kallsyms,
+    known_externs,
+    many_types,
+    mapped,
+    maps,
+    names,
+    order,
+    prepared,
+    printed,
+    programs,
+    records,
+    references,
+    resolved,
+    small_object,
+    terms,
+    texts,
+    type_faults,
+    values,
+)
+from rows.case import write_cases
+
+CRATES = Path(__file__).parents[1] / "crates"
+
+OBJECTS = [small_object, programs, texts, terms, order, maps, declared_maps, externs, type_faults, records, joined]
+OBJECTS += [mapped, known_externs, resolved, prepared, printed, values, names, compiled, references]
+
+TYPES = [btf_one_int, btf_kinds, btf_added, btf_candidates, btf_fits, btf_ext, btf_ext_faults]
+
+# Relocations by types; their limits take long.
+CORE = [core_places, core_paths, core_candidates, core_matches, core_fields, core_values, core_bit_fields]
+CORE += [core_conflicts, core_slots, core_order]
+
+
+def cases_of(modules):
+    return [case for module in modules for case in module.cases()]
+
+
+if __name__ == "__main__":
+    objects = cases_of(OBJECTS)
+    core = {"core_relo": cases_of(CORE), "core_limits": core_limits.cases()}
+    for held in [objects, *core.values()]:
+        printed.add_to(held)
+    write_cases(CRATES / "test_rows", objects, **core)
+    write_cases(CRATES / "test_btf_rows", cases_of(TYPES))
+    write_cases(CRATES / "test_ksyms_rows", kallsyms.cases())
+    (CRATES / "bench_prepare/stdout").write_text("".join(line + "\n" for line in many_types.expected_lines()))
