@@ -7,8 +7,8 @@ A new row: in the module of rows/ on its subject, or in a new one listed below, 
     Case("its name", bytes or {"name of a file": bytes}, {"action and its words": "the lines that it has to give"})
 with files made by rows/elf.py and rows/btf.py. What has to be given is written by hand, from the definitions or from
 another reader, and never taken from what the program prints. A new action is a function that gives its text and an arm of
-the `match` in src/objects.rt of test_rows (in src/outcomes.rt of the others): it borrows the object and doesn't hold it,
-or its proof takes minutes. Then run this script, and `rt ci` compares.
+the `match` in src/objects.rt of test_rows, src/types.rt of test_btf_rows or src/outcomes.rt of test_ksyms_rows: it borrows
+the object or the types and doesn't hold them, or its proof takes minutes. Then run this script, and `rt ci` compares.
 """
 from pathlib import Path
 

@@ -1,7 +1,8 @@
 #!/usr/bin/env python3
 """Runs the tests of each crate and each program that has a file stdout by `rt try`, which proves nothing and stops at an
 index out of range, a sum that wraps or a failed unwrap; compares what the programs print with these files, row by row.
-Ends with 'N passed, M failed', and with status 1 where one failed.
+Says of each edit that the prover is to refuse whether it can still be applied, and tries none. Ends with 'N passed, M
+failed', and with status 1 where one failed.
 usage: quick.py [CRATE..]      CRATE: only the tests and rows of these crates
 """
 import os
@@ -13,7 +14,11 @@ from dataclasses import dataclass, field
 from itertools import zip_longest
 from pathlib import Path
 
-CRATES = Path(__file__).parents[1] / "crates"
+TOP = Path(__file__).parents[1]
+CRATES = TOP / "crates"
+sys.path.append(str(TOP / "tools"))
+
+from more_edits import misfits  # noqa: E402
 
 # What a program may take, in seconds: built with checks it takes ten times as long as else.
 SECONDS = 900
@@ -50,15 +55,21 @@ def run_tests(crate):
 
 
 def rows_of(text):
-    """The rows of what a program prints: a line with the lines behind it that are indented deeper. A row is what one
-    action of a case gives; a program without cases has one row a line."""
-    rows = []
-    for line in text.split("\n"):
-        if rows and line.startswith("  "):
+    """The rows of what a program prints. Where it prints cases, a row is an action, behind one space, with its lines, behind
+    two, and with the case's name where it is the first; else each line is one."""
+    lines = [line for line in text.split("\n") if line]
+    if not any(re.match(r" \S", line) for line in lines):
+        return lines
+    rows, name = [], []
+    for line in lines:
+        if re.match(r" \S", line):
+            rows.append("\n".join([*name, line]))
+            name = []
+        elif line.startswith("  ") and rows and not name:
             rows[-1] += "\n" + line
-        elif line:
-            rows.append(line)
-    return rows
+        else:
+            name.append(line)
+    return rows + name
 
 
 def run_rows(crate):
@@ -103,6 +114,10 @@ def main():
             print(f"{name}: {outcome.passed} passed, {len(outcome.failures)} failed", flush=True)
             for failure in outcome.failures[:5]:
                 print(failure, flush=True)
+    if not sys.argv[1:]:
+        edits, failures = misfits()
+        passed, failed = passed + edits - len(failures), failed + len(failures)
+        print("\n".join([*failures, f"edits that apply: {edits - len(failures)}"]), flush=True)
     print(f"{passed} passed, {failed} failed")
     return 1 if failed or not passed else 0
 

@@ -53,8 +53,15 @@ def words_of(process):
     return Path(f"/proc/{process}/cmdline").read_text().split("\0")[:-1]
 
 
+def is_below(process, command):
+    """Whether the command began a process, or one that began it."""
+    while process > 1 and process != command:
+        process = int(stat_of(process)[1])
+    return process == command
+
+
 def look(seen, parts, command):
-    """Notes what each process of the prover, and each direct child of the command, has taken so far."""
+    """Notes what each process of the prover that the command began, and each direct child of it, has taken so far."""
     for process in filter(str.isdigit, os.listdir("/proc")):
         try:
             stat = stat_of(process)
@@ -62,7 +69,7 @@ def look(seen, parts, command):
             is_part = int(stat[1]) == command
             if key not in seen and key not in parts:
                 words = words_of(process)
-                if words and os.path.basename(words[0]) == "rattle" and words[1:2] in (["check"], ["build"]):
+                if words and os.path.basename(words[0]) == "rattle" and words[1:2] in (["check"], ["build"]) and is_below(int(process), command):
                     seen[key] = Seen(words, os.readlink(f"/proc/{process}/cwd"), time.time())
                 if is_part:
                     parts[key] = Seen(words, "", time.time())

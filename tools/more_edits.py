@@ -7,9 +7,8 @@ Edits of different functions are tried together, in one check of the crate: a fu
 contracts of what it calls, so that it is refused for its own edit alone, and the check names each function that isn't
 proved and why. What isn't told apart so (an edit outside functions, one that shows in another function) is tried by itself.
 While an edit is tried it stands in the crate's own files, which are put back at the end, however it ends.
-usage: more_edits.py [--gate] [NAME..]     NAME: a crate; none: each that has such edits
-                                           --gate: those of must-fail in their place, and nothing is kept
 """
+import argparse
 import re
 import signal
 import subprocess
@@ -97,13 +96,13 @@ def apply(crate, pairs, texts):
     return texts, bodies if is_inside else set()
 
 
-def check(crate, texts):
+def check(crate, texts, flags):
     """What a check says of the crate with these texts, which stand in it meanwhile."""
     before = {file: (crate / file).read_text() for file in texts}
     try:
         for file, text in texts.items():
             (crate / file).write_text(text)
-        return subprocess.run(["rt", "check"], cwd=crate, stdin=subprocess.DEVNULL, capture_output=True, text=True, errors="replace").stdout
+        return subprocess.run(["rt", "check", *flags], cwd=crate, stdin=subprocess.DEVNULL, capture_output=True, text=True, errors="replace").stdout
     finally:
         for file, text in before.items():
             (crate / file).write_text(text)
@@ -124,7 +123,7 @@ def is_refused(crate, bodies, names):
     return False
 
 
-def try_together(crate, edits):
+def try_together(crate, edits, flags):
     """Tries edits of different functions in one check. Gives those that it refuses, and those that are left."""
     texts, taken, tried, left = {}, set(), [], []
     for edit in edits:
@@ -138,35 +137,44 @@ def try_together(crate, edits):
             continue
         texts, taken = changed, taken | bodies
         tried.append((edit, bodies))
-    names = refused(check(crate, texts)) if tried else []
+    names = refused(check(crate, texts, flags)) if tried else []
     well = [edit for edit, bodies in tried if is_refused(crate, bodies, names)]
     return well, left + [edit for edit, _ in tried if edit not in well]
 
 
-def try_alone(crate, edit):
+def try_alone(crate, edit, flags):
     """Whether the prover refuses the crate with this edit alone, and why not else."""
     try:
         texts, _ = apply(crate, pairs_of(edit), {})
     except ValueError as error:
         return f"BAD EDIT: {error}"
-    said = check(crate, texts)
-    last = said.rstrip().split("\n")[-1]
-    if last.startswith("logic=not-proved") or re.search(r"(?m)^logic=not-proved", said):
+    said = check(crate, texts, flags)
+    if re.search(r"(?m)^logic=not-proved", said):
         return None
     return "NOT REFUSED: the crate is still proved" if re.search(r"(?m)^logic=proved", said) else f"BAD EDIT: {said[:400]}"
 
 
-def try_edits(crate, edits):
+def misfits():
+    """How many edits of all crates there are, of both kinds, and those that can't be applied to the files as they stand."""
+    edits = sorted(it for kind in ("must-fail", "more-edits") for it in TOP.glob(f"crates/*/{kind}/*.edit"))
+    failures = []
+    for edit in edits:
+        try:
+            apply(edit.parents[1], pairs_of(edit), {})
+        except (ValueError, OSError) as error:
+            failures.append(f"{edit.relative_to(TOP)}: {error}")
+    return len(edits), failures
+
+
+def try_edits(crate, edits, flags):
     """Tries the edits of a crate. Gives how many were refused, and why the others weren't."""
-    left, failures = list(edits), []
-    while left:
-        well, now = try_together(crate, left)
-        print(f"{crate.name}: {len(well)} refused together, {len(now)} left", flush=True)
-        left = now
-        if len(well) < 2:
-            break
+    left, failures, is_worth = list(edits), [], True
+    while is_worth and len(left) > 1:
+        well, left = try_together(crate, left, flags)
+        is_worth = len(well) > 1
+        print(f"{crate.name}: {len(well)} refused together, {len(left)} left", flush=True)
     for edit in left:
-        why = try_alone(crate, edit)
+        why = try_alone(crate, edit, flags)
         print(f"{crate.name}/{edit.stem}: {why or 'refused'}", flush=True)
         if why:
             failures.append(f"{crate.name}/{edit.stem}: {why}")
@@ -190,17 +198,22 @@ def is_committed(name):
 
 def main():
     signal.signal(signal.SIGTERM, lambda *_: sys.exit(1))
-    words = sys.argv[1:]
-    kind = "must-fail" if "--gate" in words else "more-edits"
-    names = [word for word in words if word != "--gate"] or sorted(it.parent.name for it in TOP.glob(f"crates/*/{kind}"))
+    words = argparse.ArgumentParser(description="Tries the edits of crates/NAME/more-edits: the prover must refuse each.")
+    words.add_argument("--gate", action="store_true", help="those of must-fail in their place, and nothing is kept")
+    words.add_argument("--jobs", help="processes of a check; without it the check chooses")
+    words.add_argument("names", metavar="NAME", nargs="*", help="a crate; none: each that has such edits")
+    given = words.parse_args()
+    kind = "must-fail" if given.gate else "more-edits"
+    names = given.names or sorted(it.parent.name for it in TOP.glob(f"crates/*/{kind}"))
+    flags = ["--jobs", given.jobs] if given.jobs else []
     passed, failures = 0, []
     for name in names:
         crate = TOP / "crates" / name
         edits = sorted((crate / kind).glob("*.edit"))
         was_committed = is_committed(name)
-        well, why = try_edits(crate, edits)
+        well, why = try_edits(crate, edits, flags)
         passed, failures = passed + well, failures + why
-        if not why and was_committed and kind == "more-edits":
+        if not why and was_committed and not given.gate:
             keep(name, len(edits))
     for failure in failures:
         print(failure)

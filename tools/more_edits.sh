@@ -1,5 +1,5 @@
 #!/usr/bin/env bash
 # Tries the edits that the gate leaves out for the time that they take: what more_edits.py says.
-# usage: more_edits.sh [--gate] [NAME..]
+# usage: more_edits.sh [--gate] [--jobs N] [NAME..]
 set -euo pipefail
 exec python3 -B "$(dirname "$0")/more_edits.py" "$@"

@@ -10,18 +10,20 @@ def located(error):
 CALLS = located("EbpfRelocationError")
 TYPES = 'BtfRelocationError { section: Text { text: "" }, error: OutOfMemory }'
 
-# A file that is prepared: its own want of memory, or that of a stage.
-PREPARED = [NO_MEMORY, "Parse(OutOfMemory)", f"Types({TYPES})", f"Maps({CALLS})", "Ksyms(OutOfMemory)"]
-PREPARED += [f"Externs({CALLS})", f"Calls({CALLS})"]
-
 
 def err(error):
     return f"Err({error})"
 
 
+# A file that is prepared: its own want of memory, or that of a stage.
+STAGES = ["Parse(OutOfMemory)", f"Types({TYPES})", f"Maps({CALLS})", "Ksyms(OutOfMemory)"]
+STAGES += [f"Externs({CALLS})", f"Calls({CALLS})"]
+PREPARED = [err(error) for error in [NO_MEMORY, *STAGES]]
+
+
 # By the call, which is the last word up to `=`, with its subject before it.
 ANSWERS = {
-    "parse": [NO_MEMORY],
+    "parse": [err(NO_MEMORY)],
     "prepare": PREPARED,
     "inspect": PREPARED,
     "object relocate_btf": [err(TYPES)],
@@ -31,7 +33,7 @@ ANSWERS = {
     "object relocate_externs": [err(CALLS)],
     "object relocate_calls": [err(CALLS)],
     "object patch_map_data": [err(NO_MEMORY)],
-    "object clone": ["AllocError"],
+    "object clone": [err("AllocError")],
     "object kept_inner": [err("AllocError")],
     "object kept_map": [err("AllocError")],
     "object kept_funcs": [err("AllocError")],
@@ -54,7 +56,7 @@ ANSWERS = {
     "types clone_type": [err("AllocError")],
     "types clone": [err("AllocError")],
     "types id_of": [err(NO_MEMORY)],
-    "types index": [NO_MEMORY],
+    "types index": [err(NO_MEMORY)],
     "types both": [err(NO_MEMORY)],
     "types fields": [err(NO_MEMORY)],
     "types boxed": [err("AllocError")],

@@ -125,16 +125,16 @@ def refused_files():
     no_map = mapped.referring([LOAD_8, NOTHING, EXIT], [(0, 5, LOAD64)])
     variables = values.variables()
     return [
-        no_answer("parse, no kind of program", [no_kind], "parse", starts="InvalidProgramSection"),
-        no_answer("parse, no symbol", [no_symbol], "parse", starts="BtfError"),
+        no_answer("parse, no kind of program", [no_kind], "parse", starts="Err(InvalidProgramSection"),
+        no_answer("parse, no symbol", [no_symbol], "parse", starts="Err(BtfError"),
         no_answer("relocate_calls, no record", [no_record], "object", "relocate_calls"),
         no_answer("relocate_calls, a line too early", [early], "object", "relocate_calls"),
         no_answer("relocate_maps, no map", [no_map], "object", "relocate_maps"),
         no_answer("patch_map_data, no variable", [variables, b"", b"\1"], "object", "patch_map_data=c"),
         no_answer("patch_map_data, another length", [variables, b"", b"\1"], "object", "patch_map_data=a"),
-        no_answer("prepare, no map", [no_map], "prepare", "mec", starts="Maps"),
-        no_answer("prepare, no record", [no_record], "prepare", "c", starts="Calls"),
-        no_answer("inspect, no record", [no_record], "inspect", "c", starts="Calls"),
+        no_answer("prepare, no map", [no_map], "prepare", "mec", starts="Err(Maps"),
+        no_answer("prepare, no record", [no_record], "prepare", "c", starts="Err(Calls"),
+        no_answer("inspect, no record", [no_record], "inspect", "c", starts="Err(Calls"),
         no_answer("link_map, no record", [no_record], "object", "kept_link_map=p"),
     ]
 
@@ -147,7 +147,7 @@ def refused_types():
         no_answer("relocate_btf, no path", [no_path, kernel], "object", "relocate_btf"),
         no_answer("relocate_btf, a member too far", [far, kernel], "object", "relocate_btf"),
         no_answer("relocate_btf, two matches", [twice, kernel], "object", "relocate_btf"),
-        no_answer("prepare, no path", [no_path, kernel], "prepare", "tmec", starts="Types"),
+        no_answer("prepare, no path", [no_path, kernel], "prepare", "tmec", starts="Err(Types"),
     ]
 
 
@@ -167,8 +167,8 @@ def refused_externs():
         no_answer("resolve_externs, two addresses", [wanted, b"", twice], "object", "resolve_externs"),
         no_answer("resolve_lines, no address", [wanted, b"", none], "object", "resolve_lines"),
         no_answer("relocate_externs, a call of an address", [called, b"", line], "object", *both),
-        no_answer("prepare, no line", [wanted], "prepare", "e", starts="Ksyms"),
-        no_answer("prepare, a call of an address", [called, b"", line], "prepare", "e", starts="Externs"),
+        no_answer("prepare, no line", [wanted], "prepare", "e", starts="Err(Ksyms"),
+        no_answer("prepare, a call of an address", [called, b"", line], "prepare", "e", starts="Err(Externs"),
     ]
 
 

@@ -5,8 +5,9 @@ import struct
 
 from make_call_object import call_object
 from rows.case import Case, outcome_lines
-from rows.elf import FUNCTION
+from rows.elf import CALL, CALL32, EXIT, FUNCTION, LOAD64, NOTHING, File
 from rows.joined import END, call, joins, slots
+from rows.resolved import FAR, LOAD, variable_of_void
 
 # The variants of errors of parsing.
 PARSING = """
@@ -211,13 +212,50 @@ def small():
                 "inspect types=no_types": refused("inspect", "btf: InvalidHeader"),
             },
         ),
+        # The kernel's types are read before the object.
         Case(
             "no file, printed",
-            {"object": b"foo"},
+            {"object": b"foo", "no_types": b"types"},
             {
                 "link": refused("link", "parse: ElfError"),
+                "link types=no_types": refused("link", "btf: InvalidHeader"),
                 "inspect": refused("inspect", "parse: ElfError"),
             },
+        ),
+        Case("a file without sections, printed", b"\x7fELF\2\1" + bytes(58), {"link": done("")}),
+    ]
+
+
+def several():
+    """Two programs: all by name, and one."""
+    file = File().code("kprobe", EXIT).code("kprobe/a", EXIT)
+    file.symbol("b", FUNCTION, 3, 0, 8).symbol("a", FUNCTION, 4, 0, 0)
+    first, second = slots("a"), slots("b", END)
+    return [
+        Case(
+            "two programs, printed",
+            file.bytes(),
+            {"link": done(f"{first}\n{second}"), "link program=a": done(first), "link program=b": done(second)},
+        )
+    ]
+
+
+def externs():
+    """A variable of the kernel whose address is told: it is loaded, or called."""
+    loaded = variable_of_void("v", slots=[LOAD, NOTHING, EXIT], relocations=[(0, LOAD64)])
+    called = variable_of_void("v", slots=[CALL, EXIT], relocations=[(0, CALL32)])
+    lines = f"{FAR:x} D v\n".encode()
+    low, high = FAR % 2**32 - 2**32, FAR // 2**32 - 2**32
+    return [
+        Case(
+            "the address of a variable, printed",
+            {"object": loaded, "kallsyms": lines},
+            {"link": done(slots("p", ("18010000", low), ("00000000", high), END))},
+        ),
+        Case(
+            "a call of an address, printed",
+            {"object": called, "kallsyms": lines},
+            {"link": refused("link", "externs: UnresolvableSymbol")},
         ),
     ]
 
@@ -237,4 +275,4 @@ def parts():
 
 
 def cases():
-    return small() + parts()
+    return small() + several() + externs() + parts()

@@ -12,8 +12,8 @@ pub enum BenchError {
     Io(#[from] io::Error),
     #[error("{0}")]
     Types(#[from] BtfError),
-    #[error("the object is refused: {0}")]
-    Refused(&'static str),
+    #[error("the object is refused: ebpf-link says why")]
+    Refused,
     #[error("out of memory")]
     Memory(#[from] AllocError),
 }

@@ -9,7 +9,7 @@ pub struct Sources<'a> {
     pub btf: Option<&'a str>,
     /// The file with the kernel's symbols.
     pub kallsyms: Option<&'a str>,
-    /// How often, at least once.
+    /// How often.
     pub runs: u32,
 }
 
@@ -22,71 +22,33 @@ pub enum Task<'a> {
     Prepare(Sources<'a>),
 }
 
-/// What a word is for.
-#[derive(Clone, Copy)]
-enum Place {
-    File,
-    Btf,
-    Kallsyms,
-    Runs,
-}
-
-/// What the words gave so far.
-#[derive(Clone, Copy)]
-struct Found<'a> {
-    file: Option<&'a str>,
-    btf: Option<&'a str>,
-    kallsyms: Option<&'a str>,
-    runs: u32,
-}
-
-impl<'a> Found<'a> {
-    /// Takes a word that is the file or names an option, and gives what the next word is for.
-    fn take_name(&mut self, word: &'a str) -> Option<Place> {
-        match word {
-            "--btf" => Some(Place::Btf),
-            "--kallsyms" => Some(Place::Kallsyms),
-            "--runs" => Some(Place::Runs),
-            _ if self.file.is_some() => None,
-            _ => {
-                self.file = Some(word);
-                Some(Place::File)
-            }
-        }
-    }
-
-    /// Takes a word, and gives what the next one is for.
-    fn take(&mut self, place: Place, word: &'a str) -> Option<Place> {
-        match place {
-            Place::File => return self.take_name(word),
-            Place::Btf => self.btf = Some(word),
-            Place::Kallsyms => self.kallsyms = Some(word),
-            Place::Runs => self.runs = word.parse().ok()?,
-        }
-        Some(Place::File)
+/// The word behind an option.
+fn word_behind<'a>(words: &'a [String], option: &str) -> Option<&'a str> {
+    let at = words.iter().position(|word| word.as_str() == option)?;
+    match words.get(at..) {
+        Some([_, word, ..]) => Some(word.as_str()),
+        _ => None,
     }
 }
 
-/// What preparing is asked for by the words after `prepare`.
-fn read_sources<'a>(words: &'a [String]) -> Option<Sources<'a>> {
-    let mut found = Found {
-        file: None,
-        btf: None,
-        kallsyms: None,
-        runs: 9,
-    };
-    let mut place = Place::File;
-    for word in words {
-        place = found.take(place, word.as_str())?;
-    }
-    if !matches!(place, Place::File) || found.runs == 0 {
+/// Whether words are options, each with a word behind it.
+fn are_options(words: &[String]) -> bool {
+    words.chunks(2).all(|pair| match pair {
+        [option, _] => matches!(option.as_str(), "--btf" | "--kallsyms" | "--runs"),
+        _ => false,
+    })
+}
+
+/// What preparing the file is asked for by the words behind it.
+fn read_sources<'a>(file: &'a str, words: &'a [String]) -> Option<Sources<'a>> {
+    if !are_options(words) {
         return None;
     }
     Some(Sources {
-        file: found.file?,
-        btf: found.btf,
-        kallsyms: found.kallsyms,
-        runs: found.runs,
+        file,
+        btf: word_behind(words, "--btf"),
+        kallsyms: word_behind(words, "--kallsyms"),
+        runs: word_behind(words, "--runs").unwrap_or("9").parse().ok()?,
     })
 }
 
@@ -95,7 +57,9 @@ pub fn read_words<'a>(words: &'a [String]) -> Option<Task<'a>> {
     match words {
         [file] => Some(Task::Types(file.as_str())),
         [verb, file] if verb.as_str() == "types" => Some(Task::Types(file.as_str())),
-        [verb, rest @ ..] if verb.as_str() == "prepare" => Some(Task::Prepare(read_sources(rest)?)),
+        [verb, file, rest @ ..] if verb.as_str() == "prepare" => {
+            Some(Task::Prepare(read_sources(file.as_str(), rest)?))
+        }
         _ => None,
     }
 }

@@ -126,7 +126,7 @@ fn print_object<'a, W: Write>(
 }
 
 /// An object after all passes: types where the kernel's are known, descriptors of its own maps, externs, calls.
-fn prepare_all<K: BufRead + Drop>(
+pub fn prepare_all<K: BufRead + Drop>(
     alloc: Global,
     object: Object,
     types: Option<&Btf>,

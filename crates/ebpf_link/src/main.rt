@@ -1,13 +1,6 @@
 //! `ebpf-link`: reads an ELF64 object with eBPF programs and prints the slots of each program.
 #![tactic(auto)]
 
-#[cfg(test)]
-mod pass_rows;
-#[cfg(test)]
-mod test_runs;
-#[cfg(test)]
-mod tests;
-
 use ebpf_commands::{Command, Words, run_link, start};
 use std::alloc::Global;
 use std::io::{BufRead, Write};

@@ -1,128 +1,138 @@
-//! Calls on what an object keeps: its maps, its types, what is said of instructions, and its programs.
+//! Calls on what an object keeps: its maps, what is said of instructions, and its programs.
 
 use crate::call::Call;
-use crate::inspected::link_map;
-use crate::marks::{begin, end};
-use crate::still::still_object;
+use crate::still_object::read_object;
 use ebpf_ext::BtfExt;
 use ebpf_object::Object;
 use ebpf_parts::maps::Map;
-use std::alloc::Global;
+use std::alloc::{AllocError, Global};
+use std::collections::HashSet;
 use std::io;
 
 /// The maps that a map holds.
-fn inner_of(rt: &impl Print, map: &Map) -> io::Result<()> {
-    begin(rt, true)?;
+fn inner(rt: &HostRuntime, map: &Map, call: Call<'_>) -> io::Result<()> {
+    call.begin(rt);
     let answer = map.inner();
-    end(rt, true)?;
-    println!(rt; "answer: {answer:?}")
+    call.tell(rt, &answer)
 }
 
 /// A copy of a map.
-fn copied_map(rt: &impl Print, map: &Map) -> io::Result<()> {
-    begin(rt, true)?;
+fn clone_map(rt: &HostRuntime, map: &Map, call: Call<'_>) -> io::Result<()> {
+    call.begin(rt);
     let answer: Result<_, _> = map.clone();
-    end(rt, true)?;
-    println!(rt; "answer: {answer:?}")
+    call.tell(rt, &answer)
 }
 
 /// A call on the map that the word names.
-fn on_map(rt: &impl Print, map: &Map, call: Call<'_>) -> io::Result<()> {
+fn on_map(rt: &HostRuntime, map: &Map, call: Call<'_>) -> io::Result<()> {
     match call.name {
-        "kept_inner" => inner_of(rt, map),
-        "kept_map" => copied_map(rt, map),
-        _ => println!(rt; "no such call"),
+        "kept_inner" => inner(rt, map, call),
+        "kept_map" => clone_map(rt, map, call),
+        _ => call.miss(rt),
     }
 }
 
 /// What is said of the functions of the section that the word names.
-fn funcs_of(rt: &impl Print, ext: &BtfExt, call: Call<'_>) -> io::Result<()> {
-    begin(rt, true)?;
+fn funcs(rt: &HostRuntime, ext: &BtfExt, call: Call<'_>) -> io::Result<()> {
+    call.begin(rt);
     let answer = ext.func_info.get(call.word);
-    end(rt, true)?;
-    println!(rt; "answer: {answer:?}")
+    call.tell(rt, &answer)
 }
 
 /// What is said of the lines of the section that the word names.
-fn lines_of(rt: &impl Print, ext: &BtfExt, call: Call<'_>) -> io::Result<()> {
-    begin(rt, true)?;
+fn lines(rt: &HostRuntime, ext: &BtfExt, call: Call<'_>) -> io::Result<()> {
+    call.begin(rt);
     let answer = ext.line_info.get(call.word);
-    end(rt, true)?;
-    println!(rt; "answer: {answer:?}")
+    call.tell(rt, &answer)
 }
 
-/// What is said of functions, where the section that the word names is found before.
-fn found_funcs(rt: &impl Print, alloc: Global, ext: &BtfExt, call: Call<'_>) -> io::Result<()> {
-    begin(rt, true)?;
-    let answer = ext.func_info.found(alloc, &[call.word]);
-    end(rt, true)?;
-    match answer {
-        Ok(found) => {
-            let said = found.get(call.word);
-            println!(rt; "answer: Ok({said:?})")
-        }
-        Err(error) => println!(rt; "answer: Err({error:?})"),
-    }
+/// Whether something is said of functions of the section, which is found before.
+fn has_funcs(alloc: Global, ext: &BtfExt, section: &str) -> Result<bool, AllocError> {
+    let found = ext.func_info.found(alloc, &[section])?;
+    Ok(found.get(section).is_some())
 }
 
-/// What is said of lines, where the section that the word names is found before.
-fn found_lines(rt: &impl Print, alloc: Global, ext: &BtfExt, call: Call<'_>) -> io::Result<()> {
-    begin(rt, true)?;
-    let answer = ext.line_info.found(alloc, &[call.word]);
-    end(rt, true)?;
-    match answer {
-        Ok(found) => {
-            let said = found.get(call.word);
-            println!(rt; "answer: Ok({said:?})")
-        }
-        Err(error) => println!(rt; "answer: Err({error:?})"),
-    }
+/// Whether something is said of lines of the section, which is found before.
+fn has_lines(alloc: Global, ext: &BtfExt, section: &str) -> Result<bool, AllocError> {
+    let found = ext.line_info.found(alloc, &[section])?;
+    Ok(found.get(section).is_some())
+}
+
+/// The same for functions, of the section that the word names.
+fn found_funcs(rt: &HostRuntime, ext: &BtfExt, call: Call<'_>) -> io::Result<()> {
+    call.begin(rt);
+    let answer = has_funcs(rt.alloc(), ext, call.word);
+    call.tell(rt, &answer)
+}
+
+/// The same for lines.
+fn found_lines(rt: &HostRuntime, ext: &BtfExt, call: Call<'_>) -> io::Result<()> {
+    call.begin(rt);
+    let answer = has_lines(rt.alloc(), ext, call.word);
+    call.tell(rt, &answer)
 }
 
 /// A copy of all that is said of instructions.
-fn copied_ext(rt: &impl Print, ext: &BtfExt) -> io::Result<()> {
-    begin(rt, true)?;
+fn clone_ext(rt: &HostRuntime, ext: &BtfExt, call: Call<'_>) -> io::Result<()> {
+    call.begin(rt);
     let answer: Result<_, _> = ext.clone();
-    end(rt, true)?;
-    println!(rt; "answer: {answer:?}")
+    call.tell(rt, &answer)
 }
 
 /// A call on what is said of instructions.
-fn on_ext(rt: &impl Print, alloc: Global, ext: &BtfExt, call: Call<'_>) -> io::Result<()> {
+fn on_ext(rt: &HostRuntime, ext: &BtfExt, call: Call<'_>) -> io::Result<()> {
     match call.name {
-        "kept_funcs" => funcs_of(rt, ext, call),
-        "kept_lines" => lines_of(rt, ext, call),
-        "kept_found_funcs" => found_funcs(rt, alloc, ext, call),
-        "kept_found_lines" => found_lines(rt, alloc, ext, call),
-        "kept_ext" => copied_ext(rt, ext),
-        _ => println!(rt; "no such call"),
+        "kept_funcs" => funcs(rt, ext, call),
+        "kept_lines" => lines(rt, ext, call),
+        "kept_found_funcs" => found_funcs(rt, ext, call),
+        "kept_found_lines" => found_lines(rt, ext, call),
+        "kept_ext" => clone_ext(rt, ext, call),
+        _ => call.miss(rt),
     }
 }
 
 /// The numbers of the sections that hold functions.
-fn text_sections(rt: &impl Print, alloc: Global, object: &Object) -> io::Result<()> {
-    begin(rt, true)?;
-    let answer = object.text_sections(alloc);
-    end(rt, true)?;
-    println!(rt; "answer: {answer:?}")
+fn text_sections(rt: &HostRuntime, object: &Object, call: Call<'_>) -> io::Result<()> {
+    call.begin(rt);
+    let answer = object.text_sections(rt.alloc());
+    call.tell(rt, &answer)
+}
+
+/// What a program would be made of.
+fn map_links(
+    rt: &HostRuntime,
+    object: &Object,
+    sections: &HashSet<usize>,
+    call: Call<'_>,
+) -> io::Result<()> {
+    call.begin(rt);
+    let answer = object.link_map(call.word, sections);
+    call.tell(rt, &answer)
+}
+
+/// What the program would be made of that the word names.
+fn link_map(rt: &HostRuntime, object: &Object, call: Call<'_>) -> io::Result<()> {
+    match object.text_sections(rt.alloc()) {
+        Ok(sections) => map_links(rt, object, &sections, call),
+        Err(error) => println!(rt; "no sections: {error:?}"),
+    }
+}
+
+/// A call on one of the parts of an object.
+fn on_part(rt: &HostRuntime, object: &Object, call: Call<'_>) -> io::Result<()> {
+    match (object.maps.get(call.word), &object.btf_ext) {
+        (Some(map), _) => on_map(rt, map, call),
+        (None, Some(ext)) => on_ext(rt, ext, call),
+        (None, None) => call.miss(rt),
+    }
 }
 
 /// A call on what an object keeps.
-pub fn on_kept(rt: &impl Print, alloc: Global, object: &Object, call: Call<'_>) -> io::Result<()> {
-    if call.name == "kept_still" {
-        return still_object(rt, alloc, object);
-    }
-    if call.name == "kept_text_sections" {
-        return text_sections(rt, alloc, object);
-    }
-    if call.name == "kept_link_map" {
-        return link_map(rt, alloc, object, call.word);
-    }
-    if let Some(map) = object.maps.get(call.word) {
-        return on_map(rt, map, call);
-    }
-    match &object.btf_ext {
-        Some(ext) => on_ext(rt, alloc, ext, call),
-        None => println!(rt; "no such call"),
+pub fn on_kept(rt: &HostRuntime, object: &Object, call: Call<'_>) -> io::Result<()> {
+    match call.name {
+        "kept_still" => read_object(rt, object, call),
+        "kept_text_sections" => text_sections(rt, object, call),
+        "kept_link_map" => link_map(rt, object, call),
+        _ => on_part(rt, object, call),
     }
 }

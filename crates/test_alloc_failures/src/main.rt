@@ -9,9 +9,7 @@
 mod call;
 mod code;
 mod given;
-mod inspected;
 mod kept;
-mod marks;
 mod object;
 mod object_text;
 mod passes;
@@ -20,7 +18,8 @@ mod resolving;
 mod run;
 mod small;
 mod still;
-mod still_numbers;
+mod still_file;
+mod still_object;
 mod still_types;
 mod type_questions;
 mod types;
@@ -38,22 +37,20 @@ fn gather(rt: &HostRuntime) -> io::Result<Vec<String>> {
     Ok(words)
 }
 
-/// The bytes of the files that the first three words name.
-fn read_files(rt: &HostRuntime, words: &[String]) -> io::Result<Option<Files>> {
-    let [object, types, lines, ..] = words else {
-        return Ok(None);
+/// Reads the files, and makes the calls.
+fn run_words(rt: &HostRuntime, words: &[String]) -> io::Result<()> {
+    let [object, types, lines, subject, calls @ ..] = words else {
+        return println!(rt; "usage: test_alloc_failures OBJECT TYPES LINES SUBJECT CALL..");
     };
-    Ok(Some(Files {
+    let files = Files {
         object: fs::read(rt, object.as_str())?,
         types: fs::read(rt, types.as_str())?,
         lines: fs::read(rt, lines.as_str())?,
-    }))
+    };
+    run(rt, &files, subject.as_str(), calls)
 }
 
 fn main(rt: HostRuntime) -> io::Result<()> {
     let words = gather(&rt)?;
-    match read_files(&rt, words.as_slice())? {
-        Some(files) => run(&rt, rt.alloc(), &files, words.get(3..).unwrap_or(&[])),
-        None => println!(rt; "usage: test_alloc_failures OBJECT TYPES LINES SUBJECT CALL.."),
-    }
+    run_words(&rt, words.as_slice())
 }

@@ -2,29 +2,25 @@
 
 use crate::call::Call;
 use crate::given::Kernel;
-use crate::marks::{begin, end};
 use crate::resolving::{resolve_externs, resolve_lines};
 use ebpf_base::ByName;
+use ebpf_btf::Btf;
 use ebpf_object::Object;
 use ebpf_parts::maps::Map;
 use std::alloc::{AllocError, Global};
-use std::collections::HashMap;
+use std::collections::{HashMap, HashSet};
 use std::{io, mem};
 
-/// Adapts the functions to the kernel's types.
+/// Adapts the functions to these types.
 fn relocate_btf(
-    rt: &impl Print,
+    rt: &HostRuntime,
     object: &mut Object,
-    kernel: Kernel<'_>,
+    types: &Btf,
     call: Call<'_>,
 ) -> io::Result<()> {
-    let Some(types) = kernel.types else {
-        return println!(rt; "no types");
-    };
-    begin(rt, call.is_last)?;
+    call.begin(rt);
     let answer = object.relocate_btf(types);
-    end(rt, call.is_last)?;
-    println!(rt; "answer: {answer:?}")
+    call.tell(rt, &answer)
 }
 
 /// Maps with their names and the descriptors 1 and on.
@@ -34,65 +30,59 @@ fn numbered<'a>(
 ) -> Result<Vec<(&'a str, i32, &'a Map)>, AllocError> {
     let mut given = Vec::new(alloc);
     let mut descriptor: i32 = 0;
-    for name in maps.names(alloc)? {
-        let Some(map) = maps.get(name) else {
-            continue;
-        };
+    for (name, map) in maps.as_map() {
         descriptor = descriptor.saturating_add(1);
-        given.push((name, descriptor, map))?;
+        given.push((name.as_str(), descriptor, map))?;
     }
     Ok(given)
 }
 
 /// Writes the descriptors of these maps.
 fn relocate_given_maps(
-    rt: &impl Print,
-    alloc: Global,
+    rt: &HostRuntime,
     object: &mut Object,
-    maps: &ByName<Map>,
+    given: &[(&str, i32, &Map)],
+    sections: &HashSet<usize>,
     call: Call<'_>,
 ) -> io::Result<()> {
-    let given = numbered(alloc, maps)?;
-    let sections = object.text_sections(alloc)?;
-    begin(rt, call.is_last)?;
-    let answer = object.relocate_maps(given.into_iter(), &sections);
-    end(rt, call.is_last)?;
-    println!(rt; "answer: {answer:?}")
+    call.begin(rt);
+    let answer = object.relocate_maps(given.iter().copied(), sections);
+    call.tell(rt, &answer)
 }
 
-/// Writes the descriptors of the object's own maps.
+/// Writes the descriptors of the object's own maps, which are taken out so long.
 fn relocate_maps(
-    rt: &impl Print,
-    alloc: Global,
+    rt: &HostRuntime,
     object: &mut Object,
+    sections: &HashSet<usize>,
     call: Call<'_>,
 ) -> io::Result<()> {
-    let maps = mem::replace(&mut object.maps, ByName::new(alloc));
-    let said = relocate_given_maps(rt, alloc, object, &maps, call);
+    let maps = mem::replace(&mut object.maps, ByName::new(rt.alloc()));
+    let said = match numbered(rt.alloc(), &maps) {
+        Ok(given) => relocate_given_maps(rt, object, &given, sections, call),
+        Err(error) => println!(rt; "no descriptors: {error:?}"),
+    };
     object.maps = maps;
     said
 }
 
 /// Writes the externs.
-fn relocate_externs(rt: &impl Print, object: &mut Object, call: Call<'_>) -> io::Result<()> {
-    begin(rt, call.is_last)?;
+fn relocate_externs(rt: &HostRuntime, object: &mut Object, call: Call<'_>) -> io::Result<()> {
+    call.begin(rt);
     let answer = object.relocate_externs();
-    end(rt, call.is_last)?;
-    println!(rt; "answer: {answer:?}")
+    call.tell(rt, &answer)
 }
 
 /// Joins the programs with what they reach.
 fn relocate_calls(
-    rt: &impl Print,
-    alloc: Global,
+    rt: &HostRuntime,
     object: &mut Object,
+    sections: &HashSet<usize>,
     call: Call<'_>,
 ) -> io::Result<()> {
-    let sections = object.text_sections(alloc)?;
-    begin(rt, call.is_last)?;
-    let answer = object.relocate_calls(&sections);
-    end(rt, call.is_last)?;
-    println!(rt; "answer: {answer:?}")
+    call.begin(rt);
+    let answer = object.relocate_calls(sections);
+    call.tell(rt, &answer)
 }
 
 /// Each of these variables with a value; one whose name has a `?` behind it need not be there.
@@ -113,44 +103,60 @@ fn values<'a>(
 
 /// Writes the kernel's lines as the value of variables.
 fn patch_map_data(
-    rt: &impl Print,
-    alloc: Global,
+    rt: &HostRuntime,
     object: &mut Object,
     kernel: Kernel<'_>,
     call: Call<'_>,
 ) -> io::Result<()> {
-    let values = values(alloc, call.word, kernel.lines)?;
-    begin(rt, call.is_last)?;
+    let values = values(rt.alloc(), call.word, kernel.lines)?;
+    call.begin(rt);
     let answer = object.patch_map_data(values);
-    end(rt, call.is_last)?;
-    println!(rt; "answer: {answer:?}")
+    call.tell(rt, &answer)
 }
 
 /// Makes the functions fit for a kernel without the newer helpers.
-fn sanitize_functions(rt: &impl Print, object: &mut Object, call: Call<'_>) -> io::Result<()> {
-    begin(rt, call.is_last)?;
+fn sanitize_functions(rt: &HostRuntime, object: &mut Object, call: Call<'_>) -> io::Result<()> {
+    call.begin(rt);
     object.sanitize_functions(|| false);
-    end(rt, call.is_last)?;
-    println!(rt; "answer: Ok")
+    call.tell(rt, &"done")
 }
 
-/// Makes a pass over an object, and prints what it answers.
+/// Makes a pass that is told which sections hold functions.
+fn pass_with(
+    rt: &HostRuntime,
+    object: &mut Object,
+    sections: &HashSet<usize>,
+    call: Call<'_>,
+) -> io::Result<()> {
+    match call.name {
+        "relocate_maps" => relocate_maps(rt, object, sections, call),
+        _ => relocate_calls(rt, object, sections, call),
+    }
+}
+
+/// The same, where the object tells.
+fn pass_over_sections(rt: &HostRuntime, object: &mut Object, call: Call<'_>) -> io::Result<()> {
+    match object.text_sections(rt.alloc()) {
+        Ok(sections) => pass_with(rt, object, &sections, call),
+        Err(error) => println!(rt; "no sections: {error:?}"),
+    }
+}
+
+/// Makes a pass over an object.
 pub fn pass(
-    rt: &impl Print,
-    alloc: Global,
+    rt: &HostRuntime,
     object: &mut Object,
     kernel: Kernel<'_>,
     call: Call<'_>,
 ) -> io::Result<()> {
-    match call.name {
-        "relocate_btf" => relocate_btf(rt, object, kernel, call),
-        "relocate_maps" => relocate_maps(rt, alloc, object, call),
-        "resolve_externs" => resolve_externs(rt, object, kernel, call),
-        "resolve_lines" => resolve_lines(rt, alloc, object, kernel, call),
-        "relocate_externs" => relocate_externs(rt, object, call),
-        "relocate_calls" => relocate_calls(rt, alloc, object, call),
-        "patch_map_data" => patch_map_data(rt, alloc, object, kernel, call),
-        "sanitize_functions" => sanitize_functions(rt, object, call),
-        _ => println!(rt; "no such call"),
+    match (call.name, kernel.types) {
+        ("relocate_btf", Some(types)) => relocate_btf(rt, object, types, call),
+        ("relocate_maps" | "relocate_calls", _) => pass_over_sections(rt, object, call),
+        ("resolve_externs", _) => resolve_externs(rt, object, kernel, call),
+        ("resolve_lines", _) => resolve_lines(rt, object, kernel, call),
+        ("relocate_externs", _) => relocate_externs(rt, object, call),
+        ("patch_map_data", _) => patch_map_data(rt, object, kernel, call),
+        ("sanitize_functions", _) => sanitize_functions(rt, object, call),
+        _ => call.miss(rt),
     }
 }

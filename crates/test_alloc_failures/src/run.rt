@@ -3,79 +3,73 @@
 use crate::call::Call;
 use crate::code::on_code;
 use crate::given::{Files, Kernel};
-use crate::inspected::inspected;
-use crate::object::{on_object, parsed};
-use crate::prepared::prepared;
+use crate::object::{on_object, parse};
+use crate::prepared::{inspect_file, prepare_file};
 use crate::small::on_small;
-use crate::still::on_file;
-use crate::types::{on_types, parsed_types};
-use ebpf_btf::{Btf, BtfError, Endianness};
-use std::alloc::Global;
+use crate::still_file::on_file;
+use crate::types::{on_types, parse_types};
+use ebpf_btf::{Btf, Endianness};
 use std::io;
 
 /// Calls that may be given a kernel's types.
 fn with_kernel(
-    rt: &impl Print,
-    alloc: Global,
+    rt: &HostRuntime,
     files: &Files,
     types: Option<&Btf>,
-    words: &[String],
+    subject: &str,
+    calls: &[String],
 ) -> io::Result<()> {
+    let bytes = files.object.as_slice();
     let kernel = Kernel {
         types,
         lines: files.lines.as_slice(),
     };
-    let object = files.object.as_slice();
-    let [subject, calls @ ..] = words else {
-        return println!(rt; "no subject");
-    };
-    let last = match calls.last() {
+    let last = last_of(calls);
+    match subject {
+        "parse" => parse(rt, bytes, last),
+        "prepare" => prepare_file(rt, bytes, kernel, last),
+        "inspect" => inspect_file(rt, bytes, kernel, last),
+        "object" => on_object(rt, bytes, kernel, calls),
+        "code" => on_code(rt, bytes, last),
+        "file" => on_file(rt, bytes, last),
+        "small" => on_small(rt, last),
+        _ => println!(rt; "no such subject"),
+    }
+}
+
+/// The call that is looked at; one without a name where there is none.
+fn last_of<'a>(calls: &'a [String]) -> Call<'a> {
+    match calls.last() {
         Some(last) => Call::new(last.as_str(), true),
         None => Call::new("", true),
-    };
-    match subject.as_str() {
-        "parse" => parsed(rt, alloc, object),
-        "prepare" => prepared(rt, alloc, object, kernel, last),
-        "inspect" => inspected(rt, alloc, object, kernel, last),
-        "object" => on_object(rt, alloc, object, kernel, calls),
-        "code" => on_code(rt, alloc, object, last),
-        "file" => on_file(rt, object, last),
-        "small" => on_small(rt, alloc, last),
-        _ => println!(rt; "no such subject"),
     }
 }
 
 /// Calls on the types themselves, or others that are given them.
 fn with_types(
-    rt: &impl Print,
-    alloc: Global,
+    rt: &HostRuntime,
     files: &Files,
     types: &mut Btf,
-    words: &[String],
+    subject: &str,
+    calls: &[String],
 ) -> io::Result<()> {
-    match words {
-        [subject, calls @ ..] if subject.as_str() == "types" => on_types(rt, alloc, types, calls),
-        _ => with_kernel(rt, alloc, files, Some(types), words),
+    match subject {
+        "types" => on_types(rt, types, last_of(calls)),
+        _ => with_kernel(rt, files, Some(types), subject, calls),
     }
 }
 
-/// Why bytes are no types.
-fn no_types(rt: &impl Print, error: &BtfError) -> io::Result<()> {
-    println!(rt; "no types: {error:?}")
-}
-
-/// Makes the calls of the words behind the subject on it.
-pub fn run(rt: &impl Print, alloc: Global, files: &Files, words: &[String]) -> io::Result<()> {
+/// Makes the calls on the subject.
+pub fn run(rt: &HostRuntime, files: &Files, subject: &str, calls: &[String]) -> io::Result<()> {
     let bytes = files.types.as_slice();
     if bytes.is_empty() {
-        return with_kernel(rt, alloc, files, None, words);
+        return with_kernel(rt, files, None, subject, calls);
     }
-    match words {
-        [subject] if subject.as_str() == "parse_types" => return parsed_types(rt, alloc, bytes),
-        _ => {}
+    if subject == "parse_types" {
+        return parse_types(rt, bytes, last_of(calls));
     }
-    match Btf::parse(alloc, bytes, Endianness::Little) {
-        Ok(mut types) => with_types(rt, alloc, files, &mut types, words),
-        Err(error) => no_types(rt, &error),
+    match Btf::parse(rt.alloc(), bytes, Endianness::Little) {
+        Ok(mut types) => with_types(rt, files, &mut types, subject, calls),
+        Err(error) => println!(rt; "no types: {error:?}"),
     }
 }

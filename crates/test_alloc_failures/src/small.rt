@@ -1,125 +1,132 @@
-//! Small types that grow by one: between the marks something is added to so many as the word says, or all is copied.
+//! Small types that grow by one: something is added to so many as the word says, or all is copied.
 
 use crate::call::Call;
-use crate::marks::{begin, end};
 use ebpf_base::{ByIndex, ByKey, ByName, ByOffset, BySection, Items, Text};
 use std::alloc::{AllocError, Global};
+use std::fmt::Debug;
 use std::io;
 
-/// Adds an entry between the marks, and prints the entries before and afterwards.
-fn by_name(rt: &impl Print, alloc: Global, count: u32) -> io::Result<()> {
-    let mut entries = ByName::new(alloc);
-    for number in 0..count {
-        entries.insert(format!(in alloc; "name{number}")?, number)?;
-    }
-    let name = String::from_str(alloc, "another name")?;
-    println!(rt; "before:\n{entries:?}")?;
-    begin(rt, true)?;
-    let answer = entries.insert(name, 7);
-    end(rt, true)?;
-    println!(rt; "answer: {answer:?}\nafter:\n{entries:?}")
+/// A type that grows by the entry of a number.
+trait Grow: Debug + Drop {
+    fn empty(alloc: Global) -> Self;
+
+    fn add(&mut self, alloc: Global, number: u32) -> Result<(), AllocError>;
 }
 
-/// The same by numbers.
-fn by_index(rt: &impl Print, alloc: Global, count: u32) -> io::Result<()> {
-    let mut entries = ByIndex::new(alloc);
-    for number in 0..count {
-        entries.insert(number as usize, number)?;
+impl Grow for ByName<u32> {
+    fn empty(alloc: Global) -> ByName<u32> {
+        ByName::new(alloc)
     }
-    println!(rt; "before:\n{entries:?}")?;
-    begin(rt, true)?;
-    let answer = entries.insert(1000, 7);
-    end(rt, true)?;
-    println!(rt; "answer: {answer:?}\nafter:\n{entries:?}")
+
+    fn add(&mut self, alloc: Global, number: u32) -> Result<(), AllocError> {
+        self.insert(format!(in alloc; "name{number}")?, number)?;
+        Ok(())
+    }
 }
 
-/// The same by sections and addresses.
-fn by_key(rt: &impl Print, alloc: Global, count: u32) -> io::Result<()> {
-    let mut entries = ByKey::new(alloc);
-    for number in 0..count {
-        entries.insert((1, u64::from(number)), number)?;
+impl Grow for ByIndex<u32> {
+    fn empty(alloc: Global) -> ByIndex<u32> {
+        ByIndex::new(alloc)
     }
-    println!(rt; "before:\n{entries:?}")?;
-    begin(rt, true)?;
-    let answer = entries.insert((1, 1000), 7);
-    end(rt, true)?;
-    println!(rt; "answer: {answer:?}\nafter:\n{entries:?}")
+
+    fn add(&mut self, _alloc: Global, number: u32) -> Result<(), AllocError> {
+        self.insert(number as usize, number)?;
+        Ok(())
+    }
 }
 
-/// The same by offsets.
-fn by_offset(rt: &impl Print, alloc: Global, count: u32) -> io::Result<()> {
-    let mut entries = ByOffset::new(alloc);
-    for number in 0..count {
-        entries.insert(u64::from(number), number)?;
+impl Grow for ByKey<u32> {
+    fn empty(alloc: Global) -> ByKey<u32> {
+        ByKey::new(alloc)
     }
-    println!(rt; "before:\n{entries:?}")?;
-    begin(rt, true)?;
-    let answer = entries.insert(1000, 7);
-    end(rt, true)?;
-    println!(rt; "answer: {answer:?}\nafter:\n{entries:?}")
+
+    fn add(&mut self, _alloc: Global, number: u32) -> Result<(), AllocError> {
+        self.insert((1, u64::from(number)), number)?;
+        Ok(())
+    }
 }
 
-/// The same by sections.
-fn by_section(rt: &impl Print, alloc: Global, count: u32) -> io::Result<()> {
-    let mut entries = BySection::new(alloc);
-    for number in 0..count {
-        entries.insert(number as usize, number)?;
+impl Grow for ByOffset<u32> {
+    fn empty(alloc: Global) -> ByOffset<u32> {
+        ByOffset::new(alloc)
     }
-    println!(rt; "before:\n{entries:?}")?;
-    begin(rt, true)?;
-    let answer = entries.insert(1000, 7);
-    end(rt, true)?;
-    println!(rt; "answer: {answer:?}\nafter:\n{entries:?}")
+
+    fn add(&mut self, _alloc: Global, number: u32) -> Result<(), AllocError> {
+        self.insert(u64::from(number), number)?;
+        Ok(())
+    }
 }
 
-/// A list of so many numbers.
-fn list(alloc: Global, count: u32) -> Result<Items<u32>, AllocError> {
-    let mut items = Vec::new(alloc);
-    for number in 0..count {
-        items.push(number)?;
+impl Grow for BySection<u32> {
+    fn empty(alloc: Global) -> BySection<u32> {
+        BySection::new(alloc)
     }
-    Ok(Items::from_vec(items))
+
+    fn add(&mut self, _alloc: Global, number: u32) -> Result<(), AllocError> {
+        self.insert(number as usize, number)?;
+        Ok(())
+    }
 }
 
-/// Appends three numbers to a list.
-fn extended(rt: &impl Print, alloc: Global, count: u32) -> io::Result<()> {
-    let mut items = list(alloc, count)?;
-    println!(rt; "before:\n{items:?}")?;
-    begin(rt, true)?;
-    let answer = items.extend_from_slice(&[7, 8, 9]);
-    end(rt, true)?;
-    println!(rt; "answer: {answer:?}\nafter:\n{items:?}")
+impl Grow for Items<u32> {
+    fn empty(alloc: Global) -> Items<u32> {
+        Items::new(alloc)
+    }
+
+    fn add(&mut self, _alloc: Global, number: u32) -> Result<(), AllocError> {
+        self.extend_from_slice(&[number])
+    }
+}
+
+/// Adds so many.
+fn filled<T: Grow>(alloc: Global, count: u32) -> Result<T, AllocError> {
+    let mut entries = T::empty(alloc);
+    for number in 0..count {
+        entries.add(alloc, number)?;
+    }
+    Ok(entries)
+}
+
+/// Adds one more, and prints all before and afterwards.
+fn add_one<T: Grow>(rt: &HostRuntime, mut entries: T, call: Call<'_>) -> io::Result<()> {
+    let _ = println!(rt; "before:\n{entries:?}");
+    call.begin(rt);
+    let answer = entries.add(rt.alloc(), call.number());
+    let _ = call.tell(rt, &answer);
+    println!(rt; "after:\n{entries:?}")
+}
+
+/// Adds one more to so many.
+fn grown<T: Grow>(rt: &HostRuntime, call: Call<'_>) -> io::Result<()> {
+    add_one::<T>(rt, filled(rt.alloc(), call.number())?, call)
 }
 
 /// Copies a list.
-fn copied(rt: &impl Print, alloc: Global, count: u32) -> io::Result<()> {
-    let items = list(alloc, count)?;
-    begin(rt, true)?;
+fn copy(rt: &HostRuntime, call: Call<'_>) -> io::Result<()> {
+    let items: Items<u32> = filled(rt.alloc(), call.number())?;
+    call.begin(rt);
     let answer = items.copied();
-    end(rt, true)?;
-    println!(rt; "answer: {answer:?}")
+    call.tell(rt, &answer)
 }
 
 /// A text of the word.
-fn text(rt: &impl Print, alloc: Global, word: &str) -> io::Result<()> {
-    begin(rt, true)?;
-    let answer = Text::from_str(alloc, word);
-    end(rt, true)?;
-    println!(rt; "answer: {answer:?}")
+fn text(rt: &HostRuntime, call: Call<'_>) -> io::Result<()> {
+    call.begin(rt);
+    let answer = Text::from_str(rt.alloc(), call.word);
+    call.tell(rt, &answer)
 }
 
 /// A call on a small type.
-pub fn on_small(rt: &impl Print, alloc: Global, call: Call<'_>) -> io::Result<()> {
-    let count = call.number();
+pub fn on_small(rt: &HostRuntime, call: Call<'_>) -> io::Result<()> {
     match call.name {
-        "by_name" => by_name(rt, alloc, count),
-        "by_index" => by_index(rt, alloc, count),
-        "by_key" => by_key(rt, alloc, count),
-        "by_offset" => by_offset(rt, alloc, count),
-        "by_section" => by_section(rt, alloc, count),
-        "extended" => extended(rt, alloc, count),
-        "copied" => copied(rt, alloc, count),
-        "text" => text(rt, alloc, call.word),
-        _ => println!(rt; "no such call"),
+        "by_name" => grown::<ByName<u32>>(rt, call),
+        "by_index" => grown::<ByIndex<u32>>(rt, call),
+        "by_key" => grown::<ByKey<u32>>(rt, call),
+        "by_offset" => grown::<ByOffset<u32>>(rt, call),
+        "by_section" => grown::<BySection<u32>>(rt, call),
+        "extended" => grown::<Items<u32>>(rt, call),
+        "copied" => copy(rt, call),
+        "text" => text(rt, call),
+        _ => call.miss(rt),
     }
 }

@@ -1,21 +1,24 @@
-//! Calls on types that take no memory. What they answer becomes one number.
+//! Calls on types that take no memory.
 
-use crate::marks::{begin, end};
-use crate::still::mixed;
+use crate::call::Call;
+use crate::still::mix;
 use ebpf_btf::{Btf, BtfType};
 use ebpf_candidates::types_are_compatible;
 use std::io;
 
 /// What is read of a type.
 fn of_type(seen: u64, ty: &BtfType) -> u64 {
-    let mut seen = mixed(seen, u64::from(ty.name_offset()));
-    seen = mixed(seen, u64::from(ty.size().unwrap_or(0)));
-    seen = mixed(seen, u64::from(ty.btf_type().unwrap_or(0)));
-    seen = mixed(seen, u64::from(ty.is_signed()));
-    seen = mixed(seen, ty.variant_count().unwrap_or(0) as u64);
+    let numbers = [
+        u64::from(ty.name_offset()),
+        u64::from(ty.size().unwrap_or(0)),
+        u64::from(ty.btf_type().unwrap_or(0)),
+        u64::from(ty.is_signed()),
+        ty.variant_count().unwrap_or(0) as u64,
+    ];
+    let mut seen = mix(seen, &numbers);
     for member in ty.members().unwrap_or(&[]) {
-        seen = mixed(seen, u64::from(ty.member_bit_offset(member)));
-        seen = mixed(seen, u64::from(ty.member_bit_field_size(member)));
+        let offset = u64::from(ty.member_bit_offset(member));
+        seen = mix(seen, &[offset, u64::from(ty.member_bit_field_size(member))]);
     }
     seen
 }
@@ -25,16 +28,19 @@ fn of_id(seen: u64, types: &Btf, id: u32) -> u64 {
     let resolved = types.resolve_type(id).unwrap_or(0);
     let size = types.type_size(id).unwrap_or(0);
     let fits = types_are_compatible(types, id, types, resolved).unwrap_or(false);
-    let seen = mixed(mixed(seen, u64::from(resolved)), u64::from(size));
+    let seen = mix(
+        seen,
+        &[u64::from(resolved), u64::from(size), u64::from(fits)],
+    );
     match types.type_by_id(id) {
-        Ok(ty) => of_type(mixed(seen, u64::from(fits)), ty),
+        Ok(ty) => of_type(seen, ty),
         Err(_) => seen,
     }
 }
 
 /// What is read of the first types.
 fn of_types(types: &Btf) -> u64 {
-    let mut seen = mixed(0, types.types().len() as u64);
+    let mut seen = types.types().len() as u64;
     for id in 0..100 {
         seen = of_id(seen, types, id);
     }
@@ -42,9 +48,8 @@ fn of_types(types: &Btf) -> u64 {
 }
 
 /// Reads types.
-pub fn still_types(rt: &impl Print, types: &Btf) -> io::Result<()> {
-    begin(rt, true)?;
+pub fn read_types(rt: &HostRuntime, types: &Btf, call: Call<'_>) -> io::Result<()> {
+    call.begin(rt);
     let answer = of_types(types);
-    end(rt, true)?;
-    println!(rt; "answer: {answer}")
+    call.tell(rt, &answer)
 }

@@ -1,8 +1,7 @@
 //! What is asked of types.
 
 use crate::call::Call;
-use crate::marks::{begin, end};
-use crate::still_types::still_types;
+use crate::still_types::read_types;
 use ebpf_base::Items;
 use ebpf_btf::{Btf, BtfError, BtfKind, BtfType, Enum64Fallback, UnionFallback, UnionMembers};
 use ebpf_candidates::{TypeIndex, fields_are_compatible};
@@ -10,153 +9,149 @@ use std::alloc::Global;
 use std::io;
 
 /// The text at an offset.
-fn string_at(rt: &impl Print, types: &Btf, offset: u32) -> io::Result<()> {
-    begin(rt, true)?;
-    let answer = types.string_at(offset);
-    end(rt, true)?;
-    println!(rt; "answer: {answer:?}")
+fn string_at(rt: &HostRuntime, types: &Btf, call: Call<'_>) -> io::Result<()> {
+    call.begin(rt);
+    let answer = types.string_at(call.number());
+    call.tell(rt, &answer)
 }
 
 /// The name of a type.
-fn type_name(rt: &impl Print, types: &Btf, ty: &BtfType) -> io::Result<()> {
-    begin(rt, true)?;
+fn type_name(rt: &HostRuntime, types: &Btf, ty: &BtfType, call: Call<'_>) -> io::Result<()> {
+    call.begin(rt);
     let answer = types.type_name(ty);
-    end(rt, true)?;
-    println!(rt; "answer: {answer:?}")
+    call.tell(rt, &answer)
 }
 
 /// The name of a type for an error.
-fn err_type_name(rt: &impl Print, types: &Btf, ty: &BtfType) -> io::Result<()> {
-    begin(rt, true)?;
+fn err_type_name(rt: &HostRuntime, types: &Btf, ty: &BtfType, call: Call<'_>) -> io::Result<()> {
+    call.begin(rt);
     let answer = types.err_type_name(ty);
-    end(rt, true)?;
-    println!(rt; "answer: {answer:?}")
+    call.tell(rt, &answer)
 }
 
 /// A copy of a type.
-fn copied_type(rt: &impl Print, ty: &BtfType) -> io::Result<()> {
-    begin(rt, true)?;
+fn clone_type(rt: &HostRuntime, ty: &BtfType, call: Call<'_>) -> io::Result<()> {
+    call.begin(rt);
     let answer: Result<_, _> = ty.clone();
-    end(rt, true)?;
-    println!(rt; "answer: {answer:?}")
+    call.tell(rt, &answer)
 }
 
 /// A copy of all types and strings.
-fn copied(rt: &impl Print, types: &Btf) -> io::Result<()> {
-    begin(rt, true)?;
+fn clone(rt: &HostRuntime, types: &Btf, call: Call<'_>) -> io::Result<()> {
+    call.begin(rt);
     let answer: Result<_, _> = types.clone();
-    end(rt, true)?;
-    println!(rt; "answer: {answer:?}")
+    call.tell(rt, &answer)
 }
 
 /// The id of a STRUCT by its name.
-fn id_of(rt: &impl Print, types: &Btf, name: &str) -> io::Result<()> {
-    begin(rt, true)?;
-    let answer = types.id_by_type_name_kind(name, BtfKind::Struct);
-    end(rt, true)?;
-    println!(rt; "answer: {answer:?}")
+fn id_of(rt: &HostRuntime, types: &Btf, call: Call<'_>) -> io::Result<()> {
+    call.begin(rt);
+    let answer = types.id_by_type_name_kind(call.word, BtfKind::Struct);
+    call.tell(rt, &answer)
 }
 
-/// What the index, once made, says of a STRUCT's name.
-fn print_index(
-    rt: &impl Print,
-    index: &Result<TypeIndex<'_>, BtfError>,
-    name: &str,
-) -> io::Result<()> {
-    end(rt, true)?;
-    match index {
-        Ok(index) => {
-            let ids = index.candidates(BtfKind::Struct, name);
-            println!(rt; "answer: Ok {ids:?}")
-        }
-        Err(error) => println!(rt; "answer: {error:?}"),
+/// Whether a field of a type fits one of the same type.
+fn fields(rt: &HostRuntime, types: &Btf, id: u32, call: Call<'_>) -> io::Result<()> {
+    call.begin(rt);
+    let answer = fields_are_compatible(types, id, types, id);
+    call.tell(rt, &answer)
+}
+
+/// Whether types can be indexed.
+fn can_index(alloc: Global, types: &Btf) -> Result<(), BtfError> {
+    match TypeIndex::new(alloc, types) {
+        Ok(_) => Ok(()),
+        Err(error) => Err(error),
     }
 }
 
 /// The index of the types.
-fn index(rt: &impl Print, alloc: Global, types: &Btf, name: &str) -> io::Result<()> {
-    begin(rt, true)?;
-    let index = TypeIndex::new(alloc, types);
-    print_index(rt, &index, name)
-}
-
-/// The ids of the STRUCTs and of the UNIONs of a name.
-fn both(rt: &impl Print, alloc: Global, types: &Btf, name: &str) -> io::Result<()> {
-    let Ok(index) = TypeIndex::new(alloc, types) else {
-        return println!(rt; "no index");
-    };
-    begin(rt, true)?;
-    let answer = index.candidates_of_both(alloc, BtfKind::Struct, BtfKind::Union, name);
-    end(rt, true)?;
-    println!(rt; "answer: {answer:?}")
+fn index(rt: &HostRuntime, types: &Btf, call: Call<'_>) -> io::Result<()> {
+    call.begin(rt);
+    let answer = can_index(rt.alloc(), types);
+    call.tell(rt, &answer)
 }
 
 /// The ids of the STRUCTs of a name.
-fn candidates(rt: &impl Print, alloc: Global, types: &Btf, name: &str) -> io::Result<()> {
-    let Ok(index) = TypeIndex::new(alloc, types) else {
-        return println!(rt; "no index");
-    };
-    begin(rt, true)?;
-    let answer = index.candidates(BtfKind::Struct, name);
-    end(rt, true)?;
-    println!(rt; "answer: {answer:?}")
+fn candidates(rt: &HostRuntime, index: &TypeIndex<'_>, call: Call<'_>) -> io::Result<()> {
+    call.begin(rt);
+    let answer = index.candidates(BtfKind::Struct, call.word);
+    call.tell(rt, &answer)
 }
 
-/// Whether a field of a type fits one of the same type.
-fn fields(rt: &impl Print, types: &Btf, id: u32) -> io::Result<()> {
-    begin(rt, true)?;
-    let answer = fields_are_compatible(types, id, types, id);
-    end(rt, true)?;
-    println!(rt; "answer: {answer:?}")
+/// The ids of the STRUCTs and of the UNIONs of a name.
+fn both(rt: &HostRuntime, index: &TypeIndex<'_>, call: Call<'_>) -> io::Result<()> {
+    let (first, second) = (BtfKind::Struct, BtfKind::Union);
+    call.begin(rt);
+    let answer = index.candidates_of_both(rt.alloc(), first, second, call.word);
+    call.tell(rt, &answer)
+}
+
+/// A question to an index.
+fn of_index(rt: &HostRuntime, index: &TypeIndex<'_>, call: Call<'_>) -> io::Result<()> {
+    match call.name {
+        "candidates" => candidates(rt, index, call),
+        _ => both(rt, index, call),
+    }
+}
+
+/// A question to the index of the types.
+fn with_index(rt: &HostRuntime, types: &Btf, call: Call<'_>) -> io::Result<()> {
+    match TypeIndex::new(rt.alloc(), types) {
+        Ok(index) => of_index(rt, &index, call),
+        Err(_) => println!(rt; "no index"),
+    }
 }
 
 /// What an enumeration of 64 bits held, in memory of its own.
-fn boxed(rt: &impl Print, alloc: Global) -> io::Result<()> {
+fn boxed(rt: &HostRuntime, call: Call<'_>) -> io::Result<()> {
     let contents = Enum64Fallback {
         signed: true,
-        variants: Items::new(alloc),
+        variants: Items::new(rt.alloc()),
     };
-    begin(rt, true)?;
-    let answer = UnionFallback::new(alloc, Some(contents));
-    end(rt, true)?;
-    println!(rt; "answer: {answer:?}")
+    call.begin(rt);
+    let answer = UnionFallback::new(rt.alloc(), Some(contents));
+    call.tell(rt, &answer)
 }
 
 /// The members of a UNION, in memory of their own.
-fn boxed_members(rt: &impl Print, alloc: Global) -> io::Result<()> {
-    let members = Items::new(alloc);
-    begin(rt, true)?;
-    let answer = UnionMembers::new(alloc, members);
-    end(rt, true)?;
-    println!(rt; "answer: {answer:?}")
+fn boxed_members(rt: &HostRuntime, call: Call<'_>) -> io::Result<()> {
+    let members = Items::new(rt.alloc());
+    call.begin(rt);
+    let answer = UnionMembers::new(rt.alloc(), members);
+    call.tell(rt, &answer)
+}
+
+/// A question about a type.
+fn of_type(rt: &HostRuntime, types: &Btf, ty: &BtfType, call: Call<'_>) -> io::Result<()> {
+    match call.name {
+        "type_name" => type_name(rt, types, ty, call),
+        "err_type_name" => err_type_name(rt, types, ty, call),
+        "clone_type" => clone_type(rt, ty, call),
+        _ => call.miss(rt),
+    }
 }
 
 /// A question about the type whose id the word is.
-fn of_type(rt: &impl Print, types: &Btf, call: Call<'_>) -> io::Result<()> {
-    let Ok(ty) = types.type_by_id(call.number()) else {
-        return println!(rt; "no such type");
-    };
-    match call.name {
-        "type_name" => type_name(rt, types, ty),
-        "err_type_name" => err_type_name(rt, types, ty),
-        "clone_type" => copied_type(rt, ty),
-        _ => println!(rt; "no such call"),
+fn with_type(rt: &HostRuntime, types: &Btf, call: Call<'_>) -> io::Result<()> {
+    match types.type_by_id(call.number()) {
+        Ok(ty) => of_type(rt, types, ty, call),
+        Err(_) => println!(rt; "no such type"),
     }
 }
 
 /// Answers a question about types.
-pub fn asked(rt: &impl Print, alloc: Global, types: &Btf, call: Call<'_>) -> io::Result<()> {
+pub fn ask(rt: &HostRuntime, types: &Btf, call: Call<'_>) -> io::Result<()> {
     match call.name {
-        "string_at" => string_at(rt, types, call.number()),
-        "clone" => copied(rt, types),
-        "id_of" => id_of(rt, types, call.word),
-        "index" => index(rt, alloc, types, call.word),
-        "both" => both(rt, alloc, types, call.word),
-        "candidates" => candidates(rt, alloc, types, call.word),
-        "fields" => fields(rt, types, call.number()),
-        "still" => still_types(rt, types),
-        "boxed" => boxed(rt, alloc),
-        "boxed_members" => boxed_members(rt, alloc),
-        _ => of_type(rt, types, call),
+        "string_at" => string_at(rt, types, call),
+        "clone" => clone(rt, types, call),
+        "id_of" => id_of(rt, types, call),
+        "index" => index(rt, types, call),
+        "both" | "candidates" => with_index(rt, types, call),
+        "fields" => fields(rt, types, call.number(), call),
+        "still" => read_types(rt, types, call),
+        "boxed" => boxed(rt, call),
+        "boxed_members" => boxed_members(rt, call),
+        _ => with_type(rt, types, call),
     }
 }

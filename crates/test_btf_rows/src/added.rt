@@ -1,17 +1,16 @@
 //! Types and strings that are added.
 
-use crate::answers::text_at;
-use crate::parsed::{fault, types};
+use crate::answers::text_of;
 use ebpf_btf::{Btf, BtfError, BtfType};
 use std::alloc::{AllocError, Global};
-use test_cases::{Action, Files};
+use test_cases::shown;
 
 /// The types of new type information, and its texts at 0 and 1.
 fn put_new(alloc: Global, text: &mut String, btf: &Btf) -> Result<(), AllocError> {
     let types = btf.types();
     write!(text, "new: {types:?}")?;
     for offset in 0..2u32 {
-        let found = text_at(alloc, btf, offset)?;
+        let found = text_of(alloc, btf.string_at(offset))?;
         write!(text, ", {offset}: {found}")?;
     }
     writeln!(text)
@@ -37,18 +36,10 @@ fn add_types(text: &mut String, btf: &mut Btf, types: &[BtfType]) -> Result<(), 
     Ok(())
 }
 
-/// The name of a type, or why it has none.
-fn name_of(alloc: Global, btf: &Btf, ty: &BtfType) -> Result<String, AllocError> {
-    match btf.type_name(ty) {
-        Ok(text) => String::from_str(alloc, text.as_str()),
-        Err(error) => fault(alloc, &error),
-    }
-}
-
 /// A line for each type.
 fn put_types(alloc: Global, text: &mut String, btf: &Btf) -> Result<(), AllocError> {
     for ty in btf.types() {
-        let name = name_of(alloc, btf, ty)?;
+        let name = text_of(alloc, btf.type_name(ty))?;
         write!(text, "\n{name}: {ty:?}")?;
     }
     Ok(())
@@ -69,27 +60,17 @@ fn add(
     Ok(text)
 }
 
-/// The same of new type information.
+/// The same of new type information, from the types after void of another.
 fn add_to_new(alloc: Global, from: &Btf, words: &[&str]) -> Result<String, BtfError> {
     let types = from.types().get(1..).unwrap_or(&[]);
-    match Btf::new(alloc) {
-        Ok(mut btf) => add(alloc, &mut btf, types, words),
-        Err(error) => Err(error),
-    }
-}
-
-/// What is said, or the fault.
-fn said(alloc: Global, from: &Btf, words: &[&str]) -> Result<String, AllocError> {
-    match add_to_new(alloc, from, words) {
-        Ok(text) => Ok(text),
-        Err(error) => fault(alloc, &error),
-    }
+    let mut btf = Btf::new(alloc)?;
+    add(alloc, &mut btf, types, words)
 }
 
 /// The offsets and ids that adding gives to new type information, and its types then.
-pub fn added(alloc: Global, files: &Files, action: &Action<'_>) -> Result<String, AllocError> {
-    match types(alloc, files) {
-        Ok(btf) => said(alloc, &btf, action.words.as_slice()),
-        Err(error) => fault(alloc, &error),
+pub fn added(alloc: Global, from: &Btf, words: &[&str]) -> Result<String, AllocError> {
+    match add_to_new(alloc, from, words) {
+        Ok(text) => Ok(text),
+        Err(error) => shown(alloc, error),
     }
 }

@@ -1,30 +1,19 @@
 //! What types answer.
 
 use crate::kinds::kind_of;
-use crate::parsed::{fault, types};
 use ebpf_btf::{Btf, BtfError, BtfMember, BtfType};
 use std::alloc::{AllocError, Global};
-use test_cases::{Action, Files, no_action};
+use std::borrow::CowStr;
+use test_cases::{Action, beside_copy, no_action, said, shown};
 
-fn number(alloc: Global, answer: Result<u32, BtfError>) -> Result<String, AllocError> {
-    match answer {
-        Ok(number) => format!(in alloc; "{number}"),
-        Err(error) => fault(alloc, &error),
-    }
-}
-
-/// The text at an offset, or why there is none.
-pub fn text_at(alloc: Global, btf: &Btf, offset: u32) -> Result<String, AllocError> {
-    match btf.string_at(offset) {
+/// A text, or why it can't be read.
+pub fn text_of(
+    alloc: Global,
+    found: Result<CowStr<'_, Global>, BtfError>,
+) -> Result<String, AllocError> {
+    match found {
         Ok(text) => String::from_str(alloc, text.as_str()),
-        Err(error) => fault(alloc, &error),
-    }
-}
-
-fn name(alloc: Global, btf: &Btf, ty: &BtfType) -> Result<String, AllocError> {
-    match btf.type_name(ty) {
-        Ok(text) => String::from_str(alloc, text.as_str()),
-        Err(error) => fault(alloc, &error),
+        Err(error) => shown(alloc, error),
     }
 }
 
@@ -60,7 +49,6 @@ fn accessors(alloc: Global, ty: &BtfType) -> Result<String, AllocError> {
     let size = ty.size();
     let held = ty.btf_type();
     let members = members(alloc, ty)?;
-    let members = members.as_str();
     format!(in alloc; "{kind:?} named at {name}, size {size:?}, of {held:?}, {members}")
 }
 
@@ -68,41 +56,41 @@ fn accessors(alloc: Global, ty: &BtfType) -> Result<String, AllocError> {
 fn of_type(alloc: Global, btf: &Btf, question: &str, id: u32) -> Result<String, AllocError> {
     let ty = match btf.type_by_id(id) {
         Ok(ty) => ty,
-        Err(error) => return fault(alloc, &error),
+        Err(error) => return shown(alloc, error),
     };
     match question {
         "accessors" => accessors(alloc, ty),
-        "name" => name(alloc, btf, ty),
+        "name" => text_of(alloc, btf.type_name(ty)),
         "error_name" => error_name(alloc, btf, ty),
-        _ => format!(in alloc; "{ty:?}"),
+        _ => shown(alloc, ty),
     }
 }
 
 /// The id of a kind and a name.
 fn id(alloc: Global, btf: &Btf, action: &Action<'_>) -> Result<String, AllocError> {
     match kind_of(action.word(0)) {
-        Some(kind) => number(alloc, btf.id_by_type_name_kind(action.word(1), kind)),
+        Some(kind) => said(alloc, btf.id_by_type_name_kind(action.word(1), kind)),
         None => no_action(alloc),
+    }
+}
+
+/// The answer to a question about a number.
+fn of_number(alloc: Global, btf: &Btf, question: &str, number: u32) -> Result<String, AllocError> {
+    match question {
+        "text" => text_of(alloc, btf.string_at(number)),
+        "resolved" => said(alloc, btf.resolve_type(number)),
+        "size" => said(alloc, btf.type_size(number)),
+        "type" | "accessors" | "name" | "error_name" => of_type(alloc, btf, question, number),
+        _ => no_action(alloc),
     }
 }
 
 /// The answer to a question.
 fn answer(alloc: Global, btf: &Btf, action: &Action<'_>) -> Result<String, AllocError> {
-    if action.name == "count" {
-        let count = btf.types().len();
-        return format!(in alloc; "{count}");
-    }
-    if action.name == "id" {
-        return id(alloc, btf, action);
-    }
-    let Some(asked) = action.small_number(0) else {
-        return no_action(alloc);
-    };
-    match action.name {
-        "text" => text_at(alloc, btf, asked),
-        "resolved" => number(alloc, btf.resolve_type(asked)),
-        "size" => number(alloc, btf.type_size(asked)),
-        "type" | "accessors" | "name" | "error_name" => of_type(alloc, btf, action.name, asked),
+    match (action.name, action.small_number(0)) {
+        ("count", _) => shown(alloc, btf.types().len()),
+        ("id", _) => id(alloc, btf, action),
+        (question, Some(number)) => of_number(alloc, btf, question, number),
         _ => no_action(alloc),
     }
 }
@@ -114,23 +102,7 @@ fn answer_of_copy(alloc: Global, btf: &Btf, action: &Action<'_>) -> Result<Strin
 }
 
 /// An answer, and that of a copy where it is another one.
-fn both_answers(alloc: Global, btf: &Btf, action: &Action<'_>) -> Result<String, AllocError> {
-    let mut answered = answer(alloc, btf, action)?;
-    let of_copy = answer_of_copy(alloc, btf, action)?;
-    if answered.as_str() != of_copy.as_str() {
-        write!(answered, "\ncopy: {of_copy}")?;
-    }
-    Ok(answered)
-}
-
-/// The answer of the types of a case, and that of a copy of them where it is another one.
-pub fn answer_twice(
-    alloc: Global,
-    files: &Files,
-    action: &Action<'_>,
-) -> Result<String, AllocError> {
-    match types(alloc, files) {
-        Ok(btf) => both_answers(alloc, &btf, action),
-        Err(error) => fault(alloc, &error),
-    }
+pub fn both_answers(alloc: Global, btf: &Btf, action: &Action<'_>) -> Result<String, AllocError> {
+    let answered = answer(alloc, btf, action)?;
+    beside_copy(answered, answer_of_copy(alloc, btf, action)?)
 }

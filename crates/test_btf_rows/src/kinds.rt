@@ -2,29 +2,36 @@
 
 use ebpf_btf::BtfKind;
 
+/// Each kind beside its name.
+const KINDS: [(&str, BtfKind); 20] = [
+    ("Unknown", BtfKind::Unknown),
+    ("Int", BtfKind::Int),
+    ("Ptr", BtfKind::Ptr),
+    ("Array", BtfKind::Array),
+    ("Struct", BtfKind::Struct),
+    ("Union", BtfKind::Union),
+    ("Enum", BtfKind::Enum),
+    ("Fwd", BtfKind::Fwd),
+    ("Typedef", BtfKind::Typedef),
+    ("Volatile", BtfKind::Volatile),
+    ("Const", BtfKind::Const),
+    ("Restrict", BtfKind::Restrict),
+    ("Func", BtfKind::Func),
+    ("FuncProto", BtfKind::FuncProto),
+    ("Var", BtfKind::Var),
+    ("DataSec", BtfKind::DataSec),
+    ("Float", BtfKind::Float),
+    ("DeclTag", BtfKind::DeclTag),
+    ("TypeTag", BtfKind::TypeTag),
+    ("Enum64", BtfKind::Enum64),
+];
+
 /// The kind of a name.
 pub fn kind_of(name: &str) -> Option<BtfKind> {
-    match name {
-        "Unknown" => Some(BtfKind::Unknown),
-        "Int" => Some(BtfKind::Int),
-        "Ptr" => Some(BtfKind::Ptr),
-        "Array" => Some(BtfKind::Array),
-        "Struct" => Some(BtfKind::Struct),
-        "Union" => Some(BtfKind::Union),
-        "Enum" => Some(BtfKind::Enum),
-        "Fwd" => Some(BtfKind::Fwd),
-        "Typedef" => Some(BtfKind::Typedef),
-        "Volatile" => Some(BtfKind::Volatile),
-        "Const" => Some(BtfKind::Const),
-        "Restrict" => Some(BtfKind::Restrict),
-        "Func" => Some(BtfKind::Func),
-        "FuncProto" => Some(BtfKind::FuncProto),
-        "Var" => Some(BtfKind::Var),
-        "DataSec" => Some(BtfKind::DataSec),
-        "Float" => Some(BtfKind::Float),
-        "DeclTag" => Some(BtfKind::DeclTag),
-        "TypeTag" => Some(BtfKind::TypeTag),
-        "Enum64" => Some(BtfKind::Enum64),
-        _ => None,
+    for (text, kind) in &KINDS {
+        if *text == name {
+            return Some(*kind);
+        }
     }
+    None
 }

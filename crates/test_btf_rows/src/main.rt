@@ -4,12 +4,12 @@
 mod added;
 mod answers;
 mod candidates;
-mod changed;
+mod changes;
 mod ext;
 mod fits;
 mod kinds;
 mod outcomes;
-mod parsed;
+mod types;
 
 use crate::outcomes::TypeOutcomes;
 use std::io;

@@ -1,6 +1,7 @@
 //! What is to be done with the files of a case.
 
 use std::alloc::{AllocError, Global};
+use std::ops::Range;
 
 /// An action: its name, and the words behind it.
 #[derive(Debug, Drop)]
@@ -31,9 +32,10 @@ impl<'a> Action<'a> {
         }
     }
 
-    /// The number that a word is in decimal digits.
-    pub fn number(&self, at: usize) -> Option<u64> {
-        self.word(at).parse::<u64>().ok()
+    /// The numbers from the first word's up to the second's; none, where these are no numbers.
+    pub fn range(&self) -> Range<usize> {
+        let from = self.word(0).parse::<usize>().unwrap_or(0);
+        from..self.word(1).parse::<usize>().unwrap_or(0)
     }
 
     /// The number that a word is, if it has 32 bits.

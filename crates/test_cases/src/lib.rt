@@ -1,5 +1,5 @@
-//! Cases of tests as text: files by name, in hexadecimal digits, and what is to be done with them. Nothing is promised
-//! of it but that it is safe.
+//! Cases of tests as text: files by name, in hexadecimal digits, and what is to be done with them; and what the programs
+//! that run them share. Nothing is promised of it but that it is safe.
 //!
 //! A case is lines. A line that is empty or that begins with `#` says nothing.
 //!
@@ -15,6 +15,9 @@
 #![tactic(auto)]
 
 mod action;
+mod answers;
+mod changes;
+mod failing_reader;
 mod files;
 mod hex;
 mod run;
@@ -22,6 +25,9 @@ mod tally;
 mod task;
 
 pub use action::{Action, no_action};
+pub use answers::{beside_copy, said, shown, shown_line};
+pub use changes::{changed, front};
+pub use failing_reader::FailingReader;
 pub use files::{Files, Rise};
 pub use run::{Outcomes, run_cases};
-pub use tally::Tally;
+pub use tally::{Tally, tally_each};

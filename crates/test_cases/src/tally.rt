@@ -1,6 +1,7 @@
 //! How many times each outcome was met.
 
 use std::alloc::{AllocError, Global};
+use std::ops::Range;
 
 /// Outcomes, and how many times each was met, in the order in which they were met first.
 #[derive(Debug, Drop)]
@@ -40,4 +41,20 @@ impl Tally {
         }
         Ok(text)
     }
+}
+
+/// How many times each outcome comes, where each number of a range gives one.
+pub fn tally_each<F: FnMut(usize) -> Result<String, AllocError> + Drop>(
+    alloc: Global,
+    numbers: Range<usize>,
+    mut gives: F,
+) -> Result<String, AllocError>
+    requires { F.IsAlwaysCallable gives }
+{
+    let mut tally = Tally::new(alloc);
+    for number in numbers {
+        let outcome = gives(number)?;
+        tally.count(outcome.as_str())?;
+    }
+    tally.text()
 }

@@ -3,7 +3,6 @@
 #![tactic(auto)]
 
 mod answers;
-mod failing_reader;
 mod given;
 mod outcomes;
 mod prepared;

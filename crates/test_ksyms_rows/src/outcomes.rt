@@ -2,7 +2,6 @@
 //! file `kallsyms`.
 
 use crate::answers::{Question, Sought};
-use crate::failing_reader::FailingReader;
 use crate::given::externs_by;
 use crate::prepared::File;
 use ebpf_base::ByName;
@@ -10,7 +9,7 @@ use ebpf_btf::Btf;
 use ebpf_reloc::ExternDesc;
 use std::alloc::{AllocError, Global};
 use std::io::ErrorKind;
-use test_cases::{Action, Files, Outcomes, Tally, no_action};
+use test_cases::{Action, FailingReader, Files, Outcomes, front, no_action, shown, tally_each};
 
 /// What actions on lists of addresses give.
 #[derive(Clone, Copy, Debug)]
@@ -36,13 +35,9 @@ fn answers_at_each<Q: Question>(
     question: &Q,
     bytes: &[u8],
 ) -> Result<String, AllocError> {
-    let mut tally = Tally::new(alloc);
-    for place in 0..=bytes.len() {
-        let front = bytes.get(..place).unwrap_or(bytes);
-        let text = answer_behind(alloc, question, front, Some(ErrorKind::Other))?;
-        tally.count(text.as_str())?;
-    }
-    tally.text()
+    tally_each(alloc, 0..bytes.len().saturating_add(1), |place| {
+        answer_behind(alloc, question, front(bytes, place), Some(ErrorKind::Other))
+    })
 }
 
 /// What an action gives of a question.
@@ -70,7 +65,7 @@ fn of_externs(
 ) -> Result<String, AllocError> {
     match Btf::new(alloc) {
         Ok(types) => of_question(alloc, &Sought { externs, types }, bytes, action),
-        Err(error) => format!(in alloc; "{error:?}"),
+        Err(error) => shown(alloc, error),
     }
 }
 

@@ -1,11 +1,11 @@
 //! Functions that are adapted to a kernel's types.
 
-use crate::slots::put_all_slots;
+use crate::slots::with_slots;
 use ebpf_btf::{Btf, BtfError, Endianness};
 use ebpf_object::Object;
 use ebpf_object::core_relo::{BtfRelocationError, RelocationError};
 use std::alloc::{AllocError, Global};
-use test_cases::{Action, Files};
+use test_cases::{Action, Files, shown};
 
 /// Why a relocation can't be applied, but for the texts that are for people to read.
 fn fault(alloc: Global, error: &RelocationError) -> Result<String, AllocError> {
@@ -35,33 +35,34 @@ fn fault(alloc: Global, error: &RelocationError) -> Result<String, AllocError> {
                 "InvalidInstruction {{ relocation_number: {relocation_number}, index: {index} }}"
             )
         }
-        error => format!(in alloc; "{error:?}"),
+        error => shown(alloc, error),
     }
 }
 
-/// What adapting answers.
-fn said(alloc: Global, answer: &Result<(), BtfRelocationError>) -> Result<String, AllocError> {
-    match answer {
+/// Why a section can't be adapted.
+fn refusal(alloc: Global, refusal: &BtfRelocationError) -> Result<String, AllocError> {
+    let fault = fault(alloc, &refusal.error)?;
+    let section = refusal.section.as_str();
+    format!(in alloc; "{section}: {fault}")
+}
+
+/// What adapting to types answers.
+fn adapt(alloc: Global, object: &mut Object, types: &Btf) -> Result<String, AllocError> {
+    match object.relocate_btf(types) {
         Ok(()) => String::from_str(alloc, "Ok"),
-        Err(refusal) => {
-            let section = refusal.section.as_str();
-            let fault = fault(alloc, &refusal.error)?;
-            format!(in alloc; "{section}: {fault}")
-        }
+        Err(error) => refusal(alloc, &error),
     }
+}
+
+/// The same, and the slots then.
+fn adapted_to(alloc: Global, object: &mut Object, types: &Btf) -> Result<String, AllocError> {
+    let answer = adapt(alloc, object, types)?;
+    with_slots(alloc, answer, object)
 }
 
 /// Why bytes are no types.
 fn no_types(alloc: Global, error: &BtfError) -> Result<String, AllocError> {
     format!(in alloc; "no types: {error:?}")
-}
-
-/// What adapting to types answers, and the slots then.
-fn adapted_to(alloc: Global, object: &mut Object, types: &Btf) -> Result<String, AllocError> {
-    let answer = object.relocate_btf(types);
-    let mut text = said(alloc, &answer)?;
-    put_all_slots(alloc, &mut text, object)?;
-    Ok(text)
 }
 
 /// What adapting to the types of a file answers, and the slots then.

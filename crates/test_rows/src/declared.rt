@@ -1,7 +1,10 @@
 //! What types declare of an object, line by line.
 
-use ebpf_object::Object;
+use crate::lines::{Line, put_numbers};
+use ebpf_base::ByName;
+use ebpf_btf::{Btf, BtfType};
 use ebpf_parts::maps::{BtfMap, BtfMapDef, Map};
+use ebpf_reloc::ExternDesc;
 use std::alloc::{AllocError, Global};
 
 /// What is said of a map, as words: each size beside the id of its type.
@@ -9,26 +12,34 @@ fn put_definition(text: &mut String, def: &BtfMapDef) -> Result<(), AllocError> 
     let kind = def.map_type;
     let (key, key_type) = (def.key_size, def.btf_key_type_id);
     let (value, value_type) = (def.value_size, def.btf_value_type_id);
-    let (entries, flags, extra) = (def.max_entries, def.map_flags, def.map_extra);
-    let pinning = def.pinning;
     write!(
         text,
-        "type {kind} key {key}:{key_type} value {value}:{value_type} entries {entries} flags {flags} extra {extra} {pinning:?}"
-    )
+        " type {kind} key {key}:{key_type} value {value}:{value_type}"
+    )?;
+    let (entries, flags) = (u64::from(def.max_entries), u64::from(def.map_flags));
+    put_numbers(
+        text,
+        &[
+            ("entries", entries),
+            ("flags", flags),
+            ("extra", def.map_extra),
+        ],
+    )?;
+    let pinning = def.pinning;
+    writeln!(text, " {pinning:?}")
 }
 
 /// The rest of a line for a map.
 fn put_btf_map(text: &mut String, map: &BtfMap) -> Result<(), AllocError> {
-    let (section, symbol) = (map.section_index, map.symbol_index);
-    write!(text, "in {section} symbol {symbol} ")?;
-    put_definition(text, &map.def)?;
-    writeln!(text)
+    let (section, symbol) = (map.section_index as u64, map.symbol_index as u64);
+    put_numbers(text, &[("in", section), ("symbol", symbol)])?;
+    put_definition(text, &map.def)
 }
 
 /// A line for the maps that a map holds.
 fn put_inner(text: &mut String, inner: &Option<Map>) -> Result<(), AllocError> {
     if let Some(Map::Btf(inner)) = inner {
-        write!(text, "inner ")?;
+        write!(text, "inner")?;
         put_btf_map(text, inner)?;
     }
     Ok(())
@@ -37,7 +48,7 @@ fn put_inner(text: &mut String, inner: &Option<Map>) -> Result<(), AllocError> {
 /// A line for a map that types declare, and one for the maps that it holds.
 fn put_map(text: &mut String, name: &str, map: &Map) -> Result<(), AllocError> {
     if let Map::Btf(map) = map {
-        write!(text, "map {name} ")?;
+        write!(text, "map {name}")?;
         put_btf_map(text, map)?;
     }
     let inner = map.inner()?;
@@ -48,44 +59,37 @@ fn put_map(text: &mut String, name: &str, map: &Map) -> Result<(), AllocError> {
 pub fn put_declared_maps(
     alloc: Global,
     text: &mut String,
-    object: &Object,
+    maps: &ByName<Map>,
 ) -> Result<(), AllocError> {
-    for name in object.maps.names(alloc)? {
-        if let Some(map) = object.maps.get(name) {
+    for name in maps.names(alloc)? {
+        if let Some(map) = maps.get(name) {
             put_map(text, name, map)?;
         }
     }
     Ok(())
 }
 
-/// A line for each extern, in byte order of their names.
-pub fn put_externs(alloc: Global, text: &mut String, object: &Object) -> Result<(), AllocError> {
-    for name in object.externs.names(alloc)? {
-        if let Some(found) = object.externs.get(name) {
-            let id = found.btf_id;
-            let (typed, weak, resolved) = (found.is_typed, found.is_weak, found.is_resolved);
-            let (kernel, address) = (found.kernel_btf_id, found.ksym_addr);
-            writeln!(
-                text,
-                "extern {name} type {id} typed {typed} weak {weak} resolved {resolved} {kernel:?} {address:?}"
-            )?;
-        }
+impl Line for ExternDesc {
+    fn put_line(&self, text: &mut String, name: &str) -> Result<(), AllocError> {
+        let (id, typed, weak) = (self.btf_id, self.is_typed, self.is_weak);
+        write!(text, "extern {name} type {id} typed {typed} weak {weak}")?;
+        let (resolved, kernel, address) = (self.is_resolved, self.kernel_btf_id, self.ksym_addr);
+        writeln!(text, " resolved {resolved} {kernel:?} {address:?}")
     }
-    Ok(())
+}
+
+/// A line for a type, with its name.
+fn put_type(text: &mut String, btf: &Btf, id: usize, ty: &BtfType) -> Result<(), AllocError> {
+    match btf.type_name(ty) {
+        Ok(name) => writeln!(text, "{id} {name}: {ty:?}"),
+        Err(error) => writeln!(text, "{id} {error:?}: {ty:?}"),
+    }
 }
 
 /// A line for each type from an id on.
-pub fn put_types(text: &mut String, object: &Object, from: usize) -> Result<(), AllocError> {
-    let Some(btf) = &object.btf else {
-        return Ok(());
-    };
-    let mut id = from;
-    for ty in btf.types().get(from..).unwrap_or(&[]) {
-        match btf.type_name(ty) {
-            Ok(name) => writeln!(text, "{id} {name}: {ty:?}")?,
-            Err(error) => writeln!(text, "{id} {error:?}: {ty:?}")?,
-        }
-        id = id.saturating_add(1);
+pub fn put_types(text: &mut String, btf: &Btf, from: usize) -> Result<(), AllocError> {
+    for (id, ty) in btf.types().iter().enumerate().skip(from) {
+        put_type(text, btf, id, ty)?;
     }
     Ok(())
 }

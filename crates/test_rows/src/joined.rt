@@ -1,29 +1,29 @@
 //! What joining the programs of an object with what they reach gives.
 
-use crate::records::put_records;
 use crate::slots::slot_text;
-use crate::tables::put_functions;
+use crate::tables::put_table;
 use ebpf_object::Object;
-use ebpf_reloc::{EbpfRelocationError, Function};
+use ebpf_reloc::Function;
 use std::alloc::{AllocError, Global};
 use std::collections::HashSet;
-use test_cases::{Action, Tally, no_action};
+use test_cases::{Action, Tally, shown_line};
 
-/// Why programs can't be joined, in a line.
-fn refusal(alloc: Global, error: &EbpfRelocationError) -> Result<String, AllocError> {
-    format!(in alloc; "{error:?}\n")
-}
-
-/// Joins the programs of an object with what they reach: no text, or the error in a line.
-fn join(
+/// Joins the programs of these sections with what they reach: no text, or the error in a line.
+fn join_sections(
     alloc: Global,
     object: &mut Object,
     sections: &HashSet<usize>,
 ) -> Result<String, AllocError> {
     match object.relocate_calls(sections) {
         Ok(()) => Ok(String::new(alloc)),
-        Err(error) => refusal(alloc, &error),
+        Err(error) => shown_line(alloc, error),
     }
+}
+
+/// The same of all sections.
+fn join(alloc: Global, object: &mut Object) -> Result<String, AllocError> {
+    let sections = object.text_sections(alloc)?;
+    join_sections(alloc, object, &sections)
 }
 
 /// A line for each slot of a function.
@@ -50,6 +50,23 @@ fn put_slot_counts(
     write!(text, "{counts}")
 }
 
+/// A line for a program, and lines for its slots.
+fn put_program(
+    alloc: Global,
+    text: &mut String,
+    name: &str,
+    function: &Function,
+    counted: bool,
+) -> Result<(), AllocError> {
+    let slots = function.instructions.len();
+    writeln!(text, "program {name} slots {slots}")?;
+    if counted {
+        put_slot_counts(alloc, text, function)
+    } else {
+        put_each_slot(alloc, text, function)
+    }
+}
+
 /// A line for each program, in byte order of their names, and lines for its slots.
 pub fn put_slots(
     alloc: Global,
@@ -58,37 +75,22 @@ pub fn put_slots(
     counted: bool,
 ) -> Result<(), AllocError> {
     for name in object.programs.names(alloc)? {
-        let Some(program) = object.programs.get(name) else {
-            continue;
-        };
-        let Some(function) = object.functions.get(program.function_key()) else {
-            continue;
-        };
-        let slots = function.instructions.len();
-        writeln!(text, "program {name} slots {slots}")?;
-        if counted {
-            put_slot_counts(alloc, text, function)?;
-        } else {
-            put_each_slot(alloc, text, function)?;
+        if let Some(program) = object.programs.get(name)
+            && let Some(function) = object.functions.get(program.function_key())
+        {
+            put_program(alloc, text, name, function, counted)?;
         }
     }
     Ok(())
 }
 
-/// What joining the programs of an object answers, and then its functions, records or slots.
+/// What joining the programs of an object answers, and a table then.
 pub fn joined(
     alloc: Global,
     object: &mut Object,
     action: &Action<'_>,
 ) -> Result<String, AllocError> {
-    let sections = object.text_sections(alloc)?;
-    let mut text = join(alloc, object, &sections)?;
-    match action.word(0) {
-        "functions" => put_functions(&mut text, object)?,
-        "records" => put_records(&mut text, object)?,
-        "slots" => put_slots(alloc, &mut text, object, false)?,
-        "slot_counts" => put_slots(alloc, &mut text, object, true)?,
-        _ => return no_action(alloc),
-    }
+    let mut text = join(alloc, object)?;
+    put_table(alloc, &mut text, object, action.word(0))?;
     Ok(text)
 }

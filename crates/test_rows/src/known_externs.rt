@@ -1,15 +1,20 @@
 //! What is known of externs, written into slots.
 
 use crate::known::set_externs;
-use crate::slots::answer_and_slots;
+use crate::slots::with_slots;
 use ebpf_object::Object;
 use std::alloc::{AllocError, Global};
-use test_cases::{Action, no_action};
+use test_cases::{Action, no_action, shown};
 
-/// What writing the externs of an object gives, and the slots then.
+/// What writing the externs of an object answers.
+fn write_externs(alloc: Global, object: &mut Object) -> Result<String, AllocError> {
+    shown(alloc, object.relocate_externs())
+}
+
+/// The same, and the slots then.
 pub fn written(alloc: Global, object: &mut Object) -> Result<String, AllocError> {
-    let answer = object.relocate_externs();
-    answer_and_slots(alloc, &answer, object)
+    let answer = write_externs(alloc, object)?;
+    with_slots(alloc, answer, object)
 }
 
 /// What writing the externs gives of which words say what is known, and the slots then.

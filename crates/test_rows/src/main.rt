@@ -2,11 +2,12 @@
 #![tactic(auto)]
 
 mod adapted;
-mod changed;
+mod changes;
 mod declared;
 mod joined;
 mod known;
 mod known_externs;
+mod lines;
 mod mapped;
 mod maps;
 mod names;

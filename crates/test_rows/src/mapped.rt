@@ -1,12 +1,13 @@
 //! Descriptors of maps that are written into slots.
 
-use crate::slots::answer_and_slots;
+use crate::slots::with_slots;
 use ebpf_base::ByName;
 use ebpf_object::Object;
 use ebpf_parts::maps::Map;
 use std::alloc::{AllocError, Global};
+use std::collections::HashSet;
 use std::mem;
-use test_cases::{Action, no_action};
+use test_cases::{Action, no_action, shown};
 
 /// A map with its name and its descriptor.
 type Given<'a> = (&'a str, i32, &'a Map);
@@ -34,6 +35,26 @@ fn given<'a>(
     Ok(Some(given))
 }
 
+/// What writing the descriptors of these maps answers.
+fn write_maps(
+    alloc: Global,
+    object: &mut Object,
+    given: Vec<Given<'_>>,
+    sections: &HashSet<usize>,
+) -> Result<String, AllocError> {
+    shown(alloc, object.relocate_maps(given.into_iter(), sections))
+}
+
+/// The same of all sections.
+fn write_all_maps(
+    alloc: Global,
+    object: &mut Object,
+    given: Vec<Given<'_>>,
+) -> Result<String, AllocError> {
+    let sections = object.text_sections(alloc)?;
+    write_maps(alloc, object, given, &sections)
+}
+
 /// What writing the descriptors of these maps gives, and the slots then.
 fn written(
     alloc: Global,
@@ -44,9 +65,8 @@ fn written(
     let Some(given) = given(alloc, maps, words)? else {
         return no_action(alloc);
     };
-    let sections = object.text_sections(alloc)?;
-    let answer = object.relocate_maps(given.into_iter(), &sections);
-    answer_and_slots(alloc, &answer, object)
+    let answer = write_all_maps(alloc, object, given)?;
+    with_slots(alloc, answer, object)
 }
 
 /// What writing the descriptors gives that words ask for, and the slots then. The maps are the object's own.

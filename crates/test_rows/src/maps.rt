@@ -1,55 +1,74 @@
 //! Maps, line by line.
 
-use ebpf_object::Object;
+use crate::lines::{Line, put_numbers};
 use ebpf_parts::maps::{Map, PinningType, bpf_map_info, parse_map_info};
 use std::alloc::{AllocError, Global};
 use test_cases::{Action, no_action};
 
-/// A line for each map, in byte order of their names.
-pub fn put_maps(alloc: Global, text: &mut String, object: &Object) -> Result<(), AllocError> {
-    for name in object.maps.names(alloc)? {
-        if let Some(map) = object.maps.get(name) {
-            let kind = map.map_type();
-            let (key, value) = (map.key_size(), map.value_size());
-            let (entries, flags) = (map.max_entries(), map.map_flags());
-            let symbol = map.symbol_index();
-            let pinning = map.pinning();
-            let data = map.data();
-            writeln!(
-                text,
-                "map {name} type {kind} key {key} value {value} entries {entries} flags {flags} {pinning:?} symbol {symbol:?} data {data:?}"
-            )?;
-        }
+/// The numbers of a map.
+fn put_map_numbers(text: &mut String, map: &Map) -> Result<(), AllocError> {
+    let numbers = [
+        ("type", u64::from(map.map_type())),
+        ("key", u64::from(map.key_size())),
+        ("value", u64::from(map.value_size())),
+        ("entries", u64::from(map.max_entries())),
+        ("flags", u64::from(map.map_flags())),
+    ];
+    put_numbers(text, &numbers)
+}
+
+/// The symbol of a map and its data.
+fn put_data(text: &mut String, map: &Map) -> Result<(), AllocError> {
+    let (symbol, data) = (map.symbol_index(), map.data());
+    write!(text, " symbol {symbol:?} data {data:?}")
+}
+
+impl Line for Map {
+    fn put_line(&self, text: &mut String, name: &str) -> Result<(), AllocError> {
+        write!(text, "map {name}")?;
+        put_map_numbers(text, self)?;
+        let pinning = self.pinning();
+        write!(text, " {pinning:?}")?;
+        put_data(text, self)?;
+        writeln!(text)
     }
-    Ok(())
+}
+
+/// How a map is kept, and its section.
+fn put_section(text: &mut String, map: &Map) -> Result<(), AllocError> {
+    let (pinning, section, kind) = (map.pinning(), map.section_index(), map.section_kind());
+    write!(text, " pinning {pinning:?} section {section} {kind:?}")
 }
 
 /// What may be read of a map.
-fn described(alloc: Global, map: &Map) -> Result<String, AllocError> {
-    let kind = map.map_type();
-    let key = map.key_size();
-    let value = map.value_size();
-    let entries = map.max_entries();
-    let flags = map.map_flags();
-    let extra = map.map_extra();
-    let pinning = map.pinning();
-    let section = map.section_index();
-    let section_kind = map.section_kind();
-    let symbol = map.symbol_index();
-    let bytes = map.data();
-    format!(in alloc;
-        "type {kind} key {key} value {value} entries {entries} flags {flags} extra {extra} pinning {pinning:?} section {section} {section_kind:?} symbol {symbol:?} data {bytes:?}"
-    )
+fn put_described(text: &mut String, map: &Map) -> Result<(), AllocError> {
+    put_map_numbers(text, map)?;
+    put_numbers(text, &[("extra", map.map_extra())])?;
+    put_section(text, map)?;
+    put_data(text, map)
 }
 
 /// What may be read of a map, and the id that a legacy map keeps.
 fn described_with_id(alloc: Global, map: &Map) -> Result<String, AllocError> {
-    let mut text = described(alloc, map)?;
+    let mut text = String::new(alloc);
+    put_described(&mut text, map)?;
     if let Map::Legacy(legacy) = map {
-        let id = legacy.def.id;
-        write!(text, " id {id}")?;
+        put_numbers(&mut text, &[("id", u64::from(legacy.def.id))])?;
     }
     Ok(text)
+}
+
+/// A Bloom filter, as a kernel describes it.
+fn bloom_filter(id: u32, value_type: u32) -> bpf_map_info {
+    bpf_map_info {
+        type_: 30,
+        id,
+        value_size: 4,
+        max_entries: 64,
+        map_extra: 3,
+        btf_value_type_id: value_type,
+        ..Default::default()
+    }
 }
 
 /// What is made of a Bloom filter that a kernel describes with an id and a value type.
@@ -62,16 +81,7 @@ pub fn map_info(alloc: Global, action: &Action<'_>) -> Result<String, AllocError
     } else {
         PinningType::None
     };
-    let info = bpf_map_info {
-        type_: 30,
-        id,
-        value_size: 4,
-        max_entries: 64,
-        map_extra: 3,
-        btf_value_type_id: value_type,
-        ..Default::default()
-    };
-    let map = parse_map_info(alloc, info, pinning);
+    let map = parse_map_info(alloc, bloom_filter(id, value_type), pinning);
     described_with_id(alloc, &map)
 }
 
@@ -85,7 +95,8 @@ fn change(map: &mut Map) -> Result<(), AllocError> {
 
 /// What may be read of a map, and whether it holds others.
 fn described_with_inner(alloc: Global, map: &Map) -> Result<String, AllocError> {
-    let mut text = described(alloc, map)?;
+    let mut text = String::new(alloc);
+    put_described(&mut text, map)?;
     let holds = map.inner()?.is_some();
     write!(text, " holds a map {holds}")?;
     Ok(text)

@@ -1,45 +1,17 @@
 //! Actions on an object.
 
 use crate::adapted::adapted;
-use crate::declared::{put_declared_maps, put_externs, put_types};
+use crate::declared::put_types;
 use crate::joined::joined;
 use crate::known_externs::known_externs;
 use crate::mapped::mapped;
-use crate::maps::put_maps;
 use crate::patched::patched;
-use crate::records::{put_records, put_type_relocations};
 use crate::resolved::resolved;
 use crate::sanitized::sanitized;
-use crate::tables::{
-    put_functions, put_names, put_programs, put_relocations, put_symbols, put_terms,
-};
+use crate::tables::put_table;
 use ebpf_object::Object;
-use ebpf_parts::ParseError;
 use std::alloc::{AllocError, Global};
-use test_cases::{Action, Files, no_action};
-
-/// What is said of an object, by the name of a table.
-fn put_table(
-    alloc: Global,
-    text: &mut String,
-    object: &Object,
-    table: &str,
-) -> Result<(), AllocError> {
-    match table {
-        "programs" => put_programs(alloc, text, object),
-        "functions" => put_functions(text, object),
-        "symbols" => put_symbols(alloc, text, object),
-        "relocations" => put_relocations(text, object),
-        "sections" => put_names(alloc, text, object),
-        "terms" => put_terms(text, object),
-        "maps" => put_maps(alloc, text, object),
-        "declared_maps" => put_declared_maps(alloc, text, object),
-        "externs" => put_externs(alloc, text, object),
-        "records" => put_records(text, object),
-        "type_relocations" => put_type_relocations(alloc, text, object),
-        _ => writeln!(text, "no such table {table}"),
-    }
-}
+use test_cases::{Action, Files, no_action, shown};
 
 /// The tables that the words name, one after the other.
 fn described(alloc: Global, object: &Object, action: &Action<'_>) -> Result<String, AllocError> {
@@ -53,9 +25,8 @@ fn described(alloc: Global, object: &Object, action: &Action<'_>) -> Result<Stri
 /// The types from an id on.
 fn types(alloc: Global, object: &Object, action: &Action<'_>) -> Result<String, AllocError> {
     let mut text = String::new(alloc);
-    match action.small_number(0) {
-        Some(from) => put_types(&mut text, object, from as usize)?,
-        None => return no_action(alloc),
+    if let (Some(btf), Some(from)) = (&object.btf, action.small_number(0)) {
+        put_types(&mut text, btf, from as usize)?;
     }
     Ok(text)
 }
@@ -82,11 +53,6 @@ fn of_object(
     }
 }
 
-/// Why bytes are no object.
-fn refusal(alloc: Global, error: &ParseError) -> Result<String, AllocError> {
-    format!(in alloc; "{error:?}")
-}
-
 /// What an action gives of the object that the bytes are, or the error. It alone holds an object, and does nothing
 /// else: each way out of a function is proved to let go of what the function holds.
 pub fn on_object(
@@ -97,6 +63,6 @@ pub fn on_object(
 ) -> Result<String, AllocError> {
     match Object::parse(alloc, bytes) {
         Ok(mut object) => of_object(alloc, files, &mut object, action),
-        Err(error) => refusal(alloc, &error),
+        Err(error) => shown(alloc, error),
     }
 }

@@ -1,11 +1,11 @@
 //! The actions, by name.
 
-use crate::changed::{bytes, prefixes};
+use crate::changes::{bytes, prefixes};
 use crate::maps::{map_copy, map_info};
-use crate::names::{kind, map_type, pinning, program_type};
+use crate::names::{kind, of_number};
 use crate::objects::on_object;
 use crate::prepared::prepared;
-use crate::printed::{inspected, linked};
+use crate::printed::printed;
 use std::alloc::{AllocError, Global};
 use test_cases::{Action, Files, Outcomes};
 
@@ -22,16 +22,13 @@ impl Outcomes for ObjectOutcomes {
     ) -> Result<String, AllocError> {
         match action.name {
             "kind" => kind(alloc, action),
-            "map_type" => map_type(alloc, action),
-            "program_type" => program_type(alloc, action),
-            "pinning" => pinning(alloc, action),
+            "map_type" | "program_type" | "pinning" => of_number(alloc, action),
             "map_info" => map_info(alloc, action),
             "map_copy" => map_copy(alloc),
             "prefixes" => prefixes(alloc, files, action),
             "bytes" => bytes(alloc, files, action),
             "prepared" => prepared(alloc, files, action),
-            "link" => linked(alloc, files, action),
-            "inspect" => inspected(alloc, files, action),
+            "link" | "inspect" => printed(alloc, files, action),
             _ => on_object(alloc, files, files.get("object"), action),
         }
     }

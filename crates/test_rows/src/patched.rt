@@ -1,10 +1,12 @@
 //! Values of variables that are written into the data of maps.
 
 use ebpf_object::Object;
-use ebpf_parts::ParseError;
 use std::alloc::{AllocError, Global};
 use std::collections::HashMap;
-use test_cases::{Action, Files, no_action};
+use test_cases::{Action, Files, no_action, shown};
+
+/// A variable's value, and whether the object has to have it, by its name.
+type Values<'a> = HashMap<&'a str, (&'a [u8], bool)>;
 
 /// The values that words ask for: a variable, whose value is the file of this name, and whether the object has to have
 /// it.
@@ -12,7 +14,7 @@ fn values<'a>(
     alloc: Global,
     files: &'a Files,
     words: &[&'a str],
-) -> Result<Option<HashMap<&'a str, (&'a [u8], bool)>>, AllocError> {
+) -> Result<Option<Values<'a>>, AllocError> {
     let mut values = HashMap::new(alloc);
     for pair in words.chunks(2) {
         let [name, how] = pair else {
@@ -23,9 +25,9 @@ fn values<'a>(
     Ok(Some(values))
 }
 
-/// What an outcome says.
-fn said(alloc: Global, outcome: &Result<(), ParseError>) -> Result<String, AllocError> {
-    format!(in alloc; "{outcome:?}")
+/// What writing values answers.
+fn patch(alloc: Global, object: &mut Object, values: Values<'_>) -> Result<String, AllocError> {
+    shown(alloc, object.patch_map_data(values))
 }
 
 /// The data of `.data`.
@@ -37,18 +39,26 @@ fn put_data(text: &mut String, object: &Object) -> Result<(), AllocError> {
     Ok(())
 }
 
-/// What writing values gives, and the data of `.data` then.
+/// What writing values answers, and the data of `.data` then.
+fn patched_with(
+    alloc: Global,
+    object: &mut Object,
+    values: Values<'_>,
+) -> Result<String, AllocError> {
+    let mut text = patch(alloc, object, values)?;
+    put_data(&mut text, object)?;
+    Ok(text)
+}
+
+/// The same of the values that words ask for.
 pub fn patched(
     alloc: Global,
     files: &Files,
     object: &mut Object,
     action: &Action<'_>,
 ) -> Result<String, AllocError> {
-    let Some(values) = values(alloc, files, action.words.as_slice())? else {
-        return no_action(alloc);
-    };
-    let outcome = object.patch_map_data(values);
-    let mut text = said(alloc, &outcome)?;
-    put_data(&mut text, object)?;
-    Ok(text)
+    match values(alloc, files, action.words.as_slice())? {
+        Some(values) => patched_with(alloc, object, values),
+        None => no_action(alloc),
+    }
 }

@@ -3,9 +3,9 @@
 use crate::joined::put_slots;
 use ebpf_btf::{Btf, BtfError, Endianness};
 use ebpf_object::Object;
-use ebpf_object::prepare::{PrepareError, Steps, prepare};
+use ebpf_object::prepare::{Steps, prepare};
 use std::alloc::{AllocError, Global};
-use test_cases::{Action, Files};
+use test_cases::{Action, Files, shown_line};
 
 /// The name of a map and its descriptor, as `NAME=DESCRIPTOR`.
 fn descriptor(word: &str) -> Option<(&str, i32)> {
@@ -41,16 +41,8 @@ fn steps<'a>(words: &[&str], types: &'a Btf, given: &'a [(&'a str, i32)]) -> Ste
         None
     };
     Steps {
-        target_btf: if has(words, "types") {
-            Some(types)
-        } else {
-            None
-        },
-        map_fds: if has(words, "maps") {
-            Some(given)
-        } else {
-            None
-        },
+        target_btf: has(words, "types").then_some(types),
+        map_fds: has(words, "maps").then_some(given),
         externs,
         calls: has(words, "calls"),
     }
@@ -65,11 +57,6 @@ fn programs(alloc: Global, object: &Object) -> Result<String, AllocError> {
     Ok(text)
 }
 
-/// Why a file can't be prepared, in a line.
-fn refusal(alloc: Global, error: &PrepareError) -> Result<String, AllocError> {
-    format!(in alloc; "{error:?}\n")
-}
-
 /// What preparing a file with these types gives.
 fn prepared_with(
     alloc: Global,
@@ -81,7 +68,7 @@ fn prepared_with(
     let steps = steps(words, types, &given);
     match prepare(alloc, files.get("object"), &steps, files.get("kallsyms")) {
         Ok(object) => programs(alloc, &object),
-        Err(error) => refusal(alloc, &error),
+        Err(error) => shown_line(alloc, error),
     }
 }
 

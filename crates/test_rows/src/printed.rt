@@ -17,23 +17,45 @@ fn named<'a>(action: &Action<'a>, name: &str) -> Option<&'a str> {
     None
 }
 
+/// The program that the action names.
+fn program_of(alloc: Global, action: &Action<'_>) -> Result<Option<Text>, AllocError> {
+    match named(action, "program") {
+        Some(name) => Ok(Some(Text::from_str(alloc, name)?)),
+        None => Ok(None),
+    }
+}
+
 /// Words that ask for the program that the action names, or for all.
 fn words_of(alloc: Global, action: &Action<'_>) -> Result<Words, AllocError> {
-    let program = match named(action, "program") {
-        Some(name) => Some(Text::from_str(alloc, name)?),
-        None => None,
-    };
     Ok(Words {
         file: Text::from_str(alloc, "file.o")?,
         btf: None,
         kallsyms: None,
-        program,
+        program: program_of(alloc, action)?,
     })
 }
 
 /// The kernel's types, where the action names a file of them.
 fn types_of<'a>(files: &'a Files, action: &Action<'_>) -> Option<&'a [u8]> {
     Some(files.get(named(action, "types")?))
+}
+
+/// Runs `ebpf-link` or `ebpf-inspect`: its status.
+fn run(
+    alloc: Global,
+    files: &Files,
+    action: &Action<'_>,
+    words: &Words,
+    out: &mut Vec<u8>,
+    err: &mut Vec<u8>,
+) -> u8 {
+    let types = types_of(files, action);
+    let (object, kallsyms) = (files.get("object"), files.get("kallsyms"));
+    if action.name == "link" {
+        run_link(alloc, words, object, types, kallsyms, out, err)
+    } else {
+        run_inspect(alloc, words, object, types, kallsyms, out, err)
+    }
 }
 
 /// A status, and what was written.
@@ -43,36 +65,11 @@ fn told(alloc: Global, status: u8, out: &[u8], err: &[u8]) -> Result<String, All
     format!(in alloc; "status {status}\n{out}{err}")
 }
 
-/// What `ebpf-link` prints.
-pub fn linked(alloc: Global, files: &Files, action: &Action<'_>) -> Result<String, AllocError> {
+/// What `ebpf-link` or `ebpf-inspect` prints.
+pub fn printed(alloc: Global, files: &Files, action: &Action<'_>) -> Result<String, AllocError> {
     let words = words_of(alloc, action)?;
     let mut out = Vec::new(alloc);
     let mut err = Vec::new(alloc);
-    let status = run_link(
-        alloc,
-        &words,
-        files.get("object"),
-        types_of(files, action),
-        files.get("kallsyms"),
-        &mut out,
-        &mut err,
-    );
-    told(alloc, status, &out, &err)
-}
-
-/// What `ebpf-inspect` prints.
-pub fn inspected(alloc: Global, files: &Files, action: &Action<'_>) -> Result<String, AllocError> {
-    let words = words_of(alloc, action)?;
-    let mut out = Vec::new(alloc);
-    let mut err = Vec::new(alloc);
-    let status = run_inspect(
-        alloc,
-        &words,
-        files.get("object"),
-        types_of(files, action),
-        files.get("kallsyms"),
-        &mut out,
-        &mut err,
-    );
+    let status = run(alloc, files, action, &words, &mut out, &mut err);
     told(alloc, status, &out, &err)
 }

@@ -1,37 +1,53 @@
 //! What type information says of instructions, line by line.
 
+use ebpf_base::ByKey;
 use ebpf_btf::Btf;
-use ebpf_ext::Relocation;
+use ebpf_ext::{FuncSecInfo, LineSecInfo, Relocation};
 use ebpf_object::Object;
+use ebpf_reloc::Function;
 use std::alloc::{AllocError, Global};
+use test_cases::shown;
+
+/// The slots that have a record on functions, and how many records there are.
+fn put_funcs(text: &mut String, funcs: &FuncSecInfo) -> Result<(), AllocError> {
+    for row in funcs.func_info.as_slice() {
+        let slot = row.insn_off;
+        write!(text, " {slot}")?;
+    }
+    let count = funcs.num_info;
+    write!(text, " of {count},")
+}
+
+/// The slots that have a record on lines, with these, and how many records there are.
+fn put_source_lines(text: &mut String, lines: &LineSecInfo) -> Result<(), AllocError> {
+    for row in lines.line_info.as_slice() {
+        let (slot, line) = (row.insn_off, row.line_col);
+        write!(text, " {slot}/{line}")?;
+    }
+    let count = lines.num_info;
+    writeln!(text, " of {count}")
+}
+
+/// A line for the records of a function.
+fn put_record(text: &mut String, function: &Function) -> Result<(), AllocError> {
+    let name = function.name.as_str();
+    let (func_size, line_size) = (function.func_info_rec_size, function.line_info_rec_size);
+    write!(text, "records {name} of {func_size} and {line_size} bytes:")?;
+    put_funcs(text, &function.func_info)?;
+    put_source_lines(text, &function.line_info)
+}
 
 /// A line for the records of each function, by its key.
-pub fn put_records(text: &mut String, object: &Object) -> Result<(), AllocError> {
-    for (_, function) in object.functions.iter() {
-        let name = function.name.as_str();
-        let funcs = &function.func_info;
-        let lines = &function.line_info;
-        let (func_count, line_count) = (funcs.num_info, lines.num_info);
-        let (func_size, line_size) = (function.func_info_rec_size, function.line_info_rec_size);
-        write!(text, "records {name} of {func_size} and {line_size} bytes:")?;
-        for row in funcs.func_info.as_slice() {
-            let slot = row.insn_off;
-            write!(text, " {slot}")?;
-        }
-        write!(text, " of {func_count},")?;
-        for row in lines.line_info.as_slice() {
-            let (slot, line) = (row.insn_off, row.line_col);
-            write!(text, " {slot}/{line}")?;
-        }
-        writeln!(text, " of {line_count}")?;
+pub fn put_records(text: &mut String, functions: &ByKey<Function>) -> Result<(), AllocError> {
+    for (_, function) in functions.iter() {
+        put_record(text, function)?;
     }
     Ok(())
 }
 
 /// The text at an offset, or why there is none.
 fn said(alloc: Global, btf: &Btf, offset: u32) -> Result<String, AllocError> {
-    let found = btf.string_at(offset);
-    format!(in alloc; "{found:?}")
+    shown(alloc, btf.string_at(offset))
 }
 
 /// A line for a relocation of types, with its access string.

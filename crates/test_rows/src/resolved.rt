@@ -1,14 +1,13 @@
 //! Externs that are found in a kernel: its types are the file `kernel`, if there is one, and its addresses the file
 //! `kallsyms`.
 
-use crate::declared::put_externs;
 use crate::known::set_externs;
 use crate::known_externs::written;
+use crate::lines::put_lines;
 use ebpf_btf::Btf;
 use ebpf_object::Object;
-use ebpf_object::extern_types::KsymsError;
 use std::alloc::{AllocError, Global};
-use test_cases::{Action, Files, no_action};
+use test_cases::{Action, Files, no_action, shown_line};
 
 /// The kernel's types, where there are some.
 fn kernel_types(alloc: Global, object: &Object, bytes: &[u8]) -> Option<Btf> {
@@ -18,11 +17,6 @@ fn kernel_types(alloc: Global, object: &Object, bytes: &[u8]) -> Option<Btf> {
     Btf::parse(alloc, bytes, object.endianness).ok()
 }
 
-/// What resolving answers, in a line.
-fn said(alloc: Global, answer: &Result<(), KsymsError>) -> Result<String, AllocError> {
-    format!(in alloc; "{answer:?}\n")
-}
-
 /// Resolves the externs: what that answers, in a line.
 fn resolve(
     alloc: Global,
@@ -30,8 +24,7 @@ fn resolve(
     kernel: Option<&Btf>,
     kallsyms: &[u8],
 ) -> Result<String, AllocError> {
-    let answer = object.resolve_externs(kernel, kallsyms);
-    said(alloc, &answer)
+    shown_line(alloc, object.resolve_externs(kernel, kallsyms))
 }
 
 /// Looks the externs up in the kernel of the files: what that answers, in a line.
@@ -48,7 +41,7 @@ fn put_found(
     what: &str,
 ) -> Result<(), AllocError> {
     match what {
-        "externs" => put_externs(alloc, text, object),
+        "externs" => put_lines(alloc, text, &object.externs),
         "slots" => {
             let slots = written(alloc, object)?;
             write!(text, "{slots}")

@@ -1,6 +1,8 @@
 //! Functions that are made fit for a kernel.
 
+use ebpf_base::ByKey;
 use ebpf_object::Object;
+use ebpf_reloc::Function;
 use std::alloc::{AllocError, Global};
 use test_cases::{Action, no_action};
 
@@ -15,8 +17,8 @@ fn sanitize(object: &mut Object, has_newer: bool) -> bool {
 }
 
 /// The immediates of all slots.
-fn put_immediates(text: &mut String, object: &Object) -> Result<(), AllocError> {
-    for (_, function) in object.functions.iter() {
+fn put_immediates(text: &mut String, functions: &ByKey<Function>) -> Result<(), AllocError> {
+    for (_, function) in functions.iter() {
         for slot in function.instructions.iter() {
             let imm = slot.imm;
             write!(text, "{imm} ")?;
@@ -25,19 +27,25 @@ fn put_immediates(text: &mut String, object: &Object) -> Result<(), AllocError> 
     Ok(())
 }
 
+/// The immediates of all slots, and whether the kernel was asked.
+fn immediates(alloc: Global, object: &Object, asked: bool) -> Result<String, AllocError> {
+    let mut text = String::new(alloc);
+    put_immediates(&mut text, &object.functions)?;
+    write!(text, "asked {asked}")?;
+    Ok(text)
+}
+
 /// The immediates of all slots for a kernel that has the newer helpers or not, and whether it was asked for them.
 pub fn sanitized(
     alloc: Global,
     object: &mut Object,
     action: &Action<'_>,
 ) -> Result<String, AllocError> {
-    let asked = match action.word(0) {
-        "newer" => sanitize(object, true),
-        "older" => sanitize(object, false),
+    let has_newer = match action.word(0) {
+        "newer" => true,
+        "older" => false,
         _ => return no_action(alloc),
     };
-    let mut text = String::new(alloc);
-    put_immediates(&mut text, object)?;
-    write!(text, "asked {asked}")?;
-    Ok(text)
+    let asked = sanitize(object, has_newer);
+    immediates(alloc, object, asked)
 }

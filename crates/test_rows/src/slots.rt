@@ -1,44 +1,55 @@
-//! The slots of functions, and what a pass over them answers.
+//! The slots of functions.
 
+use ebpf_base::ByKey;
 use ebpf_object::Object;
 use ebpf_parts::insn::bpf_insn;
-use ebpf_reloc::EbpfRelocationError;
+use ebpf_reloc::Function;
 use std::alloc::{AllocError, Global};
+
+/// Appends bytes, with a space before each but the text's first.
+fn put_bytes(text: &mut String, bytes: &[u8]) -> Result<(), AllocError> {
+    for byte in bytes {
+        if !text.is_empty() {
+            text.push(' ')?;
+        }
+        write!(text, "{byte:02x}")?;
+    }
+    Ok(())
+}
 
 /// The eight bytes of a slot.
 pub fn slot_text(alloc: Global, slot: &bpf_insn) -> Result<String, AllocError> {
-    let [a, b, c, d, e, f, g, h] = slot.to_bytes();
-    format!(in alloc; "{a:02x} {b:02x} {c:02x} {d:02x} {e:02x} {f:02x} {g:02x} {h:02x}")
+    let mut text = String::new(alloc);
+    put_bytes(&mut text, &slot.to_bytes())?;
+    Ok(text)
 }
 
-/// The slots of all functions, by their keys.
-pub fn put_all_slots(alloc: Global, text: &mut String, object: &Object) -> Result<(), AllocError> {
-    let mut first = true;
-    for (_, function) in object.functions.iter() {
+/// The slots of functions, by their keys.
+fn put_all_slots(
+    alloc: Global,
+    text: &mut String,
+    functions: &ByKey<Function>,
+) -> Result<(), AllocError> {
+    let mut is_first = true;
+    for (_, function) in functions.iter() {
         for slot in function.instructions.iter() {
-            let slot = slot_text(alloc, slot)?;
-            match first {
-                true => write!(text, " {slot}")?,
-                false => write!(text, ", {slot}")?,
+            if !is_first {
+                text.push(',')?;
             }
-            first = false;
+            let slot = slot_text(alloc, slot)?;
+            write!(text, " {slot}")?;
+            is_first = false;
         }
     }
     Ok(())
 }
 
-/// What a pass answers.
-fn said(alloc: Global, answer: &Result<(), EbpfRelocationError>) -> Result<String, AllocError> {
-    format!(in alloc; "{answer:?}")
-}
-
-/// What a pass answers, and the slots of all functions then.
-pub fn answer_and_slots(
+/// What a pass over an object answers, and the slots of all functions then.
+pub fn with_slots(
     alloc: Global,
-    answer: &Result<(), EbpfRelocationError>,
+    mut answer: String,
     object: &Object,
 ) -> Result<String, AllocError> {
-    let mut text = said(alloc, answer)?;
-    put_all_slots(alloc, &mut text, object)?;
-    Ok(text)
+    put_all_slots(alloc, &mut answer, &object.functions)?;
+    Ok(answer)
 }

@@ -1,0 +1,53 @@
+//! A file's bytes to what a loader hands to the kernel: its programs, each linked with the functions that it calls.
+#![tactic(auto)]
+
+use ebpf_object::Object;
+use ebpf_object::prepare::{PrepareError, Steps, prepare};
+use std::alloc::Global;
+use std::{env, fs, io};
+
+/// The object of a file, each of its programs linked. Given a kernel's types and descriptors, the passes for these run
+/// too.
+fn linked(alloc: Global, file: &[u8]) -> Result<Object, PrepareError> {
+    let steps = Steps {
+        target_btf: None,
+        map_fds: None,
+        externs: None,
+        calls: true,
+    };
+    let no_symbols: &[u8] = &[];
+    prepare(alloc, file, &steps, no_symbols)
+}
+
+/// How many slots the linked program of a name has.
+fn size_of(object: &Object, name: &str) -> Option<usize> {
+    let program = object.programs.get(name)?;
+    let function = object.functions.get(program.function_key())?;
+    Some(function.instructions.len())
+}
+
+/// Prints each program's name and number of slots, in byte order of the names.
+fn print_programs(rt: &HostRuntime, object: &Object) -> io::Result<()> {
+    for name in &object.programs.names(rt.alloc())? {
+        if let Some(size) = size_of(object, name) {
+            println!(rt; "{name}: {size} slots")?;
+        }
+    }
+    Ok(())
+}
+
+/// Prints what a file has, or why it is refused.
+fn print_file(rt: &HostRuntime, file: &[u8]) -> io::Result<()> {
+    match linked(rt.alloc(), file) {
+        Ok(object) => print_programs(rt, &object),
+        Err(error) => println!(rt; "{error}"),
+    }
+}
+
+fn main(rt: HostRuntime) -> io::Result<()> {
+    for path in env::args(&rt)?.skip(1) {
+        let file = fs::read(&rt, path.as_str())?;
+        print_file(&rt, &file)?;
+    }
+    Ok(())
+}
