@@ -1,13 +1,14 @@
 #!/usr/bin/env python3
 """Our time beside libbpf's, on the same inputs, in one run.
 
-usage: beside_libbpf.py EBPF_BENCH [--runs N] [WORD..]     WORD: only inputs whose name has it
+usage: beside_libbpf.py EBPF_BENCH [--runs N] [--table FILE] [WORD..]     WORD: only inputs whose name has it
 
 EBPF_BENCH is the built crates/bench_prepare/out/bench_prepare. Needs clang with the bpf target, gcc, bpftool, libbpf and its
 headers, and a kernel that shows its types. Each input is made by libbpf/sources.py and compiled; libbpf
 (libbpf/load_times.c) and `bench_prepare prepare` run on it in turn, three times each, and each time the least of N (9) runs
 counts. Both begin with the file in the page cache, and count everything from opening the object, with reading the
-kernel's types and symbols where the input needs them, to finished slots. The last column is ours over libbpf's.
+kernel's types and symbols where the input needs them, to finished slots. The last column is ours over libbpf's. With
+--table the times are also written as columns between tabs, as plot.py reads them (docs/beside-libbpf.tsv).
 """
 import argparse
 import re
@@ -26,6 +27,7 @@ def words():
     parser = argparse.ArgumentParser()
     parser.add_argument("bench")
     parser.add_argument("--runs", type=int, default=9)
+    parser.add_argument("--table", type=Path)
     parser.add_argument("names", nargs="*")
     return parser.parse_args()
 
@@ -64,6 +66,7 @@ def compare(asked, folder, loading, made):
 
 def main():
     asked = words()
+    table = ["input\tKiB\tlibbpf us\tours us"]
     print(f"{'input':16}{'KiB':>8}{'libbpf us':>12}{'ours us':>10}{'ratio':>8}", flush=True)
     with tempfile.TemporaryDirectory() as name:
         folder = Path(name)
@@ -75,7 +78,10 @@ def main():
             made = compiled(folder, make, count)
             theirs, ours = compare(asked, folder, loading, made)
             ratio = f"{ours / theirs:.2f}" if theirs and ours else "-"
+            table.append(f"{title}\t{made.stat().st_size // 1024}\t{theirs}\t{ours}")
             print(f"{title:16}{made.stat().st_size // 1024:8}{theirs or '-':>12}{ours or '-':>10}{ratio:>8}", flush=True)
+    if asked.table:
+        asked.table.write_text("\n".join(table) + "\n")
 
 
 if __name__ == "__main__":
