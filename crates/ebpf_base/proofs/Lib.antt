@@ -1,7 +1,6 @@
 pub mod Agreement
 pub mod Copies
 pub mod Faults
-pub mod First
 pub mod FirstFaults
 pub mod Keyed
 pub mod Lists

@@ -1,14 +1,12 @@
 //! Values by the index of a section and an address in it, in bytes, in order, seen as a finite map.
 
 ghost use Rattle.std.specs.Prelude.{◌≡◌, ℕ, ◌<◌, ◌^◌, ◌↔◌, length, OnOk, OnErr, OnSome, IfOk, IsTrue, MatchOption, Ok, Err, true};
-ghost use Rattle.std.specs.List.{find};
-ghost use Rattle.std.specs.Option.{option_copied, option_copied_mut, option_map};
+ghost use Rattle.std.specs.Option.{option_copied, option_copied_mut};
 ghost use Rattle.std.specs.Borrow.{LendsSo, sem};
 ghost use Rattle.std.specs.FinMap as map;
 ghost use Rattle.ebpf_base.specs.Copies.{AreCopies, maps_eq, maps_eq_laws};
 ghost use Rattle.std.specs.List.Sorted.{IsStrictlySortedBy};
 ghost use Rattle.std.specs.Map.{keys_of};
-ghost use Rattle.std.specs.Ordering.{is_le};
 ghost use Rattle.ebpf_base.specs.Keys.{key_cmp, coded_key, key_total};
 ghost use Rattle.ebpf_base.specs.Mapped.{map_values, Writes, WritesBy};
 ghost use Rattle.ebpf_base.specs.contracts.by_key.ByKey.{the_row};
@@ -109,16 +107,6 @@ impl<V> ByKey<V> {
         ensures fits { length result < 2 ^ 63 }
     {
         self.entries.iter()
-    }
-
-    /// The first entry whose key is not below a key.
-    pub fn first_from(&self, key: (usize, u64)) -> Option<((usize, u64), &V)>
-        ensures { option_map (λ e. (e.0, e.1.now)) result ≡ find (λ e. is_le (key_cmp key e.0)) (map.entries self.now) }
-    {
-        match self.entries.range(key..).next() {
-            Some((at, value)) => Some((*at, value)),
-            None => None,
-        }
     }
 
     /// Puts a value in the place of the one at a key, which comes back. `Err` gives the value back

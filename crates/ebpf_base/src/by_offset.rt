@@ -1,8 +1,7 @@
 //! Values by offset in bytes, in order, seen as a finite map.
 
 ghost use Rattle.std.specs.Prelude.{◌≡◌, ℕ, ◌<◌, ◌^◌, ◌↔◌, length, OnOk, OnErr, OnSome, IfOk, IsTrue, MatchOption, Ok, Err};
-ghost use Rattle.std.specs.List.{find};
-ghost use Rattle.std.specs.Option.{option_copied, option_copied_mut, option_map};
+ghost use Rattle.std.specs.Option.{option_copied, option_copied_mut};
 ghost use Rattle.std.specs.Borrow.{LendsSo, sem};
 ghost use Rattle.std.specs.FinMap as map;
 ghost use Rattle.ebpf_base.specs.Copies.{AreCopies, maps_eq, maps_eq_laws};
@@ -10,8 +9,8 @@ ghost use Rattle.std.specs.Cmp.{nat_cmp_total};
 ghost use Rattle.std.specs.List.Sorted.{IsStrictlySortedBy};
 ghost use Rattle.std.specs.Map.{keys_of};
 ghost use Rattle.std.specs.Coded.{coded_ℕ};
-ghost use Rattle.std.specs.Ordering.{nat_cmp, is_le};
-ghost use Rattle.ebpf_base.specs.Parts.{entries_from, entries_from_to};
+ghost use Rattle.std.specs.Ordering.{nat_cmp};
+ghost use Rattle.ebpf_base.specs.Parts.{entries_from};
 ghost use Rattle.ebpf_base.specs.contracts.by_offset.ByOffset.{the_row};
 
 use std::alloc::{AllocError, Global};
@@ -113,30 +112,12 @@ impl<V> ByOffset<V> {
         self.entries.iter()
     }
 
-    /// The first entry whose key is not below a key.
-    pub fn first_from(&self, key: u64) -> Option<(u64, &V)>
-        ensures { option_map (λ e. (e.0, e.1.now)) result ≡ find (λ e. is_le (nat_cmp key e.0)) (map.entries self.now) }
-    {
-        match self.entries.range(key..).next() {
-            Some((at, value)) => Some((*at, value)),
-            None => None,
-        }
-    }
-
     /// The entries of the offsets from `from` on, in order.
     pub fn from_offset(&self, from: u64) -> btree_map::Range<'_, u64, V>
         ensures part { result ≡ entries_from from (map.entries self.now) }
         ensures fits { length result < 2 ^ 63 }
     {
         self.entries.range(from..)
-    }
-
-    /// The entries of the offsets from `from` on and below `to`, in order. Where `to` isn't above `from` there are none.
-    pub fn range(&self, from: u64, to: u64) -> btree_map::Range<'_, u64, V>
-        ensures part { result ≡ entries_from_to from to (map.entries self.now) }
-        ensures fits { length result < 2 ^ 63 }
-    {
-        self.entries.range(from..to.max(from))
     }
 
     /// Puts a value in the place of the one at a key, which comes back. `Err` gives the value back

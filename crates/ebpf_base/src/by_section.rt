@@ -1,8 +1,7 @@
 //! Values by the index of a section, in order, seen as a finite map.
 
 ghost use Rattle.std.specs.Prelude.{◌≡◌, ℕ, ◌<◌, ◌^◌, ◌↔◌, length, OnOk, OnErr, OnSome, IfOk, IsTrue, MatchOption, Ok, Err};
-ghost use Rattle.std.specs.List.{find};
-ghost use Rattle.std.specs.Option.{option_copied, option_copied_mut, option_map};
+ghost use Rattle.std.specs.Option.{option_copied, option_copied_mut};
 ghost use Rattle.std.specs.Borrow.{LendsSo, sem};
 ghost use Rattle.std.specs.FinMap as map;
 ghost use Rattle.ebpf_base.specs.Copies.{AreCopies, maps_eq, maps_eq_laws};
@@ -10,7 +9,7 @@ ghost use Rattle.std.specs.Cmp.{nat_cmp_total};
 ghost use Rattle.std.specs.List.Sorted.{IsStrictlySortedBy};
 ghost use Rattle.std.specs.Map.{keys_of};
 ghost use Rattle.std.specs.Coded.{coded_ℕ};
-ghost use Rattle.std.specs.Ordering.{nat_cmp, is_le};
+ghost use Rattle.std.specs.Ordering.{nat_cmp};
 ghost use Rattle.ebpf_base.specs.contracts.by_section.BySection.{the_row};
 
 use std::alloc::{AllocError, Global};
@@ -110,16 +109,6 @@ impl<V> BySection<V> {
         ensures fits { length result < 2 ^ 63 }
     {
         self.entries.iter()
-    }
-
-    /// The first entry whose key is not below a key.
-    pub fn first_from(&self, key: usize) -> Option<(usize, &V)>
-        ensures { option_map (λ e. (e.0, e.1.now)) result ≡ find (λ e. is_le (nat_cmp key e.0)) (map.entries self.now) }
-    {
-        match self.entries.range(key..).next() {
-            Some((at, value)) => Some((*at, value)),
-            None => None,
-        }
     }
 
     /// Puts a value in the place of the one at a key, which comes back. `Err` gives the value back

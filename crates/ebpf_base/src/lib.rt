@@ -7,7 +7,6 @@ mod by_name;
 mod by_offset;
 mod by_section;
 mod duplicates;
-mod in_section;
 mod items;
 mod text;
 

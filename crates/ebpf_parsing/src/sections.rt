@@ -24,7 +24,7 @@ pub fn read_section<'a>(
     ensures section { IfOk result (λ s. s ≡ section_with [] section.now) }
     ensures fault { Refuses is_memory result (section_fault section.now) }
 {
-    let read = Section::with_relocations(alloc, section, &[])?;
+    let read = Section::without_relocations(alloc, section)?;
     check_targets(tables)?;
     Ok(read)
 }

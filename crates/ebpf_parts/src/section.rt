@@ -1,9 +1,8 @@
 //! A section, as it is parsed.
 
-ghost use Rattle.std.specs.Prelude.{◌≡◌, ◌∷◌, ◌++◌, [], ℕ, IfOk, OnOk, Some, None};
-ghost use Rattle.std.specs.List.{flat_map};
+ghost use Rattle.std.specs.Prelude.{◌≡◌, [], IfOk, Some};
 ghost use Rattle.ebpf_base.specs.Faults.{Refuses, or_else, fault_of};
-ghost use Rattle.ebpf_elf.specs.Relocations.{relocations, entries_of};
+ghost use Rattle.ebpf_elf.specs.Relocations.{relocations};
 ghost use Rattle.ebpf_elf.specs.Sections.{header, data_of, section_name};
 ghost use Rattle.ebpf_parts.specs.Memory.{is_memory};
 ghost use Rattle.ebpf_parts.specs.Sections.{SectionValue, section_of, section_with, section_fault, section_fault_with, target_fault, data_fault, name_fault};
@@ -11,7 +10,7 @@ ghost use Rattle.ebpf_parts.specs.Sections.{SectionValue, section_of, section_wi
 use crate::error::ParseError;
 use crate::section_kind::EbpfSectionKind;
 use ebpf_base::Items;
-use ebpf_elf::{ElfRelocationSection, ElfSection, SectionIndex};
+use ebpf_elf::{ElfSection, SectionIndex};
 use std::alloc::Global;
 use std::marker::Model;
 
@@ -87,39 +86,6 @@ fn relocations_of(alloc: Global, section: &ElfSection<'_>) -> Result<Items<Reloc
     Ok(kept)
 }
 
-/// Adds the relocations of one relocation section, each against a symbol.
-fn add_entries(
-    kept: &mut Items<Relocation>,
-    table: &ElfRelocationSection<'_>,
-) -> Result<(), ParseError>
-    ensures list { OnOk result (kept.new ≡ kept.old ++ entries_of table.now) }
-    ensures fault { Refuses is_memory result (target_fault (entries_of table.now)) }
-{
-    for relocation in table.relocations() {
-        if relocation.symbol_index == 0 {
-            return Err(ParseError::UnsupportedRelocationTarget);
-        }
-        kept.push(relocation)?;
-    }
-    Ok(())
-}
-
-/// The relocations of some relocation sections, one after the other, each against a symbol.
-#[tactic(auto, using(crate::proofs::Tables::tables_more, crate::proofs::Tables::tables_none, crate::proofs::Tables::target_append))]
-fn entries_of_all(
-    alloc: Global,
-    tables: &[ElfRelocationSection<'_>],
-) -> Result<Items<Relocation>, ParseError>
-    ensures list { IfOk result (λ kept. kept ≡ flat_map entries_of tables.now) }
-    ensures fault { Refuses is_memory result (target_fault (flat_map entries_of tables.now)) }
-{
-    let mut kept = Items::new(alloc);
-    for table in tables {
-        add_entries(&mut kept, table)?;
-    }
-    Ok(kept)
-}
-
 impl<'a> Section<'a> {
     /// A section of a file, with its name, its data and its relocations.
     ///
@@ -147,24 +113,21 @@ impl<'a> Section<'a> {
         })
     }
 
-    /// The same with the relocations of these relocation sections, one after the other, in place of its own, for a
-    /// caller that has gathered those whose target it is.
+    /// A section of a file with its name and its data, without its relocations.
     ///
     /// # Errors
     ///
-    /// Those of `from_elf`.
+    /// `SectionError` as `from_elf` has it.
     #[tactic(auto, unfolding(crate::specs::Sections::section_with, crate::specs::Sections::section_fault_with))]
-    pub fn with_relocations(
+    pub fn without_relocations(
         alloc: Global,
         section: &ElfSection<'a>,
-        tables: &[ElfRelocationSection<'_>],
     ) -> Result<Section<'a>, ParseError>
-        ensures section { IfOk result (λ s. s ≡ section_with (flat_map entries_of tables.now) section.now) }
-        ensures fault { Refuses is_memory result (section_fault_with (flat_map entries_of tables.now) section.now) }
+        ensures section { IfOk result (λ s. s ≡ section_with [] section.now) }
+        ensures fault { fault_of result ≡ section_fault_with [] section.now }
     {
         let name = name_of(section)?;
         let bytes = data_of(section)?;
-        let relocations = entries_of_all(alloc, tables)?;
         Ok(Section {
             index: section.index(),
             kind: EbpfSectionKind::from_elf(name, section),
@@ -172,7 +135,7 @@ impl<'a> Section<'a> {
             name,
             bytes,
             size: section.size(),
-            relocations,
+            relocations: Items::new(alloc),
         })
     }
 }

@@ -8,7 +8,6 @@ pub mod NumberedKeys
 pub mod CallsRefer
 pub mod Finished
 pub mod SoFar
-pub mod Gathered
 pub mod Shapes
 pub mod OneResult
 pub mod KeyedMaps

@@ -2,7 +2,6 @@ pub mod Memory
 pub mod Symbols
 pub mod Places
 pub mod Walks
-pub mod KeptRelocations
 pub mod Shapes
 pub mod References
 pub mod Numbers

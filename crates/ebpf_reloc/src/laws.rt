@@ -18,7 +18,7 @@ pub fn plain_slots_stay()
     ensures copied { CopiedSlotsStay }
 {}
 
-/// What `program_map` promises leaves one map of a program, with its copies in one order, and one answer, want of
+/// What `NumberedFunctions::program_map` promises leaves one map of a program, with its copies in one order, and one answer, want of
 /// memory aside. It is refused exactly where `relocate_calls` refuses the program alone, with the same error.
 pub fn one_map()
     ensures map { OneMap }

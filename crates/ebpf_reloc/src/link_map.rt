@@ -176,21 +176,3 @@ impl NumberedFunctions<'_> {
         }
     }
 }
-
-/// What one program is made of once it is linked, where the functions have no numbers yet.
-///
-/// # Errors
-///
-/// Those of `relocate_calls` for this program alone.
-pub fn program_map(
-    alloc: Global,
-    program: &ProgramKey<'_>,
-    parts: &Linkable<'_>,
-) -> Result<LinkMap, EbpfRelocationError>
-    ensures mapped { IfOk result (λ m. IsMapped (read parts.now) (key_of program.now) m) }
-    ensures fault { IfErr result (λ e. MatchBool (is_memory_at e) ⊤ (IsRefused (read parts.now) program.now e)) }
-    ensures memory { IfErr result NamesNoneForMemory }
-{
-    let functions = numbered(alloc, parts)?;
-    functions.program_map(alloc, program)
-}
