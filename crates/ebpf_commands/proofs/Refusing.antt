@@ -12,6 +12,7 @@ use Rattle.ebpf_commands.specs.declared.failure.Failure.TheVariants.{CannotRead,
 use Rattle.ebpf_object.specs.Headline.{ProgramsAreWhole}
 use Rattle.ebpf_object.specs.declared.object.Object.{Object}
 use Rattle.ebpf_parsing.specs.declared.program.Program.{Program}
+use Rattle.ebpf_reloc.specs.Places.{LinkableValue}
 
 -- nothing is refused by what can't be
 pub nothing : (b : Bool) (F : Type 0) → MatchBool b ⊤ ⊥ → MatchBool b ⊤ F
@@ -19,7 +20,7 @@ nothing true F h = h
 nothing false F h = absurd h
 
 -- a program has a function
-module _ (d o : Object) (whole : ProgramsAreWhole d o) (name : List ℕ) where
+module _ (parts : LinkableValue) (o : Object) (whole : ProgramsAreWhole parts o) (name : List ℕ) where
   without : (p : Option Program) → get o.programs name ≡ p → function_of o p ≡ None → p ≡ None
   without None is lacks = refl
   without (Some program) is lacks = let g = whole name program is in absurd (none-some g.0 (sym lacks ∙ g.1))
@@ -38,7 +39,7 @@ there o (Some name) h = some_of o (get o.programs name) h
 module _ (file : List ℕ) (btf lines : Option (List ℕ)) (o : Object) (linked : IsLinked file btf lines o) where
   named : (name : List ℕ) (f : Failure) → MatchBool (is_outside f) ⊤ (LacksAsked o (Some name) f) → MatchBool (is_outside f) ⊤ (Stands file btf lines (Some name) f)
   named name (NoProgram absent) h =
-      (o, linked, ap Some (sym h.0), subst (λ (n : List ℕ). get o.programs n ≡ None) (sym h.0) (no_program _ o (linked.headline.programs refl) name h.1))
+      (o, linked, ap Some (sym h.0), subst (λ (n : List ℕ). get o.programs n ≡ None) (sym h.0) (no_program _ o (linked.headline.finished.programs _ refl) name h.1))
   named name (CannotRead path) h = absurd h
   named name (Btf e) h = nothing (is_outside (Btf e)) _ h
   named name (Preparing e) h = nothing (is_outside (Preparing e)) _ h

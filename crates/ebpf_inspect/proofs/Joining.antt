@@ -2,7 +2,7 @@
 use Rattle.std.proofs.Common.{◌≡◌, ℕ, true, false, List, Option, None, sym, subst}
 use Rattle.ebpf_inspect.specs.Inspected.{joining, AreReports, AreReportsOf, IsInspected}
 use Rattle.ebpf_inspect.specs.declared.report.ProgramReport.{ProgramReport}
-use Rattle.ebpf_object.proofs.Headline.{headline}
+use Rattle.ebpf_object.proofs.Headline.{finished}
 use Rattle.ebpf_object.specs.Joined.{programs_in_order}
 use Rattle.ebpf_object.specs.Objects.{object_of, parse_fault}
 use Rattle.ebpf_object.specs.Prepared.{AfterMaps, AfterResolution, AfterExterns, AfterCalls, IsFault, IsParsed, IsPrepared}
@@ -66,8 +66,7 @@ module _ (s : Chosen) (lines : Option (List ℕ)) where
         let whole : IsPrepared (joining s) lines bytes of.linked = record { sound = sound; stages = of.stages } in
         record {
           linked = of.linked;
-          headline = headline (joining s) lines bytes of.linked whole;
-          prepared = whole;
+          headline = record { prepared = whole; finished = finished (joining s) lines bytes of.linked whole };
           each = of.each;
         }
 

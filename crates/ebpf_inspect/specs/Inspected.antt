@@ -4,7 +4,7 @@ use Rattle.std.specs.FinMap.{get}
 use Rattle.ebpf_inspect.specs.declared.report.ProgramReport.{ProgramReport}
 use Rattle.ebpf_object.specs.Headline.{Headline, linkable, unlinked_object}
 use Rattle.ebpf_object.specs.Joined.{programs_in_order}
-use Rattle.ebpf_object.specs.Prepared.{AfterCalls, IsPrepared}
+use Rattle.ebpf_object.specs.Prepared.{AfterCalls}
 use Rattle.ebpf_object.specs.Steps.{Chosen}
 use Rattle.ebpf_object.specs.declared.object.Object.{Object}
 use Rattle.ebpf_reloc.specs.LinkMaps.{IsMapped}
@@ -49,5 +49,4 @@ pub record AreReportsOf (steps : Chosen) (lines : Option (List ℕ)) (o : Object
 pub record IsInspected (steps : Chosen) (lines : Option (List ℕ)) (bytes : List ℕ) (reports : List ProgramReport) : Type 0 where
   pub linked : Object
   pub headline : Headline (joining steps) lines bytes linked
-  pub prepared : IsPrepared (joining steps) lines bytes linked
-  pub each : AreReports (unlinked_object prepared) linked (programs_in_order linked.programs) reports
+  pub each : AreReports (unlinked_object headline.prepared) linked (programs_in_order linked.programs) reports

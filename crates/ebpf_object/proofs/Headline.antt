@@ -1,7 +1,7 @@
--- What a prepared file is, from what its stages leave.
-use Rattle.std.proofs.Common.{◌≡◌, ℕ, ◌+◌, Bool, true, false, cond, ◌||◌, List, [], ◌∷◌, map, Option, Some, None, refl, sym, ap, ◌∙◌, subst}
+-- What the passes make of an object, from what each leaves.
+use Rattle.std.proofs.Common.{◌≡◌, ℕ, Bool, true, false, cond, ◌||◌, List, [], ◌∷◌, map, Option, Some, None, refl, sym, ap, ◌∙◌, subst, inl, inr}
 use Rattle.std.proofs.lemmas.Option.{none-some}
-use Rattle.std.specs.Prelude.{MatchBool, Ok, option_map, slice_get, unwrap_or}
+use Rattle.std.specs.Prelude.{MatchBool, Ok, option_map, is_some, if◌then◌else◌, slice_get, unwrap_or}
 use Rattle.std.specs.Cmp.{eq_by_cmp_equiv}
 use Rattle.std.specs.FinMap.{FinMap, get, entries, find, get-entries}
 use Rattle.std.specs.List.{list_any}
@@ -9,26 +9,27 @@ use Rattle.std.specs.Ordering.{eq_by_cmp}
 use Rattle.ebpf_base.specs.Keys.{text_cmp, key_cmp, key_total}
 use Rattle.ebpf_ext.specs.ExtReading.{ExtInfo}
 use Rattle.ebpf_btf.specs.TypeInfo.{TypeInfo}
-use Rattle.ebpf_ext.specs.declared.relocation.Relocation.{Relocation}
 use Rattle.ebpf_core_relo.proofs.RecordRuns.{put_slots_stand, records_alone_are_carried}
-use Rattle.ebpf_core_relo.specs.Alone.{placed_records, Touches, Carries}
+use Rattle.ebpf_core_relo.specs.Alone.{Touches, Carries}
 use Rattle.ebpf_core_relo.specs.Records.{Written, own_slots, slots_at, slots_written, with_slots}
-use Rattle.ebpf_linker.specs.Functions.{Functions, Linked, BeginsAt, body, or_empty}
-use Rattle.ebpf_linker.specs.Machine.{SameVisits}
+use Rattle.ebpf_linker.specs.Functions.{or_empty}
 use Rattle.ebpf_object.specs.AdaptedSlots.{AreAdapted, adapted_by}
-use Rattle.ebpf_object.specs.Headline.{linkable, separate_functions, IsWhole, key_of, ProgramsAreWhole, slot_in, scene_of, IsAlone, IsCarried, RecordsAreCarried, adapted_object, unlinked_object, Headline}
-use Rattle.ebpf_object.specs.Joined.{with_name, programs_in_order, is_program_key, AreJoined}
+use Rattle.ebpf_object.specs.Chain.{Chain, Links, with_descriptors}
+use Rattle.ebpf_object.specs.Headline.{key_of, ProgramsAreWhole, slot_in, scene_of, IsCopiedTo, StandsAt, RecordsAreCarried, IsFinished, PassesFinish, relocated_object, unlinked_object, passes_of, Headline}
+use Rattle.ebpf_object.specs.Joined.{with_name, linkable_of, programs_in_order, is_program_key}
 use Rattle.ebpf_object.specs.Objects.{object_of}
 use Rattle.ebpf_object.specs.Prepared.{IsPrepared}
-use Rattle.ebpf_object.specs.Stages.{Adapts, Joins}
-use Rattle.ebpf_object.specs.Steps.{Chosen}
+use Rattle.ebpf_object.specs.Stages.{Adapts, Joins, Resolves, described, externs_known, own_maps}
+use Rattle.ebpf_object.specs.Steps.{Chosen, Descriptor}
+use Rattle.ebpf_object.specs.TextSections.{has_function_in}
+use Rattle.ebpf_object.specs.WrittenSlots.{with_externs}
 use Rattle.ebpf_object.specs.declared.object.Object.{Object}
 use Rattle.ebpf_parsing.specs.declared.program.Program.{Program}
 use Rattle.ebpf_parts.specs.declared.insn.bpf_insn.{bpf_insn}
 use Rattle.ebpf_reloc.proofs.OneResult.{copied_slots_stay}
 use Rattle.ebpf_reloc.specs.Linking as linking
-use Rattle.ebpf_reloc.specs.Linking.{IsLinked, ProgramValue}
-use Rattle.ebpf_reloc.specs.Places.{LinkableValue}
+use Rattle.ebpf_reloc.specs.Linking.{ProgramValue}
+use Rattle.ebpf_reloc.specs.Places.{TextSections}
 use Rattle.ebpf_reloc.specs.References.{Key, content_of}
 use Rattle.ebpf_reloc.specs.declared.function.Function.{Function}
 
@@ -68,30 +69,22 @@ module _ (program : Program) where
   program_key : (programs : FinMap text_cmp Program) (name : List ℕ) → get programs name ≡ Some program → is_program_key (programs_in_order programs) (key_of program) ≡ true
   program_key programs name is = found_among (entries programs) name (sym (get-entries programs name) ∙ is)
 
--- what joining says of the key of a program
-joined_at : (b : Bool) (A B : Type 0) → b ≡ true → MatchBool b A B → A
-joined_at true A B is joined = joined
-joined_at false A B is joined = cc
+-- what linking says of the key of a program, and of another
+linked_at : (b : Bool) (A B : Type 0) → b ≡ true → MatchBool b A B → A
+linked_at true A B is linked = linked
+linked_at false A B is linked = cc
 
-joins_calls : (calls : Bool) (d o : Object) → calls ≡ true → Joins calls d o → Joins true d o
-joins_calls true d o is joins = joins
-joins_calls false d o is joins = cc
+left_at : (b : Bool) (A B : Type 0) → b ≡ false → MatchBool b A B → B
+left_at true A B is left = cc
+left_at false A B is left = left
 
-whole : (d : Object) (key : Key) (linked : Function) → IsLinked (linkable d) key linked → IsWhole d key linked
-whole d key linked is =
-    let slots : is.made.slots ≡ linked.instructions = sym (ap (λ (f : Function). f.instructions) is.is) in
-    record {
-      reached = is.order;
-      layout = subst (λ (out : List bpf_insn). Linked (separate_functions d) key is.order out) slots is.program.linked;
-      order = is.program.order;
-      visits = λ on. subst (λ (out : List bpf_insn). SameVisits (separate_functions d) key is.order out) slots (is.visits on);
-    }
+whole_programs : (text_sections : TextSections) (d o : Object) → Links (Some text_sections) d o → ProgramsAreWhole (linkable_of d text_sections) o
+whole_programs text_sections d o links name program is =
+    let same : get d.programs name ≡ Some program = sym (ap (λ (x : Object). get x.programs name) links.1) ∙ is in
+    linked_at (is_program_key (programs_in_order d.programs) (key_of program)) _ _ (program_key program d.programs name same) (links.0 (key_of program))
 
-whole_programs : (d o : Object) → Joins true d o → ProgramsAreWhole d o
-whole_programs d o joins name program is =
-    let same : get d.programs name ≡ Some program = sym (ap (λ (x : Object). get x.programs name) joins.1) ∙ is in
-    let g = joined_at (is_program_key (programs_in_order d.programs) (key_of program)) _ _ (program_key program d.programs name same) (joins.0 (key_of program)) in
-    (g.0, g.1, whole d (key_of program) g.0 g.2)
+whole_by : (calls : Option TextSections) (text_sections : TextSections) (d o : Object) → calls ≡ Some text_sections → Links calls d o → ProgramsAreWhole (linkable_of d text_sections) o
+whole_by calls text_sections d o is links = whole_programs text_sections d o (subst (λ (c : Option TextSections). Links c d o) is links)
 
 -- ---- types
 
@@ -105,49 +98,118 @@ own_body : (f : Option Function) → (or_empty (option_map content_of f)).slots 
 own_body None = refl
 own_body (Some f) = refl
 
-carried : (parsed adapted unlinked : Object) (target local : TypeInfo) (ext : ExtInfo) (slots : Written)
-    → slots_written (scene_of parsed local target) ext.relocations ≡ Ok slots
-    → ((key : Key) → get adapted.functions key ≡ with_slots (get slots key) (get parsed.functions key))
-    → RecordsAreCarried parsed target adapted unlinked local ext
-carried parsed adapted unlinked target local ext slots are each n record_at at alone =
-    let c : Carries (scene_of parsed local target) slots record_at = records_alone_are_carried (scene_of parsed local target) ext.relocations slots are n record_at at alone.among_records in
-    let in_adapted : own_slots (get adapted.functions c.key) ≡ slots_at parsed.functions slots c.key =
-    put_slots_stand (scene_of parsed local target) ext.relocations slots are adapted.functions each c.key
-    in
-    let stands : (i : ℕ) → Touches (scene_of parsed local target) record_at c.key i → slot_in unlinked c.key i ≡ slice_get c.slots i =
-    λ i touched. alone.unwritten c.key i touched ∙ ap (λ (xs : List bpf_insn). slice_get xs i) in_adapted ∙ c.stands i touched
-    in
-    record {
-      key = c.key;
-      slot = c.slot;
-      about = c.about;
-      function = c.function;
-      there = c.there;
-      outcome = c.outcome;
-      found = c.found;
-      slots = c.slots;
-      carried = c.carried;
-      stands = stands;
-      copied = λ program linked is base i carrying begins touched carries.
-          copied_slots_stay (linkable unlinked) program linked is c.key base i carrying begins
-          (ap (λ (xs : List bpf_insn). slice_get xs i) (own_body (get unlinked.functions c.key)) ∙ stands i touched ∙ carries, alone.plain c.key i touched);
-    }
+-- a slot that linking leaves as it is stands in the finished object as it was
+module _ (unlinked o : Object) (key : Key) (i : ℕ) (carrying : bpf_insn) (is : slot_in unlinked key i ≡ Some carrying) (at : Key) (place : ℕ) where
+  in_place : get o.functions at ≡ get unlinked.functions at → (at ≡ key) × (place ≡ i) → slot_in o at place ≡ Some carrying
+  in_place stays own =
+      ap (λ (f : Option Function). slice_get (own_slots f) place) stays
+      ∙ ap (λ (k : Key). slot_in unlinked k place) own.0
+      ∙ ap (λ (p : ℕ). slot_in unlinked key p) own.1
+      ∙ is
 
-carried_by : (parsed adapted unlinked : Object) (target local : TypeInfo) (ext : ExtInfo) → AreAdapted parsed target adapted.functions
-    → parsed.btf ≡ Some local → parsed.btf_ext ≡ Some ext → RecordsAreCarried parsed target adapted unlinked local ext
-carried_by parsed adapted unlinked target local ext are has says =
-    carried parsed adapted unlinked target local ext are.slots (written_by parsed target local ext parsed.btf parsed.btf_ext are.slots has says are.written) are.each
+  in_copy : (text_sections : TextSections) → IsCopiedTo text_sections unlinked o key i at place → slot_in o at place ≡ Some carrying
+  in_copy text_sections c = elim c.kept [
+    | inl plain ↦ ap (λ (f : Option Function). slice_get (own_slots f) place) c.there
+        ∙ ap (λ (p : ℕ). slice_get c.linked.instructions p) c.here
+        ∙ copied_slots_stay (linkable_of unlinked text_sections) at c.linked c.is key c.base i carrying c.begins
+        (ap (λ (xs : List bpf_insn). slice_get xs i) (own_body (get unlinked.functions key)) ∙ is, plain)
+    | inr same ↦ same ∙ is
+  ]
+
+  by_program : (text_sections : TextSections) → Links (Some text_sections) unlinked o → (b : Bool) → is_program_key (programs_in_order unlinked.programs) at ≡ b
+      → MatchBool b (IsCopiedTo text_sections unlinked o key i at place) ((at ≡ key) × (place ≡ i)) → slot_in o at place ≡ Some carrying
+  by_program text_sections links true e copied = in_copy text_sections copied
+  by_program text_sections links false e own = in_place (left_at (is_program_key (programs_in_order unlinked.programs) at) _ _ e (links.0 at)) own
+
+  finished_slot : (calls : Option TextSections) → Links calls unlinked o → StandsAt calls unlinked o key i at place → slot_in o at place ≡ Some carrying
+  finished_slot None links own = in_place (ap (λ (x : Object). get x.functions at) links) own
+  finished_slot (Some text_sections) links here = by_program text_sections links (is_program_key (programs_in_order unlinked.programs) at) refl here
+
+carried : (parsed relocated unlinked o : Object) (target local : TypeInfo) (ext : ExtInfo) (calls : Option TextSections) (left : Written)
+    → slots_written (scene_of parsed local target) ext.relocations ≡ Ok left
+    → ((key : Key) → get relocated.functions key ≡ with_slots (get left key) (get parsed.functions key))
+    → Links calls unlinked o
+    → RecordsAreCarried (scene_of parsed local target) ext.relocations calls relocated unlinked o
+carried parsed relocated unlinked o target local ext calls left are puts links = record {
+  left = left;
+  written = are;
+  each = λ n record_at at alone.
+      let c : Carries (scene_of parsed local target) left record_at = records_alone_are_carried (scene_of parsed local target) ext.relocations left are n record_at at alone.among_records in
+      let in_relocated : own_slots (get relocated.functions c.key) ≡ slots_at parsed.functions left c.key =
+      put_slots_stand (scene_of parsed local target) ext.relocations left are relocated.functions puts c.key
+      in
+      let stands : (i : ℕ) → Touches (scene_of parsed local target) record_at c.key i → slot_in unlinked c.key i ≡ slice_get c.slots i =
+      λ i touched. alone.unwritten c.key i touched ∙ ap (λ (xs : List bpf_insn). slice_get xs i) in_relocated ∙ c.stands i touched
+      in
+      record {
+        carries = c;
+        finished = λ i carrying touched is at place here. finished_slot unlinked o c.key i carrying (stands i touched ∙ is) at place calls links here;
+      };
+}
+
+carried_by : (parsed relocated unlinked o : Object) (target local : TypeInfo) (ext : ExtInfo) (calls : Option TextSections) → AreAdapted parsed target relocated.functions
+    → parsed.btf ≡ Some local → parsed.btf_ext ≡ Some ext → Links calls unlinked o
+    → RecordsAreCarried (scene_of parsed local target) ext.relocations calls relocated unlinked o
+carried_by parsed relocated unlinked o target local ext calls are has says links =
+    carried parsed relocated unlinked o target local ext calls are.slots (written_by parsed target local ext parsed.btf parsed.btf_ext are.slots has says are.written) are.each links
 
 adapts_to : (chosen : Option TypeInfo) (target : TypeInfo) (o a : Object) → chosen ≡ Some target → Adapts chosen o a → Adapts (Some target) o a
 adapts_to chosen target o a is adapts = subst (λ (t : Option TypeInfo). Adapts t o a) is adapts
 
+-- ---- a finished object
+
+pub passes_finish : PassesFinish
+passes_finish passes parsed o c = record {
+  chain = c;
+  programs = λ text_sections calls. whole_by passes.calls text_sections c.unlinked o calls c.calls;
+  types = λ target local ext chosen has says.
+      carried_by parsed c.relocated c.unlinked o target local ext passes.calls (adapts_to passes.target target parsed c.relocated chosen c.types).0 has says c.calls;
+}
+
 -- ---- a prepared file
 
+described_by : (descriptors : Option (List Descriptor)) (a b : Object) → b ≡ described descriptors a
+    → b ≡ with_descriptors (option_map (λ ds. (has_function_in a.functions, own_maps a.maps ds)) descriptors) a
+described_by None a b is = is
+described_by (Some descriptors) a b is = is
+
+same_externs : (b : Object) → b ≡ record b { externs = b.externs }
+same_externs b = refl
+
+resolved_by : (kernel : Option (Option TypeInfo)) (lines : Option (List ℕ)) (b c : Object) → Resolves kernel lines b c → c ≡ record b { externs = c.externs }
+resolved_by None lines b c is = subst (λ (x : Object). x ≡ record b { externs = x.externs }) (sym is) (same_externs b)
+resolved_by (Some kernel) lines b c resolves = resolves.1
+
+known_by : (kernel : Option (Option TypeInfo)) (c d : Object) → d ≡ externs_known kernel c → d ≡ (if is_some kernel then with_externs c else c)
+known_by None c d is = is
+known_by (Some kernel) c d is = is
+
+linked_by : (calls : Bool) (d o : Object) → Joins calls d o → Links (if calls then Some (has_function_in d.functions) else None) d o
+linked_by true d o joins = joins
+linked_by false d o joins = joins
+
+module _ (steps : Chosen) (lines : Option (List ℕ)) (bytes : List ℕ) (o : Object) (p : IsPrepared steps lines bytes o) where
+  abbrev a : Object
+  a = relocated_object p
+
+  abbrev d : Object
+  d = unlinked_object p
+
+  chain : Chain (passes_of p) (object_of bytes) o
+  chain = record {
+    relocated = a;
+    described = p.stages.externs.resolution.before;
+    resolved = p.stages.externs.before;
+    unlinked = d;
+    types = p.stages.externs.resolution.maps.types;
+    maps = described_by steps.descriptors a p.stages.externs.resolution.before p.stages.externs.resolution.maps.is;
+    resolution = resolved_by steps.kernel lines p.stages.externs.resolution.before p.stages.externs.before p.stages.externs.resolution.resolves;
+    externs = known_by steps.kernel p.stages.externs.before d p.stages.externs.is;
+    calls = linked_by steps.calls d o p.stages.joins;
+  }
+
+  pub finished : IsFinished (passes_of p) (object_of bytes) o
+  finished = passes_finish (passes_of p) (object_of bytes) o chain
+
 pub headline : (steps : Chosen) (lines : Option (List ℕ)) (bytes : List ℕ) (o : Object) → IsPrepared steps lines bytes o → Headline steps lines bytes o
-headline steps lines bytes o p = record {
-  prepared = p;
-  programs = λ calls. whole_programs (unlinked_object p) o (joins_calls steps.calls (unlinked_object p) o calls p.stages.joins);
-  types = λ target local ext chosen has says.
-      carried_by (object_of bytes) (adapted_object p) (unlinked_object p) target local ext
-      (adapts_to steps.target target (object_of bytes) (adapted_object p) chosen p.stages.externs.resolution.maps.types).0 has says;
-}
+headline steps lines bytes o p = record { prepared = p; finished = finished steps lines bytes o p }

@@ -6,7 +6,6 @@ use Rattle.ebpf_object.specs.KeptParts.{KeepsOthers}
 use Rattle.ebpf_object.specs.Prepared.{AfterMaps, AfterResolution, AfterExterns, AfterCalls}
 use Rattle.ebpf_object.specs.Stages.{Adapts, described, Resolves, externs_known, Joins}
 use Rattle.ebpf_object.specs.Steps.{Chosen, Descriptor}
-use Rattle.ebpf_object.specs.WrittenSlots.{with_externs}
 use Rattle.ebpf_object.specs.declared.object.Object.{Object}
 
 kept_twice : (o a b : Object) → KeepsOthers o a → KeepsOthers a b → KeepsOthers o b

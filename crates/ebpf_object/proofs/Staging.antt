@@ -1,5 +1,5 @@
 -- The stages of preparing an object, put together.
-use Rattle.std.proofs.Common.{◌≡◌, ℕ, Bool, true, false, List, Option, Some, None, subst, sym}
+use Rattle.std.proofs.Common.{◌≡◌, ℕ, Bool, true, false, List, Option, None, subst, sym}
 use Rattle.std.specs.Prelude.{MatchBool, Result, Ok, Err, OnOk, IfOk, IfErr, IsErrAnd}
 use Rattle.ebpf_object.specs.Prepared.{AfterMaps, AfterResolution, AfterExterns, AfterCalls, IsFault, IsFirstFault, IsPrepared, IsParsed, Refuses, NamesNothing, is_memory}
 use Rattle.ebpf_object.specs.Objects.{object_of, parse_fault}

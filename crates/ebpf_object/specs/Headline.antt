@@ -1,60 +1,56 @@
--- What a prepared file is. Every program is its own function followed by every function that its references reach, each
--- once; under every list of branch decisions it visits the separate functions' slots in the same order; and every slot
--- that one type relocation alone writes carries its kind's value for the same named path in the target.
-use Rattle.std.specs.Prelude.{◌≡◌, ℕ, ◌+◌, true, List, ◌∷◌, Option, Some, Ok, slice_get}
+-- What is promised of a finished object: after parsing and then the passes types, maps, externs, calls, each at most
+-- once and with Ok, every program is its function followed by every function its references reach, each once; under every
+-- list of branch decisions it visits the separate functions' slots in the same order; and every slot that one type
+-- relocation alone writes carries its kind's value for the same named path in the target.
+--
+-- The program's own function stands once more where a reference names it. Visits hold where each reference of the program
+-- and of the functions that it reaches stands on a pseudo call or on a wide load, as long as the separate run hasn't left
+-- its function, and neither machine enters a function that a helper calls back. A value that doesn't exist is a poisoned
+-- slot. No public field is written by hand between the calls.
+use Rattle.std.specs.Prelude.{◌≡◌, ◌⊎◌, ℕ, ◌+◌, List, ◌∷◌, Option, Some, None, option_map, is_some, Ok, if◌then◌else◌, slice_get, MatchBool}
 use Rattle.std.specs.FinMap.{get}
 use Rattle.ebpf_ext.specs.ExtReading.{ExtInfo}
 use Rattle.ebpf_btf.specs.TypeInfo.{TypeInfo}
 use Rattle.ebpf_ext.specs.declared.relocation.Relocation.{Relocation}
-use Rattle.ebpf_core.specs.Searches.{outcome_of}
-use Rattle.ebpf_core.specs.declared.outcome.Outcome.{Outcome}
-use Rattle.ebpf_core_relo.specs.Alone.{placed_records, slot_of, Touches, WritesAlone}
-use Rattle.ebpf_core_relo.specs.Carried.{written}
-use Rattle.ebpf_core_relo.specs.Records.{Scene, own_slots, scene_between}
-use Rattle.ebpf_linker.specs.Functions.{Functions, Linked, Nothing, BeginsAt}
-use Rattle.ebpf_linker.specs.Machine.{SameVisits, OnCallsOrLoads}
-use Rattle.ebpf_linker.specs.Order.{InOrder}
-use Rattle.ebpf_object.specs.Joined.{linkable_of}
+use Rattle.ebpf_core_relo.specs.Alone.{placed_records, Touches, WritesAlone, Carries}
+use Rattle.ebpf_core_relo.specs.Records.{Scene, Written, own_slots, scene_between, slots_written}
+use Rattle.ebpf_linker.specs.Functions.{Functions, Nothing, BeginsAt}
+use Rattle.ebpf_object.specs.Chain.{Passes, Chain}
+use Rattle.ebpf_object.specs.Joined.{linkable_of, programs_in_order, is_program_key}
 use Rattle.ebpf_object.specs.Objects.{object_of}
 use Rattle.ebpf_object.specs.Prepared.{IsPrepared}
+use Rattle.ebpf_object.specs.Stages.{own_maps}
 use Rattle.ebpf_object.specs.Steps.{Chosen}
 use Rattle.ebpf_object.specs.TextSections.{has_function_in}
 use Rattle.ebpf_object.specs.declared.object.Object.{Object}
 use Rattle.ebpf_parsing.specs.declared.program.Program.{Program}
 use Rattle.ebpf_parts.specs.declared.insn.bpf_insn.{bpf_insn}
 use Rattle.ebpf_reloc.specs.Linking.{IsLinked}
-use Rattle.ebpf_reloc.specs.Places.{LinkableValue}
+use Rattle.ebpf_reloc.specs.Places.{LinkableValue, TextSections}
 use Rattle.ebpf_reloc.specs.References.{Key, functions_of}
 use Rattle.ebpf_reloc.specs.declared.error.RelocationError.{RelocationError}
 use Rattle.ebpf_reloc.specs.declared.function.Function.{Function}
 
 -- ---- programs
 
--- what linking reads of an object as it stands when linking begins
+-- what linking reads of an object as it stands when linking begins, where the sections of code are those of its functions
 abbrev pub linkable : Object → LinkableValue
 linkable o = linkable_of o (has_function_in o.functions)
 
--- the separate functions of an object, and what their slots refer to
-abbrev pub separate_functions : Object → Functions Key RelocationError
-separate_functions o = functions_of (linkable o)
-
--- The function at a key, as linking leaves it: the own function of the program, followed by every function that its
--- references reach, each once, in the order of their key paths. Where each reference stands on a pseudo call or a wide
--- load, it visits the slots of the separate functions, as these stood when linking began.
-pub record IsWhole (unlinked : Object) (key : Key) (linked : Function) : Type 0 where
-  pub reached : List Key
-  pub layout : Linked (separate_functions unlinked) key reached linked.instructions
-  pub order : InOrder (functions_of (linkable unlinked)).reference key reached
-  pub visits : OnCallsOrLoads (separate_functions unlinked) (key ∷ reached) → SameVisits (separate_functions unlinked) key reached linked.instructions
+-- the separate functions, as they stand when linking begins, and what their slots refer to
+abbrev pub separate_functions : LinkableValue → Functions Key RelocationError
+separate_functions parts = functions_of parts
 
 abbrev pub key_of : Program → Key
 key_of program = (program.section_index, program.address)
 
--- each program is whole
-abbrev pub ProgramsAreWhole : Object → Object → Type 0
-ProgramsAreWhole unlinked o =
+-- Each program has become its linked function: its own function followed by every function that its references reach,
+-- each once, in the order of their key paths; where each reference stands on a pseudo call or a wide load, it visits the
+-- slots of the separate functions.
+abbrev pub ProgramsAreWhole : LinkableValue → Object → Type 0
+ProgramsAreWhole parts o =
     (name : List ℕ) (program : Program) → get o.programs name ≡ Some program
-    → (linked : Function) × (get o.functions (key_of program) ≡ Some linked) × IsWhole unlinked (key_of program) linked
+    → (linked : Function) × (get o.functions (key_of program) ≡ Some linked) × IsLinked parts (key_of program) linked
 
 -- ---- types
 
@@ -66,52 +62,82 @@ slot_in o key i = slice_get (own_slots (get o.functions key)) i
 abbrev pub scene_of : Object → TypeInfo → TypeInfo → Scene
 scene_of parsed local target = scene_between local target parsed.functions parsed.section_infos
 
--- The slots that a record touches: no other record touches them, and neither descriptors, externs nor linking change
--- them.
-pub record IsAlone (scene : Scene) (records : List (ℕ × Relocation)) (adapted unlinked : Object) (n : ℕ) (record_at : ℕ × Relocation) : Type 0 where
+-- The slots that a record touches: no other record touches them, and neither descriptors nor externs change them.
+pub record IsAlone (scene : Scene) (records : List (ℕ × Relocation)) (relocated unlinked : Object) (n : ℕ) (record_at : ℕ × Relocation) : Type 0 where
   pub among_records : WritesAlone scene records n record_at
-  pub unwritten : (key : Key) (i : ℕ) → Touches scene record_at key i → slot_in unlinked key i ≡ slot_in adapted key i
-  pub plain : (key : Key) (i : ℕ) → Touches scene record_at key i → (separate_functions unlinked).reference key i ≡ Nothing
+  pub unwritten : (key : Key) (i : ℕ) → Touches scene record_at key i → slot_in unlinked key i ≡ slot_in relocated key i
 
--- The slots that a record touches carry its outcome, the value of its kind for the same named path in the target: in
--- its function, and in each copy of it in each program, at the base of the copy plus their number.
-pub record IsCarried (scene : Scene) (unlinked : Object) (record_at : ℕ × Relocation) : Type 0 where
-  pub key : Key
-  pub slot : ℕ
-  pub about : slot_of scene record_at ≡ Some (key, slot)
-  pub function : Function
-  pub there : get scene.functions key ≡ Some function
-  pub outcome : Outcome
-  pub found : outcome_of scene.sides.local scene.sides.target record_at.1 ≡ Ok outcome
-  pub slots : List bpf_insn
-  pub carried : written record_at.1.number function.instructions slot outcome ≡ Ok slots
-  pub stands : (i : ℕ) → Touches scene record_at key i → slot_in unlinked key i ≡ slice_get slots i
-  pub copied : (program : Key) (linked : Function) (is : IsLinked (linkable unlinked) program linked)
-      → (base i : ℕ) (carrying : bpf_insn) → BeginsAt (separate_functions unlinked) (program ∷ is.order) key base
-      → Touches scene record_at key i → slice_get slots i ≡ Some carrying → slice_get linked.instructions (base + i) ≡ Some carrying
+-- Linking leaves a slot as it is: it refers to no function, or where it stands is what it was.
+abbrev pub LinkingKeeps : TextSections → Object → Object → Key → ℕ → Key → ℕ → Type 0
+LinkingKeeps text_sections unlinked o key i at place =
+    ((separate_functions (linkable_of unlinked text_sections)).reference key i ≡ Nothing) ⊎ (slot_in o at place ≡ slot_in unlinked key i)
+
+-- Slot i of the function at a key stands, once its program is linked, in the linked function at another key: that is the
+-- program's own function or has a copy of it, which begins at a base.
+pub record IsCopiedTo (text_sections : TextSections) (unlinked o : Object) (key : Key) (i : ℕ) (at : Key) (place : ℕ) : Type 0 where
+  pub linked : Function
+  pub there : get o.functions at ≡ Some linked
+  pub is : IsLinked (linkable_of unlinked text_sections) at linked
+  pub base : ℕ
+  pub begins : BeginsAt (separate_functions (linkable_of unlinked text_sections)) (at ∷ is.order) key base
+  pub here : place ≡ base + i
+  pub kept : LinkingKeeps text_sections unlinked o key i at place
+
+-- Where slot i of the function at a key stands in the finished object, unchanged by linking: in each program's function,
+-- once programs are linked, and in its own function where that is no program's or no program is linked.
+abbrev pub StandsAt : Option TextSections → Object → Object → Key → ℕ → Key → ℕ → Type 0
+StandsAt None unlinked o key i at place = (at ≡ key) × (place ≡ i)
+StandsAt (Some text_sections) unlinked o key i at place =
+    MatchBool (is_program_key (programs_in_order unlinked.programs) at)
+    (IsCopiedTo text_sections unlinked o key i at place)
+    ((at ≡ key) × (place ≡ i))
+
+-- The slots that a record touches carry its outcome in the finished object, wherever they stand in it.
+pub record IsCarried (scene : Scene) (left : Written) (calls : Option TextSections) (unlinked o : Object) (record_at : ℕ × Relocation) : Type 0 where
+  pub carries : Carries scene left record_at
+  pub finished : (i : ℕ) (carrying : bpf_insn) → Touches scene record_at carries.key i → slice_get carries.slots i ≡ Some carrying
+      → (at : Key) (place : ℕ) → StandsAt calls unlinked o carries.key i at place → slot_in o at place ≡ Some carrying
 
 -- each record that writes alone is carried
-abbrev pub RecordsAreCarried : Object → TypeInfo → Object → Object → TypeInfo → ExtInfo → Type 0
-RecordsAreCarried parsed target adapted unlinked local ext =
-    (n : ℕ) (record_at : ℕ × Relocation)
-    → slice_get (placed_records (scene_of parsed local target) ext.relocations) n ≡ Some record_at
-    → IsAlone (scene_of parsed local target) (placed_records (scene_of parsed local target) ext.relocations) adapted unlinked n record_at
-    → IsCarried (scene_of parsed local target) unlinked record_at
+pub record RecordsAreCarried (scene : Scene) (parts : List (ℕ × List Relocation)) (calls : Option TextSections) (relocated unlinked o : Object) : Type 0 where
+  pub left : Written
+  pub written : slots_written scene parts ≡ Ok left
+  pub each : (n : ℕ) (record_at : ℕ × Relocation) → slice_get (placed_records scene parts) n ≡ Some record_at
+      → IsAlone scene (placed_records scene parts) relocated unlinked n record_at → IsCarried scene left calls unlinked o record_at
+
+-- ---- a finished object
+
+-- what is said of programs holds where they are linked, what is said of records where functions are relocated to types
+pub record IsFinished (passes : Passes) (parsed o : Object) : Type 0 where
+  pub chain : Chain passes parsed o
+  pub programs : (text_sections : TextSections) → passes.calls ≡ Some text_sections → ProgramsAreWhole (linkable_of chain.unlinked text_sections) o
+  pub types : (target local : TypeInfo) (ext : ExtInfo) → passes.target ≡ Some target → parsed.btf ≡ Some local → parsed.btf_ext ≡ Some ext
+      → RecordsAreCarried (scene_of parsed local target) ext.relocations passes.calls chain.relocated chain.unlinked o
+
+-- of any passes, in their order, over any object
+abbrev pub PassesFinish : Type 0
+PassesFinish = (passes : Passes) (parsed o : Object) → Chain passes parsed o → IsFinished passes parsed o
 
 -- ---- a prepared file
 
--- the object after the types, and the object as linking begins, by the stages that a file went through
 module _ {steps : Chosen} {lines : Option (List ℕ)} {bytes : List ℕ} {o : Object} where
-  abbrev pub adapted_object : IsPrepared steps lines bytes o → Object
-  adapted_object p = p.stages.externs.resolution.maps.before
+  -- the object relocated to types, and the object as linking begins, by the stages that a file went through
+  abbrev pub relocated_object : IsPrepared steps lines bytes o → Object
+  relocated_object p = p.stages.externs.resolution.maps.before
 
   abbrev pub unlinked_object : IsPrepared steps lines bytes o → Object
   unlinked_object p = p.stages.before
 
--- what holds of programs holds where programs are joined, what holds of records where functions are adapted to types
+  -- the passes that were made: the sections of code are those of the functions
+  abbrev pub passes_of : IsPrepared steps lines bytes o → Passes
+  passes_of p = record {
+    target = steps.target;
+    maps = option_map (λ descriptors. (has_function_in (relocated_object p).functions, own_maps (relocated_object p).maps descriptors)) steps.descriptors;
+    externs = is_some steps.kernel;
+    calls = if steps.calls then Some (has_function_in (unlinked_object p).functions) else None;
+  }
+
+-- a file, prepared, is finished
 pub record Headline (steps : Chosen) (lines : Option (List ℕ)) (bytes : List ℕ) (o : Object) : Type 0 where
   pub prepared : IsPrepared steps lines bytes o
-  pub programs : steps.calls ≡ true → ProgramsAreWhole (unlinked_object prepared) o
-  pub types : (target local : TypeInfo) (ext : ExtInfo) → steps.target ≡ Some target
-      → (object_of bytes).btf ≡ Some local → (object_of bytes).btf_ext ≡ Some ext
-      → RecordsAreCarried (object_of bytes) target (adapted_object prepared) (unlinked_object prepared) local ext
+  pub finished : IsFinished (passes_of prepared) (object_of bytes) o

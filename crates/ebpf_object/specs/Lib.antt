@@ -15,5 +15,6 @@ pub mod Stages
 pub mod StageFaults
 pub mod Prepared
 pub mod KeptParts
+pub mod Chain
 pub mod Headline
 pub mod MapNames

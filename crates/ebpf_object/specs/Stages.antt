@@ -1,6 +1,6 @@
 -- The stages of preparing an object: what each leaves of it, and how it refuses it. A stage that is not chosen leaves
 -- it as it is.
-use Rattle.std.specs.Prelude.{◌≡◌, ℕ, ℤ, Bool, true, false, List, Option, Some, None, option_map, IfSome, Err}
+use Rattle.std.specs.Prelude.{◌≡◌, ℕ, Bool, true, false, List, Option, Some, None, option_map, IfSome, Err}
 use Rattle.std.specs.FinMap.{FinMap, get}
 use Rattle.std.specs.List.{filter_map}
 use Rattle.ebpf_base.specs.Keys.{text_cmp}

@@ -1,6 +1,9 @@
 //! What holds of each parsed object, and of what passes make of it.
 
+ghost use Rattle.ebpf_object.specs.Headline.{PassesFinish};
+ghost use Rattle.ebpf_object.specs.Joined.{OneJoining};
 ghost use Rattle.ebpf_object.specs.JoinedMaps.{MapsTellOfJoined};
+ghost use Rattle.ebpf_object.specs.OlderHelpers.{TwiceIsOnce};
 ghost use Rattle.ebpf_object.specs.PatchedBytes.{GreatestNameStands, OtherBytesStay, LengthsStay, MapsStay, PatchesAreValues, ValuesArePatches};
 
 pub use ebpf_core_relo::laws::{
@@ -32,4 +35,26 @@ pub fn greatest_name_stands()
 /// place holds the distance from the slot after it to the base of a listed copy of the function that it refers to.
 pub fn maps_tell_of_joined()
     ensures { MapsTellOfJoined }
+{}
+
+/// What the passes leave of an object, each called at most once, in the order types, maps, externs, calls, and each with
+/// Ok: every program is its function followed by every function its references reach, each once, with the visits of the
+/// separate functions; and every slot that one type relocation alone writes carries its kind's value for the same named
+/// path in the target, wherever it stands in the finished object. The premise, `Chain`, is what the contracts of
+/// `Object::relocate_btf`, `relocate_maps`, `resolve_externs` or `resolve_lines`, `relocate_externs` and
+/// `relocate_calls` say of the objects on the way, for any choice of them, any descriptors and any sections of code.
+/// `prepare` is one case of it.
+pub fn passes_finish()
+    ensures { PassesFinish }
+{}
+
+/// What `Object::relocate_calls` promises of the functions leaves one map of them: it follows from the functions,
+/// symbols, relocations and programs as values, and from which sections are named.
+pub fn linking_has_one_result()
+    ensures { OneJoining }
+{}
+
+/// What `Object::sanitize_functions` makes of functions is the same where it is done twice.
+pub fn sanitizing_twice_is_once()
+    ensures { TwiceIsOnce }
 {}

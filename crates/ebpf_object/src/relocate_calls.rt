@@ -5,7 +5,7 @@ ghost use Rattle.std.specs.FinMap as map;
 ghost use Rattle.std.specs.List.{flat_map};
 ghost use Rattle.std.specs.Ordering.{eq_by_cmp};
 ghost use Rattle.ebpf_base.specs.Keys.{key_cmp, lent_bytes};
-ghost use Rattle.ebpf_object.specs.Joined.{linkable_of, program_with, programs_in_order, replaced, AreJoined, OneJoining};
+ghost use Rattle.ebpf_object.specs.Joined.{linkable_of, program_with, programs_in_order, replaced, AreJoined};
 ghost use Rattle.ebpf_reloc.specs.Linking.{AreLinked, IsFirstFault};
 ghost use Rattle.ebpf_reloc.specs.Places.{sections_in};
 ghost use Rattle.ebpf_reloc.specs.Memory.{is_memory_at, NamesNoneForMemory};
@@ -133,9 +133,3 @@ impl Object {
         }
     }
 }
-
-/// What `Object::relocate_calls` promises of the functions leaves one map of them: it follows from the functions,
-/// symbols, relocations and programs as values, and from which sections are named.
-pub fn joining_has_one_result()
-    ensures { OneJoining }
-{}

@@ -3,7 +3,7 @@
 ghost use Rattle.std.specs.Prelude.{◌≡◌, ℕ, map, option_map, false};
 ghost use Rattle.std.specs.FinMap as finite;
 ghost use Rattle.std.specs.List.{list_any};
-ghost use Rattle.ebpf_object.specs.OlderHelpers.{older_helper, calls_newer, older, sanitized, have_newer, AreSanitized, TwiceIsOnce};
+ghost use Rattle.ebpf_object.specs.OlderHelpers.{older_helper, calls_newer, older, sanitized, have_newer, AreSanitized};
 
 use crate::object::Object;
 use ebpf_base::ByKey;
@@ -107,8 +107,3 @@ impl Object {
         write_each(&mut self.functions);
     }
 }
-
-/// Making functions fit for a kernel twice is the same as once.
-pub fn sanitizing_twice_is_once()
-    ensures { TwiceIsOnce }
-{}

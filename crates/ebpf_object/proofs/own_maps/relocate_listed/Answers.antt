@@ -1,8 +1,8 @@
-use Rattle.std.proofs.Common.{◌≡◌, map, length, rules, List}
+use Rattle.std.proofs.Common.{◌≡◌, length, rules, List}
 use Rattle.std.specs.Prelude.{None, Some}
-use Rattle.std.specs.Vec.Iter.{into_iter_items, into_iter_len}
+use Rattle.std.specs.Vec.Iter.{into_iter_len}
 use Rattle.ebpf_object.specs.WrittenSlots.{with_maps, maps_fault}
-use Rattle.ebpf_passes.specs.Maps.{GivenMap, given_by}
+use Rattle.ebpf_passes.specs.Maps.{GivenMap}
 use Rattle.ebpf_passes.specs.Relocated.{out_of_memory}
 use Rattle.ebpf_reloc.specs.Memory.{is_memory_at}
 use Rattle.ebpf_reloc.specs.Places.{sections_in}
