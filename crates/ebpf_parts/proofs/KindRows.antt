@@ -1,14 +1,10 @@
 -- One step of a walk over rows, and what holds of the row that a name gets.
-use Rattle.std.proofs.Common.{◌≡◌, ℕ, ◌+◌, ◌<◌, ◌≤◌, Bool, true, false, List, [], ◌∷◌, length, drop, filter, refl, sym, ap, ◌∙◌}
-use Rattle.std.specs.Prelude.{Option, Some, None, IfSome, MatchOption, ⊤, if◌then◌else◌, nat_le, slice_index_or}
+use Rattle.std.proofs.Common.{◌≡◌, ℕ, ◌+◌, ◌<◌, ◌≤◌, Bool, true, false, List, [], ◌∷◌, length, drop, filter, refl, ap, ◌∙◌}
+use Rattle.std.specs.Prelude.{Option, Some, None, IfSome, if◌then◌else◌, nat_le, slice_index_or}
 use Rattle.std.specs.List.{fold, AllByRecursion}
 use Rattle.ebpf_parts.proofs.Walks.{rest_more, rest_none}
 use Rattle.ebpf_parts.specs.ProgramKinds.{fits, longer, longest_fit, name_of}
 use Rattle.ebpf_parts.specs.declared.programs.kind.NamedKind.{NamedKind}
-
--- what is found over the rows from a place on
-from : List ℕ → Option NamedKind → List NamedKind → Option NamedKind
-from name found rows = fold longer found (filter (fits name) rows)
 
 -- a row that fits
 pub row_fits : (name : List ℕ) (found : Option NamedKind) (rows : List NamedKind) (i : ℕ) (row : NamedKind)
@@ -53,3 +49,7 @@ module _ (Q : NamedKind → Type 0) (name : List ℕ) where
           → IfSome (fold longer found (if b then row ∷ filter (fits name) rows else filter (fits name) rows)) Q
       by_fit true e rest = rest (longer found row) (one_of found row q (all.0 e))
       by_fit false e rest = rest found q
+
+  pub of_longest : (rows : List NamedKind) → AllByRecursion (λ row. fits name row ≡ true → Q row) rows → IfSome (longest_fit name rows) Q
+  unfolding longest_fit
+  of_longest rows all = of_found None rows tt all

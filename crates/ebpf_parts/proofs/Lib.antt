@@ -3,3 +3,5 @@ pub mod Tables
 pub mod Walks
 pub mod SlotWords
 pub mod KindRows
+pub mod KindTypes
+pub mod TypeNumbers

@@ -1,6 +1,6 @@
 -- What a loader does with a program, by the name of its section (libbpf's Program Types and ELF Sections). The table is
 -- that of the code, a row for each name.
-use Rattle.std.specs.Prelude.{◌≡◌, ℕ, Bool, true, false, ◌&&◌, ◌||◌, ◌==◌, nat_eq, nat_le, List, [], ◌∷◌, length, take, drop, filter, Option, Some, None, option_map, slice_get, slice_index, if◌then◌else◌}
+use Rattle.std.specs.Prelude.{◌≡◌, ℕ, Bool, ◌&&◌, ◌||◌, ◌==◌, nat_eq, nat_le, List, length, take, drop, filter, Option, Some, None, option_map, slice_index, if◌then◌else◌}
 use Rattle.std.specs.List.{fold, position, starts_with}
 use Rattle.std.specs.Str.{bytes_eq}
 use Rattle.ebpf_parts.specs.declared.programs.kind.NamedKind.{NamedKind}
