@@ -8,7 +8,8 @@ use Rattle.std.proofs.lemmas.Bool.{and_parts, both_ways, cases_Bool, eqb-true, n
 use Rattle.std.proofs.lemmas.Slice.Eq.{bytes_eq-Decides}
 use Rattle.ebpf_base.specs.Faults.{or_else}
 use Rattle.ebpf_parts.proofs.KindRows.{of_longest}
-use Rattle.ebpf_parts.proofs.TypeNumbers.{number, same_type, same_type-is, some_is}
+use Rattle.ebpf_parts.proofs.TypeNumbers.{same_type, same_type-is, some_is}
+use Rattle.ebpf_parts.specs.ProgramTypes.{program_type_number}
 use Rattle.ebpf_parts.specs.ProgramKinds.{TypesAgree, fits, has_target, is_marked, longest_fit, name_of, program_kind, section_type}
 use Rattle.ebpf_parts.specs.ProgramSections.{program_section, first_piece, second_piece, one_piece, two_pieces, probe_sections, trace_sections, packet_sections, kernel_sections, pair_sections, xdp_sections, sk_skb_sections, sk_reuseport_sections, cgroup_skb_sections, cgroup_sections, socket_events, address_calls}
 use Rattle.ebpf_parts.specs.declared.programs.kind.NamedKind.{NamedKind}
@@ -43,7 +44,7 @@ agrees second row =
     else typed row.kind.program_type (program_section (name_of row))
 
 all_agree : (second : Option (List ℕ)) → list_all (agrees second) NAMED_KINDS ≡ true
-unfolding agrees typed type_of same_type number probe_sections trace_sections packet_sections kernel_sections pair_sections xdp_sections sk_skb_sections sk_reuseport_sections cgroup_skb_sections cgroup_sections socket_events address_calls
+unfolding agrees typed type_of same_type program_type_number probe_sections trace_sections packet_sections kernel_sections pair_sections xdp_sections sk_skb_sections sk_reuseport_sections cgroup_skb_sections cgroup_sections socket_events address_calls
 all_agree second = refl
 
 -- ---- the first piece of a name that a row fits
