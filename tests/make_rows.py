@@ -37,6 +37,7 @@ from rows import (
     joined,
     kallsyms,
     known_externs,
+    loaded_names,
     many_types,
     mapped,
     maps,
@@ -59,7 +60,7 @@ from rows.case import write_cases
 CRATES = Path(__file__).parents[1] / "crates"
 
 OBJECTS = [small_object, programs, texts, terms, order, maps, declared_maps, externs, type_faults, records, joined]
-OBJECTS += [mapped, known_externs, resolved, prepared, printed, values, names, compiled, references]
+OBJECTS += [mapped, known_externs, resolved, prepared, printed, values, names, loaded_names, compiled, references]
 
 TYPES = [btf_one_int, btf_kinds, btf_added, btf_candidates, btf_fits, btf_ext, btf_ext_faults]
 

@@ -2,3 +2,6 @@ pub mod SlotLists
 pub mod Tables
 pub mod Walks
 pub mod SlotWords
+pub mod KindRows
+pub mod KindTypes
+pub mod TypeNumbers

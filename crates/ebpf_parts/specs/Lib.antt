@@ -4,6 +4,7 @@ pub mod MapTypes
 pub mod Memory
 pub mod Numbers
 pub mod Pinning
+pub mod ProgramKinds
 pub mod ProgramSections
 pub mod ProgramTypes
 pub mod SectionKinds

@@ -1,5 +1,6 @@
-//! What holds of slots.
+//! What holds of slots, and of the names of program sections.
 
+ghost use Rattle.ebpf_parts.specs.ProgramKinds.{TypesAgree};
 ghost use Rattle.ebpf_parts.specs.SlotBytes.{SlotIsBytes, SlotsAreBytes};
 
 /// The bytes of a slot are the eight that it was read of, and the bytes of all slots, joined, are those that they were
@@ -7,4 +8,9 @@ ghost use Rattle.ebpf_parts.specs.SlotBytes.{SlotIsBytes, SlotsAreBytes};
 pub fn slots_are_bytes()
     ensures one { SlotIsBytes }
     ensures joined { SlotsAreBytes }
+{}
+
+/// Where `ProgramSection::from_str` has a kind for a name and `program_kind` one too, both load its programs as one type.
+pub fn kinds_of_names_agree()
+    ensures { TypesAgree }
 {}

@@ -2,7 +2,7 @@
 
 use ebpf_parts::ProgramSection;
 use ebpf_parts::maps::{PinningType, bpf_map_type};
-use ebpf_parts::programs::bpf_prog_type;
+use ebpf_parts::programs::{ProgramKind, bpf_prog_type, program_kind};
 use std::alloc::{AllocError, Global};
 use test_cases::{Action, no_action, shown};
 
@@ -11,6 +11,30 @@ pub fn kind(alloc: Global, action: &Action<'_>) -> Result<String, AllocError> {
     match ProgramSection::from_str(alloc, action.word(0)) {
         Ok(section) => shown(alloc, section),
         Err(error) => format!(in alloc; "{error}"),
+    }
+}
+
+/// How programs of a kind are loaded.
+fn loaded_as(alloc: Global, kind: ProgramKind) -> Result<String, AllocError> {
+    let (number, attach_type) = (kind.program_type.number(), kind.attach_type);
+    let mut text = format!(in alloc; "type {number} attach {attach_type:?}")?;
+    let words = [
+        (kind.is_sleepable, " sleepable"),
+        (kind.has_frags, " frags"),
+        (kind.wants_target_type, " target"),
+        (kind.is_optional, " optional"),
+    ];
+    for (is_said, word) in &words {
+        text.push_str(if *is_said { word } else { "" })?;
+    }
+    Ok(text)
+}
+
+/// How the programs of a section with a name are loaded.
+pub fn loaded(alloc: Global, action: &Action<'_>) -> Result<String, AllocError> {
+    match program_kind(action.word(0)) {
+        Some(kind) => loaded_as(alloc, kind),
+        None => String::from_str(alloc, "none"),
     }
 }
 

@@ -2,7 +2,7 @@
 
 use crate::changes::{bytes, prefixes};
 use crate::maps::{map_copy, map_info};
-use crate::names::{kind, of_number};
+use crate::names::{kind, loaded, of_number};
 use crate::objects::on_object;
 use crate::prepared::prepared;
 use crate::printed::printed;
@@ -22,6 +22,7 @@ impl Outcomes for ObjectOutcomes {
     ) -> Result<String, AllocError> {
         match action.name {
             "kind" => kind(alloc, action),
+            "loaded" => loaded(alloc, action),
             "map_type" | "program_type" | "pinning" => of_number(alloc, action),
             "map_info" => map_info(alloc, action),
             "map_copy" => map_copy(alloc),

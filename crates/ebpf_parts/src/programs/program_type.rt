@@ -2,7 +2,7 @@
 
 ghost use Rattle.std.specs.Prelude.{◌≡◌, Some, slice_get};
 ghost use Rattle.ebpf_parts.specs.Numbers.{at_number};
-ghost use Rattle.ebpf_parts.specs.ProgramTypes.{program_types};
+ghost use Rattle.ebpf_parts.specs.ProgramTypes.{program_type_number, program_types};
 
 use crate::binding::{InvalidTypeBinding, at_number};
 
@@ -83,9 +83,10 @@ const PROGRAM_TYPES: [bpf_prog_type; 33] = [
 
 impl bpf_prog_type {
     /// The number of the type.
-    #[tactic(auto, unfolding(crate::specs::ProgramTypes::program_types))]
+    #[tactic(auto, unfolding(crate::specs::ProgramTypes::program_types, crate::specs::ProgramTypes::program_type_number))]
     pub fn number(self) -> u32
-        ensures { slice_get program_types result ≡ Some self }
+        ensures number { result ≡ program_type_number self }
+        ensures place { slice_get program_types result ≡ Some self }
     {
         self as u32
     }

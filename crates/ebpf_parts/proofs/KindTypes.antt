@@ -1,0 +1,155 @@
+-- Names that both tables have are of one type: the rows are looked at one after the other, each with the pieces that the
+-- names which fit it have.
+use Rattle.std.proofs.Common.{◌⊎◌, inl, inr, option_map, arith, ◌+◌, ◌≡◌, ℕ, suc, Bool, true, false, not, ◌&&◌, List, [], ◌∷◌, length, refl, ap, ◌∙◌}
+use Rattle.std.specs.Prelude.{◌==◌, nat_eq, Option, Some, None, IfSome, if◌then◌else◌, slice_index}
+use Rattle.std.specs.List.{AllByRecursion, list_all, list_any, position_or_len, starts_with}
+use Rattle.std.specs.Str.{bytes_eq}
+use Rattle.std.proofs.lemmas.Bool.{and_parts, both_ways, cases_Bool, eqb-true, not-true, or_cases, or_parts}
+use Rattle.std.proofs.lemmas.Slice.Eq.{bytes_eq-Decides}
+use Rattle.ebpf_base.specs.Faults.{or_else}
+use Rattle.ebpf_parts.proofs.KindRows.{of_longest}
+use Rattle.ebpf_parts.proofs.TypeNumbers.{same_type, same_type-is, some_is}
+use Rattle.ebpf_parts.specs.ProgramTypes.{program_type_number}
+use Rattle.ebpf_parts.specs.ProgramKinds.{TypesAgree, fits, has_target, is_marked, longest_fit, name_of, program_kind, section_type}
+use Rattle.ebpf_parts.specs.ProgramSections.{program_section, first_piece, second_piece, one_piece, two_pieces, probe_sections, trace_sections, packet_sections, kernel_sections, pair_sections, xdp_sections, sk_skb_sections, sk_reuseport_sections, cgroup_skb_sections, cgroup_sections, socket_events, address_calls}
+use Rattle.ebpf_parts.specs.declared.programs.kind.NamedKind.{NamedKind}
+use Rattle.ebpf_parts.specs.declared.programs.kind.ProgramKind.{ProgramKind}
+use Rattle.ebpf_parts.specs.declared.programs.named_kinds.TheConstants.{NAMED_KINDS}
+use Rattle.ebpf_parts.specs.declared.programs.program_type.bpf_prog_type.{bpf_prog_type}
+use Rattle.ebpf_parts.specs.declared.program_section.ProgramSection.{ProgramSection}
+
+-- whether a type is that of a section, where there is one
+type_of : bpf_prog_type → Option bpf_prog_type → Bool
+type_of t None = false
+type_of t (Some s) = same_type s t
+
+typed : bpf_prog_type → Option ProgramSection → Bool
+typed t None = true
+typed t (Some section) = type_of t (section_type section)
+
+-- what the pieces of a name say
+abbrev pieces : List ℕ → Option (List ℕ) → Option ProgramSection
+pieces first second = or_else (one_piece first) (two_pieces first second)
+
+abbrev length_before : List ℕ → ℕ
+length_before name = position_or_len (λ b. b == 47) name
+
+abbrev has_slash : List ℕ → Bool
+has_slash name = list_any (λ b. b == 47) name
+
+-- a row alone: its own name, or its own as the first piece of a name
+agrees : Option (List ℕ) → NamedKind → Bool
+agrees second row =
+    if row.takes_target then not (has_slash (name_of row)) && typed row.kind.program_type (pieces (name_of row) second)
+    else typed row.kind.program_type (program_section (name_of row))
+
+all_agree : (second : Option (List ℕ)) → list_all (agrees second) NAMED_KINDS ≡ true
+unfolding agrees typed type_of same_type program_type_number probe_sections trace_sections packet_sections kernel_sections pair_sections xdp_sections sk_skb_sections sk_reuseport_sections cgroup_skb_sections cgroup_sections socket_events address_calls
+all_agree second = refl
+
+-- ---- the first piece of a name that a row fits
+
+-- a name without a slash is one piece
+own_piece : (own : List ℕ) → has_slash own ≡ false → first_piece own ≡ own
+own_piece [] none = refl
+own_piece (b ∷ own) none =
+    let parts = or_parts (b == 47) (has_slash own) none in
+    let on : 1 + length_before own ≡ suc (length_before own) = omega arith in
+    rw (parts.0, on) (ap (λ rest. b ∷ rest) (own_piece own parts.1))
+
+-- a name that goes on with a slash behind another has that as its first piece
+target_piece : (name own : List ℕ) → has_slash own ≡ false → starts_with nat_eq name own ≡ true
+    → slice_index name (length own) ≡ 47 → first_piece name ≡ own
+target_piece [] [] none begins slash = absurd (omega arith)
+target_piece (b ∷ name) [] none begins slash = rw slash refl
+target_piece [] (o ∷ own) none begins slash = absurd (cc)
+target_piece (b ∷ name) (o ∷ own) none begins slash =
+    let same = and_parts (nat_eq o b) _ begins in
+    let parts = or_parts (o == 47) (has_slash own) none in
+    let is : o ≡ b = eqb-true o b same.0 in
+    let on : 1 + length_before name ≡ suc (length_before name) = omega arith in
+    rw (← is, parts.0, on) (ap (λ rest. o ∷ rest) (target_piece name own parts.1 same.1 slash))
+
+-- ---- one row
+
+-- where a check of all pieces passed, a name that the row fits is of its type
+row_agrees : (name : List ℕ) (row : NamedKind) → ((second : Option (List ℕ)) → agrees second row ≡ true) → fits name row ≡ true
+    → typed row.kind.program_type (program_section name) ≡ true
+unfolding agrees
+row_agrees name row checked fit = elim (cases_Bool row.takes_target) [
+  | inl takes ↦
+      let check : (second : Option (List ℕ))
+      → (not (has_slash (name_of row)) && typed row.kind.program_type (pieces (name_of row) second)) ≡ true
+      = λ second. rw takes at (checked second) in
+      let none = not-true (has_slash (name_of row)) (and_parts _ _ (check None)).0 in
+      of_pieces (first_of_fit none (or_cases _ _ fit)) (and_parts _ _ (check (second_piece name))).1
+  | inr exact ↦
+      elim (or_cases (bytes_eq name (name_of row)) _ fit) [
+        | inl same ↦ rw ((bytes_eq-Decides name (name_of row)).0 same) (rw exact at (checked None))
+        | inr longer ↦ absurd (both_ways row.takes_target exact (and_parts row.takes_target _ longer).0)
+      ]
+]
+  where
+    first_of_fit : has_slash (name_of row) ≡ false
+        → (bytes_eq name (name_of row) ≡ true) ⊎ ((row.takes_target && has_target name (name_of row)) ≡ true)
+        → first_piece name ≡ name_of row
+    first_of_fit none (inl same) =
+        let is = (bytes_eq-Decides name (name_of row)).0 same in
+        ap first_piece is ∙ own_piece (name_of row) none
+    first_of_fit none (inr longer) =
+        let target = and_parts (starts_with nat_eq name (name_of row)) _ (and_parts row.takes_target _ longer).1 in
+        target_piece name (name_of row) none target.0 (eqb-true _ 47 target.1)
+
+    of_pieces : first_piece name ≡ name_of row
+        → typed row.kind.program_type (pieces (name_of row) (second_piece name)) ≡ true
+        → typed row.kind.program_type (program_section name) ≡ true
+    of_pieces piece agreed = ap (λ first. typed row.kind.program_type (pieces first (second_piece name))) piece ∙ agreed
+
+-- ---- all rows
+
+rows_agree : (name : List ℕ) (rows : List NamedKind) → ((second : Option (List ℕ)) → list_all (agrees second) rows ≡ true)
+    → AllByRecursion (λ row. fits name row ≡ true → typed row.kind.program_type (program_section name) ≡ true) rows
+rows_agree name [] checked = tt
+rows_agree name (row ∷ rows) checked = (
+  row_agrees name row (λ second. (and_parts (agrees second row) _ (checked second)).0),
+  rows_agree name rows (λ second. (and_parts (agrees second row) _ (checked second)).1),
+)
+
+-- the kind of a row has the row's type
+kind_typed : (said : Option ProgramSection) (found : Option NamedKind) (mark : Bool) (kind : ProgramKind)
+    → IfSome found (λ row. typed row.kind.program_type said ≡ true)
+    → option_map (λ row. record row.kind { is_optional = mark }) found ≡ Some kind → typed kind.program_type said ≡ true
+kind_typed said None mark kind agreed loaded = absurd (cc)
+kind_typed said (Some row) mark kind agreed loaded =
+    let same : row.kind.program_type ≡ kind.program_type = some_is _ _ (ap (option_map (λ (k : ProgramKind). k.program_type)) loaded) in
+    rw (← same) agreed
+
+-- a type that passed the check is the section's
+type_is : (t : bpf_prog_type) (o : Option bpf_prog_type) → type_of t o ≡ true → o ≡ Some t
+unfolding type_of
+type_is t None same = absurd (cc)
+type_is t (Some s) same = ap Some (same_type-is s t same)
+
+-- ---- names with a mark
+
+-- no table has a piece that begins with `?`
+no_pieces : (rest : List ℕ) (second : Option (List ℕ)) → pieces (63 ∷ rest) second ≡ None
+unfolding probe_sections trace_sections packet_sections kernel_sections pair_sections
+no_pieces rest second = refl
+
+marked_says_none : (name : List ℕ) → is_marked name ≡ true → program_section name ≡ None
+marked_says_none [] mark = absurd (cc)
+marked_says_none (b ∷ name) mark =
+    let is : b ≡ 63 = eqb-true b 63 mark in
+    let on : 1 + length_before name ≡ suc (length_before name) = omega arith in
+    rw (is, on) (no_pieces _ _)
+
+pub types_agree : TypesAgree
+unfolding program_kind typed
+types_agree name section kind said loaded = elim (cases_Bool (is_marked name)) [
+  | inl marked ↦ absurd (cc (marked_says_none name marked))
+  | inr plain ↦
+      let found = of_longest (λ row. typed row.kind.program_type (program_section name) ≡ true) name NAMED_KINDS (rows_agree name NAMED_KINDS all_agree) in
+      let agreed = kind_typed (program_section name) (longest_fit name NAMED_KINDS) false kind found (rw plain at loaded) in
+      type_is kind.program_type (section_type section) (rw said at agreed)
+]
