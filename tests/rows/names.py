@@ -108,7 +108,7 @@ def cases():
         kinds("names of the network", NETWORK),
         kinds("names of control groups", CGROUPS),
         kinds("names with further pieces", LONGER),
-        kinds("names of no kind", {name: f"invalid program section `{name}`" for name in REFUSED}),
+        kinds("names of no kind", {name: f'the section name "{name}" says no type of program' for name in REFUSED}),
         Case(
             "numbers",
             {},

@@ -10,35 +10,35 @@ use thiserror::Error;
 /// Why type information could not be read or changed.
 #[derive(Debug, Drop, Error)]
 pub enum BtfError {
-    #[error("the BTF header is invalid")]
+    #[error("the header of .BTF or .BTF.ext is cut or has another magic, or a part of it passes the end")]
     InvalidHeader,
-    #[error("a type is invalid")]
+    #[error("a BTF type is cut or of an unknown kind, or a size or an offset in it is out of range")]
     InvalidTypeInfo,
-    #[error("a part of .BTF.ext is invalid")]
+    #[error("a part of .BTF.ext is cut, or its records are too small")]
     InvalidInfo,
-    #[error("no string at offset {offset}")]
+    #[error("BTF has no string at offset {offset:#x}")]
     InvalidStringOffset { offset: usize },
-    #[error("unknown kind {kind} of a relocation")]
+    #[error("a CO-RE relocation has kind {kind}, and the known ones are 0 to 11")]
     InvalidRelocationKind { kind: u32 },
-    #[error("unexpected type #{type_id}")]
+    #[error("BTF type {type_id} is of another kind than is needed there")]
     UnexpectedBtfType { type_id: u32 },
-    #[error("unknown type #{type_id}")]
+    #[error("there is no BTF type {type_id}")]
     UnknownBtfType { type_id: u32 },
-    #[error("unknown type `{type_name}`")]
+    #[error("BTF has no type {:?} of the wanted kind", .type_name.as_str())]
     UnknownBtfTypeName { type_name: Text },
-    #[error("the limit of type depth was reached at type #{type_id}")]
+    #[error("BTF type {type_id} leads through more than 32 levels of types, or 1048576 pairs")]
     MaximumTypeDepth { type_id: u32 },
-    #[error("an entry of a data section is invalid")]
+    #[error("an entry of the BTF section .ksyms is neither a function nor a variable")]
     InvalidDatasec,
-    #[error("a symbol's name can't be read or found")]
+    #[error("the name of a symbol can't be read, or an extern has no symbol of its name")]
     InvalidSymbolName,
-    #[error("the inner map of `{name}` can't be pinned")]
+    #[error("the inner map of {:?} asks for pinning, which inner maps don't have", .name.as_str())]
     InnerMapCannotBePinned { name: Text },
-    #[error("the inner map of `{name}` is a map of maps")]
+    #[error("the inner map of {:?} is a map of maps itself", .name.as_str())]
     MultiLevelMapInMapNotSupported { name: Text },
-    #[error("`values` of the map `{name}` is invalid")]
+    #[error("the member values of the map {:?} is an array with a size: declare it with []", .name.as_str())]
     InvalidValuesSpec { name: Text },
-    #[error("the type information is too large")]
+    #[error("BTF is full: no offset or id of 32 bits is left for what is added")]
     TooLarge,
     #[error("out of memory")]
     OutOfMemory,

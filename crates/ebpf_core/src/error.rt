@@ -4,6 +4,7 @@ ghost use Rattle.std.specs.Prelude.{◌≡◌};
 ghost use Rattle.ebpf_core.specs.Answers.{of_type_error};
 ghost use Rattle.ebpf_core.specs.declared.error.RelocationError.TheVariants.{OutOfMemory};
 
+use crate::wording::Names;
 use ebpf_base::{Items, Text};
 use ebpf_btf::BtfError;
 use ebpf_ext::RelocationKind;
@@ -17,18 +18,18 @@ use thiserror::Error;
 #[derive(Debug, Drop, Error)]
 pub enum RelocationError {
     /// The object has no section with the name of the record's section.
-    #[error("the section of the relocation is not there")]
+    #[error("the object has no section of the name that CO-RE relocations are for")]
     SectionNotFound,
     /// No function of the section has the record's slot.
-    #[error("no function has the slot of the relocation")]
+    #[error("a CO-RE relocation is for an instruction of no function")]
     FunctionNotFound,
     /// An access string that is no numbers between colons, or not as many of them as its kind takes.
-    #[error("invalid access string `{access_str}`")]
+    #[error("the access string {:?} is no numbers between colons, or not as many as its kind takes", .access_str.as_str())]
     InvalidAccessString {
         access_str: Text,
     },
     /// A wide load has no second slot, which would be number `index` of its function.
-    #[error("relocation {relocation_number}: slot {index} of {num_instructions} is not there")]
+    #[error("CO-RE relocation {relocation_number} needs instruction {index}, and the function has {num_instructions}")]
     InvalidInstructionIndex {
         index: usize,
         num_instructions: usize,
@@ -36,19 +37,19 @@ pub enum RelocationError {
     },
     /// The types of the kernel that a local type stands for don't agree. `candidates` has the names of those that
     /// differ from the first, by id.
-    #[error("types of the kernel for `{type_name}` differ")]
+    #[error("the kernel has types for {:?} that disagree: {}", .type_name.as_str(), Names(.candidates.as_slice()))]
     ConflictingCandidates {
         type_name: Text,
         candidates: Items<Text>,
     },
     /// A path of more than 64 parts, or in a type of the kernel more than 64 unnamed members around a member, or more
     /// than 1,048,576 members to look at.
-    #[error("the limit of nesting was reached in `{type_name}`")]
+    #[error("the path in {:?} has more than 64 parts or levels, or 1048576 members to look at", .type_name.as_str())]
     MaximumNestingLevelReached {
         type_name: Text,
     },
     /// Part `index` of the access string `spec` is past the `len` members, elements or variants of a local type.
-    #[error("invalid access `{spec}` to `{access_path}`: {index} of {len}: {error}")]
+    #[error("the access string {:?} asks {:?} for number {index} of {len}: {error}", .spec.as_str(), .access_path.as_str())]
     InvalidAccessIndex {
         access_path: Text,
         spec: Text,
@@ -57,7 +58,7 @@ pub enum RelocationError {
         error: Text,
     },
     /// What the record asks can't be asked of its local type or field.
-    #[error("relocation {relocation_number}: {relocation_kind} can't be asked of {type_kind}: {error}")]
+    #[error("CO-RE relocation {relocation_number} asks for {relocation_kind}, and {:?} is {type_kind}", .error.as_str())]
     InvalidRelocationKindForType {
         relocation_number: usize,
         relocation_kind: Text,
@@ -65,14 +66,14 @@ pub enum RelocationError {
         error: Text,
     },
     /// The instruction at slot `index` can't carry what was found.
-    #[error("relocation {relocation_number}: instruction {index}: {error}")]
+    #[error("CO-RE relocation {relocation_number} is at instruction {index}, and {error}")]
     InvalidInstruction {
         relocation_number: usize,
         index: usize,
         error: Text,
     },
     /// No type of the kernel was found. It is kept for users and never given: such a slot is poisoned.
-    #[error("no type of the kernel for type #{type_id}, asked for {kind:?} at {ins_index}")]
+    #[error("the kernel has no type for BTF type {type_id}, which instruction {ins_index} needs ({kind:?})")]
     MissingTargetDefinition {
         kind: RelocationKind,
         type_id: u32,

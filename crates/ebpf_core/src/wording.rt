@@ -5,6 +5,7 @@ use ebpf_btf::BtfKind;
 use ebpf_ext::RelocationKind;
 use ebpf_places::Step;
 use std::alloc::{AllocError, Global};
+use std::fmt;
 
 /// A record, as its errors speak of it.
 #[derive(Clone, Copy)]
@@ -81,4 +82,19 @@ pub fn path_words(alloc: Global, type_name: &str, steps: &[Step]) -> Result<Text
         push_step(alloc, &mut words, step)?;
     }
     Ok(Text::from_string(words))
+}
+
+/// Names with commas between them.
+#[derive(Clone, Copy, Debug)]
+pub struct Names<'a>(pub &'a [Text]);
+
+impl fmt::Display for Names<'_> {
+    fn fmt<W: fmt::Write>(&self, f: &mut fmt::Formatter<W>) -> fmt::Result {
+        let mut comma = "";
+        for name in self.0 {
+            write!(f, "{comma}{:?}", name.as_str())?;
+            comma = ", ";
+        }
+        Ok(())
+    }
 }

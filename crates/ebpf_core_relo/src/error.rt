@@ -5,12 +5,13 @@ ghost use Rattle.ebpf_core.specs.declared.error.RelocationError.TheVariants.{Out
 
 use ebpf_base::Text;
 use ebpf_core::RelocationError;
+use ebpf_parts::Within;
 use std::alloc::Global;
 use thiserror::Error;
 
 /// Why a record of `.BTF.ext` could not be applied, and the section that it speaks of.
 #[derive(Debug, Drop, Error)]
-#[error("section `{section}`: {error}")]
+#[error("{}{error}", Within {what: "section", name: .section.as_str()})]
 pub struct BtfRelocationError {
     /// The section's name; `section@OFFSET` where the name at that offset can't be read, and empty where memory was
     /// refused.

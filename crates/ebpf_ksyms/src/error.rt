@@ -14,33 +14,33 @@ use thiserror::Error;
 #[derive(Debug, Drop, Error)]
 pub enum KsymsError {
     /// An extern that has to be there has a type, and no types of a kernel were given.
-    #[error("an extern has a type and needs the kernel's types")]
+    #[error("an extern that has to be there has a type, and no kernel's types are given")]
     TypedKsymRequiresKernelBtf,
     /// A variable that has to be there is not in the kernel.
-    #[error("the kernel has no variable `{name}`")]
+    #[error("the kernel has no variable {:?}", .name.as_str())]
     VariableNotFound {
         name: Text,
     },
     /// The kernel's function of this name takes or gives other types.
-    #[error("the kernel's function `{name}` has another signature")]
+    #[error("the kernel's function {:?} has another signature", .name.as_str())]
     IncompatibleFunctionSignature {
         name: Text,
     },
     /// The kernel's variable of this name has another type.
-    #[error("the kernel's variable `{name}` has another type")]
+    #[error("the kernel's variable {:?} has another type", .name.as_str())]
     IncompatibleVariableType {
         name: Text,
     },
     /// The type of an extern is neither a FUNC nor a VAR.
-    #[error("the extern `{name}` is neither a function nor a variable")]
+    #[error("the extern {:?} is neither a function nor a variable", .name.as_str())]
     InvalidExternType {
         name: Text,
     },
     /// A type of the object or of the kernel that is needed can't be found or resolved.
-    #[error("a type can't be read: {0}")]
+    #[error("the type of an extern can't be read: {0}")]
     BtfError(BtfError),
     /// The kernel has two addresses for a name.
-    #[error("`{name}` stands at {first_addr:#x} and at {second_addr:#x}")]
+    #[error("the kernel's symbols have {:?} at {first_addr:#x} and at {second_addr:#x}", .name.as_str())]
     AmbiguousResolution {
         name: Text,
         first_addr: u64,
@@ -50,10 +50,10 @@ pub enum KsymsError {
     #[error("the kernel's symbols can't be read: {0}")]
     KallsymsAccessError(io::Error),
     /// A line states no address.
-    #[error("the kernel's symbols can't be understood: {0}")]
+    #[error("a line of the kernel's symbols can't be understood: {0}")]
     KallsymsParseError(Text),
     /// A function that has to be there is not in the kernel.
-    #[error("the kernel has no function `{name}`")]
+    #[error("the kernel has no function {:?}", .name.as_str())]
     FunctionNotFound {
         name: Text,
     },

@@ -4,6 +4,8 @@
 mod clones;
 pub mod core_relo;
 pub mod elf;
+mod explained;
+mod explained_parse;
 pub mod extern_types;
 mod globals;
 pub mod laws;
@@ -24,6 +26,7 @@ mod relocate_maps;
 pub mod relocation;
 mod resolve_externs;
 pub mod sanitize;
+mod section_words;
 mod stages;
 mod text_sections;
 

@@ -1,5 +1,6 @@
 //! Objects, what they hold, and why one can't be parsed.
 
+pub use crate::explained_parse::ExplainedParse;
 pub use crate::object::Object;
 pub use ebpf_base::{ByIndex, ByKey, ByName, ByOffset, BySection, Items, Text};
 pub use ebpf_btf::{Btf, BtfError, Endianness};

@@ -14,7 +14,7 @@ use thiserror::Error;
 #[derive(Debug, Drop, Error)]
 pub enum PrepareError {
     /// The file can't be parsed.
-    #[error("{0}")]
+    #[error("parse: {0}")]
     Parse(ParseError),
     /// The functions can't be adapted to a kernel's types.
     #[error("types: {0}")]
@@ -23,7 +23,7 @@ pub enum PrepareError {
     #[error("maps: {0}")]
     Maps(EbpfRelocationError),
     /// The externs can't be resolved.
-    #[error("externs: {0}")]
+    #[error("ksyms: {0}")]
     Ksyms(KsymsError),
     /// What is known of the externs can't be written.
     #[error("externs: {0}")]

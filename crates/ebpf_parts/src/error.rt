@@ -3,6 +3,7 @@
 ghost use Rattle.std.specs.Prelude.{◌≡◌};
 ghost use Rattle.ebpf_parts.specs.declared.error.ParseError.TheVariants.{OutOfMemory};
 
+use crate::wording::SymbolWords;
 use ebpf_base::{Items, Text};
 use ebpf_btf::BtfError;
 use ebpf_elf::ElfReadError;
@@ -16,15 +17,15 @@ pub enum ParseError {
     ElfError(ElfReadError),
     #[error("{0}")]
     BtfError(BtfError),
-    #[error("the license has no null terminator")]
+    #[error("the license, of {} bytes, has no null byte at its end", .bytes.len())]
     MissingLicenseNullTerminator {
         bytes: Items<u8>,
     },
-    #[error("the license is invalid")]
+    #[error("the license, of {} bytes, is no text with its only null byte at the end", .bytes.len())]
     InvalidLicense {
         bytes: Items<u8>,
     },
-    #[error("the kernel version is invalid")]
+    #[error("the section version has {} bytes, and not 4", .bytes.len())]
     InvalidKernelVersion {
         bytes: Items<u8>,
     },
@@ -33,44 +34,44 @@ pub enum ParseError {
         index: usize,
         error: ElfReadError,
     },
-    #[error("a relocation has no target")]
+    #[error("a relocation names no symbol")]
     UnsupportedRelocationTarget,
-    #[error("invalid program section `{section}`")]
+    #[error("the section name {:?} says no type of program", .section.as_str())]
     InvalidProgramSection {
         section: Text,
     },
-    #[error("the program code is no whole instructions")]
+    #[error("the code of a function is no multiple of 8 bytes")]
     InvalidProgramCode,
-    #[error("invalid definition of the map `{name}`")]
+    #[error("the definition of the map {:?} is too short or too large, or asks for another pinning than 0 and 1", .name.as_str())]
     InvalidMapDefinition {
         name: Text,
     },
-    #[error("two symbols in section {section_index} at address {address}")]
+    #[error("two functions of section {section_index} are at address {address:#x}")]
     SymbolTableConflict {
         section_index: usize,
         address: u64,
     },
-    #[error("no symbol in section {section_index} at address {address}")]
+    #[error("no function of section {section_index} is at address {address:#x}, where its code goes on")]
     UnknownSymbol {
         section_index: usize,
         address: u64,
     },
-    #[error("symbol {index} is invalid")]
+    #[error("{} has no bytes, or some outside its section", SymbolWords {number: *.index, name: .name})]
     InvalidSymbol {
         index: usize,
         name: Option<Text>,
     },
-    #[error("the symbol `{name}` has {sym_size} bytes, the data {data_size}")]
+    #[error("a value of {data_size} bytes does not fit the variable {:?} of {sym_size} bytes in its map", .name.as_str())]
     InvalidGlobalData {
         name: Text,
         sym_size: u64,
         data_size: usize,
     },
-    #[error("no symbol `{name}`")]
+    #[error("there is no symbol {:?}", .name.as_str())]
     SymbolNotFound {
         name: Text,
     },
-    #[error("no map in section {index}")]
+    #[error("no map stands in section {index}, where a variable is")]
     MapNotFound {
         index: usize,
     },
@@ -78,11 +79,11 @@ pub enum ParseError {
     MapSymbolNameNotFound {
         i: usize,
     },
-    #[error("no symbols in the section `{section_name}`")]
+    #[error("no symbol is in the section {:?}", .section_name.as_str())]
     NoSymbolsForSection {
         section_name: Text,
     },
-    #[error("the object has no type information")]
+    #[error("maps are declared by BTF types, and the object has no section .BTF")]
     NoBTF,
     #[error("out of memory")]
     OutOfMemory,

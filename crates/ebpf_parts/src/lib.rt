@@ -11,8 +11,10 @@ pub mod programs;
 mod section;
 mod section_kind;
 mod section_name;
+mod wording;
 
 pub use error::ParseError;
 pub use program_section::ProgramSection;
 pub use section::{Relocation, Section};
 pub use section_kind::EbpfSectionKind;
+pub use wording::{SymbolWords, Within};

@@ -10,7 +10,7 @@ use thiserror::Error;
 #[derive(Debug, Drop, Error)]
 pub enum PlaceFault {
     /// A path has too many parts, a view too many levels or too many entries.
-    #[error("the limit of nesting was reached")]
+    #[error("a path has more than 64 parts, or a type more than 64 levels or 1048576 members to look at")]
     NestingLevel,
     /// A name, a type or a size can't be read, or a bit offset is past 32 bits.
     #[error("{0}")]

@@ -5,12 +5,13 @@ ghost use Rattle.ebpf_reloc.specs.Memory.{is_memory, is_memory_at, NamesNoneForM
 ghost use Rattle.ebpf_reloc.specs.declared.error.RelocationError.TheVariants.{OutOfMemory};
 
 use ebpf_base::Text;
+use ebpf_parts::{SymbolWords, Within};
 use std::alloc::{AllocError, AllocFailed, Global};
 use thiserror::Error;
 
 /// Why a function or a program could not be relocated, and which.
 #[derive(Debug, Drop, Error)]
-#[error("`{function}`: {error}")]
+#[error("{}{error}", Within {what: "function", name: .function.as_str()})]
 pub struct EbpfRelocationError {
     /// The name of the function or the program; empty where memory was refused.
     pub function: Text,
@@ -22,67 +23,67 @@ pub struct EbpfRelocationError {
 #[derive(Debug, Drop, Error)]
 pub enum RelocationError {
     /// A relocation names a symbol that is not there.
-    #[error("no symbol {index}")]
+    #[error("a relocation names symbol {index}, which is not there")]
     UnknownSymbol {
         index: usize,
     },
     /// A relocation's symbol is in a section without a map.
-    #[error("no map for symbol {symbol_index} in section {section_index}")]
+    #[error("no descriptor is given for the map of {} in section {section_index}", SymbolWords {number: *.symbol_index, name: .symbol_name})]
     SectionNotFound {
         section_index: usize,
         symbol_index: usize,
         symbol_name: Option<Text>,
     },
     /// A function refers to an address where no function stands.
-    #[error("`{caller_name}` refers to address {address}, where no function stands")]
+    #[error("{:?} refers to address {address:#x}, where no function begins", .caller_name.as_str())]
     UnknownFunction {
         address: u64,
         caller_name: Text,
     },
     /// Of a function and the program that it is linked into only one has records on functions.
-    #[error("only one of `{name}` and its program has records on functions")]
+    #[error("only one of {:?} and its program has func info in .BTF.ext", .name.as_str())]
     FunctionInfoMismatch {
         name: Text,
     },
     /// No function stands where a program says that its own does.
-    #[error("no function in section {section_index} at address {address}")]
+    #[error("no function is at address {address:#x} of section {section_index}, where the program begins")]
     UnknownProgram {
         section_index: usize,
         address: u64,
     },
     /// A relocation stands where it can't be applied.
-    #[error("relocation {relocation_number} at offset {offset} can't be applied there")]
+    #[error("relocation {relocation_number} is at offset {offset:#x}, where no instruction can carry it")]
     InvalidRelocationOffset {
         offset: u64,
         relocation_number: usize,
     },
     /// An extern symbol that is none of the object's externs.
-    #[error("no extern `{name}`")]
+    #[error("no extern {:?} is declared in the BTF section .ksyms", .name.as_str())]
     ExternNotFound {
         name: Text,
     },
     /// An extern that has neither a type of the kernel nor an address, and needs one.
-    #[error("the extern `{name}` is not resolved")]
+    #[error("the extern {:?} has no id or address of the kernel that its instruction needs", .name.as_str())]
     UnresolvableSymbol {
         name: Text,
     },
     /// A symbol of a text section that names no function.
-    #[error("symbol {index} names no function")]
+    #[error("a reference leads to symbol {index}, which names no function")]
     UnsupportedTextSymbol {
         index: usize,
     },
     /// The line records of a function can't be moved to its place in the program.
-    #[error("the records on lines of `{name}` can't be moved")]
+    #[error("the line info of {:?} can't be moved to its place in the program", .name.as_str())]
     InvalidLineInfo {
         name: Text,
     },
     /// With this function the program has more slots than a call can reach over.
-    #[error("the program is too long with `{name}`")]
+    #[error("with {:?} the program has more than 2147483647 instructions", .name.as_str())]
     ProgramTooLong {
         name: Text,
     },
     /// A place in a map's data that a slot can't hold.
-    #[error("the place in a map at offset {offset} is too far")]
+    #[error("the load at offset {offset:#x} refers to a place in a map past 2147483647")]
     MapAddressOverflow {
         offset: u64,
     },

@@ -19,7 +19,7 @@ pub enum PinningType {
 #[derive(Debug, Drop, Error)]
 pub enum PinningError {
     /// The number is neither 0 nor 1.
-    #[error("unsupported pinning type `{pinning_type}`")]
+    #[error("pinning {pinning_type} is neither 0, none, nor 1, by name")]
     Unsupported {
         /// The number.
         pinning_type: u32,

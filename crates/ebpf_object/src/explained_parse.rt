@@ -1,0 +1,66 @@
+//! Parse errors beside the file that they are about.
+
+use crate::section_words::SectionWords;
+use ebpf_elf::ElfFile;
+use ebpf_parts::ParseError;
+use std::fmt;
+
+/// Why a file can't be parsed, and the file. It prints the error's sentence with the names that the file has for the
+/// numbers of sections. It takes no memory.
+#[derive(Clone, Copy)]
+pub struct ExplainedParse<'a> {
+    /// The file's bytes.
+    pub file: &'a [u8],
+    /// The error that `Object::parse` gave for them.
+    pub error: &'a ParseError,
+}
+
+/// The name of a file's section by its number, where it can be read.
+fn section_name(file: &[u8], number: usize) -> Option<&str> {
+    let Ok(file) = ElfFile::parse(file) else {
+        return None;
+    };
+    for section in file.sections() {
+        if section.index().0 == number {
+            return section.name().ok();
+        }
+    }
+    None
+}
+
+/// The number of a file's section, and its name.
+fn section_of(file: &[u8], number: usize) -> SectionWords<'_> {
+    SectionWords {
+        number,
+        name: section_name(file, number),
+    }
+}
+
+impl fmt::Display for ExplainedParse<'_> {
+    fn fmt<W: fmt::Write>(&self, f: &mut fmt::Formatter<W>) -> fmt::Result {
+        match self.error {
+            ParseError::SectionError { index, error } => {
+                let section = section_of(self.file, *index);
+                write!(f, "{section}: {error}")
+            }
+            ParseError::SymbolTableConflict {
+                section_index,
+                address,
+            } => {
+                let section = section_of(self.file, *section_index);
+                write!(f, "two functions of {section} are at address {address:#x}")
+            }
+            ParseError::UnknownSymbol {
+                section_index,
+                address,
+            } => {
+                let section = section_of(self.file, *section_index);
+                write!(
+                    f,
+                    "no function of {section} is at address {address:#x}, where its code goes on"
+                )
+            }
+            error => write!(f, "{error}"),
+        }
+    }
+}
