@@ -17,3 +17,5 @@ pub mod Prepared
 pub mod KeptParts
 pub mod Headline
 pub mod MapNames
+pub mod NamedPrograms
+pub mod SectionNames
