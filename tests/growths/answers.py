@@ -4,11 +4,11 @@ NO_MEMORY = "OutOfMemory"
 
 
 def located(error):
-    return f'{error} {{ function: Text {{ text: "" }}, error: OutOfMemory }}'
+    return f'{error} {{ function: "", error: OutOfMemory }}'
 
 
 CALLS = located("EbpfRelocationError")
-TYPES = 'BtfRelocationError { section: Text { text: "" }, error: OutOfMemory }'
+TYPES = 'BtfRelocationError { section: "", error: OutOfMemory }'
 
 
 def err(error):

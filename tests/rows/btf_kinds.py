@@ -29,24 +29,24 @@ KINDS = [
     ),
     (
         ty(5, STRUCT, 8, 1, 1, 0x03000005, 0, 6, 32, entries=2, flag=1),
-        "Struct { name_offset: 5, size: 8, kind_flag: true, members: Items { items: [BtfMember { name_offset: 1,"
-        " btf_type: 1, offset: 50331653 }, BtfMember { name_offset: 0, btf_type: 6, offset: 32 }] } }",
+        "Struct { name_offset: 5, size: 8, kind_flag: true, members: [BtfMember { name_offset: 1,"
+        " btf_type: 1, offset: 50331653 }, BtfMember { name_offset: 0, btf_type: 6, offset: 32 }] }",
         "Struct named at 5, size Some(8), of None, members 2, one at 5 of 3",
         "4",
         "8",
     ),
     (
         ty(5, UNION, 4, 5, 1, 0x03000005, entries=1),
-        "Union { name_offset: 5, size: 4, kind_flag: false, members: Items { items: [BtfMember { name_offset: 5,"
-        " btf_type: 1, offset: 50331653 }] }, enum64_fallback: None }",
+        "Union { name_offset: 5, size: 4, kind_flag: false, members: [BtfMember { name_offset: 5,"
+        " btf_type: 1, offset: 50331653 }], enum64_fallback: None }",
         "Union named at 5, size Some(4), of None, members 1, one at 50331653 of 0",
         "5",
         "4",
     ),
     (
         ty(5, ENUM, 4, 1, 0xFFFFFFFF, entries=1, flag=1),
-        "Enum { name_offset: 5, size: 4, kind_flag: true, variants: Items { items: [BtfEnum { name_offset: 1, value:"
-        " 4294967295 }] } }",
+        "Enum { name_offset: 5, size: 4, kind_flag: true, variants: [BtfEnum { name_offset: 1, value:"
+        " 4294967295 }] }",
         "Enum named at 5, size Some(4), of None",
         "6",
         "4",
@@ -89,7 +89,7 @@ KINDS = [
     ),
     (
         ty(0, FUNC_PROTO, 1, 5, 2, entries=1),
-        "FuncProto { name_offset: 0, btf_type: 1, params: Items { items: [BtfParam { name_offset: 5, btf_type: 2 }] } }",
+        "FuncProto { name_offset: 0, btf_type: 1, params: [BtfParam { name_offset: 5, btf_type: 2 }] }",
         "FuncProto named at 0, size None, of Some(1)",
         "13",
         "UnexpectedBtfType { type_id: 13 }",
@@ -103,8 +103,8 @@ KINDS = [
     ),
     (
         ty(5, DATASEC, 4, 14, 2, 3, entries=1),
-        "DataSec { name_offset: 5, size: 4, entries: Items { items: [DataSecEntry { btf_type: 14, offset: 2, size: 3 }]"
-        " } }",
+        "DataSec { name_offset: 5, size: 4, entries: [DataSecEntry { btf_type: 14, offset: 2, size: 3 }]"
+        " }",
         "DataSec named at 5, size Some(4), of None",
         "15",
         "4",
@@ -126,8 +126,8 @@ KINDS = [
     ),
     (
         ty(5, ENUM64, 8, 1, 2, 3, entries=1),
-        "Enum64 { name_offset: 5, size: 8, kind_flag: false, variants: Items { items: [BtfEnum64 { name_offset: 1,"
-        " value_low: 2, value_high: 3 }] } }",
+        "Enum64 { name_offset: 5, size: 8, kind_flag: false, variants: [BtfEnum64 { name_offset: 1,"
+        " value_low: 2, value_high: 3 }] }",
         "Enum64 named at 5, size Some(8), of None",
         "19",
         "8",
@@ -172,7 +172,7 @@ NAMES = {
     "id Ptr": "2",
     "name 15": "n",
     "error_name 16": "int",
-    "id Int n": 'UnknownBtfTypeName { type_name: Text { text: "n" } }',
+    "id Int n": 'UnknownBtfTypeName { type_name: "n" }',
 }
 
 

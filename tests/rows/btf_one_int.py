@@ -93,8 +93,8 @@ def cases():
         "error_name 1": "int",
         "id Int int": "1",
         "id Unknown": "0",
-        "id Int in": 'UnknownBtfTypeName { type_name: Text { text: "in" } }',
-        "id Float int": 'UnknownBtfTypeName { type_name: Text { text: "int" } }',
+        "id Int in": 'UnknownBtfTypeName { type_name: "in" }',
+        "id Float int": 'UnknownBtfTypeName { type_name: "int" }',
         "prefixes 0 45": "45: InvalidHeader",
         "all_bytes 0 45": each_value(ONE_INT),
     }

@@ -128,7 +128,7 @@ def learned(name, types, kernel, *answers):
 
 
 def text(words):
-    return f'Text {{ text: "{words}" }}'
+    return f'"{words}"'
 
 
 def bad_string(access):
@@ -157,7 +157,7 @@ def too_nested(name):
 
 def conflict(name, *others):
     held = ", ".join(text(other) for other in others)
-    return f"ConflictingCandidates {{ type_name: {text(name)}, candidates: Items {{ items: [{held}] }} }}"
+    return f"ConflictingCandidates {{ type_name: {text(name)}, candidates: [{held}] }}"
 
 
 def unreadable(offset):

@@ -98,7 +98,7 @@ def unexpected(number):
 
 
 def named(error):
-    return f'BtfError({error} {{ name: Text {{ text: "m" }} }})'
+    return f'BtfError({error} {{ name: "m" }})'
 
 
 FAULTS = [
@@ -170,7 +170,7 @@ FAULTS = [
     (
         "a map without a symbol",
         [struct_of("", 0), variable("other", 1), datasec(".maps", 2)],
-        'SymbolNotFound { name: Text { text: "other" } }',
+        'SymbolNotFound { name: "other" }',
     ),
     # The members are read first.
     (
@@ -190,6 +190,6 @@ def cases():
     rows = [(name, declaring(*types), expected) for name, types, expected in MAPS + FAULTS]
     rows += [
         ("maps without types", bare(".BTF2"), "NoBTF"),
-        ("maps without symbols", bare(".BTF"), 'NoSymbolsForSection { section_name: Text { text: ".maps" } }'),
+        ("maps without symbols", bare(".BTF"), 'NoSymbolsForSection { section_name: ".maps" }'),
     ]
     return [Case(name, data, {"parsed declared_maps": expected}) for name, data, expected in rows]

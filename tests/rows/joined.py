@@ -85,8 +85,8 @@ END = ("95000000", 0)
 
 def no_function(program, caller, address):
     return (
-        f'EbpfRelocationError {{ function: Text {{ text: "{program}" }}, error: UnknownFunction'
-        f' {{ address: {address}, caller_name: Text {{ text: "{caller}" }} }} }}'
+        f'EbpfRelocationError {{ function: "{program}", error: UnknownFunction'
+        f' {{ address: {address}, caller_name: "{caller}" }} }}'
     )
 
 
@@ -152,7 +152,7 @@ def faults():
         (
             "a call of data",
             by_section([CALL, EXIT], 5, LOAD64),
-            'EbpfRelocationError { function: Text { text: "p" }, error: UnsupportedTextSymbol { index: 5 } }\n' + P_F_G,
+            'EbpfRelocationError { function: "p", error: UnsupportedTextSymbol { index: 5 } }\n' + P_F_G,
         ),
         # P calls f, whose call finds no function, and then what is no function.
         (

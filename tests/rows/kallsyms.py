@@ -32,7 +32,7 @@ def refused(error):
 
 def lists():
     """Lists that are read to their end."""
-    name = 'name: Text { text: "a" }'
+    name = 'name: "a"'
     rows = [
         # A no-break space is no blank.
         ("a name that goes on behind a no-break space", "1000 D a\u00a0x\n2000 D a\n3 D b\n", found(a=0x2000, b=3)),
@@ -41,7 +41,7 @@ def lists():
         (
             "an address of 65 bits",
             "10000000000000000 D a\n",
-            refused('KallsymsParseError(Text { text: "invalid address: 10000000000000000" })'),
+            refused('KallsymsParseError("invalid address: 10000000000000000")'),
         ),
         ("no line", "", refused(f"VariableNotFound {{ {name} }}")),
         ("a line of a million letters", "x" * 1_000_000 + "\n1000 D a\n20 D b\n", found(a=0x1000, b=0x20)),
@@ -51,7 +51,7 @@ def lists():
 
 def failures():
     """Lists that are cut off by a failure, or by what is no text."""
-    name = 'name: Text { text: "a" }'
+    name = 'name: "a"'
     no_text = 'Error { kind: InvalidData, message: "stream did not contain valid UTF-8" }'
     ambiguous = f"AmbiguousResolution {{ {name}, first_addr: 4096, second_addr: 8192 }}"
     places = len(GOOD) + 1

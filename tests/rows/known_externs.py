@@ -24,11 +24,11 @@ def referring(slots, relocations, types=".BTF"):
 
 
 def refused(error, slots):
-    return f'Err(EbpfRelocationError {{ function: Text {{ text: "p" }}, error: {error} }}) {slots}'
+    return f'Err(EbpfRelocationError {{ function: "p", error: {error} }}) {slots}'
 
 
 def unresolved(slots):
-    return refused('UnresolvableSymbol { name: Text { text: "v" } }', slots)
+    return refused('UnresolvableSymbol { name: "v" }', slots)
 
 
 def misplaced(offset, slots):
@@ -77,7 +77,7 @@ ROWS = [
         [CALL, LOAD],
         [(0, 1, CALL32), (8, 3, LOAD64)],
         "id:9",
-        refused('ExternNotFound { name: Text { text: "w" } }', "85 10 00 00 ff ff ff ff, 18 01 00 00 00 00 00 00"),
+        refused('ExternNotFound { name: "w" }', "85 10 00 00 ff ff ff ff, 18 01 00 00 00 00 00 00"),
     ),
     ("a call of a program", [CALL], [(0, 2, CALL32)], "id:9", "Ok(()) 85 10 00 00 ff ff ff ff"),
     (

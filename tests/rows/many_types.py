@@ -17,7 +17,7 @@ def names_of_last():
 
 
 def items(kind, *rows):
-    return "Items { items: [" + ", ".join(f"{kind} {{ name_offset: 5, {row} }}" for row in rows) + "] }"
+    return "[" + ", ".join(f"{kind} {{ name_offset: 5, {row} }}" for row in rows) + "]"
 
 
 def last_types():

@@ -25,14 +25,14 @@ def referring(slots, relocations):
 
 
 def refused(error, slots):
-    return f'Err(EbpfRelocationError {{ function: Text {{ text: "p" }}, error: {error} }}) {slots}'
+    return f'Err(EbpfRelocationError {{ function: "p", error: {error} }}) {slots}'
 
 
 def misplaced(offset, number):
     return f"InvalidRelocationOffset {{ offset: {offset}, relocation_number: {number} }}"
 
 
-NO_MAP = 'SectionNotFound { section_index: 7, symbol_index: 5, symbol_name: Some(Text { text: "x" }) }'
+NO_MAP = 'SectionNotFound { section_index: 7, symbol_index: 5, symbol_name: Some("x") }'
 
 # The slots, their relocations, the descriptors that are given, and what the slots are then.
 ROWS = [

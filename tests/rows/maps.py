@@ -18,8 +18,8 @@ def struct(address, size):
     return File().section("maps", PROGBITS, 3, STRUCT).symbol("m", OBJECT, 3, address, size).bytes()
 
 
-NO_MAP = 'InvalidMapDefinition { name: Text { text: "m" } }'
-NO_SYMBOL = 'InvalidSymbol { index: 1, name: Some(Text { text: "m" }) }'
+NO_MAP = 'InvalidMapDefinition { name: "m" }'
+NO_SYMBOL = 'InvalidSymbol { index: 1, name: Some("m") }'
 MAP = "map m type 1 key 2 value 3 entries 4 flags 5 None symbol Some(1) data []"
 
 
@@ -35,7 +35,7 @@ def cases():
         ("three bytes of .rodata", data(".rodata", PROGBITS, 3), array(".rodata", 3, 128, [1, 2, 3])),
         ("three bytes of .data.x", data(".data.x", PROGBITS, 3), array(".data.x", 3, 0, [1, 2, 3])),
         ("a .data that is not in the file", data(".data", NOBITS, 3), array(".data", 3, 0, [])),
-        ("a .bss of 4 GiB", data(".bss", NOBITS, 2**32), 'InvalidMapDefinition { name: Text { text: ".bss" } }'),
+        ("a .bss of 4 GiB", data(".bss", NOBITS, 2**32), 'InvalidMapDefinition { name: ".bss" }'),
         ("a map struct of 20 bytes", struct(0, 20), MAP),
         ("a map struct of 23 bytes", struct(0, 23), MAP),
         ("a map struct of 19 bytes", struct(0, 19), NO_MAP),
@@ -47,7 +47,7 @@ def cases():
         (
             "map structs without symbols",
             data("maps", PROGBITS, 3),
-            'NoSymbolsForSection { section_name: Text { text: "maps" } }',
+            'NoSymbolsForSection { section_name: "maps" }',
         ),
     ]
     return [Case(name, bytes_, {"parsed maps": expected}) for name, bytes_, expected in rows] + made()

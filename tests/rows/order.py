@@ -7,13 +7,13 @@ from rows.elf import FUNCTION, NOBITS, File
 OUTSIDE = 0xFFFFFF
 
 STEPS = [
-    ("license", "InvalidLicense { bytes: Items { items: [65] } }"),
-    ("version", "InvalidKernelVersion { bytes: Items { items: [1] } }"),
+    ("license", "InvalidLicense { bytes: [65] }"),
+    ("version", "InvalidKernelVersion { bytes: [1] }"),
     ("symbols", "BtfError(InvalidSymbolName)"),
     ("types", "BtfError(InvalidHeader)"),
     ("what is said of instructions", "BtfError(InvalidHeader)"),
     ("externs", "BtfError(InvalidDatasec)"),
-    ("sections", 'InvalidProgramSection { section: Text { text: "nothing" } }'),
+    ("sections", 'InvalidProgramSection { section: "nothing" }'),
 ]
 
 
@@ -35,7 +35,7 @@ PARTS = [
     ("name", "SectionError { index: 3, error: BadStringTable }"),
     ("data", "SectionError { index: 3, error: BadSectionRange }"),
     ("relocations", "UnsupportedRelocationTarget"),
-    ("kind", 'InvalidProgramSection { section: Text { text: "nothing" } }'),
+    ("kind", 'InvalidProgramSection { section: "nothing" }'),
 ]
 
 

@@ -20,11 +20,11 @@ def prepared(maps, text):
 
 
 def refused(stage, function, error):
-    return f'{stage}(EbpfRelocationError {{ function: Text {{ text: "{function}" }}, error: {error} }})'
+    return f'{stage}(EbpfRelocationError {{ function: "{function}", error: {error} }})'
 
 
 def no_map(section, symbol, name):
-    said = f'section_index: {section}, symbol_index: {symbol}, symbol_name: Some(Text {{ text: "{name}" }})'
+    said = f'section_index: {section}, symbol_index: {symbol}, symbol_name: Some("{name}")'
     return refused("Maps", "p", f"SectionNotFound {{ {said} }}")
 
 
@@ -97,12 +97,12 @@ def externs():
         Case(
             "a variable without an address, prepared",
             {"object": known, "kallsyms": b""},
-            {"prepared externs calls": 'Ksyms(VariableNotFound { name: Text { text: "v" } })'},
+            {"prepared externs calls": 'Ksyms(VariableNotFound { name: "v" })'},
         ),
         Case(
             "a call of an address, prepared",
             {"object": called, "kallsyms": lines},
-            {"prepared externs calls": refused("Externs", "p", 'UnresolvableSymbol { name: Text { text: "v" } }')},
+            {"prepared externs calls": refused("Externs", "p", 'UnresolvableSymbol { name: "v" }')},
         ),
         Case(
             "a function without a kernel's types, prepared",
@@ -113,7 +113,7 @@ def externs():
             "a variable without an address and a call of no function, prepared",
             {"object": astray, "kallsyms": b""},
             {
-                "prepared externs calls": 'Ksyms(VariableNotFound { name: Text { text: "v" } })',
+                "prepared externs calls": 'Ksyms(VariableNotFound { name: "v" })',
                 "prepared calls": f"Calls({no_function('p', 'p', 48)})",
             },
         ),
@@ -124,8 +124,8 @@ def types():
     """Functions that are adapted to a kernel's types, before all other passes."""
     kernel = btf(INT_4, struct_of("s", 12, ("a", 1, 0), ("x", 1, 32), ("b", 1, 64)))
     no_path = (
-        'Types(BtfRelocationError { section: Text { text: "kprobe/p" }, error: InvalidAccessString'
-        ' { access_str: Text { text: "x" } } })'
+        'Types(BtfRelocationError { section: "kprobe/p", error: InvalidAccessString'
+        ' { access_str: "x" } })'
     )
     return [
         Case(

@@ -2,7 +2,7 @@
 from rows.case import Case
 from rows.elf import CALL32, EXIT, FUNCTION, File, changed
 
-FOO = 'InvalidSymbol { index: 1, name: Some(Text { text: "foo" }) }'
+FOO = 'InvalidSymbol { index: 1, name: Some("foo") }'
 
 
 def sized(data, size):
@@ -59,12 +59,12 @@ def cases():
         Case(
             "a section of no kind and without symbols",
             named("nothing/foo"),
-            {"parsed programs": 'InvalidProgramSection { section: Text { text: "nothing/foo" } }'},
+            {"parsed programs": 'InvalidProgramSection { section: "nothing/foo" }'},
         ),
         Case(
             "a section without symbols",
             named("kprobe/foo/bar"),
-            {"parsed programs": 'NoSymbolsForSection { section_name: Text { text: "kprobe/foo/bar" } }'},
+            {"parsed programs": 'NoSymbolsForSection { section_name: "kprobe/foo/bar" }'},
         ),
         Case(
             "symbols that are no programs",

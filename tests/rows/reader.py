@@ -91,7 +91,7 @@ def shown(text):
 
 
 def refuse_symbol(wrong, index, text):
-    refuse_if(wrong, f'InvalidSymbol {{ index: {index}, name: Some(Text {{ text: {shown(text)} }}) }}')
+    refuse_if(wrong, f'InvalidSymbol {{ index: {index}, name: Some({shown(text)}) }}')
 
 
 def read_text(index, section, symbols):
@@ -114,8 +114,8 @@ def read_text(index, section, symbols):
 def read_program(section, text, symbols, any_symbol):
     """The programs of a section."""
     known = text.split("/")[0] == "kprobe"
-    refuse_if(not known, f'InvalidProgramSection {{ section: Text {{ text: {shown(text)} }} }}')
-    refuse_if(not any_symbol, f'NoSymbolsForSection {{ section_name: Text {{ text: {shown(text)} }} }}')
+    refuse_if(not known, f'InvalidProgramSection {{ section: {shown(text)} }}')
+    refuse_if(not any_symbol, f'NoSymbolsForSection {{ section_name: {shown(text)} }}')
     for number, symbol, _, value, size in symbols:
         if symbol:
             wrong = value < section.address or value - section.address + size > section.size

@@ -48,7 +48,7 @@ BOTH = [(PROGRAM, [0]), (TEXT, [8])]
 
 
 def refused(error):
-    return f'EbpfRelocationError {{ function: Text {{ text: "p" }}, error: {error} {{ name: Text {{ text: "f" }} }} }}'
+    return f'EbpfRelocationError {{ function: "p", error: {error} {{ name: "f" }} }}'
 
 
 def cases():

@@ -41,7 +41,7 @@ def resolved(name, files, gives):
 def addresses():
     """Addresses of the variable `init_task`, line by line."""
     unknown = "init_task type 1 typed false weak false resolved false None None"
-    name = 'name: Text { text: "init_task" }'
+    name = 'name: "init_task"'
     rows = [
         (
             "two addresses of a variable",
@@ -57,7 +57,7 @@ def addresses():
         (
             "no address",
             ["not_hex D init_task"],
-            answers('Err(KallsymsParseError(Text { text: "invalid address: not_hex" }))', unknown),
+            answers('Err(KallsymsParseError("invalid address: not_hex"))', unknown),
         ),
         # A no-break space is no blank.
         (
@@ -86,7 +86,7 @@ def types():
             "a variable by its whole name",
             {"object": bar, "kernel": btf(INT, variable("bar", 1))},
             answers(
-                'Err(VariableNotFound { name: Text { text: "bar___v2" } })',
+                'Err(VariableNotFound { name: "bar___v2" })',
                 "bar___v2 type 2 typed true weak false resolved false None None",
             ),
         ),
@@ -107,7 +107,7 @@ def types():
             {"object": with_extern("v", GLOBAL, INT), "kernel": btf(INT)},
             {
                 "resolved externs v=strong": answers(
-                    'Err(InvalidExternType { name: Text { text: "v" } })',
+                    'Err(InvalidExternType { name: "v" })',
                     "v type 1 typed true weak false resolved false None None",
                 )
             },
@@ -120,7 +120,7 @@ def slots():
     said = f"{FAR:x} D v\n".encode()
     load = variable_of_void("v", slots=[LOAD, NOTHING], relocations=[(0, LOAD64)])
     call = variable_of_void("v", slots=[CALL], relocations=[(0, CALL32)])
-    unresolvable = 'UnresolvableSymbol { name: Text { text: "v" } }'
+    unresolvable = 'UnresolvableSymbol { name: "v" }'
     return [
         Case(
             "a load of an address that the kernel tells",
@@ -135,7 +135,7 @@ def slots():
             {"object": call, "kallsyms": said},
             {
                 "resolved slots": (
-                    'Ok(())\nErr(EbpfRelocationError { function: Text { text: "p" }, error: '
+                    'Ok(())\nErr(EbpfRelocationError { function: "p", error: '
                     + unresolvable
                     + " }) 85 10 00 00 ff ff ff ff"
                 )

@@ -68,12 +68,12 @@ def cases():
         Case(
             "a large program",
             with_change(PROGRAM + SIZE, b"\xff" * 8),
-            {"parsed programs": 'InvalidSymbol { index: 1, name: Some(Text { text: "p" }) }'},
+            {"parsed programs": 'InvalidSymbol { index: 1, name: Some("p") }'},
         ),
         Case(
             "a large function",
             with_change(FUNCTION + SIZE, b"\x10"),
-            {"parsed programs": 'InvalidSymbol { index: 2, name: Some(Text { text: "f" }) }'},
+            {"parsed programs": 'InvalidSymbol { index: 2, name: Some("f") }'},
         ),
         Case(
             "an empty program",

@@ -9,15 +9,15 @@ def section(name, data):
 
 def cases():
     licenses = [
-        ("no byte of a license", b"", "InvalidLicense { bytes: Items { items: [] } }"),
-        ("an empty license", b"\0", "InvalidLicense { bytes: Items { items: [0] } }"),
-        ("a license without its zero", b"GPL", "MissingLicenseNullTerminator { bytes: Items { items: [71, 80, 76] } }"),
+        ("no byte of a license", b"", "InvalidLicense { bytes: [] }"),
+        ("an empty license", b"\0", "InvalidLicense { bytes: [0] }"),
+        ("a license without its zero", b"GPL", "MissingLicenseNullTerminator { bytes: [71, 80, 76] }"),
         ("a license", b"GPL\0", "[71, 80, 76] None"),
-        ("a license with a byte behind its zero", b"A\0B", "InvalidLicense { bytes: Items { items: [65, 0, 66] } }"),
-        ("a license with two zeros", b"A\0\0", "InvalidLicense { bytes: Items { items: [65, 0, 0] } }"),
+        ("a license with a byte behind its zero", b"A\0B", "InvalidLicense { bytes: [65, 0, 66] }"),
+        ("a license with two zeros", b"A\0\0", "InvalidLicense { bytes: [65, 0, 0] }"),
     ]
     versions = [
-        ("a version of three bytes", b"123", "InvalidKernelVersion { bytes: Items { items: [49, 50, 51] } }"),
+        ("a version of three bytes", b"123", "InvalidKernelVersion { bytes: [49, 50, 51] }"),
         ("any version", b"\xfe\xff\xff\xff", "[71, 80, 76] None"),
         ("a version", b"\xd2\x04\0\0", "[71, 80, 76] Some(1234)"),
         ("a large version", b"\xff\xff\xff\xfe", "[71, 80, 76] Some(4278190079)"),

@@ -2,7 +2,7 @@
 from rows.case import Case
 from rows.elf import FUNCTION, File
 
-F = 'InvalidSymbol { index: 1, name: Some(Text { text: "f" }) }'
+F = 'InvalidSymbol { index: 1, name: Some("f") }'
 
 TOP = 2**64 - 8
 

@@ -24,7 +24,7 @@ def calls(first, second):
 
 def invalid(name, size, length):
     return (
-        f'Err(InvalidGlobalData {{ name: Text {{ text: "{name}" }}, sym_size: {size}, data_size: {length} }})'
+        f'Err(InvalidGlobalData {{ name: "{name}", sym_size: {size}, data_size: {length} }})'
         " [0, 0, 0, 0]"
     )
 
@@ -38,7 +38,7 @@ def cases():
             "a value of no variable",
             {"c": b"\1"},
             "must",
-            'Err(SymbolNotFound { name: Text { text: "c" } }) [0, 0, 0, 0]',
+            'Err(SymbolNotFound { name: "c" }) [0, 0, 0, 0]',
         ),
         patched("a value of no variable, which need not be there", {"c": b"\1"}, "may", "Ok(()) [0, 0, 0, 0]"),
         # Nothing is written of the others either.

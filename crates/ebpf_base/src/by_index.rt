@@ -1,6 +1,6 @@
 //! Values by index, seen as a finite map.
 
-ghost use Rattle.std.specs.Prelude.{◌≡◌, ℕ, ◌↔◌, OnOk, OnErr, OnSome, IfOk, IsTrue, MatchOption, Ok, Err, nat_eq};
+ghost use Rattle.std.specs.Prelude.{◌≡◌, ℕ, ◌<◌, ◌^◌, ◌↔◌, length, OnOk, OnErr, OnSome, IfOk, IsTrue, MatchOption, Ok, Err, nat_eq};
 ghost use Rattle.std.specs.Option.{option_copied, option_copied_mut};
 ghost use Rattle.std.specs.Borrow.{LendsSo, sem};
 ghost use Rattle.std.specs.FinMap as map;
@@ -13,7 +13,7 @@ ghost use Rattle.std.specs.List.{IsDistinct};
 ghost use Rattle.ebpf_base.specs.contracts.by_index.ByIndex.{the_row};
 
 use std::alloc::{AllocError, Global};
-use std::collections::HashMap;
+use std::collections::{HashMap, hash_map};
 use std::marker::Model;
 use std::mem;
 
@@ -101,6 +101,16 @@ impl<V> ByIndex<V> {
         ensures value { option_copied_mut result ≡ map.get self.old index }
     {
         self.entries.get_mut(&index)
+    }
+
+    /// The entries, each once, in the order in which the `HashMap` holds them, of which nothing is said. `indices` is in
+    /// order.
+    pub fn iter(&self) -> hash_map::Iter<'_, usize, V>
+        ensures all { map.from_entries result ≡ self.now }
+        ensures once { IsDistinct nat_eq (keys_of result) }
+        ensures fits { length result < 2 ^ 63 }
+    {
+        self.entries.iter()
     }
 
     /// Puts a value in the place of the one at an index, which comes back. `Err` gives the value back

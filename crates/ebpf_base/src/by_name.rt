@@ -1,16 +1,17 @@
 //! Values by name, seen as a finite map.
 
-ghost use Rattle.std.specs.Prelude.{◌≡◌, ℕ, ◌↔◌, OnOk, OnErr, OnSome, IfOk, IsTrue, MatchOption, Ok, Err, string_bytes};
+ghost use Rattle.std.specs.Prelude.{◌≡◌, ℕ, ◌<◌, ◌^◌, ◌↔◌, length, OnOk, OnErr, OnSome, IfOk, IsTrue, MatchOption, Ok, Err, string_bytes};
 ghost use Rattle.std.specs.Option.{option_copied, option_copied_mut};
 ghost use Rattle.std.specs.Borrow.{LendsSo, sem};
 ghost use Rattle.std.specs.FinMap as map;
 ghost use Rattle.ebpf_base.specs.Copies.{AreCopies, maps_eq, maps_eq_laws};
 ghost use Rattle.ebpf_base.specs.Keys.{text_cmp, coded_text, by_bytes, lent_bytes, text_total};
+ghost use Rattle.std.specs.List.Sorted.{IsStrictlySortedBy};
 ghost use Rattle.std.specs.Map.{keys_of};
 ghost use Rattle.ebpf_base.specs.contracts.by_name.ByName.{the_row};
 
 use std::alloc::{AllocError, Global};
-use std::collections::BTreeMap;
+use std::collections::{BTreeMap, btree_map};
 use std::marker::Model;
 use std::mem;
 
@@ -97,6 +98,15 @@ impl<V> ByName<V> {
         ensures value { option_copied_mut result ≡ map.get self.old name.now }
     {
         self.entries.get_mut(name)
+    }
+
+    /// The entries in the order of the bytes of their names.
+    pub fn iter(&self) -> btree_map::Iter<'_, String, V>
+        ensures all { by_bytes result ≡ map.entries self.now }
+        ensures rising { IsStrictlySortedBy text_cmp (keys_of (by_bytes result)) }
+        ensures fits { length result < 2 ^ 63 }
+    {
+        self.entries.iter()
     }
 
     /// Puts a value in the place of the one at a name, which comes back. `Err` gives the value back

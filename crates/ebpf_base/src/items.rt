@@ -2,6 +2,7 @@
 
 ghost use Rattle.std.specs.Prelude.{◌≡◌, ℕ, ◌<◌, ◌^◌, ◌↔◌, List, [], ◌∷◌, ◌++◌, length, OnOk, OnErr, IfOk, IsTrue, MatchOption, Ok, Err, slice_get, slice_set};
 ghost use Rattle.std.specs.Option.{option_copied, option_copied_mut};
+ghost use Rattle.std.specs.Fmt.{debug_list};
 ghost use Rattle.std.specs.Slice.Iter.{iter_rest};
 ghost use Rattle.std.specs.Iterator.Adapters.{IterYieldsInOrder, IterYieldsInReverse};
 ghost use Rattle.std.specs.Borrow.{Lends, LendsIf, sem};
@@ -13,10 +14,10 @@ ghost use Rattle.std.specs.Cmp.Lexicographic.{pointwise, lists_per};
 
 use std::alloc::{AllocError, AllocFailed, Allocator, Global};
 use std::marker::Model;
-use std::{mem, slice};
+use std::{fmt, mem, slice};
 
 /// A list of values. Contracts see the list alone.
-#[derive(Debug, Drop)]
+#[derive(Drop)]
 pub struct Items<T> {
     items: Vec<T>,
 }
@@ -150,6 +151,14 @@ impl<T: Copy> Items<T> {
         let mut items = Vec::new(*self.items.allocator());
         items.extend_from_slice(self.items.as_slice())?;
         Ok(Items { items })
+    }
+}
+
+impl<T: fmt::Debug> fmt::Debug for Items<T> {
+    ghost debug_output = { debug_list T.debug_output };
+
+    fn fmt<W: fmt::Write>(&self, f: &mut fmt::Formatter<W>) -> fmt::Result {
+        fmt::Debug::fmt(&self.items, f)
     }
 }
 

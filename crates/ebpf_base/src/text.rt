@@ -1,6 +1,7 @@
 //! A text, seen as its bytes.
 
 ghost use Rattle.std.specs.Prelude.{◌≡◌, ℕ, List, [], length, IfOk, IsTrue, ◌↔◌, string_bytes, Some};
+ghost use Rattle.std.specs.Fmt.{debug_str};
 ghost use Rattle.std.specs.Str.{bytes_eq};
 ghost use Rattle.std.specs.Cmp.{partial_equiv_from_equiv, nat_eq_equiv};
 ghost use Rattle.std.specs.Cmp.Lexicographic.{lists_per};
@@ -10,7 +11,7 @@ use std::fmt;
 use std::marker::Model;
 
 /// A text. Contracts see its UTF-8 bytes alone.
-#[derive(Debug, Drop)]
+#[derive(Drop)]
 pub struct Text {
     text: String,
 }
@@ -88,6 +89,14 @@ impl fmt::Display for Text {
 
     fn fmt<W: fmt::Write>(&self, f: &mut fmt::Formatter<W>) -> fmt::Result {
         f.write_str(self.text.as_str())
+    }
+}
+
+impl fmt::Debug for Text {
+    ghost debug_output = { debug_str };
+
+    fn fmt<W: fmt::Write>(&self, f: &mut fmt::Formatter<W>) -> fmt::Result {
+        fmt::Debug::fmt(&self.text, f)
     }
 }
 

@@ -17,3 +17,4 @@ pub mod Headline
 pub mod OwnMaps
 pub mod GivenMaps
 pub mod MapNames
+pub mod StatedLicense

@@ -18,3 +18,5 @@ pub mod KeptParts
 pub mod Chain
 pub mod Headline
 pub mod MapNames
+pub mod NamedPrograms
+pub mod SectionNames

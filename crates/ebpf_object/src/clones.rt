@@ -12,7 +12,7 @@ use std::alloc::AllocError;
 
 /// A copy of what is kept by names.
 #[tactic(auto, using(ebpf_base::proofs::Copies::exact_copy))]
-fn copy_names<V: Clone>(values: &ByName<V>) -> Result<ByName<V>, AllocError>
+pub fn copy_names<V: Clone>(values: &ByName<V>) -> Result<ByName<V>, AllocError>
     requires { (x y : V) → V.is_clone x y → y ≡ x }
     ensures { IfOk result (λ copy. copy ≡ values.now) }
 {
@@ -21,7 +21,7 @@ fn copy_names<V: Clone>(values: &ByName<V>) -> Result<ByName<V>, AllocError>
 
 /// A copy of what is kept by sections and addresses.
 #[tactic(auto, using(ebpf_base::proofs::Copies::exact_copy))]
-fn copy_keys<V: Clone>(values: &ByKey<V>) -> Result<ByKey<V>, AllocError>
+pub fn copy_keys<V: Clone>(values: &ByKey<V>) -> Result<ByKey<V>, AllocError>
     requires { (x y : V) → V.is_clone x y → y ≡ x }
     ensures { IfOk result (λ copy. copy ≡ values.now) }
 {

@@ -1,5 +1,6 @@
 //! ELF64 files.
 
+pub use crate::section_names::section_name;
 pub use ebpf_elf::{
     ElfFile, ElfReadError, ElfRelocation, ElfRelocationSection, ElfSection, ElfSymbol,
     SectionIndex, SymbolKind,

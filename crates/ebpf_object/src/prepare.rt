@@ -1,6 +1,6 @@
 //! A file's bytes to finished programs.
 
-ghost use Rattle.std.specs.Prelude.{ℕ, List, IfOk, IfErr};
+ghost use Rattle.std.specs.Prelude.{◌≡◌, ℕ, List, IfOk, IfErr, OnOk, OnErr};
 ghost use Rattle.ebpf_object.specs.Headline.{Headline};
 ghost use Rattle.ebpf_object.specs.KeptParts.{KeepsOthers};
 ghost use Rattle.ebpf_object.specs.Objects.{object_of};
@@ -8,6 +8,7 @@ ghost use Rattle.ebpf_object.specs.Prepared.{AfterCalls, IsParsed, IsFault, IsFi
 ghost use Rattle.ebpf_object.specs.Steps.{chosen};
 
 pub use crate::explained::Explained;
+use crate::clones::{copy_keys, copy_names};
 use crate::object::Object;
 pub use crate::own_maps::relocate_own_maps;
 pub use crate::prepare_error::PrepareError;
@@ -21,8 +22,9 @@ use std::io::BufRead;
 pub struct Steps<'a> {
     /// A kernel's types, where functions are to be adapted to them.
     pub target_btf: Option<&'a Btf>,
-    /// Names of maps with their descriptors, where these are to be written; a name that the object lacks is passed
-    /// over, and of maps of one symbol or one section the later one counts.
+    /// Names of maps with their descriptors, where these are to be written. Every map that a slot refers to needs one,
+    /// also `.bss`, `.data` and `.rodata` with the variables: without it the maps pass refuses. A name that the object
+    /// lacks is passed over, and of maps of one symbol or one section the later one counts.
     pub map_fds: Option<&'a [(&'a str, i32)]>,
     /// Where externs are to be resolved and written: the kernel's types, if they are known.
     pub externs: Option<Option<&'a Btf>>,
@@ -67,6 +69,65 @@ pub fn prepare_object<K: BufRead + Drop>(
     ensures first_fault { (file : List ℕ) → IsParsed file object → IfErr result (Refuses (IsFirstFault (chosen steps.now) (K.remaining kallsyms) file)) }
 {
     run_all(alloc, object, steps, kallsyms)
+}
+
+/// A copy of an object after the chosen passes, as `prepare_object` gives it. The object stays as it is, so the names of its
+/// maps may be lent to `steps`, and one parsed file serves several kernels.
+///
+/// # Errors
+///
+/// Those of `prepare`, but `Parse`.
+pub fn prepare_copy<K: BufRead + Drop>(
+    alloc: Global,
+    object: &Object,
+    steps: &Steps<'_>,
+    kallsyms: K,
+) -> Result<Object, PrepareError>
+    ensures stages { IfOk result (AfterCalls (chosen steps.now) (K.remaining kallsyms) object.now) }
+    ensures headline { (file : List ℕ) → IsParsed file object.now → IfOk result (Headline (chosen steps.now) (K.remaining kallsyms) file) }
+    ensures others_stay { IfOk result (KeepsOthers object.now) }
+    ensures fault { IfErr result (Refuses (IsFault (chosen steps.now) (K.remaining kallsyms) object.now)) }
+    ensures first_fault { (file : List ℕ) → IsParsed file object.now → IfErr result (Refuses (IsFirstFault (chosen steps.now) (K.remaining kallsyms) file)) }
+{
+    let Ok(copy) = object.clone() else {
+        return Err(PrepareError::OutOfMemory);
+    };
+    prepare_object(alloc, copy, steps, kallsyms)
+}
+
+/// Runs the chosen passes over an object where it stands, as `prepare_object` does. The functions and the externs are
+/// copied for it; after a refusal these copies stand, and the object is as it was.
+///
+/// # Errors
+///
+/// Those of `prepare`, but `Parse`.
+pub fn prepare_in_place<K: BufRead + Drop>(
+    alloc: Global,
+    object: &mut Object,
+    steps: &Steps<'_>,
+    kallsyms: K,
+) -> Result<(), PrepareError>
+    ensures stages { OnOk result (AfterCalls (chosen steps.now) (K.remaining kallsyms) object.old object.new) }
+    ensures headline { (file : List ℕ) → IsParsed file object.old → OnOk result (Headline (chosen steps.now) (K.remaining kallsyms) file object.new) }
+    ensures others_stay { KeepsOthers object.old object.new }
+    ensures fault { IfErr result (Refuses (IsFault (chosen steps.now) (K.remaining kallsyms) object.old)) }
+    ensures first_fault { (file : List ℕ) → IsParsed file object.old → IfErr result (Refuses (IsFirstFault (chosen steps.now) (K.remaining kallsyms) file)) }
+    ensures unchanged { OnErr result (object.new ≡ object.old) }
+{
+    let Ok(functions) = copy_keys(&object.functions) else {
+        return Err(PrepareError::OutOfMemory);
+    };
+    let Ok(externs) = copy_names(&object.externs) else {
+        return Err(PrepareError::OutOfMemory);
+    };
+    match run_stages(alloc, object, steps, kallsyms) {
+        Ok(()) => Ok(()),
+        Err(error) => {
+            object.functions = functions;
+            object.externs = externs;
+            Err(error)
+        }
+    }
 }
 
 /// The object that the bytes of an ELF64 file are, after the chosen passes in this order: functions adapted to a

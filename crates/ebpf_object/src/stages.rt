@@ -20,6 +20,7 @@ use std::io::BufRead;
 fn adapt(object: &mut Object, target: Option<&Btf>) -> Result<(), PrepareError>
     ensures ok { OnOk result (Adapts (option_copied target.entry) object.old object.new) }
     ensures fault { IfErr result (Refuses (OfTypes (AdaptingFault (option_copied target.entry) object.old))) }
+    ensures others_stay { KeepsOthers object.old object.new }
 {
     let Some(target) = target else {
         return Ok(());
@@ -39,6 +40,7 @@ fn describe(
     ensures ok { OnOk result (object.new ≡ described (descriptors_of descriptors.entry) object.old) }
     ensures sound { OnOk result (describing_fault (descriptors_of descriptors.entry) object.old ≡ None) }
     ensures fault { IfErr result (Refuses (OfMaps (describing_fault (descriptors_of descriptors.entry) object.old))) }
+    ensures others_stay { KeepsOthers object.old object.new }
 {
     let Some(descriptors) = descriptors else {
         return Ok(());
@@ -54,6 +56,7 @@ fn resolve<K: BufRead + Drop>(
 ) -> Result<(), PrepareError>
     ensures ok { OnOk result (Resolves (option_map option_copied kernel.entry) (K.remaining kallsyms) object.old object.new) }
     ensures fault { IfErr result (Refuses (OfKsyms (ResolvingFault (option_map option_copied kernel.entry) (K.remaining kallsyms) object.old))) }
+    ensures others_stay { KeepsOthers object.old object.new }
 {
     let Some(kernel) = kernel else {
         return Ok(());
@@ -69,6 +72,7 @@ fn write_externs(object: &mut Object, kernel: Option<Option<&Btf>>) -> Result<()
     ensures ok { OnOk result (object.new ≡ externs_known (option_map option_copied kernel.entry) object.old) }
     ensures sound { OnOk result (knowing_fault (option_map option_copied kernel.entry) object.old ≡ None) }
     ensures fault { IfErr result (Refuses (OfExterns (knowing_fault (option_map option_copied kernel.entry) object.old))) }
+    ensures others_stay { KeepsOthers object.old object.new }
 {
     if kernel.is_none() {
         return Ok(());
@@ -83,6 +87,7 @@ fn write_externs(object: &mut Object, kernel: Option<Option<&Btf>>) -> Result<()
 fn join(alloc: Global, object: &mut Object, calls: bool) -> Result<(), PrepareError>
     ensures ok { OnOk result (Joins calls object.old object.new) }
     ensures fault { IfErr result (Refuses (OfCalls (JoiningFault calls object.old))) }
+    ensures others_stay { KeepsOthers object.old object.new }
 {
     if !calls {
         return Ok(());
@@ -102,7 +107,7 @@ pub fn run_stages<K: BufRead + Drop>(
     kallsyms: K,
 ) -> Result<(), PrepareError>
     ensures ok { OnOk result (AfterCalls (chosen steps.now) (K.remaining kallsyms) object.old object.new) }
-    ensures others_stay { OnOk result (KeepsOthers object.old object.new) }
+    ensures others_stay { KeepsOthers object.old object.new }
     ensures fault { IfErr result (Refuses (IsFault (chosen steps.now) (K.remaining kallsyms) object.old)) }
 {
     adapt(object, steps.target_btf)?;

@@ -1,5 +1,5 @@
 use Rattle.ebpf_object.specs.Steps.{chosen}
-use Rattle.ebpf_object.proofs.KeptParts.{calls_kept}
+use Rattle.ebpf_object.proofs.KeptParts.{kept_twice, kept_thrice, kept_four_times}
 use Rattle.ebpf_object.proofs.Staging.{adapting_refused, after_calls, describing_refused, joining_refused, knowing_refused, of_error, of_ok, passed_on, resolving_refused}
 use Rattle.ebpf_object.proofs.stages.run_stages.Goals as goal
 
@@ -32,13 +32,26 @@ returns-clause-ok g c =
     c.in_ok-adapt.ensures.ok c.in_ok-describe.ensures.sound c.in_ok-describe.ensures.ok c.in_ok-resolve.ensures.ok c.in_ok-write_externs.ensures.sound c.in_ok-write_externs.ensures.ok)
     c.join.ensures.ok
 
+pub returns-in_err-describe-clause-others_stay : goal.returns-in_err-describe-clause-others_stay
+returns-in_err-describe-clause-others_stay g c =
+    kept_twice c.args.object.now c.adapt.new.object c.describe.new.object c.adapt.ensures.others_stay c.describe.ensures.others_stay
+
+pub returns-in_err-resolve-clause-others_stay : goal.returns-in_err-resolve-clause-others_stay
+returns-in_err-resolve-clause-others_stay g c =
+    kept_thrice c.args.object.now c.adapt.new.object c.describe.new.object c.resolve.new.object
+    c.adapt.ensures.others_stay c.describe.ensures.others_stay c.resolve.ensures.others_stay
+
+pub returns-in_err-write_externs-clause-others_stay : goal.returns-in_err-write_externs-clause-others_stay
+returns-in_err-write_externs-clause-others_stay g c =
+    kept_four_times c.args.object.now c.adapt.new.object c.describe.new.object c.resolve.new.object c.write_externs.new.object
+    c.adapt.ensures.others_stay c.describe.ensures.others_stay c.resolve.ensures.others_stay c.write_externs.ensures.others_stay
+
 pub returns-clause-others_stay : goal.returns-clause-others_stay
 returns-clause-others_stay g c =
-    of_ok c.join.result
-    (λ joins. calls_kept (chosen c.args.steps.now) (g.K.Read.remaining c.args.kallsyms) c.args.object.now c.join.new.object
-    (after_calls (chosen c.args.steps.now) (g.K.Read.remaining c.args.kallsyms) c.args.object.now c.adapt.new.object c.describe.new.object c.resolve.new.object c.write_externs.new.object c.join.new.object
-    c.in_ok-adapt.ensures.ok c.in_ok-describe.ensures.sound c.in_ok-describe.ensures.ok c.in_ok-resolve.ensures.ok c.in_ok-write_externs.ensures.sound c.in_ok-write_externs.ensures.ok joins))
-    c.join.ensures.ok
+    kept_twice c.args.object.now c.write_externs.new.object c.join.new.object
+    (kept_four_times c.args.object.now c.adapt.new.object c.describe.new.object c.resolve.new.object c.write_externs.new.object
+    c.adapt.ensures.others_stay c.describe.ensures.others_stay c.resolve.ensures.others_stay c.write_externs.ensures.others_stay)
+    c.join.ensures.others_stay
 
 pub returns-clause-fault : goal.returns-clause-fault
 returns-clause-fault g c =

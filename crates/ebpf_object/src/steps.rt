@@ -1,0 +1,99 @@
+//! What people choose of the passes.
+
+ghost use Rattle.std.specs.Prelude.{◌≡◌, map, false, true, None, Some};
+ghost use Rattle.ebpf_object.specs.Steps.{chosen, descriptor_of};
+
+use crate::prepare::Steps;
+use ebpf_btf::Btf;
+
+impl<'a> Steps<'a> {
+    /// No pass: the object stays as it was parsed.
+    pub fn none() -> Steps<'a>
+        ensures { chosen result ≡ record { target = None; descriptors = None; kernel = None; calls = false } }
+    {
+        Steps {
+            target_btf: None,
+            map_fds: None,
+            externs: None,
+            calls: false,
+        }
+    }
+
+    /// All passes, for a kernel whose types are known, with descriptors of the object's maps by their names. Every map
+    /// that a slot refers to needs one, also `.bss`, `.data` and `.rodata` with the variables: without it the maps pass
+    /// refuses. A name that the object lacks is passed over.
+    pub fn all(kernel: &'a Btf, descriptors: &'a [(&'a str, i32)]) -> Steps<'a>
+        ensures { chosen result ≡ record { target = Some kernel.now; descriptors = Some (map descriptor_of descriptors.now); kernel = Some (Some kernel.now); calls = true } }
+    {
+        let kernels = Steps::none().with_types(kernel).with_externs(kernel);
+        kernels.with_descriptors(descriptors).with_calls()
+    }
+
+    /// The passes that need nothing of a kernel but descriptors: these are written as `all` says, and programs are joined.
+    /// Functions are not adapted to types, and externs are left alone.
+    pub fn without_kernel(descriptors: &'a [(&'a str, i32)]) -> Steps<'a>
+        ensures { chosen result ≡ record { target = None; descriptors = Some (map descriptor_of descriptors.now); kernel = None; calls = true } }
+    {
+        let described = Steps::none().with_descriptors(descriptors);
+        described.with_calls()
+    }
+
+    /// These steps, with functions adapted to a kernel's types.
+    pub fn with_types(self, kernel: &'a Btf) -> Steps<'a>
+        ensures { chosen result ≡ record (chosen self.entry) { target = Some kernel.now } }
+    {
+        Steps {
+            target_btf: Some(kernel),
+            ..self
+        }
+    }
+
+    /// These steps, with descriptors of the object's maps, as `all` says.
+    pub fn with_descriptors(self, descriptors: &'a [(&'a str, i32)]) -> Steps<'a>
+        ensures { chosen result ≡ record (chosen self.entry) { descriptors = Some (map descriptor_of descriptors.now) } }
+    {
+        Steps {
+            map_fds: Some(descriptors),
+            ..self
+        }
+    }
+
+    /// These steps, with externs resolved by a kernel's types and symbols, and written.
+    pub fn with_externs(self, kernel: &'a Btf) -> Steps<'a>
+        ensures { chosen result ≡ record (chosen self.entry) { kernel = Some (Some kernel.now) } }
+    {
+        Steps {
+            externs: Some(Some(kernel)),
+            ..self
+        }
+    }
+
+    /// These steps, with externs resolved by a kernel's symbols alone, and written: for a kernel whose types aren't known.
+    /// A strong extern whose type is to be compared is then refused.
+    pub fn with_externs_by_symbols(self) -> Steps<'a>
+        ensures { chosen result ≡ record (chosen self.entry) { kernel = Some None } }
+    {
+        Steps {
+            externs: Some(None),
+            ..self
+        }
+    }
+
+    /// These steps, with externs left alone: none is resolved, and none is written.
+    pub fn leaving_externs(self) -> Steps<'a>
+        ensures { chosen result ≡ record (chosen self.entry) { kernel = None } }
+    {
+        let externs = None;
+        Steps { externs, ..self }
+    }
+
+    /// These steps, with programs joined with the functions that they reach.
+    pub fn with_calls(self) -> Steps<'a>
+        ensures { chosen result ≡ record (chosen self.entry) { calls = true } }
+    {
+        Steps {
+            calls: true,
+            ..self
+        }
+    }
+}
