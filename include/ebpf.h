@@ -160,8 +160,9 @@ enum ebpf_slot_fault {
 };
 
 /*
- * The name of a number, as "parse: BadMagic": the stage and the fault. It is empty where no call answers the number.
- * 64 bytes hold each. Numbers: 1.
+ * The name of a number, as "parse: BadMagic": the stage and the fault. Each number of the tables above has one, the sum
+ * of a stage's first number and any fault of its table too, whether a call answers it or not; of every other number it is
+ * empty. 64 bytes hold each. Numbers: 1.
  */
 uint32_t ebpf_number_name(uint32_t number, char *text, size_t room, size_t *len);
 
@@ -384,8 +385,8 @@ uint32_t ebpf_line_infos(struct ebpf_handle *handle, const char *name, size_t na
 
 /*
  * Writes the value of a variable into the data of the map that holds it. Of symbols with the name the one with the
- * greatest number counts. Where there is none, `must_exist` 0 leaves all as it is, with the number 0.
- * Numbers: 2, 3, 6, 150 to 152.
+ * greatest number counts. Where there is none, `must_exist` 0 leaves all as it is, with the number 0. A name that is no
+ * UTF-8 is refused before all other faults of the value. Numbers: 2, 3, 6, 150 to 152.
  */
 uint32_t ebpf_set_value(struct ebpf_handle *handle, const char *name, size_t name_len, const uint8_t *value,
 			size_t value_len, uint32_t must_exist, char *about, size_t about_room, size_t *about_len);
@@ -420,7 +421,10 @@ struct ebpf_descriptor {
 uint32_t ebpf_relocate_types(struct ebpf_handle *handle, const uint8_t *types, size_t types_len, char *about,
 			     size_t about_room, size_t *about_len);
 
-/* Writes descriptors of maps into the slots that refer to them. Numbers: 2, 3, 6, 300 to 399. */
+/*
+ * Writes descriptors of maps into the slots that refer to them. A row whose name is no UTF-8, or not inside the text, is
+ * refused before all other faults. Numbers: 2, 3, 6, 300 to 399.
+ */
 uint32_t ebpf_relocate_maps(struct ebpf_handle *handle, const struct ebpf_descriptor *rows, size_t rows_len,
 			    const char *text, size_t text_len, char *about, size_t about_room, size_t *about_len);
 
@@ -441,7 +445,8 @@ uint32_t ebpf_relocate_calls(struct ebpf_handle *handle, char *about, size_t abo
 /*
  * Opens the object of a file and runs all of these passes over it. Where types_len is 0, functions are not adapted
  * and externs are sought in the symbols alone. An object that the handle held before is closed where the answer is 0.
- * The types are read before the file. Numbers: 2, 6, 100 to 199, 200 to 299, .., 600 to 699.
+ * The rows' names are looked at first, then the types are read, then the file. Numbers: 2, 6, 100 to 199, 200 to 299,
+ * .., 600 to 699.
  */
 uint32_t ebpf_prepare(const uint8_t *file, size_t file_len, const uint8_t *types, size_t types_len,
 		      const struct ebpf_descriptor *rows, size_t rows_len, const char *text, size_t text_len,

@@ -1,5 +1,5 @@
 -- A map of one entry.
-use Rattle.std.proofs.Common.{◌≡◌, ℕ, List, [], ◌∷◌, ◌++◌, length, refl, subst, ap, ◌∙◌, arith}
+use Rattle.std.proofs.Common.{◌≡◌, List, [], ◌∷◌, length, refl, subst, ap, ◌∙◌, arith}
 use Rattle.std.specs.HashMap.{HashMap, get, PutsEntry}
 use Rattle.std.specs.List.{All}
 use Rattle.std.specs.Map.{lookup, set_value}

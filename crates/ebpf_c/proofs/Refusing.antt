@@ -1,5 +1,5 @@
 -- What a call that changes an object leaves where it refuses.
-use Rattle.std.proofs.Common.{◌≡◌, ℕ, List, Option, Some, refl, sym, ap, ◌∙◌, subst}
+use Rattle.std.proofs.Common.{◌≡◌, ℕ, List, Option, Some, ap, ◌∙◌, subst}
 use Rattle.std.specs.Prelude.{Result, Ok, Err, IfErr, OnOk, OnErr}
 use Rattle.ebpf_c.specs.Handles.{IsRefused, WhyHeld}
 use Rattle.ebpf_c.specs.Refusal.{IsTold}

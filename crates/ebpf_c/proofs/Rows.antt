@@ -1,13 +1,13 @@
 -- Rows with names, read one after the other.
-use Rattle.std.proofs.Common.{◌≡◌, ℕ, ◌+◌, ◌<◌, List, [], ◌∷◌, ◌++◌, map, length, drop, true, false, Option, Some, None, Bor, refl, sym, ap, ◌∙◌}
+use Rattle.std.proofs.Common.{◌≡◌, ℕ, ◌+◌, ◌<◌, List, [], ◌∷◌, ◌++◌, map, length, drop, true, false, Some, None, Bor, refl, sym, ap, ◌∙◌}
 use Rattle.std.proofs.lemmas.List.{append_assoc, map-append}
 use Rattle.std.proofs.lemmas.Str.{is_utf8-from_IsUtf8, IsUtf8-from_is_utf8}
 use Rattle.std.specs.Prelude.{ℤ, slice_index_or, option_map, if◌then◌else◌}
-use Rattle.std.specs.List.{cons_option, filter_map}
+use Rattle.std.specs.List.{cons_option}
 use Rattle.std.specs.Str.{is_utf8, IsUtf8}
 use Rattle.ebpf_object.specs.Steps.{descriptor_of}
 use Rattle.ebpf_parts.proofs.Walks.{rest_more}
-use Rattle.ebpf_c.specs.Descriptors.{text_of, name_in, descriptor_in, descriptors_in}
+use Rattle.ebpf_c.specs.Descriptors.{text_of, name_in, descriptors_in}
 use Rattle.ebpf_c.specs.declared.descriptors.ebpf_descriptor.{ebpf_descriptor}
 
 pub text_is : (bytes : List ℕ) → IsUtf8 bytes → text_of bytes ≡ Some bytes

@@ -1,5 +1,5 @@
 -- Descriptors of maps, as C names them: each row says where its map's name stands in a text.
-use Rattle.std.specs.Prelude.{◌≡◌, ◌⊎◌, ℕ, ◌+◌, List, [], ◌∷◌, length, take, drop, nat_le, Bool, true, false, Option, Some, None, option_map, is_some, if◌then◌else◌}
+use Rattle.std.specs.Prelude.{◌≡◌, ℕ, ◌+◌, List, length, take, drop, nat_le, Bool, true, Option, Some, None, option_map, is_some, MatchBool, if◌then◌else◌}
 use Rattle.std.specs.List.{filter_map, list_all}
 use Rattle.std.specs.Str.{is_utf8}
 use Rattle.ebpf_object.specs.Stages.{described, describing_fault}
@@ -33,16 +33,17 @@ have_names text rows = list_all (λ row. is_some (name_in text row.name_at row.n
 abbrev pub descriptors_in : List ℕ → List ebpf_descriptor → List Descriptor
 descriptors_in text rows = filter_map (descriptor_in text) rows
 
--- some row names none
-abbrev pub HasBadName : List ebpf_descriptor → List ℕ → Refusal → Type 0
-HasBadName rows text r = (have_names text rows ≡ false) × (r ≡ plain BAD_NAME)
+-- a row that names no map is refused first; what else refuses does so only where each row names one
+abbrev pub NamesFirst : List ebpf_descriptor → List ℕ → (Refusal → Type 0) → Refusal → Type 0
+NamesFirst rows text Why r = MatchBool (have_names text rows) (Why r) (r ≡ plain BAD_NAME)
 
--- written into the slots that refer to the maps
+-- written into the slots that refer to the maps, each of which can take its descriptor
 pub record HasDescribed (rows : List ebpf_descriptor) (text : List ℕ) (old new : Object) : Type 0 where
   pub named : have_names text rows ≡ true
+  pub sound : describing_fault (Some (descriptors_in text rows)) old ≡ None
   pub is : new ≡ described (Some (descriptors_in text rows)) old
 
 -- they can't be written
 abbrev pub CannotDescribe : List ebpf_descriptor → List ℕ → Object → Refusal → Type 0
-CannotDescribe rows text o r =
-    HasBadName rows text r ⊎ IsRefusal (Refuses (OfMaps (describing_fault (Some (descriptors_in text rows)) o))) prepare_refusal r
+CannotDescribe rows text o =
+    NamesFirst rows text (IsRefusal (Refuses (OfMaps (describing_fault (Some (descriptors_in text rows)) o))) prepare_refusal)

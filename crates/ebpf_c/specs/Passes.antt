@@ -1,6 +1,5 @@
 -- What a pass over an object leaves of it, and why it refuses.
 use Rattle.std.specs.Prelude.{◌≡◌, ◌⊎◌, ⊤, ℕ, List, [], Option, Some, None, Ok, Err, MatchBool}
-use Rattle.std.specs.FinMap.{get}
 use Rattle.ebpf_btf.specs.TypeInfo.{TypeInfo}
 use Rattle.ebpf_core_relo.specs.Answers as adapting
 use Rattle.ebpf_ksyms.specs.Faults as resolving
@@ -14,7 +13,7 @@ use Rattle.ebpf_reloc.specs.Linking.{IsFirstFault}
 use Rattle.ebpf_reloc.specs.Memory as relocating
 use Rattle.ebpf_c.specs.Handles.{IsRefusal}
 use Rattle.ebpf_c.specs.Numbers.{ksyms_refusal, slot_refusal, types_refusal}
-use Rattle.ebpf_c.specs.TargetTypes.{types_in, types_if, CannotRead}
+use Rattle.ebpf_c.specs.TargetTypes.{types_in, types_if, CannotRead, CannotReadIf}
 use Rattle.ebpf_c.specs.declared.refusal.Refusal.{Refusal}
 
 -- ---- types
@@ -51,15 +50,16 @@ pub record HasLostExtern (bytes symbols : List ℕ) (o : Object) (r : Refusal) :
   pub refusal : IsRefusal (λ e. MatchBool (resolving.is_memory e) ⊤ (IsRefusedIn symbols o.btf kernel o.externs e)) ksyms_refusal r
 
 abbrev pub CannotResolve : List ℕ → List ℕ → Object → Refusal → Type 0
-CannotResolve bytes symbols o r = CannotRead bytes r ⊎ HasLostExtern bytes symbols o r
+CannotResolve bytes symbols o r = CannotReadIf bytes r ⊎ HasLostExtern bytes symbols o r
 
 -- an extern can't be written
 abbrev pub CannotWriteExterns : Object → Refusal → Type 0
 CannotWriteExterns o = IsRefusal (λ e. MatchBool (relocating.is_memory_at e) ⊤ (externs_fault o ≡ Some e)) (slot_refusal 500)
 
--- written into the slots that refer to them
-abbrev pub HasWrittenExterns : Object → Object → Type 0
-HasWrittenExterns old new = new ≡ with_externs old
+-- written into the slots that refer to them, each of which can take what is known
+pub record HasWrittenExterns (old new : Object) : Type 0 where
+  pub sound : externs_fault old ≡ None
+  pub is : new ≡ with_externs old
 
 -- ---- calls
 

@@ -1,5 +1,5 @@
 -- A file that is prepared in one call: types if there are any, descriptors, externs, calls.
-use Rattle.std.specs.Prelude.{◌≡◌, ◌⊎◌, ℕ, true, List, Option, Some, None, Ok, Err}
+use Rattle.std.specs.Prelude.{◌≡◌, ◌⊎◌, ℕ, true, List, Option, Some, None, Ok}
 use Rattle.ebpf_btf.specs.TypeInfo.{TypeInfo}
 use Rattle.ebpf_object.specs.Headline.{Headline}
 use Rattle.ebpf_object.specs.KeptParts.{KeepsOthers}
@@ -7,12 +7,10 @@ use Rattle.ebpf_object.specs.Objects.{object_of}
 use Rattle.ebpf_object.specs.Prepared.{IsFirstFault, Refuses}
 use Rattle.ebpf_object.specs.Steps.{Chosen}
 use Rattle.ebpf_object.specs.declared.object.Object.{Object}
-use Rattle.ebpf_c.specs.Descriptors.{descriptors_in, have_names, HasBadName}
+use Rattle.ebpf_c.specs.Descriptors.{descriptors_in, have_names, NamesFirst}
 use Rattle.ebpf_c.specs.Handles.{IsRefusal}
 use Rattle.ebpf_c.specs.Numbers.{prepare_refusal}
-use Rattle.ebpf_c.specs.Refusal.{plain}
-use Rattle.ebpf_c.specs.TargetTypes.{types_if, CannotRead}
-use Rattle.ebpf_c.specs.declared.codes.TheConstants.{MEMORY}
+use Rattle.ebpf_c.specs.TargetTypes.{types_if, CannotReadIf}
 use Rattle.ebpf_c.specs.declared.descriptors.ebpf_descriptor.{ebpf_descriptor}
 use Rattle.ebpf_c.specs.declared.refusal.Refusal.{Refusal}
 
@@ -50,8 +48,9 @@ pub record HasFault (given : Given) (r : Refusal) : Type 0 where
   pub spelled : types_if given.types ≡ Ok kernel
   pub refusal : IsRefusal (Refuses (IsFirstFault (all_passes given kernel) (Some given.symbols) given.file)) prepare_refusal r
 
+-- the names are looked at first, then the types are read, then come the stages
 abbrev pub CannotPrepare : Given → Refusal → Type 0
-CannotPrepare given r = CannotRead given.types r ⊎ HasBadName given.rows given.text r ⊎ HasFault given r ⊎ (r ≡ plain MEMORY)
+CannotPrepare given = NamesFirst given.rows given.text (λ r. CannotReadIf given.types r ⊎ HasFault given r)
 
 -- an open handle holds the object
 abbrev pub IsPreparedIn : Given → Option Object → Type 0

@@ -1,5 +1,5 @@
 -- What is set of an object before its relocation.
-use Rattle.std.specs.Prelude.{◌≡◌, ◌⊎◌, ⊤, ℕ, Bool, List, [], ◌∷◌, Option, Some, None, MatchBool, MatchOption}
+use Rattle.std.specs.Prelude.{◌≡◌, ⊤, ℕ, Bool, List, Option, Some, None, MatchBool, MatchOption}
 use Rattle.std.specs.FinMap.{FinMap, empty, insert}
 use Rattle.ebpf_base.specs.Keys.{text_cmp}
 use Rattle.ebpf_object.specs.OlderHelpers.{AreSanitized}
@@ -38,17 +38,18 @@ LacksMap name (Some o) = named o.maps name ≡ None
 abbrev pub one_value : List ℕ → List ℕ → Bool → FinMap text_cmp (List ℕ × Bool)
 one_value name value must_exist = insert empty name (value, must_exist)
 
--- a variable's value, written into the data of the map that holds it; all else is as before
+-- a variable's value, which fits there, written into the data of the map that holds it; all else is as before
 pub record HasPatched (name value : List ℕ) (must_exist : Bool) (old new : Object) : Type 0 where
   pub text : text_of name ≡ Some name
+  pub sound : patches_fault old.symbol_table old.maps (one_value name value must_exist) ≡ None
   pub maps : new.maps ≡ all_patched old.maps (patches_of old.symbol_table old.maps (one_value name value must_exist))
   pub others_stay : new ≡ record old { maps = new.maps }
 
--- it can't be written
+-- it can't be written; a name that is no text is refused first
 abbrev pub CannotPatch : List ℕ → List ℕ → Bool → Object → Refusal → Type 0
 CannotPatch name value must_exist o r =
-    ((text_of name ≡ None) × (r ≡ plain BAD_NAME))
-    ⊎ IsRefusal (λ e. MatchBool (is_memory e) ⊤ (patches_fault o.symbol_table o.maps (one_value name value must_exist) ≡ Some e)) parse_refusal r
+    MatchOption (text_of name) (r ≡ plain BAD_NAME) (λ _.
+    IsRefusal (λ e. MatchBool (is_memory e) ⊤ (patches_fault o.symbol_table o.maps (one_value name value must_exist) ≡ Some e)) parse_refusal r)
 
 -- ---- helper functions
 

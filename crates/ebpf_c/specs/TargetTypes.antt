@@ -31,3 +31,7 @@ some_types (Err e) = Err e
 abbrev pub types_if : List ℕ → Result (Option TypeInfo) BtfError
 types_if [] = Ok None
 types_if (first ∷ rest) = some_types (types_in (first ∷ rest))
+
+-- a kernel's types, where there are any, can't be read, or memory was refused
+abbrev pub CannotReadIf : List ℕ → Refusal → Type 0
+CannotReadIf bytes = IsRefusal (λ e. MatchBool (is_memory e) ⊤ (types_if bytes ≡ Err e)) (type_refusal 200)

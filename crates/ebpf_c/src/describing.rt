@@ -4,8 +4,8 @@ ghost use Rattle.std.specs.Prelude.{◌≡◌, ◌<◌, OnOk, OnErr, IfErr};
 ghost use Rattle.ebpf_c.specs.Descriptors.{CannotDescribe, HasDescribed};
 ghost use Rattle.ebpf_c.specs.Handles.{Changes, IsRefused, WhyHeld};
 
-use crate::codes::{CLOSED, DONE};
-use crate::descriptors::{ebpf_descriptor, read_descriptors};
+use crate::codes::{BAD_NAME, CLOSED, DONE, MEMORY};
+use crate::descriptors::{descriptors_in, ebpf_descriptor, have_names};
 use crate::handle::ebpf_handle;
 use crate::prepare_refusal::prepare_refusal;
 use crate::refusal::{Refusal, answered, tell};
@@ -25,9 +25,11 @@ fn describe_maps(
     ensures why { IfErr result (CannotDescribe rows.now text.now object.old) }
     ensures refuses { IfErr result (λ r. 0 < r.number) }
 {
-    let descriptors = match read_descriptors(alloc, rows, text) {
-        Ok(descriptors) => descriptors,
-        Err(refusal) => return Err(refusal),
+    if !have_names(rows, text) {
+        return Err(Refusal::plain(BAD_NAME));
+    }
+    let Ok(descriptors) = descriptors_in(alloc, rows, text) else {
+        return Err(Refusal::plain(MEMORY));
     };
     match relocate_own_maps(alloc, object, &descriptors) {
         Ok(()) => Ok(()),
@@ -41,8 +43,8 @@ fn describe_maps(
 ///
 /// # Answers
 ///
-/// 0; 2; 3 where the handle is closed; 6 where a row's name is not inside the text or is no text; 300 to 311 for the
-/// first relocation that can't be applied, about its function. What the handle holds is then as it was.
+/// 0; 2; 3 where the handle is closed; then 6 where a row's name is not inside the text or is no text; then 300 to 311
+/// for the first relocation that can't be applied, about its function. What the handle holds is then as it was.
 #[unsafe(no_mangle)]
 pub extern "C" fn ebpf_relocate_maps(
     alloc: Global,

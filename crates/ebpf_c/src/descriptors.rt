@@ -1,13 +1,10 @@
 //! Descriptors of maps, as C names them.
 
-ghost use Rattle.std.specs.Prelude.{◌≡◌, ◌⊎◌, ◌+◌, ◌<◌, map, true, false, IfOk, IfErr};
+ghost use Rattle.std.specs.Prelude.{◌≡◌, ◌+◌, map, IfOk};
 ghost use Rattle.std.specs.Option.{option_copied};
-ghost use Rattle.ebpf_c.specs.Descriptors.{name_in, text_of, have_names, descriptors_in, HasBadName};
-ghost use Rattle.ebpf_c.specs.Refusal.{plain};
+ghost use Rattle.ebpf_c.specs.Descriptors.{name_in, text_of, have_names, descriptors_in};
 ghost use Rattle.ebpf_object.specs.Steps.{descriptor_of};
 
-use crate::codes::{BAD_NAME, MEMORY};
-use crate::refusal::Refusal;
 use std::alloc::{AllocError, Global};
 
 /// The descriptor of a map, and where the map's name stands in a text.
@@ -46,7 +43,7 @@ fn name_in(text: &[u8], at: usize, count: usize) -> Option<&str>
 }
 
 /// Whether each row names a map.
-fn have_names(rows: &[ebpf_descriptor], text: &[u8]) -> bool
+pub fn have_names(rows: &[ebpf_descriptor], text: &[u8]) -> bool
     ensures { result ≡ have_names text.now rows.now }
 {
     rows.iter()
@@ -55,7 +52,7 @@ fn have_names(rows: &[ebpf_descriptor], text: &[u8]) -> bool
 
 /// The names of maps with their descriptors. A row that names none is passed over.
 #[tactic(auto, using(crate::proofs::Rows::one_read, crate::proofs::Rows::none_read, ebpf_parts::proofs::Walks::rest_none))]
-fn descriptors_in<'a>(
+pub fn descriptors_in<'a>(
     alloc: Global,
     rows: &[ebpf_descriptor],
     text: &'a [u8],
@@ -70,24 +67,4 @@ fn descriptors_in<'a>(
         named.push((name, row.descriptor))?;
     }
     Ok(named)
-}
-
-/// The names of maps with their descriptors.
-pub fn read_descriptors<'a>(
-    alloc: Global,
-    rows: &[ebpf_descriptor],
-    text: &'a [u8],
-) -> Result<Vec<(&'a str, i32)>, Refusal>
-    ensures named { IfOk result (λ _. have_names text.now rows.now ≡ true) }
-    ensures descriptors { IfOk result (λ named. map descriptor_of named.items ≡ descriptors_in text.now rows.now) }
-    ensures why { IfErr result (λ r. HasBadName rows.now text.now r ⊎ (r ≡ plain MEMORY)) }
-    ensures refuses { IfErr result (λ r. 0 < r.number) }
-{
-    if !have_names(rows, text) {
-        return Err(Refusal::plain(BAD_NAME));
-    }
-    match descriptors_in(alloc, rows, text) {
-        Ok(named) => Ok(named),
-        Err(_) => Err(Refusal::plain(MEMORY)),
-    }
 }

@@ -133,8 +133,8 @@ fn write_both(first: &[u8], second: &[u8], out: &mut [u8], count: &mut usize) ->
     DONE
 }
 
-/// Writes the name of a number, as `parse: BadMagic`: the stage and the fault. It is empty where no call answers the
-/// number.
+/// Writes the name of a number, as `parse: BadMagic`: the stage and the fault. Each number of a stage and a fault that can
+/// be its has one, whether a call answers it or not; of every other number it is empty.
 ///
 /// # Answers
 ///

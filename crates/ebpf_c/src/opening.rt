@@ -1,6 +1,6 @@
 //! Objects that C opens, copies and closes.
 
-ghost use Rattle.std.specs.Prelude.{◌≡◌, ◌⊎◌, ◌<◌, IfOk, IfErr, None, Some};
+ghost use Rattle.std.specs.Prelude.{◌≡◌, ◌⊎◌, ◌<◌, IfOk, IfErr, None, Some, MatchOption};
 ghost use Rattle.ebpf_c.specs.Handles.{IsRefused};
 ghost use Rattle.ebpf_c.specs.Opened.{CannotOpen};
 ghost use Rattle.ebpf_object.specs.Objects.{object_of, parse_fault};
@@ -72,7 +72,7 @@ pub extern "C" fn ebpf_clone(alloc: Global, handle: &mut ebpf_handle, copy: &mut
     ensures stays { handle.new.object ≡ handle.old.object }
     ensures copied { result ≡ DONE → copy.new.object ≡ handle.old.object }
     ensures refused { ¬ (result ≡ DONE) → copy.new.object ≡ copy.old.object }
-    ensures why { (result ≡ DONE) ⊎ (result ≡ MEMORY) ⊎ ((result ≡ CLOSED) × (handle.old.object ≡ None)) }
+    ensures why { MatchOption handle.old.object (result ≡ CLOSED) (λ _. (result ≡ DONE) ⊎ (result ≡ MEMORY)) }
 {
     let Some(object) = handle.take(alloc) else {
         return CLOSED;

@@ -6,8 +6,8 @@ ghost use Rattle.ebpf_c.specs.Handles.{IsRefused};
 ghost use Rattle.ebpf_c.specs.Preparing.{given, CannotPrepare, HasPrepared, IsPreparedIn};
 ghost use Rattle.ebpf_object.specs.Steps.{chosen, descriptor_of};
 
-use crate::codes::{DONE, MEMORY};
-use crate::descriptors::{ebpf_descriptor, read_descriptors};
+use crate::codes::{BAD_NAME, DONE, MEMORY};
+use crate::descriptors::{descriptors_in, ebpf_descriptor, have_names};
 use crate::handle::ebpf_handle;
 use crate::prepare_refusal::prepare_refusal;
 use crate::refusal::{Refusal, tell};
@@ -42,13 +42,15 @@ fn prepare_object(
     ensures why { IfErr result (CannotPrepare (given file.now types.now rows.now text.now symbols.now)) }
     ensures refuses { IfErr result (λ r. 0 < r.number) }
 {
+    if !have_names(rows, text) {
+        return Err(Refusal::plain(BAD_NAME));
+    }
     let kernel = match read_types_if(alloc, types) {
         Ok(kernel) => kernel,
         Err(refusal) => return Err(refusal),
     };
-    let descriptors = match read_descriptors(alloc, rows, text) {
-        Ok(descriptors) => descriptors,
-        Err(refusal) => return Err(refusal),
+    let Ok(descriptors) = descriptors_in(alloc, rows, text) else {
+        return Err(Refusal::plain(MEMORY));
     };
     let steps = all_passes(kernel.as_ref(), &descriptors);
     match prepare(alloc, file, &steps, symbols) {
@@ -87,7 +89,7 @@ fn prepare_box(
 ///
 /// # Answers
 ///
-/// 0; 2; 200 to 214 where the types can't be read; then 6 where a row's name is not inside the text or is no text; then
+/// 0; 2; 6 where a row's name is not inside the text or is no text; then 200 to 214 where the types can't be read; then
 /// the number of the fault of the first stage that has one, as of the calls for the stages. The handle is then as it was.
 #[unsafe(no_mangle)]
 pub extern "C" fn ebpf_prepare(

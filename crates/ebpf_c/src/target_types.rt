@@ -1,7 +1,7 @@
 //! The types of a kernel, as bytes.
 
 ghost use Rattle.std.specs.Prelude.{◌≡◌, ◌<◌, Ok, IfOk, IfErr};
-ghost use Rattle.ebpf_c.specs.TargetTypes.{order_of, types_in, types_if, CannotRead};
+ghost use Rattle.ebpf_c.specs.TargetTypes.{order_of, types_in, types_if, CannotRead, CannotReadIf};
 
 use crate::refusal::Refusal;
 use crate::type_fault::type_refusal;
@@ -39,7 +39,7 @@ pub fn read_types(alloc: Global, bytes: &[u8]) -> Result<Btf, Refusal>
 /// A kernel's types, where there are any: no bytes are none.
 pub fn read_types_if(alloc: Global, bytes: &[u8]) -> Result<Option<Btf>, Refusal>
     ensures types { IfOk result (λ types. types_if bytes.now ≡ Ok types) }
-    ensures why { IfErr result (CannotRead bytes.now) }
+    ensures why { IfErr result (CannotReadIf bytes.now) }
     ensures refuses { IfErr result (λ r. 0 < r.number) }
 {
     if bytes.is_empty() {

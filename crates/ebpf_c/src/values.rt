@@ -58,8 +58,8 @@ fn set_value(
 ///
 /// # Answers
 ///
-/// 0; 2; 3 where the handle is closed; 6 where the name is no text; 150 to 152 for the fault, about the variable. What
-/// the handle holds is then as it was.
+/// 0; 2; 3 where the handle is closed; then 6 where the name is no text; then 150 to 152 for the fault, about the
+/// variable. What the handle holds is then as it was.
 #[unsafe(no_mangle)]
 pub extern "C" fn ebpf_set_value(
     alloc: Global,

@@ -19,6 +19,11 @@ pub nothing : (b : Bool) (F : Type 0) → MatchBool b ⊤ ⊥ → MatchBool b �
 nothing true F h = h
 nothing false F h = absurd h
 
+-- what holds in each case holds where a writer didn't fail
+pub untouched : (b : Bool) (F : Type 0) → F → MatchBool b ⊤ F
+untouched true F h = tt
+untouched false F h = h
+
 -- a program has a function
 module _ (parts : LinkableValue) (o : Object) (whole : ProgramsAreWhole parts o) (name : List ℕ) where
   without : (p : Option Program) → get o.programs name ≡ p → function_of o p ≡ None → p ≡ None

@@ -22,6 +22,11 @@ is_outside (NoProgram name) = false
 is_outside CannotWrite = true
 is_outside Memory = true
 
+-- a writer failed
+abbrev pub is_writers : Failure → Bool
+is_writers CannotWrite = true
+is_writers _ = false
+
 -- an object has no program of the name that it refuses
 abbrev pub Lacks : Object → List ℕ → Failure → Type 0
 Lacks o name (NoProgram absent) = (absent.now ≡ name) × (function_named o name ≡ None)

@@ -3,7 +3,7 @@
 ghost use Rattle.std.specs.Prelude.{◌≡◌, ◌≤◌, ⊤, ℕ, List, true, Some, None, IfOk, IfErr, OnOk, IsSome, MatchBool, MatchOption};
 ghost use Rattle.std.specs.Io.KnownBytes.{Appends};
 ghost use Rattle.std.specs.Option.{option_copied};
-ghost use Rattle.ebpf_commands.specs.Failures.{is_outside, Stands, CannotPrepare};
+ghost use Rattle.ebpf_commands.specs.Failures.{is_outside, is_writers, Stands, CannotPrepare};
 ghost use Rattle.ebpf_commands.specs.Linked.{asked};
 ghost use Rattle.ebpf_commands.specs.Listed.{report_named, listed, HasInspected, HasListed, LacksReport, LacksAskedReport};
 ghost use Rattle.ebpf_inspect.specs.Inspected.{IsInspected};
@@ -38,6 +38,7 @@ fn write_named<'a, W: Write>(
     ensures text { OnOk result (Appends (W.contents out.old) (W.contents out.new) (listed reports.now (Some name.now))) }
     ensures there { OnOk result (IsSome (report_named reports.now name.now)) }
     ensures refused { IfErr result (λ f. MatchBool (is_outside f) ⊤ (LacksReport reports.now name.now f)) }
+    ensures untouched { IfErr result (λ f. MatchBool (is_writers f) ⊤ (out.new ≡ out.old)) }
 {
     let Some(report) = report_named(reports, name) else {
         return Err(Failure::NoProgram(name));
@@ -52,6 +53,7 @@ fn write_named<'a, W: Write>(
 fn write_all<W: Write>(reports: &[ProgramReport], out: &mut W) -> Result<(), Failure<'static>>
     ensures text { OnOk result (Appends (W.contents out.old) (W.contents out.new) (listed reports.now None)) }
     ensures refused { IfErr result (λ f. is_outside f ≡ true) }
+    ensures writers { IfErr result (λ f. is_writers f ≡ true) }
 {
     for report in reports {
         match write_report(out, report) {
@@ -71,6 +73,7 @@ fn write_reports<'a, W: Write>(
     ensures text { OnOk result (Appends (W.contents out.old) (W.contents out.new) (listed reports.now (option_copied program.entry))) }
     ensures there { OnOk result (MatchOption (option_copied program.entry) ⊤ (λ name. IsSome (report_named reports.now name))) }
     ensures refused { IfErr result (λ f. MatchBool (is_outside f) ⊤ (LacksAskedReport reports.now (option_copied program.entry) f)) }
+    ensures untouched { IfErr result (λ f. MatchBool (is_writers f) ⊤ (out.new ≡ out.old)) }
 {
     match program {
         Some(name) => write_named(reports, name, out),
@@ -88,6 +91,7 @@ fn print_listed<'a, W: Write>(
     ensures text { OnOk result (Appends (W.contents out.old) (W.contents out.new) (listed reports.now (option_copied program.entry))) }
     ensures there { OnOk result (MatchOption (option_copied program.entry) ⊤ (λ name. IsSome (report_named reports.now name))) }
     ensures refused { IfErr result (λ f. MatchBool (is_outside f) ⊤ (LacksAskedReport reports.now (option_copied program.entry) f)) }
+    ensures untouched { IfErr result (λ f. MatchBool (is_writers f) ⊤ (out.new ≡ out.old)) }
 {
     match write_reports(reports, program, out) {
         Ok(()) => {}
@@ -149,7 +153,8 @@ fn inspected<K: BufRead + Drop>(
 ///
 /// `Btf` where the kernel's types can't be read; else `Preparing` with the first fault of preparing the file; else
 /// `NoProgram` where no program has the name. `CannotWrite` where the writer fails, `Memory` where memory was refused
-/// between the stages.
+/// between the stages. But for `CannotWrite` nothing was written.
+#[tactic(auto, using(crate::proofs::Refusing::untouched))]
 pub fn print_reports<'a, K: BufRead + Drop, W: Write>(
     alloc: Global,
     program: Option<&'a str>,
@@ -160,6 +165,7 @@ pub fn print_reports<'a, K: BufRead + Drop, W: Write>(
 ) -> Result<(), Failure<'a>>
     ensures done { OnOk result (HasListed file.now (option_copied btf.entry) (K.remaining kallsyms) (option_copied program.entry) (W.contents out.old) (W.contents out.new)) }
     ensures refused { IfErr result (λ f. MatchBool (is_outside f) ⊤ (Stands file.now (option_copied btf.entry) (K.remaining kallsyms) (option_copied program.entry) f)) }
+    ensures untouched { IfErr result (λ f. MatchBool (is_writers f) ⊤ (out.new ≡ out.old)) }
 {
     let reports = match inspected(alloc, file, btf, kallsyms) {
         Ok(reports) => reports,

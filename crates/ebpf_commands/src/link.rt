@@ -8,7 +8,7 @@ ghost use Rattle.ebpf_base.specs.Keys.{lent_bytes};
 ghost use Rattle.ebpf_object.specs.Headline.{Headline};
 ghost use Rattle.ebpf_object.specs.Prepared.{IsParsed};
 ghost use Rattle.ebpf_commands.specs.Done.{HasPrinted};
-ghost use Rattle.ebpf_commands.specs.Failures.{is_outside, Stands, Lacks, LacksAsked, CannotPrepare};
+ghost use Rattle.ebpf_commands.specs.Failures.{is_outside, is_writers, Stands, Lacks, LacksAsked, CannotPrepare};
 ghost use Rattle.ebpf_commands.specs.Linked.{asked, IsLinked};
 ghost use Rattle.ebpf_commands.specs.Printed.{function_named, lines_of, printed};
 
@@ -36,6 +36,7 @@ fn write_named<'a, W: Write>(object: &Object, name: &'a str, out: &mut W) -> Res
     ensures text { OnOk result (Appends (W.contents out.old) (W.contents out.new) (lines_of object.now name.now)) }
     ensures there { OnOk result (IsSome (function_named object.now name.now)) }
     ensures refused { IfErr result (λ f. MatchBool (is_outside f) ⊤ (Lacks object.now name.now f)) }
+    ensures untouched { IfErr result (λ f. MatchBool (is_writers f) ⊤ (out.new ≡ out.old)) }
 {
     let Some(function) = function_named(object, name) else {
         return Err(Failure::NoProgram(name));
@@ -54,6 +55,7 @@ fn write_each<W: Write>(
 ) -> Result<(), Failure<'static>>
     ensures text { OnOk result (Appends (W.contents out.old) (W.contents out.new) (flat_map (lines_of object.now) (lent_bytes names.now))) }
     ensures refused { IfErr result (λ f. is_outside f ≡ true) }
+    ensures writers { IfErr result (λ f. is_writers f ≡ true) }
 {
     for name in names {
         match write_named(object, name, out) {
@@ -68,6 +70,7 @@ fn write_each<W: Write>(
 fn write_all<W: Write>(alloc: Global, object: &Object, out: &mut W) -> Result<(), Failure<'static>>
     ensures text { OnOk result (Appends (W.contents out.old) (W.contents out.new) (printed object.now None)) }
     ensures refused { IfErr result (λ f. is_outside f ≡ true) }
+    ensures untouched { IfErr result (λ f. MatchBool (is_writers f) ⊤ (out.new ≡ out.old)) }
 {
     let Ok(names) = object.programs.names(alloc) else {
         return Err(Failure::Memory);
@@ -85,6 +88,7 @@ fn write_programs<'a, W: Write>(
     ensures text { OnOk result (Appends (W.contents out.old) (W.contents out.new) (printed object.now (option_copied program.entry))) }
     ensures there { OnOk result (MatchOption (option_copied program.entry) ⊤ (λ name. IsSome (function_named object.now name))) }
     ensures refused { IfErr result (λ f. MatchBool (is_outside f) ⊤ (LacksAsked object.now (option_copied program.entry) f)) }
+    ensures untouched { IfErr result (λ f. MatchBool (is_writers f) ⊤ (out.new ≡ out.old)) }
 {
     match program {
         Some(name) => write_named(object, name, out),
@@ -96,6 +100,7 @@ fn write_programs<'a, W: Write>(
 pub fn finish<W: Write>(out: &mut W) -> Result<(), Failure<'static>>
     ensures text { OnOk result (Keeps (W.contents out.old) (W.contents out.new)) }
     ensures refused { IfErr result (λ f. is_outside f ≡ true) }
+    ensures writers { IfErr result (λ f. is_writers f ≡ true) }
 {
     match out.flush() {
         Ok(()) => Ok(()),
@@ -114,6 +119,7 @@ fn print_object<'a, W: Write>(
     ensures text { OnOk result (Appends (W.contents out.old) (W.contents out.new) (printed object.now (option_copied program.entry))) }
     ensures there { OnOk result (MatchOption (option_copied program.entry) ⊤ (λ name. IsSome (function_named object.now name))) }
     ensures refused { IfErr result (λ f. MatchBool (is_outside f) ⊤ (LacksAsked object.now (option_copied program.entry) f)) }
+    ensures untouched { IfErr result (λ f. MatchBool (is_writers f) ⊤ (out.new ≡ out.old)) }
 {
     match write_programs(alloc, object, program, out) {
         Ok(()) => {}
@@ -174,7 +180,8 @@ fn prepared<K: BufRead + Drop>(
 ///
 /// `Btf` where the kernel's types can't be read; else `Preparing` with the first fault of preparing the file; else
 /// `NoProgram` where no program has the name. `CannotWrite` where the writer fails, `Memory` where memory was refused
-/// between the stages.
+/// between the stages. But for `CannotWrite` nothing was written.
+#[tactic(auto, using(crate::proofs::Refusing::untouched))]
 pub fn print_programs<'a, K: BufRead + Drop, W: Write>(
     alloc: Global,
     program: Option<&'a str>,
@@ -185,6 +192,7 @@ pub fn print_programs<'a, K: BufRead + Drop, W: Write>(
 ) -> Result<(), Failure<'a>>
     ensures done { OnOk result (HasPrinted file.now (option_copied btf.entry) (K.remaining kallsyms) (option_copied program.entry) (W.contents out.old) (W.contents out.new)) }
     ensures refused { IfErr result (λ f. MatchBool (is_outside f) ⊤ (Stands file.now (option_copied btf.entry) (K.remaining kallsyms) (option_copied program.entry) f)) }
+    ensures untouched { IfErr result (λ f. MatchBool (is_writers f) ⊤ (out.new ≡ out.old)) }
 {
     let object = match prepared(alloc, file, btf, kallsyms) {
         Ok(object) => object,
