@@ -7,8 +7,8 @@ ghost use Rattle.ebpf_object.specs.Objects.{object_of};
 ghost use Rattle.ebpf_object.specs.Prepared.{AfterCalls, IsParsed, IsFault, IsFirstFault, Refuses};
 ghost use Rattle.ebpf_object.specs.Steps.{chosen};
 
-pub use crate::explained::Explained;
 use crate::clones::{copy_keys, copy_names};
+pub use crate::explained::Explained;
 use crate::object::Object;
 pub use crate::own_maps::relocate_own_maps;
 pub use crate::prepare_error::PrepareError;
