@@ -250,8 +250,10 @@ enum ebpf_program_kind {
 /* flags of a program */
 enum ebpf_program_flag {
 	EBPF_SLEEPABLE = 1,
-	EBPF_MULTI = 2,
+	EBPF_MULTI = 2, /* uprobe.multi, uretprobe.multi */
 	EBPF_FRAGS = 4,
+	EBPF_TARGET = 8,    /* loaded with the id of a type of what it is attached to */
+	EBPF_OPTIONAL = 16, /* `?` before its section's name: loaded only where it is asked for */
 };
 
 /* in the place of an attach type: a program of the kind is loaded with none (0 for BPF_PROG_LOAD) */
@@ -264,11 +266,15 @@ struct ebpf_program {
 	size_t slots;		  /* how many slots it has as it stands, joined or not */
 	uint32_t kind;		  /* enum ebpf_program_kind */
 	uint32_t flags;		  /* of enum ebpf_program_flag, added up */
-	uint32_t program_type;	  /* the kernel's enum bpf_prog_type for the kind */
-	uint32_t attach_type;	  /* the kernel's enum bpf_attach_type for the kind, else EBPF_NO_ATTACH_TYPE */
+	uint32_t program_type;	  /* the kernel's enum bpf_prog_type */
+	uint32_t attach_type;	  /* the kernel's enum bpf_attach_type, else EBPF_NO_ATTACH_TYPE */
 };
 
-/* Lists the programs: a row each, their names one after the other in text. Numbers: 1, 2, 3. */
+/*
+ * Lists the programs: a row each, their names one after the other in text. Where loaders know the name of a program's
+ * section (libbpf's Program Types and ELF Sections; a `?` before it is taken off), the name says flags, program type and
+ * attach type; else its kind does. Numbers: 1, 2, 3.
+ */
 uint32_t ebpf_programs(struct ebpf_handle *handle, struct ebpf_program *rows, size_t rows_room, char *text,
 		       size_t text_room, struct ebpf_counts *counts);
 
@@ -327,6 +333,13 @@ struct ebpf_extern {
 /* Lists the externs: a row each, their names one after the other in text. Numbers: 1, 2, 3. */
 uint32_t ebpf_externs(struct ebpf_handle *handle, struct ebpf_extern *rows, size_t rows_room, char *text,
 		      size_t text_room, struct ebpf_counts *counts);
+
+/*
+ * The name of the section of a program, as ebpf_sections lists it. *len is its length: 0 where the section is not
+ * listed. Numbers: 1, 2, 3, 4.
+ */
+uint32_t ebpf_program_section(struct ebpf_handle *handle, const char *name, size_t name_len, char *text, size_t room,
+			      size_t *len);
 
 struct ebpf_section {
 	size_t name_at, name_len; /* its name's place in the text */

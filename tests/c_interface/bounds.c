@@ -157,6 +157,11 @@ static uint32_t map_data(struct ebpf_handle *of, const char *name, size_t len, v
 	return ebpf_map_data(of, name, len, to, room, need);
 }
 
+static uint32_t section(struct ebpf_handle *of, const char *name, size_t len, void *to, size_t room, size_t *need)
+{
+	return ebpf_program_section(of, name, len, to, room, need);
+}
+
 static uint32_t slots(struct ebpf_handle *of, const char *name, size_t len, void *to, size_t room, size_t *need)
 {
 	return ebpf_slots(of, name, len, to, room, need);
@@ -182,6 +187,7 @@ struct values {
 static const struct values of_object = { "ebpf_license", license, 1, EBPF_DONE };
 static const struct values of_map = { "ebpf_map_data", map_data, 1, EBPF_NO_MAP };
 static const struct values of_program[] = {
+	{ "ebpf_program_section", section, 1, EBPF_NO_PROGRAM },
 	{ "ebpf_slots", slots, sizeof(struct ebpf_insn), EBPF_NO_PROGRAM },
 	{ "ebpf_func_infos", func_infos, sizeof(struct ebpf_func_info), EBPF_NO_PROGRAM },
 	{ "ebpf_line_infos", line_infos, sizeof(struct ebpf_line_info), EBPF_NO_PROGRAM },

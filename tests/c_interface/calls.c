@@ -6,7 +6,7 @@
  * An action is a name, and words behind `=` with colons between them where it asks for some:
  *	open prepare clone types maps maps=NAME:N,.. resolve externs calls value=NAME:must|may:DIGITS entries=NAME:N
  *	size=NAME:N sanitize=N               change what the handle holds, and print `NAME NUMBER ABOUT`
- *	programs listed declared sections info slots records     list what it holds
+ *	programs named listed declared sections info slots records     list what it holds
  *	ask=CALL ask=CALL:NAME               asks one of the calls that list, with ample room, and prints its number
  *	names                                lists the numbers that have a name
  * With -m the last action stands between the lines "== begin" and "== end" and its answer behind them; what the handle
@@ -162,6 +162,8 @@ static uint32_t ask(char *rest)
 		number = ebpf_license(&object, (char *)text, ROOM, &count);
 	if (!strcmp(call, "map_data"))
 		number = ebpf_map_data(&object, name, len, text, ROOM, &count);
+	if (!strcmp(call, "program_section"))
+		number = ebpf_program_section(&object, name, len, (char *)text, ROOM, &count);
 	if (!strcmp(call, "slots"))
 		number = ebpf_slots(&object, name, len, (void *)rows, row, &count);
 	if (!strcmp(call, "func_infos"))
@@ -193,6 +195,8 @@ static int lists(const char *name)
 {
 	if (!strcmp(name, "programs"))
 		put_programs(&object);
+	else if (!strcmp(name, "named"))
+		put_program_sections(&object);
 	else if (!strcmp(name, "listed"))
 		put_maps(&object);
 	else if (!strcmp(name, "declared"))

@@ -60,7 +60,7 @@ def rows(program):
     ]
     for count in range(3, 1 + len(passes)):
         found.append(GrowthRow(program, f"{passes[count - 1]}, references.o", ALL, *passes[:count]))
-    asked = ["programs", "maps", "externs", "sections", "license", "map_data:.data", "slots:on_enter"]
+    asked = ["programs", "maps", "externs", "sections", "license", "map_data:.data", "slots:on_enter", "program_section:on_enter"]
     for call in [*asked, "func_infos:on_enter", "line_infos:on_exit"]:
         found.append(GrowthRow(program, f"ebpf_{call}, references.o", ALL, "open", f"ask={call}"))
     return found

@@ -80,11 +80,14 @@ ATTACH = {
 
 FLAGS = {"sleepable": 1, "multi": 2, "frags": 4}
 
+# Kinds whose programs are loaded with the id of a type.
+TARGET = {"Lsm", "LsmCgroup", "BtfTracePoint", "FEntry", "FExit", "Extension", "Iter"}
+
 
 def numbers_of(text):
     """Of a kind as it is printed: `kind K flags F type T attach A`; no attach type is -1."""
     kind = re.match(r"\w+", text)[0]
-    flags = sum(value for name, value in FLAGS.items() if f"{name}: true" in text)
+    flags = sum(value for name, value in FLAGS.items() if f"{name}: true" in text) + 8 * (kind in TARGET)
     said = [value for name, value in ATTACH.get(kind, {}).items() if re.search(rf"\b{name}\b", text)]
     attach = ATTACHED.get(kind, said[0] if said else -1)
     return f"kind {list(KINDS).index(kind)} flags {flags} type {KINDS[kind]} attach {attach}"

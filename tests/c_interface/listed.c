@@ -145,6 +145,17 @@ static void each_program(struct ebpf_handle *object, void (*put)(struct ebpf_han
 	free(text);
 }
 
+static void put_section_of(struct ebpf_handle *object, const char *name, size_t count)
+{
+	char section[256] = { 0 };
+	size_t found = 0;
+
+	(void)count;
+	need("ebpf_program_section",
+	     ebpf_program_section(object, name, strlen(name), section, sizeof(section), &found));
+	printf("program %s in '%.*s'\n", name, (int)found, section);
+}
+
 static void put_slots_of(struct ebpf_handle *object, const char *name, size_t count)
 {
 	struct ebpf_insn *slots = zeros(count, sizeof(*slots));
@@ -187,6 +198,11 @@ static void put_records_of(struct ebpf_handle *object, const char *name, size_t 
 	printf(" of %zu\n", of_lines);
 	free(functions);
 	free(lines);
+}
+
+void put_program_sections(struct ebpf_handle *object)
+{
+	each_program(object, put_section_of);
 }
 
 void put_slots(struct ebpf_handle *object)

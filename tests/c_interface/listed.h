@@ -5,6 +5,7 @@
 #include "ebpf.h"
 
 void put_programs(struct ebpf_handle *object);
+void put_program_sections(struct ebpf_handle *object);
 void put_maps(struct ebpf_handle *object);
 void put_externs(struct ebpf_handle *object);
 void put_sections(struct ebpf_handle *object);

@@ -130,5 +130,18 @@ def names():
     yield CallsRow("names of numbers", (b"", b"", b""), ["names"], judge)
 
 
+def sections_of_programs():
+    """The name of a program's section; of two sections with one name the earlier one isn't listed."""
+    one = File().code("fentry.s/x", EXIT).symbol("p", FUNCTION, 3, 0, 8).bytes()
+    two = File().code("tp", EXIT).code("tp", EXIT).symbol("p", FUNCTION, 3, 0, 8).symbol("q", FUNCTION, 4, 0, 8).bytes()
+    loaded = "program p kind 21 flags 9 type 26 attach 24 section 3 address 0"
+    yield CallsRow(
+        "the section of a program", (one, b"", b""), ["open", "programs", "named"], ["open 0", loaded, "program p in 'fentry.s/x'"]
+    )
+    yield CallsRow(
+        "two sections of one name", (two, b"", b""), ["open", "named"], ["open 0", "program p in ''", "program q in 'tp'"]
+    )
+
+
 def rows():
-    return [*names(), *kinds(), *small_object(), *numbers(), *unchanged(), *changes()]
+    return [*names(), *kinds(), *sections_of_programs(), *small_object(), *numbers(), *unchanged(), *changes()]

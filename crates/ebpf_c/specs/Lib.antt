@@ -8,6 +8,7 @@ pub mod Handles
 pub mod Held
 pub mod Info
 pub mod Listing
+pub mod Loading
 pub mod MapRows
 pub mod Numbers
 pub mod Opened

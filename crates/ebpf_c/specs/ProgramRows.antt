@@ -1,10 +1,15 @@
 -- What C reads of programs.
-use Rattle.std.specs.Prelude.{ℕ, Option, Some, None, length}
+use Rattle.std.specs.Prelude.{ℕ, ◌==◌, List, [], Option, Some, None, length}
+use Rattle.std.specs.List.{find}
 use Rattle.std.specs.FinMap.{FinMap, get}
 use Rattle.ebpf_base.specs.Keys.{key_cmp}
+use Rattle.ebpf_elf.specs.declared.entries.SectionIndex.{SectionIndex}
 use Rattle.ebpf_parsing.specs.declared.program.Program.{Program}
+use Rattle.ebpf_parts.specs.ProgramKinds.{program_kind}
 use Rattle.ebpf_reloc.specs.declared.function.Function.{Function}
-use Rattle.ebpf_c.specs.ProgramKinds.{attach_type, kind_flags, kind_number, program_type}
+use Rattle.ebpf_c.specs.Loading.{loaded_as}
+use Rattle.ebpf_c.specs.ProgramKinds.{kind_number}
+use Rattle.ebpf_c.specs.declared.loading.Loading.{Loading}
 use Rattle.ebpf_c.specs.declared.programs.ebpf_program.{ebpf_program}
 
 -- how many slots a function has, 0 where there is none
@@ -12,16 +17,28 @@ abbrev pub slot_count : Option Function → ℕ
 slot_count None = 0
 slot_count (Some f) = length f.instructions
 
+abbrev pub name_if : Option (List ℕ × SectionIndex) → List ℕ
+name_if None = []
+name_if (Some section) = section.0
+
+-- the name of the section with a number among named sections, empty where none of them has it
+abbrev pub section_name : List (List ℕ × SectionIndex) → ℕ → List ℕ
+section_name sections number = name_if (find (λ section. section.1.0 == number) sections)
+
+-- how a program is loaded, by the name of its section and its kind
+abbrev pub loading_of : List (List ℕ × SectionIndex) → Program → Loading
+loading_of sections p = loaded_as (program_kind (section_name sections p.section_index)) p.section
+
 -- the row of a program whose name begins at a place of the text and has a length
-abbrev pub program_row : FinMap key_cmp Function → Program → ℕ → ℕ → ebpf_program
-program_row functions p name_at name_len = record {
+abbrev pub program_row : FinMap key_cmp Function → List (List ℕ × SectionIndex) → Program → ℕ → ℕ → ebpf_program
+program_row functions sections p name_at name_len = record {
   name_at = name_at;
   name_len = name_len;
   section = p.section_index;
   address = p.address;
   slots = slot_count (get functions (p.section_index, p.address));
   kind = kind_number p.section;
-  flags = kind_flags p.section;
-  program_type = program_type p.section;
-  attach_type = attach_type p.section;
+  flags = (loading_of sections p).flags;
+  program_type = (loading_of sections p).program_type;
+  attach_type = (loading_of sections p).attach_type;
 }

@@ -1,6 +1,6 @@
 -- What C reads of an object: lists, or the number of the refusal.
 use Rattle.std.specs.Prelude.{ℕ, List, Option, Some, None, Result, Ok, Err}
-use Rattle.std.specs.FinMap.{FinMap, get}
+use Rattle.std.specs.FinMap.{FinMap, entries, get}
 use Rattle.ebpf_base.specs.Keys.{key_cmp}
 use Rattle.ebpf_ext.specs.declared.ext_infos.bpf_func_info.{bpf_func_info}
 use Rattle.ebpf_ext.specs.declared.ext_infos.bpf_line_info.{bpf_line_info}
@@ -14,7 +14,7 @@ use Rattle.ebpf_c.specs.Entries.{named}
 use Rattle.ebpf_c.specs.ExternRows.{extern_row}
 use Rattle.ebpf_c.specs.Listing.{listed}
 use Rattle.ebpf_c.specs.MapRows.{map_row}
-use Rattle.ebpf_c.specs.ProgramRows.{program_row}
+use Rattle.ebpf_c.specs.ProgramRows.{program_row, section_name}
 use Rattle.ebpf_c.specs.SectionRows.{section_row}
 use Rattle.ebpf_c.specs.declared.codes.TheConstants.{CLOSED, NO_MAP, NO_PROGRAM}
 use Rattle.ebpf_c.specs.declared.externs.ebpf_extern.{ebpf_extern}
@@ -35,7 +35,7 @@ or_number number f (Some x) = Ok (f x)
 -- ---- lists of named things
 
 abbrev pub programs_of : Object → Listed ebpf_program
-programs_of o = listed (program_row o.functions) o.programs
+programs_of o = listed (program_row o.functions (entries o.section_infos)) o.programs
 
 abbrev pub maps_of : Object → Listed ebpf_map
 maps_of o = listed map_row o.maps
@@ -68,6 +68,11 @@ abbrev pub line_infos_of : List ℕ → Object → Result (List bpf_line_info) �
 line_infos_of name o = or_number NO_PROGRAM (λ f. f.line_info.line_info) (function_named o name)
 
 -- ---- bytes
+
+-- the name of the section of the program that some bytes name, empty where no named section has its number
+abbrev pub section_of : List ℕ → Object → Result (List ℕ) ℕ
+section_of name o =
+    or_number NO_PROGRAM (λ p. section_name (entries o.section_infos) p.section_index) (named o.programs name)
 
 -- the data that the map that some bytes name begins with
 abbrev pub map_data_of : List ℕ → Object → Result (List ℕ) ℕ

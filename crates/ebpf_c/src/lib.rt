@@ -18,6 +18,7 @@ mod ksyms_refusal;
 mod list_calls;
 mod listing;
 mod lists;
+mod loading;
 mod loose;
 mod map_settings;
 mod maps;

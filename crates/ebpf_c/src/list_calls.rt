@@ -1,21 +1,46 @@
 //! The calls that list what an object has.
 
-ghost use Rattle.std.specs.Prelude.{◌≡◌};
+ghost use Rattle.std.specs.Prelude.{◌≡◌, Ok};
 ghost use Rattle.ebpf_c.specs.Answers.{answer_listed, counts_of, filled_rows, filled_text, or_memory};
-ghost use Rattle.ebpf_c.specs.Reads.{externs_in, maps_in, programs_in, sections_in};
+ghost use Rattle.ebpf_c.specs.Reads.{externs_in, maps_in, programs_in, programs_of, sections_in};
 
 use crate::buffers::ebpf_counts;
-use crate::codes::CLOSED;
+use crate::codes::{CLOSED, MEMORY};
+use crate::entries::entries_of;
 use crate::externs::ebpf_extern;
 use crate::handle::ebpf_handle;
 use crate::lists::write_all;
 use crate::maps::ebpf_map;
-use crate::programs::ebpf_program;
+use crate::programs::{Surroundings, ebpf_program};
 use crate::sections::ebpf_section;
+use ebpf_object::Object;
 use std::alloc::Global;
 
-/// Lists the programs of an object: a row each in byte order of their names,
-/// and the names in `text`, a zero byte behind each.
+/// Lists the programs of an object, as `ebpf_programs` does.
+fn write_programs(
+    alloc: Global,
+    object: &Object,
+    rows: &mut [ebpf_program],
+    text: &mut [u8],
+    counts: &mut ebpf_counts,
+) -> u32
+    ensures answer { result ≡ answer_listed (or_memory result (Ok (programs_of object.now))) rows.old text.old }
+    ensures rows { rows.new ≡ filled_rows (or_memory result (Ok (programs_of object.now))) rows.old text.old }
+    ensures text { text.new ≡ filled_text (or_memory result (Ok (programs_of object.now))) rows.old text.old }
+    ensures counts { counts.new ≡ counts_of (or_memory result (Ok (programs_of object.now))) counts.old }
+{
+    let Ok(sections) = entries_of(alloc, &object.section_infos) else {
+        return MEMORY;
+    };
+    let among = Surroundings {
+        functions: &object.functions,
+        sections: &sections,
+    };
+    write_all(alloc, &among, &object.programs, rows, text, counts)
+}
+
+/// Lists the programs of an object: a row each in byte order of their names, and the names in `text`, a zero byte behind
+/// each. Where loaders know the name of its section, that says how a program is loaded, else its kind does.
 ///
 /// # Answers
 ///
@@ -37,8 +62,7 @@ pub extern "C" fn ebpf_programs(
     let Some(object) = handle.take(alloc) else {
         return CLOSED;
     };
-    let functions = &object.functions;
-    let number = write_all(alloc, functions, &object.programs, rows, text, counts);
+    let number = write_programs(alloc, &object, rows, text, counts);
     handle.put(alloc, object);
     number
 }

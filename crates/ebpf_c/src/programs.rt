@@ -2,12 +2,16 @@
 
 ghost use Rattle.std.specs.Prelude.{◌≡◌};
 ghost use Rattle.std.specs.FinMap.{get};
-ghost use Rattle.ebpf_c.specs.ProgramRows.{program_row, slot_count};
+ghost use Rattle.ebpf_c.specs.ProgramRows.{loading_of, program_row, section_name, slot_count};
 
+use crate::entries::Entry;
 use crate::listing::Row;
-use crate::program_kind::{attach_type, kind_flags, kind_number, program_type};
+use crate::loading::{Loading, loaded_as};
+use crate::program_kind::kind_number;
 use ebpf_base::ByKey;
+use ebpf_elf::SectionIndex;
 use ebpf_parsing::Program;
+use ebpf_parts::programs::program_kind;
 use ebpf_reloc::Function;
 
 /// A program.
@@ -26,7 +30,7 @@ pub struct ebpf_program {
     pub slots: usize,
     /// The number of its kind.
     pub kind: u32,
-    /// Sleepable 1, multi 2, frags 4, added up.
+    /// Sleepable 1, multi 2, frags 4, target 8, optional 16, added up.
     pub flags: u32,
     /// The kernel's `enum bpf_prog_type`.
     pub program_type: u32,
@@ -44,25 +48,55 @@ fn slot_count(functions: &ByKey<Function>, key: (usize, u64)) -> usize
     }
 }
 
-impl Row<Program, ByKey<Function>> for ebpf_program {
-    ghost row_of = { λ functions p name_at name_len. program_row functions p name_at name_len };
+/// What programs stand among.
+#[derive(Clone, Copy)]
+pub struct Surroundings<'a, 'b> {
+    /// The functions, by section and address.
+    pub functions: &'a ByKey<Function>,
+    /// The named sections.
+    pub sections: &'a [Entry<'b, SectionIndex>],
+}
+
+/// The name of the section with a number, empty where no named one has it.
+pub fn section_name<'b>(sections: &[Entry<'b, SectionIndex>], number: usize) -> &'b str
+    ensures { result.now ≡ section_name sections.now number }
+{
+    for section in sections {
+        if section.value.0 == number {
+            return section.name;
+        }
+    }
+    ""
+}
+
+/// How a program is loaded, by the name of its section and its kind.
+fn loading_of(sections: &[Entry<'_, SectionIndex>], program: &Program) -> Loading
+    ensures { result ≡ loading_of sections.now program.now }
+{
+    let name = section_name(sections, program.section_index);
+    loaded_as(program_kind(name), program.section)
+}
+
+impl<'a, 'b> Row<Program, Surroundings<'a, 'b>> for ebpf_program {
+    ghost row_of = { λ context p name_at name_len. program_row context.functions.now context.sections.now p name_at name_len };
 
     fn row(
-        context: &ByKey<Function>,
+        context: &Surroundings<'a, 'b>,
         value: &Program,
         name_at: usize,
         name_len: usize,
     ) -> ebpf_program {
+        let loading = loading_of(context.sections, value);
         ebpf_program {
             name_at,
             name_len,
             section: value.section_index,
             address: value.address,
-            slots: slot_count(context, value.function_key()),
+            slots: slot_count(context.functions, value.function_key()),
             kind: kind_number(value.section),
-            flags: kind_flags(value.section),
-            program_type: program_type(value.section),
-            attach_type: attach_type(value.section),
+            flags: loading.flags,
+            program_type: loading.program_type,
+            attach_type: loading.attach_type,
         }
     }
 }

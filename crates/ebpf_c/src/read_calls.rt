@@ -1,16 +1,18 @@
 //! The calls that read what an object has.
 
 ghost use Rattle.std.specs.Prelude.{◌≡◌, MatchOption};
-ghost use Rattle.ebpf_c.specs.Answers.{answer, counted, filled};
+ghost use Rattle.ebpf_c.specs.Answers.{answer, counted, filled, or_memory};
 ghost use Rattle.ebpf_c.specs.Info.{info_of};
-ghost use Rattle.ebpf_c.specs.Reads.{func_infos_of, license_of, line_infos_of, map_data_of, of_open, slots_of};
+ghost use Rattle.ebpf_c.specs.Reads.{func_infos_of, license_of, line_infos_of, map_data_of, of_open, section_of, slots_of};
 
 use crate::buffers::write_list;
-use crate::codes::{CLOSED, DONE};
+use crate::codes::{CLOSED, DONE, MEMORY};
+use crate::entries::entries_of;
 use crate::handle::ebpf_handle;
 use crate::info::{ebpf_object_info, info_of};
-use crate::reads::{func_infos_of, line_infos_of, map_data_of, slots_of};
+use crate::reads::{func_infos_of, line_infos_of, map_data_of, section_of, slots_of};
 use ebpf_ext::{bpf_func_info, bpf_line_info};
+use ebpf_object::Object;
 use ebpf_parts::insn::bpf_insn;
 use std::alloc::Global;
 
@@ -57,6 +59,51 @@ pub extern "C" fn ebpf_license(
         return CLOSED;
     };
     let number = write_list(Ok(object.license.as_slice()), text, len);
+    handle.put(alloc, object);
+    number
+}
+
+/// Writes the name of a program's section, as `ebpf_program_section` does.
+fn write_section(
+    alloc: Global,
+    object: &Object,
+    name: &[u8],
+    text: &mut [u8],
+    len: &mut usize,
+) -> u32
+    ensures answer { result ≡ answer (or_memory result (section_of name.now object.now)) text.old }
+    ensures text { text.new ≡ filled (or_memory result (section_of name.now object.now)) text.old }
+    ensures len { len.new ≡ counted (or_memory result (section_of name.now object.now)) len.old }
+{
+    let Ok(sections) = entries_of(alloc, &object.section_infos) else {
+        return MEMORY;
+    };
+    write_list(section_of(&object.programs, &sections, name), text, len)
+}
+
+/// Writes the name of the section of the program with a name, and its length: 0 where no named section has the number of
+/// the program's, as of two sections with one name the earlier one.
+///
+/// # Answers
+///
+/// 0; 1 where it doesn't fit; 2; 3; 4. The buffer is then as it was, and `len` too but for 1.
+#[unsafe(no_mangle)]
+pub extern "C" fn ebpf_program_section(
+    alloc: Global,
+    handle: &mut ebpf_handle,
+    name: &[u8],
+    text: &mut [u8],
+    len: &mut usize,
+) -> u32
+    ensures stays { handle.new.object ≡ handle.old.object }
+    ensures answer { result ≡ answer (or_memory result (of_open (section_of name.now) handle.old.object)) text.old }
+    ensures text { text.new ≡ filled (or_memory result (of_open (section_of name.now) handle.old.object)) text.old }
+    ensures len { len.new ≡ counted (or_memory result (of_open (section_of name.now) handle.old.object)) len.old }
+{
+    let Some(object) = handle.take(alloc) else {
+        return CLOSED;
+    };
+    let number = write_section(alloc, &object, name, text, len);
     handle.put(alloc, object);
     number
 }

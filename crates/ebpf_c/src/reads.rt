@@ -3,12 +3,18 @@
 ghost use Rattle.std.specs.Prelude.{◌≡◌};
 ghost use Rattle.std.specs.Option.{option_copied};
 ghost use Rattle.ebpf_c.specs.Found.{found_list};
-ghost use Rattle.ebpf_c.specs.Reads.{func_infos_of, function_named, line_infos_of, map_data_of, slots_of};
+ghost use Rattle.ebpf_c.specs.Entries.{named};
+ghost use Rattle.ebpf_c.specs.ProgramRows.{section_name};
+ghost use Rattle.ebpf_c.specs.Reads.{func_infos_of, function_named, line_infos_of, map_data_of, or_number, slots_of};
 
 use crate::codes::{NO_MAP, NO_PROGRAM};
-use crate::entries::named;
+use crate::entries::{Entry, named};
+use crate::programs::section_name;
+use ebpf_base::ByName;
+use ebpf_elf::SectionIndex;
 use ebpf_ext::{bpf_func_info, bpf_line_info};
 use ebpf_object::Object;
+use ebpf_parsing::Program;
 use ebpf_parts::insn::bpf_insn;
 use ebpf_reloc::Function;
 
@@ -48,6 +54,20 @@ pub fn line_infos_of<'a>(object: &'a Object, name: &[u8]) -> Result<&'a [bpf_lin
 {
     match function_named(object, name) {
         Some(function) => Ok(function.line_info.line_info.as_slice()),
+        None => Err(NO_PROGRAM),
+    }
+}
+
+/// The name of the section of the program that some bytes name, among the named sections.
+pub fn section_of<'b>(
+    programs: &ByName<Program>,
+    sections: &[Entry<'b, SectionIndex>],
+    name: &[u8],
+) -> Result<&'b [u8], u32>
+    ensures { found_list result ≡ or_number NO_PROGRAM (λ p. section_name sections.now p.section_index) (named programs.now name.now) }
+{
+    match named(programs, name) {
+        Some(program) => Ok(section_name(sections, program.section_index).as_bytes()),
         None => Err(NO_PROGRAM),
     }
 }

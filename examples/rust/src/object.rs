@@ -225,6 +225,14 @@ impl Object {
         })
     }
 
+    /// The name of a program's section, empty where the section is not listed.
+    pub fn program_section(&self, program: &str) -> Result<Vec<u8>, Error> {
+        // SAFETY: an `Object` is open, the name is borrowed for the call, and the buffer is ours.
+        filled(|text, room, len| unsafe {
+            raw::ebpf_program_section(self.handle.get(), program.as_ptr(), program.len(), text, room, len)
+        })
+    }
+
     /// The slots of a program as they stand.
     pub fn slots(&self, program: &str) -> Result<Vec<Insn>, Error> {
         // SAFETY: an `Object` is open, the name is borrowed for the call, and the buffer is ours.

@@ -169,6 +169,14 @@ extern "C" {
         room: usize,
         len: *mut usize,
     ) -> u32;
+    pub fn ebpf_program_section(
+        handle: *mut Handle,
+        name: *const u8,
+        name_len: usize,
+        text: *mut u8,
+        room: usize,
+        len: *mut usize,
+    ) -> u32;
     pub fn ebpf_externs(
         handle: *mut Handle,
         rows: *mut Extern,

@@ -19,6 +19,10 @@ pub struct Program {
     pub is_sleepable: bool,
     pub is_multi: bool,
     pub has_frags: bool,
+    /// Whether it is loaded with the id of a type of what it is attached to.
+    pub wants_target_type: bool,
+    /// Whether it is loaded only where it is asked for.
+    pub is_optional: bool,
 }
 
 /// A map.
@@ -85,6 +89,8 @@ impl Row for raw::Program {
             is_sleepable: self.flags & 1 != 0,
             is_multi: self.flags & 2 != 0,
             has_frags: self.flags & 4 != 0,
+            wants_target_type: self.flags & 8 != 0,
+            is_optional: self.flags & 16 != 0,
         }
     }
 }
