@@ -1,5 +1,6 @@
 #!/usr/bin/env python3
-"""Runs built programs with writers that fail and with files that are hard to read. Ends with 'N passed, M failed'.
+"""Runs built programs with other words than theirs, with writers that fail and with files that are hard to read. Ends
+with 'N passed, M failed'.
 
 usage: readers_and_writers.py PROGRAM..     PROGRAM: a built ebpf-link or ebpf-inspect
 """
@@ -100,6 +101,13 @@ def writers(checks):
         checks.compare("a full standard error", checks.run(["/nowhere"], stderr=full), (1, b"", b""))
 
 
+def words(checks):
+    """Words that are not as the usage line says."""
+    usage = f"usage: {checks.name} FILE [--btf FILE] [--kallsyms FILE] [--program NAME]\n".encode()
+    for what, given in [("no word", []), ("two files", ["a", "b"]), ("an option without a value", ["a", "--btf"])]:
+        checks.compare(what, checks.run(given), (2, b"", usage))
+
+
 def readers(checks):
     small, wants = str(inputs.SMALL), checks.path("wants.o", WANTS)
     folder = os.path.join(checks.folder, "folder")
@@ -136,6 +144,7 @@ def main(programs):
     for program in programs:
         with tempfile.TemporaryDirectory() as folder:
             checks = Checks(os.path.abspath(program), folder)
+            words(checks)
             writers(checks)
             readers(checks)
         passed, failed = passed + checks.passed, failed + checks.failed

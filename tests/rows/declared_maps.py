@@ -75,6 +75,11 @@ MAPS = [
         "map m in 3 symbol 1 type 0 key 0:0 value 0:0 entries 0 flags 0 extra 0 None",
     ),
     (
+        "a map of the first unknown pinning",
+        [INT, array(1, 2), pointer(2), struct_of("", 8, ("pinning", 3, 0)), variable("m", 4), datasec(".maps", 5)],
+        "map m in 3 symbol 1 type 0 key 0:0 value 0:0 entries 0 flags 0 extra 0 None",
+    ),
+    (
         "a map of maps",
         [
             *NUMBERS[:4],

@@ -32,6 +32,7 @@ def cases():
         # A section of zeros that the file doesn't hold.
         ("four bytes of .bss", data(".bss", NOBITS, 4), array(".bss", 4, 0, [0, 0, 0, 0])),
         # Its map can only be read.
+        ("sixteen bytes of .bss", data(".bss", NOBITS, 16), array(".bss", 16, 0, [0] * 16)),
         ("three bytes of .rodata", data(".rodata", PROGBITS, 3), array(".rodata", 3, 128, [1, 2, 3])),
         ("three bytes of .data.x", data(".data.x", PROGBITS, 3), array(".data.x", 3, 0, [1, 2, 3])),
         ("a .data that is not in the file", data(".data", NOBITS, 3), array(".data", 3, 0, [])),
@@ -50,7 +51,8 @@ def cases():
             'NoSymbolsForSection { section_name: "maps" }',
         ),
     ]
-    return [Case(name, bytes_, {"parsed maps": expected}) for name, bytes_, expected in rows] + made()
+    given = [Case(name, bytes_, {"parsed maps": expected}) for name, bytes_, expected in rows]
+    return given + made()
 
 
 def made():

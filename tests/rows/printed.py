@@ -5,9 +5,10 @@ import struct
 
 from make_call_object import call_object
 from rows.case import Case, outcome_lines
-from rows.elf import CALL, CALL32, EXIT, FUNCTION, LOAD64, NOTHING, File
+from rows.elf import BIG, CALL, CALL32, EXIT, FUNCTION, LITTLE, LOAD64, NOTHING, File, changed
 from rows.joined import END, call, joins, slots
 from rows.resolved import FAR, LOAD, variable_of_void
+from rows.small_object import KIND, SECTIONS
 
 # The variants of errors of parsing.
 PARSING = """
@@ -36,11 +37,12 @@ def variant_in(text):
 
 def function_sizes(data):
     """The sizes of the symbols of functions."""
-    (table,) = struct.unpack_from("<Q", data, 40)
-    (count,) = struct.unpack_from("<H", data, 60)
-    headers = [struct.unpack_from("<IIQQQQII", data, table + 64 * number) for number in range(count)]
+    order = LITTLE if data[5] == 1 else BIG
+    (table,) = struct.unpack_from(f"{order}Q", data, 40)
+    (count,) = struct.unpack_from(f"{order}H", data, 60)
+    headers = [struct.unpack_from(f"{order}IIQQQQII", data, table + 64 * number) for number in range(count)]
     kind, offset, size = next((header[1], header[4], header[5]) for header in headers if header[1] == 2)
-    rows = [struct.unpack_from("<IBBHQQ", data, at) for at in range(offset + 24, offset + size, 24)]
+    rows = [struct.unpack_from(f"{order}IBBHQQ", data, at) for at in range(offset + 24, offset + size, 24)]
     return [row[5] for row in rows if row[1] & 15 == FUNCTION & 15]
 
 
@@ -210,6 +212,17 @@ def small():
                 "inspect program=p": done(parts),
                 "inspect program=q": refused("inspect", "no program q"),
                 "inspect types=no_types": refused("inspect", "btf: InvalidHeader"),
+            },
+        ),
+        # Without its relocation the call is of its own function, which has a copy of its own.
+        Case(
+            "the small object without its relocation, printed",
+            changed(call_object(), SECTIONS + 5 * 64 + KIND, b"\0"),
+            {
+                "link": done(slots("p", call(1), END, call(-1), END)),
+                "inspect": done(
+                    made_of("p", 4, [(0, 2, 1, 0, "p"), (2, 2, 1, 0, "p")], [(0, 2, "call"), (2, 2, "call")])
+                ),
             },
         ),
         # The kernel's types are read before the object.

@@ -9,9 +9,9 @@ from rows.elf import changed
 # Where its parts stand: symbols 1 and 2, the relocation, and the table of section headers.
 PROGRAM, FUNCTION, RELOCATION, SECTIONS = 88 + 24, 88 + 48, 160, 232
 
-# Where a symbol has its address and its size, and a section header its offset and its link.
+# Where a symbol has its address and its size, and a section header its kind, its offset and its link.
 ADDRESS, SIZE = 8, 16
-OFFSET, LINK = 24, 40
+KIND, OFFSET, LINK = 4, 24, 40
 
 
 def with_change(at, new):
