@@ -5,11 +5,11 @@ usage: hostile_costs.py PROGRAM [--base BYTES] [--seconds N] [WORD..]     WORD: 
        hostile_costs.py --make SHAPE BYTES FILE                           the files of one
 
 Each shape of costs/shapes.py is made with about BYTES (262144), twice and four times as many; one that asks for the
-kernel's types makes a second file. A row fails where the
-program ends otherwise than with status 0, where time grows by more than 6 from the first size to the last (and is more
-than 0.1 s there), or where memory passes 64 bytes for each byte of the file and 16 MiB. What the object itself has to
-own isn't among the shapes: long names of many symbols, functions that overlap, a license for each program, zeros of a
-data map. Ends with 'N passed, M failed'.
+kernel's types makes a second file. A row fails where the program ends otherwise than with status 0, where time grows by
+more than 6 from the first size to the last (and is more than 0.1 s there), or where memory passes 64 bytes for each byte
+of the files and 16 MiB; of shapes that are told the status alone counts. What the object itself has to own isn't among
+the shapes: long names of many symbols, functions that overlap, a license for each program, zeros of a data map. Ends
+with 'N passed, M failed'.
 """
 import argparse
 import os
@@ -35,7 +35,7 @@ def write(made, path):
 
 
 def shapes():
-    """The shapes, each with whether its time is told, and with the words that stand behind the file on the command
+    """The shapes, each with whether its cost is told, and with the words that stand behind the file on the command
     line."""
     found = subprocess.run([sys.executable, "-B", __file__, "--list"], check=True, capture_output=True, text=True)
     return [line.split() for line in found.stdout.splitlines()]

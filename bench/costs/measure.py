@@ -55,7 +55,7 @@ def run(words, seconds):
 
 
 class Measured:
-    """A shape's runs, by size. Of one that is told time is no fault."""
+    """A shape's runs, by size. What one costs that is told is no fault."""
 
     def __init__(self, name, runs, is_told):
         self.name, self.runs, self.is_told = name, runs, is_told
@@ -72,7 +72,9 @@ class Measured:
         if last.status != 0:
             return ["no end" if last.status is None else f"status {last.status}"]
         found = []
-        if not self.is_told and last.seconds > LEAST and self.growth() > GROWTH:
+        if self.is_told:
+            return found
+        if last.seconds > LEAST and self.growth() > GROWTH:
             found.append("time")
         if any(each.memory > max(FOR_EACH_BYTE * each.size, FLOOR) for each in self.runs):
             found.append("memory")

@@ -52,7 +52,7 @@ def beside_types(make):
     return make
 
 
-# Shapes of which more than their size is asked: their time is told, and no fault.
+# Shapes that cost more than their size: docs/PERFORMANCE.md tells it and why, and here it is no fault.
 TOLD = set()
 
 
@@ -399,6 +399,7 @@ def asking(types, rows):
     return file.types(types, said).bytes()
 
 
+@told
 @beside_types
 @shape
 def core_records_of_one_long_name(size):
@@ -409,6 +410,7 @@ def core_records_of_one_long_name(size):
     return asking(types, [(asked, string)] * many(size // 2, 16)), Types().bytes()
 
 
+@told
 @beside_types
 @shape
 def core_records_of_one_long_string(size):
@@ -434,11 +436,12 @@ def asking_pointers(count, candidates):
     return asking(types, [(number + 1, string) for number in range(count)]), pointers(candidates).bytes()
 
 
+@told
 @beside_types
 @shape
 def core_records_of_nameless_types(size):
-    """CO-RE records each on a nameless type of its own, beside 600 of the kernel's."""
-    return asking_pointers(many(size, 28), 600)
+    """CO-RE records each on a nameless type of its own, beside a thousand of the kernel's."""
+    return asking_pointers(many(size, 28), 1000)
 
 
 @told
