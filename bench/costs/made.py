@@ -9,6 +9,7 @@ FUNCTION, OBJECT, GLOBAL, WEAK = 0x12, 0x11, 0x10, 0x20
 INT, PTR, ARRAY, STRUCT, FWD, VAR, DATASEC = 1, 2, 3, 4, 7, 14, 15
 
 EXIT = bytes.fromhex("9500000000000000")
+MOVE = bytes.fromhex("b700000000000000")
 CALL = bytes.fromhex("85100000ffffffff")
 
 # About what a file with one program takes.
@@ -42,10 +43,10 @@ class File:
         self.names, self.texts = Strings(), Strings()
         self.rows, self.bodies, self.symbols = [], [], bytearray(24)
 
-    def section(self, name, data=b"", kind=PROGBITS, flags=3, size=None, same_as=None, info=0):
+    def section(self, name, data=b"", kind=PROGBITS, flags=3, size=None, same_as=None, info=0, address=0):
         """Adds a section; `same_as` is the number of one whose bytes of the file it has too."""
         size = len(data) if size is None else size
-        self.rows.append([self.names.add(name), kind, flags, same_as, size, info])
+        self.rows.append([self.names.add(name), kind, flags, same_as, size, info, address])
         self.bodies.append(data)
         return len(self.rows)
 
@@ -82,9 +83,9 @@ class File:
             out += b"" if row[1] == NOBITS else body + bytes(-len(body) % 8)
         start = len(out)
         out += bytes(64)
-        for (name, kind, flags, _, size, info), place in zip(self.rows, places[1:]):
+        for (name, kind, flags, _, size, info, address), place in zip(self.rows, places[1:]):
             link = texts if kind == SYMTAB else table if kind == REL else 0
-            out += struct.pack("<IIQQQQIIQQ", name, kind, flags, 0, place, size, link, info, 1, 0)
+            out += struct.pack("<IIQQQQIIQQ", name, kind, flags, address, place, size, link, info, 1, 0)
         out[:16] = b"\x7fELF\x02\x01\x01".ljust(16, b"\0")
         struct.pack_into("<HHIQQQIHHHHHH", out, 16, 1, 247, 1, 0, 0, start, 0, 64, 0, 0, 64, len(places), names)
         return bytes(out)
@@ -119,6 +120,13 @@ def on_functions(sections):
     for name, rows in sections:
         part += struct.pack("<II", name, len(rows) // 8) + rows
     return struct.pack("<HBBIIIIIII", 0xEB9F, 1, 0, 32, 0, len(part), len(part), 0, len(part), 0) + bytes(part)
+
+
+def core_records(section, rows):
+    """`.BTF.ext` with CO-RE records of one section: the offset of its name, and of each record the place of its
+    instruction, its type, the offset of its access string and its kind."""
+    part = struct.pack("<III", 16, section, len(rows)) + b"".join(struct.pack("<IIII", *row) for row in rows)
+    return struct.pack("<HBBIIIIIII", 0xEB9F, 1, 0, 32, 0, 0, 0, 0, 0, len(part)) + part
 
 
 def entry(offset, symbol):

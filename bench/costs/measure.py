@@ -14,7 +14,7 @@ FOR_EACH_BYTE, FLOOR = 64, 16 << 20
 
 
 class Run:
-    """A status (None: too long), seconds, bytes of memory at the peak, and the size of the file."""
+    """A status (None: too long), seconds, bytes of memory at the peak, and the size of the files."""
 
     def __init__(self, status, seconds, memory, size):
         self.status, self.seconds, self.memory, self.size = status, seconds, memory, size
@@ -25,7 +25,7 @@ def too_long(_signal, _frame):
 
 
 def once(words, seconds):
-    """A run of a program on the file that is its first word."""
+    """A run of a program on the files among its words."""
     quiet = os.open("/dev/null", os.O_RDWR)
     started = time.perf_counter()
     moved = [(os.POSIX_SPAWN_DUP2, quiet, to) for to in (0, 1, 2)]
@@ -41,7 +41,8 @@ def once(words, seconds):
         os.kill(process, signal.SIGKILL)
         _, _, used = os.wait4(process, 0)
         status = None
-    return Run(status, time.perf_counter() - started, 1024 * used.ru_maxrss, os.path.getsize(words[1]))
+    size = sum(os.path.getsize(word) for word in words[1:] if os.path.exists(word))
+    return Run(status, time.perf_counter() - started, 1024 * used.ru_maxrss, size)
 
 
 def run(words, seconds):
@@ -54,10 +55,10 @@ def run(words, seconds):
 
 
 class Measured:
-    """A shape's runs, by size."""
+    """A shape's runs, by size. What one costs that is told is no fault."""
 
-    def __init__(self, name, runs):
-        self.name, self.runs = name, runs
+    def __init__(self, name, runs, is_told):
+        self.name, self.runs, self.is_told = name, runs, is_told
 
     def growth(self):
         """Time at the last size by that at the first."""
@@ -71,6 +72,8 @@ class Measured:
         if last.status != 0:
             return ["no end" if last.status is None else f"status {last.status}"]
         found = []
+        if self.is_told:
+            return found
         if last.seconds > LEAST and self.growth() > GROWTH:
             found.append("time")
         if any(each.memory > max(FOR_EACH_BYTE * each.size, FLOOR) for each in self.runs):

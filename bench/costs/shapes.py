@@ -6,6 +6,7 @@ from costs.made import (
     FUNCTION,
     FWD,
     GLOBAL,
+    MOVE,
     NOBITS,
     OBJECT,
     PTR,
@@ -14,6 +15,7 @@ from costs.made import (
     WEAK,
     File,
     Types,
+    core_records,
     entry,
     on_functions,
 )
@@ -37,6 +39,25 @@ def shape(make):
 def printing_one(make):
     """One program is printed: what is measured is not how much is printed."""
     WORDS[make.__name__] = ["--program", "p0"]
+    return make
+
+
+# What a file of the kernel's types is called beside `--btf`.
+TYPES = "@types"
+
+
+def beside_types(make):
+    """The shape has a file of the kernel's types too."""
+    WORDS[make.__name__] = ["--btf", TYPES]
+    return make
+
+
+# Shapes that cost more than their size: docs/PERFORMANCE.md tells it and why, and here it is no fault.
+TOLD = set()
+
+
+def told(make):
+    TOLD.add(make.__name__)
     return make
 
 
@@ -363,3 +384,85 @@ def sections_of_one_hash(size):
     for name in names(min(many(size, 97), SECTIONS)):
         file.section(name, flags=0)
     return file.bytes()
+
+
+# What a CO-RE record may ask: whether a type is there.
+TYPE_EXISTS = 8
+
+
+def asking(types, rows):
+    """A program with CO-RE records at its first slot, each on a type and with an access string."""
+    file = File()
+    file.program(MOVE + EXIT)
+    name = types.strings.add("kprobe/x")
+    said = core_records(name, [(0, asked, string, TYPE_EXISTS) for asked, string in rows])
+    return file.types(types, said).bytes()
+
+
+@told
+@beside_types
+@shape
+def core_records_of_one_long_name(size):
+    """CO-RE records on one type of a long name."""
+    types = Types()
+    string = types.strings.add("0")
+    asked = types.add(FWD, types.strings.long(size // 2), 0)
+    return asking(types, [(asked, string)] * many(size // 2, 16)), Types().bytes()
+
+
+@told
+@beside_types
+@shape
+def core_records_of_one_long_string(size):
+    """The same of a long access string."""
+    types = Types()
+    asked = types.add(FWD, "x", 0)
+    string = types.strings.long(size // 2, "0")
+    return asking(types, [(asked, string)] * many(size // 2, 16)), Types().bytes()
+
+
+def pointers(count):
+    """Pointers to void, which have no names."""
+    types = Types()
+    for _ in range(count):
+        types.add(PTR, 0, 0)
+    return types
+
+
+def asking_pointers(count, candidates):
+    """CO-RE records each on a nameless type of its own, beside as many of the kernel's as there are candidates."""
+    types = pointers(count)
+    string = types.strings.add("0")
+    return asking(types, [(number + 1, string) for number in range(count)]), pointers(candidates).bytes()
+
+
+@told
+@beside_types
+@shape
+def core_records_of_nameless_types(size):
+    """CO-RE records each on a nameless type of its own, beside a thousand of the kernel's."""
+    return asking_pointers(many(size, 28), 1000)
+
+
+@told
+@beside_types
+@shape
+def core_records_that_ask_all(size):
+    """The same beside as many of the kernel's: each is compared with each."""
+    return asking_pointers(many(size // 2, 28), size // 24)
+
+
+@beside_types
+@shape
+def core_records_behind_the_wrap(size):
+    """Functions of which all but the first lie past address 2^64, and CO-RE records in the first, which is the last in
+    the order of the addresses."""
+    file, types = with_program(), Types()
+    count = many(size // 2, 32)
+    text = file.code(".text", MOVE * count, address=2**64 - 8)
+    for at in range(count):
+        file.symbol("f", FUNCTION, text, (8 * at - 8) % 2**64, 8)
+    string, name = types.strings.add("0"), types.strings.add(".text")
+    asked = types.add(FWD, "x", 0)
+    said = core_records(name, [(0, asked, string, TYPE_EXISTS)] * many(size // 2, 16))
+    return file.types(types, said).bytes(), Types().bytes()

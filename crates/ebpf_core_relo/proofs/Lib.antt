@@ -1,4 +1,5 @@
 pub mod Grouped
+pub mod JoinedRuns
 pub mod OneRecord
 pub mod OutcomeSlots
 pub mod PutSlots

@@ -136,21 +136,24 @@ rises_more place [] s = and_true (leb place s.start)
 rises_more place (x ∷ spans) s =
     ap (λ b. leb place x.start && b) (rises_more x.start spans s) ∙ and_assoc (leb place x.start) (rises x.start spans) (leb (last_start x.start spans) s.start)
 
-topped_more : (spans : List Span) (ends : List ℕ) (top start : ℕ) (is_rising : Bool) (s : Span) → IsTopped spans ends top start is_rising
-    → IsTopped (spans ++ s ∷ []) (ends ++ max top s.end ∷ []) (max top s.end) s.start (is_rising && leb start s.start)
-topped_more spans ends top start is_rising s h = record {
+topped_more : (spans : List Span) (ends : List ℕ) (top start : ℕ) (s : Span) → IsTopped spans ends top start → start ≤ s.start
+    → IsTopped (spans ++ s ∷ []) (ends ++ max top s.end ∷ []) (max top s.end) s.start
+topped_more spans ends top start s h later = record {
   ends_are = ap (λ es. es ++ max top s.end ∷ []) h.ends_are ∙ ap (λ t. tops 0 spans ++ max t s.end ∷ []) h.top_is ∙ sym (tops_more 0 spans s);
   top_is = ap (λ t. max t s.end) h.top_is ∙ sym (last_top_more 0 spans s);
   start_is = sym (last_start_more 0 spans s);
-  rising_is = ap (λ b. b && leb start s.start) h.rising_is ∙ ap (λ p. rises 0 spans && leb p s.start) h.start_is ∙ sym (rises_more 0 spans s);
+  rising_is = rises_more 0 spans s ∙ ap (λ b. b && leb (last_start 0 spans) s.start) h.rising_is ∙ ap (λ p. leb p s.start) (sym h.start_is) ∙ le-leb start s.start later;
 }
 
-pub topped_by : (spans : List Span) (ends : List ℕ) (top start : ℕ) (is_rising : Bool) (s : Span) (spans' : List Span) (kept ends' : List ℕ) (top' : ℕ) (is_rising' : Bool)
-    → IsTopped spans ends top start is_rising → spans' ≡ spans ++ s ∷ [] → kept ≡ ends → ends' ≡ kept ++ top' ∷ [] → top' ≡ max top s.end → is_rising' ≡ (is_rising && leb start s.start)
-    → IsTopped spans' ends' top' s.start is_rising'
-topped_by spans ends top start is_rising s spans' kept ends' top' is_rising' h a b c d e = record {
-  ends_are = c ∙ ap (λ es. es ++ top' ∷ []) b ∙ ap (λ t. ends ++ t ∷ []) d ∙ (topped_more spans ends top start is_rising s h).ends_are ∙ sym (ap (tops 0) a);
-  top_is = d ∙ (topped_more spans ends top start is_rising s h).top_is ∙ sym (ap (last_top 0) a);
-  start_is = (topped_more spans ends top start is_rising s h).start_is ∙ sym (ap (last_start 0) a);
-  rising_is = e ∙ (topped_more spans ends top start is_rising s h).rising_is ∙ sym (ap (rises 0) a);
-}
+pub topped_by : (spans : List Span) (ends : List ℕ) (top start : ℕ) (s : Span) (spans' : List Span) (kept ends' : List ℕ) (top' : ℕ)
+    → IsTopped spans ends top start → last_start 0 spans ≤ s.start → spans' ≡ spans ++ s ∷ [] → kept ≡ ends → ends' ≡ kept ++ top' ∷ [] → top' ≡ max top s.end
+    → IsTopped spans' ends' top' s.start
+topped_by spans ends top start s spans' kept ends' top' h later a b c d =
+    let after : start ≤ s.start = subst (λ n. n ≤ s.start) (sym h.start_is) later in
+    let more = topped_more spans ends top start s h after in
+    record {
+      ends_are = c ∙ ap (λ es. es ++ top' ∷ []) b ∙ ap (λ t. ends ++ t ∷ []) d ∙ more.ends_are ∙ sym (ap (tops 0) a);
+      top_is = d ∙ more.top_is ∙ sym (ap (last_top 0) a);
+      start_is = more.start_is ∙ sym (ap (last_start 0) a);
+      rising_is = ap (rises 0) a ∙ more.rising_is;
+    }

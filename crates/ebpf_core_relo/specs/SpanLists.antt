@@ -1,5 +1,8 @@
--- What is kept of spans beside their list: the greatest end up to each, and whether they begin one behind the other.
-use Rattle.std.specs.Prelude.{◌≡◌, ℕ, Bool, true, ◌&&◌, List, [], ◌∷◌, nat_le, max}
+-- What is kept of spans beside their list: the greatest end up to each, where they begin one behind the other; and
+-- lists of such spans as one.
+use Rattle.std.specs.Prelude.{◌≡◌, ℕ, Bool, true, ◌&&◌, List, [], ◌∷◌, ◌++◌, Option, nat_le, max}
+use Rattle.std.specs.Option.{option_or}
+use Rattle.ebpf_core_relo.specs.Spans.{span_at}
 use Rattle.ebpf_core_relo.specs.declared.spans.Span.{Span}
 
 -- the greatest end up to each span, and no less than one given
@@ -21,8 +24,18 @@ abbrev pub last_start : ℕ → List Span → ℕ
 last_start place [] = place
 last_start place (s ∷ spans) = last_start s.start spans
 
-pub record IsTopped (spans : List Span) (ends : List ℕ) (top start : ℕ) (is_rising : Bool) : Type 0 where
+pub record IsTopped (spans : List Span) (ends : List ℕ) (top start : ℕ) : Type 0 where
   pub ends_are : ends ≡ tops 0 spans
   pub top_is : top ≡ last_top 0 spans
   pub start_is : start ≡ last_start 0 spans
-  pub rising_is : is_rising ≡ rises 0 spans
+  pub rising_is : rises 0 spans ≡ true
+
+-- lists of spans one behind the other, and a last one
+abbrev pub joined : List (List Span) → List Span → List Span
+joined [] last = last
+joined (run ∷ runs) last = run ++ joined runs last
+
+-- the first span that holds an offset, list by list
+abbrev pub first_at : ℕ → List (List Span) → List Span → Option Span
+first_at offset [] last = span_at offset last
+first_at offset (run ∷ runs) last = option_or (span_at offset run) (first_at offset runs last)

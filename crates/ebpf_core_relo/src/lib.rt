@@ -6,6 +6,7 @@ mod error;
 pub mod laws;
 mod records;
 mod relocate;
+mod runs;
 mod scene;
 mod section_spans;
 mod sections;

@@ -32,11 +32,11 @@ fn add(
 {
     match sections.get_mut(section) {
         Some(spans) => {
-            spans.push(span)?;
+            spans.push(alloc, span)?;
         }
         None => {
             let mut spans = Spans::new(alloc);
-            spans.push(span)?;
+            spans.push(alloc, span)?;
             sections.insert(section, spans)?;
         }
     }
