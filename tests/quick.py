@@ -1,8 +1,8 @@
 #!/usr/bin/env python3
 """Runs the tests of each crate and each program that has a file stdout by `rt try`, which proves nothing and stops at an
 index out of range, a sum that wraps or a failed unwrap; compares what the programs print with these files, row by row.
-Says of each edit that the prover is to refuse whether it can still be applied, and tries none. Ends with 'N passed, M
-failed', and with status 1 where one failed.
+Says of each edit that the prover is to refuse whether it can still be applied, and tries none; and whether docs/ERRORS.md
+is what test_errors prints. Ends with 'N passed, M failed', and with status 1 where one failed.
 usage: quick.py [CRATE..]      CRATE: only the tests and rows of these crates
 """
 import os
@@ -18,6 +18,7 @@ TOP = Path(__file__).parents[1]
 CRATES = TOP / "crates"
 sys.path.append(str(TOP / "tools"))
 
+from errors_page import faults  # noqa: E402
 from more_edits import misfits  # noqa: E402
 
 # What a program may take, in seconds: built with checks it takes ten times as long as else.
@@ -118,6 +119,10 @@ def main():
         edits, failures = misfits()
         passed, failed = passed + edits - len(failures), failed + len(failures)
         print("\n".join([*failures, f"edits that apply: {edits - len(failures)}"]), flush=True)
+        lines, failures = faults()
+        right = max(lines - len(failures), 0)
+        passed, failed = passed + right, failed + len(failures)
+        print("\n".join([*failures, f"errors that docs/ERRORS.md has as they are printed: {right}"]), flush=True)
     print(f"{passed} passed, {failed} failed")
     return 1 if failed or not passed else 0
 

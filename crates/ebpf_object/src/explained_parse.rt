@@ -1,5 +1,7 @@
 //! Parse errors beside the file that they are about.
 
+ghost use Rattle.std.specs.Prelude.{◌≡◌};
+
 use crate::section_words::SectionWords;
 use ebpf_elf::ElfFile;
 use ebpf_parts::ParseError;
@@ -13,6 +15,16 @@ pub struct ExplainedParse<'a> {
     pub file: &'a [u8],
     /// The error that `Object::parse` gave for them.
     pub error: &'a ParseError,
+}
+
+impl<'a> ExplainedParse<'a> {
+    /// The error that `Object::parse` gave for a file's bytes, to be printed with the names that the file has.
+    pub fn new(file: &'a [u8], error: &'a ParseError) -> ExplainedParse<'a>
+        ensures file { result.file.now ≡ file.now }
+        ensures error { result.error.now ≡ error.now }
+    {
+        ExplainedParse { file, error }
+    }
 }
 
 /// The name of a file's section by its number, where it can be read.

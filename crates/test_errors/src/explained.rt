@@ -1,0 +1,98 @@
+//! What the names of an object or a file add to errors.
+
+use crate::prepare::{in_p, without_map};
+use crate::sample::{Sample, show};
+use crate::small_object::object;
+use ebpf_elf::ElfReadError;
+use ebpf_ksyms::KsymsError;
+use ebpf_object::Object;
+use ebpf_object::obj::{ExplainedParse, ParseError};
+use ebpf_object::prepare::{Explained, PrepareError};
+use ebpf_reloc::RelocationError;
+use std::io;
+
+impl Sample for Explained<'_> {
+    const TYPE: &'static str = "prepare::Explained";
+
+    fn variant(&self) -> &'static str {
+        self.error.variant()
+    }
+}
+
+impl Sample for ExplainedParse<'_> {
+    const TYPE: &'static str = "obj::ExplainedParse";
+
+    fn variant(&self) -> &'static str {
+        self.error.variant()
+    }
+}
+
+/// Prints an error beside an object.
+fn show_beside(rt: &HostRuntime, object: &Object, error: PrepareError) -> io::Result<()> {
+    show(rt, object.explain(&error))
+}
+
+/// Prints the errors on maps.
+fn show_maps(rt: &HostRuntime, object: &Object) -> io::Result<()> {
+    show_beside(rt, object, without_map(rt, 5)?)?;
+    show_beside(rt, object, without_map(rt, 6)?)?;
+    let far = in_p(rt, RelocationError::MapAddressOverflow { offset: 0x18 })?;
+    show_beside(rt, object, PrepareError::Maps(far))
+}
+
+/// Prints the errors on externs.
+fn show_externs(rt: &HostRuntime, object: &Object) -> io::Result<()> {
+    let misplaced = RelocationError::InvalidRelocationOffset {
+        offset: 0x1c,
+        relocation_number: 2,
+    };
+    let error = KsymsError::TypedKsymRequiresKernelBtf;
+    show_beside(rt, object, PrepareError::Ksyms(error))?;
+    show_beside(rt, object, PrepareError::Externs(in_p(rt, misplaced)?))
+}
+
+/// Prints the errors on calls and variables.
+fn show_calls(rt: &HostRuntime, object: &Object) -> io::Result<()> {
+    let unknown = RelocationError::UnknownProgram {
+        section_index: 5,
+        address: 8,
+    };
+    show_beside(rt, object, PrepareError::Calls(in_p(rt, unknown)?))?;
+    let unsupported = RelocationError::UnsupportedTextSymbol { index: 12 };
+    show_beside(rt, object, PrepareError::Calls(in_p(rt, unsupported)?))?;
+    let error = ParseError::MapNotFound { index: 6 };
+    show_beside(rt, object, PrepareError::Parse(error))
+}
+
+/// Prints a parse error beside its file.
+fn show_parse(rt: &HostRuntime, file: &[u8], error: ParseError) -> io::Result<()> {
+    show(rt, ExplainedParse::new(file, &error))
+}
+
+/// Prints the errors that a file's names add to.
+fn show_parsing(rt: &HostRuntime, file: &[u8]) -> io::Result<()> {
+    let cut = ParseError::SectionError {
+        index: 3,
+        error: ElfReadError::BadSectionRange,
+    };
+    show_parse(rt, file, cut)?;
+    let twice = ParseError::SymbolTableConflict {
+        section_index: 2,
+        address: 0x40,
+    };
+    show_parse(rt, file, twice)?;
+    let unknown = ParseError::UnknownSymbol {
+        section_index: 2,
+        address: 0x40,
+    };
+    show_parse(rt, file, unknown)
+}
+
+/// Prints the errors that names add to.
+pub fn show_all(rt: &HostRuntime, file: &[u8]) -> io::Result<()> {
+    let object = object(rt)?;
+    show_maps(rt, &object)?;
+    show_externs(rt, &object)?;
+    show_calls(rt, &object)?;
+    show_parsing(rt, file)
+}
