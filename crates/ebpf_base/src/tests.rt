@@ -11,8 +11,6 @@ fn texts(rt: HostRuntime) -> Result<(), Fail> {
     assert!(rt; copy.is("maps"));
     assert!(rt; !copy.is("map"));
     assert!(rt; copy == text);
-    let printed = format!(in rt.alloc(); "{text} {text:?}")?;
-    assert_eq!(rt; printed.as_str(), "maps \"maps\"");
     Ok(())
 }
 
@@ -25,8 +23,6 @@ fn lists(rt: HostRuntime) -> Result<(), Fail> {
     let cloned = items.clone()?;
     assert_eq!(rt; copied.as_slice(), [3, 5, 7].as_slice());
     assert!(rt; cloned == copied);
-    let printed = format!(in rt.alloc(); "{items:?}")?;
-    assert_eq!(rt; printed.as_str(), "[3, 5, 7]");
     Ok(())
 }
 
@@ -39,10 +35,6 @@ fn by_name(rt: HostRuntime) -> Result<(), Fail> {
     let copy = map.clone()?;
     let names = copy.names(rt.alloc())?;
     assert_eq!(rt; names.as_slice(), ["bss", "data", "rodata"].as_slice());
-    for ((name, value), same) in copy.iter().zip(["bss", "data", "rodata"]) {
-        assert_eq!(rt; name.as_str(), same);
-        assert!(rt; copy.get(same) == Some(value));
-    }
     Ok(())
 }
 
@@ -55,7 +47,6 @@ fn by_index(rt: HostRuntime) -> Result<(), Fail> {
     let copy = map.clone()?;
     let indices = copy.indices(rt.alloc())?;
     assert_eq!(rt; indices.as_slice(), [2, 5, 9].as_slice());
-    assert_eq!(rt; copy.iter().count(), 3);
     Ok(())
 }
 
