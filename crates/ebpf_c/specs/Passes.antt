@@ -40,14 +40,14 @@ CannotAdapt bytes o r = CannotRead bytes r ⊎ HasBadRecord bytes o r
 pub record HasResolved (bytes symbols : List ℕ) (old new : Object) : Type 0 where
   pub kernel : Option TypeInfo
   pub spelled : types_if bytes ≡ Ok kernel
-  pub resolved : IsResolvedIn symbols old.btf kernel old.externs new.externs
+  pub resolved : IsResolvedIn (Some symbols) old.btf kernel old.externs new.externs
   pub others_stay : new ≡ record old { externs = new.externs }
 
 -- an extern can't be found
 pub record HasLostExtern (bytes symbols : List ℕ) (o : Object) (r : Refusal) : Type 0 where
   pub kernel : Option TypeInfo
   pub spelled : types_if bytes ≡ Ok kernel
-  pub refusal : IsRefusal (λ e. MatchBool (resolving.is_memory e) ⊤ (IsRefusedIn symbols o.btf kernel o.externs e)) ksyms_refusal r
+  pub refusal : IsRefusal (λ e. MatchBool (resolving.is_memory e) ⊤ (IsRefusedIn (Some symbols) o.btf kernel o.externs e)) ksyms_refusal r
 
 abbrev pub CannotResolve : List ℕ → List ℕ → Object → Refusal → Type 0
 CannotResolve bytes symbols o r = CannotReadIf bytes r ⊎ HasLostExtern bytes symbols o r

@@ -1,7 +1,7 @@
 -- Lines one after the other: their faults, and the addresses that they give.
-use Rattle.std.proofs.Common.{◌≡◌, ℕ, Bool, true, false, cond, List, [], ◌∷◌, ◌++◌, map, length, Option, Some, None, Result, Ok, Err, refl, ap, sym, subst, ◌∙◌, append-nil, append_assoc, ◌+◌, eqb, add-one, arith}
+use Rattle.std.proofs.Common.{◌≡◌, ℕ, Bool, true, false, cond, List, [], ◌∷◌, ◌++◌, map, length, Option, Some, None, Ok, Err, refl, ap, sym, subst, ◌∙◌, append-nil, append_assoc, ◌+◌, eqb, add-one, arith}
 use Rattle.std.specs.Prelude.{⊤, MatchBool, option_map, nat_lt, slice_get}
-use Rattle.std.specs.Iterator.{Drains, Yields}
+use Rattle.std.specs.Iterator.{Yields}
 use Rattle.std.specs.List.{cons_option, filter_map}
 use Rattle.std.proofs.lemmas.Bool.Decides.{nat_tests}
 use Rattle.std.proofs.lemmas.List.{map-append}
@@ -12,10 +12,9 @@ use Rattle.ebpf_base.specs.Keys.{lent_bytes}
 use Rattle.ebpf_base.proofs.Faults.{first_some-push, or_else-None}
 use Rattle.ebpf_ksyms.specs.declared.error.KsymsError.{KsymsError}
 use Rattle.ebpf_ksyms.specs.Addresses.{Item, Line, address_of, addresses, given_by, line_fault, line_of, lines_fault, said_fault, said_of, stated_fault, with_before}
-use Rattle.ebpf_ksyms.specs.Counted.{Counts}
 use Rattle.ebpf_ksyms.specs.Lines.{said_in, stated_address}
 use Rattle.ebpf_ksyms.specs.Named.{is_among, only_at}
-use Rattle.ebpf_ksyms.specs.Noted.{AreRead, Known, StopsAt, noted_line, noted_line_fault, said_noted}
+use Rattle.ebpf_ksyms.specs.Noted.{AreRead, Known, noted_line, noted_line_fault, said_noted}
 
 -- ---- one more line at the end
 
@@ -123,6 +122,11 @@ never_zero n h = grind (arith, nat_tests)
 pub no_lines : {S : Type 0} (steps : S → Option Item → S → Type 0) (lines : S) (names : List (Bor (List ℕ))) (known : Known) → eqb (length names) 0 ≡ true → ((q : List ℕ) → known q ≡ only_at (lent_bytes names) (λ _. None) q) → AreRead steps lines (lent_bytes names) known
 no_lines steps lines [] known none tells = record { items = []; counted = refl; read = lines_fault-none _; addresses = tells }
 no_lines steps lines (n ∷ names) known none tells = absurd (never_zero (length names) (rw add-one none))
+
+-- there are names
+pub some_names : (names : List (Bor (List ℕ))) → eqb (length names) 0 ≡ false → nat_lt 0 (length (lent_bytes names)) ≡ true
+some_names [] none = cc
+some_names (n ∷ names) some = grind (arith, nat_tests)
 
 pub first_known : (names : List (List ℕ)) (known : Known) → ((q : List ℕ) → known q ≡ only_at names (λ _. None) q) → (q : List ℕ) → known q ≡ only_at names (λ name. address_of name (map line_of [])) q
 first_known names known tells q = tells q ∙ ap (λ a. cond (is_among names q) (Some a) None) (sym (address_of-none q))

@@ -1,8 +1,8 @@
 -- From what each part of resolution gives to the externs as a whole.
-use Rattle.std.proofs.Common.{◌≡◌, ℕ, Bool, true, false, cond, ◌&&◌, ◌||◌, List, [], ◌∷◌, ◌++◌, map, Option, Some, None, Result, Ok, Err, refl, ap, sym, subst, ◌∙◌, inl, inr}
+use Rattle.std.proofs.Common.{◌≡◌, ℕ, Bool, true, false, cond, ◌&&◌, ◌||◌, List, [], ◌∷◌, map, Option, Some, None, Ok, Err, refl, ap, sym, ◌∙◌, inl, inr}
 use Rattle.std.specs.Prelude.{not}
 use Rattle.std.specs.FinMap.{entries}
-use Rattle.std.specs.List.{AllByRecursion, cons_option, filter_map}
+use Rattle.std.specs.List.{AllByRecursion, cons_option}
 use Rattle.std.specs.Str.{bytes_eq}
 use Rattle.std.proofs.lemmas.Slice.Eq.{bytes_eq-Decides}
 use Rattle.ebpf_base.specs.Faults.{first_some, or_else}
@@ -11,7 +11,7 @@ use Rattle.ebpf_reloc.specs.declared.extern_desc.ExternDesc.{ExternDesc}
 use Rattle.ebpf_ksyms.specs.declared.error.KsymsError.{KsymsError}
 use Rattle.ebpf_ksyms.specs.Addresses.{Item, Line, address_of, line_of}
 use Rattle.ebpf_ksyms.specs.Entries.{map_of}
-use Rattle.ebpf_ksyms.specs.Externs.{Entry, Externs, IsRefused, IsResolved, StopsAtLine, StopsAtName, found_by, is_typed, is_typeless, left_without, lines_refused, name_refused, names_read, names_refused, outcome, reads_lines, renew, renewed, resolved, resolved_as, types_refused, wanted_name, wanted_names, with_address, with_id}
+use Rattle.ebpf_ksyms.specs.Externs.{Entry, Externs, IsRefused, IsResolved, found_by, is_typed, is_typeless, left_without, name_refused, names_read, names_refused, outcome, renewed, resolved, resolved_as, types_refused, wanted_names, with_address, with_id}
 use Rattle.ebpf_ksyms.specs.Named.{is_among, only_at}
 use Rattle.ebpf_ksyms.specs.Noted.{AreRead, Known, StopsAt}
 use Rattle.ebpf_ksyms.specs.Settled.{flat, known_at, settled_as, settled_refused}
@@ -114,7 +114,7 @@ module _ {S : Type 0} (steps : S → Option Item → S → Type 0) (source : S) 
 
     pub at_line : (e : KsymsError) → first_some (typed_refused (found_by kernel) local kernel) (entries externs) ≡ None → StopsAt steps source (wanted_names (entries externs)) e → IsRefused steps source (Some local) kernel externs e
     unfolding types_refused names_read
-    at_line e types h = inr (inl (record { items = h.items; item = h.item; rest = h.rest; came = h.came; types = types; before = h.before; refused = h.refused }))
+    at_line e types h = inr (inl (record { items = h.items; item = h.item; rest = h.rest; wanted = h.wanted; came = h.came; types = types; before = h.before; refused = h.refused }))
 
     pub at_name : (e : KsymsError) (known : Known) → first_some (typed_refused (found_by kernel) local kernel) (entries externs) ≡ None → AreRead steps source (wanted_names (entries externs)) known → first_some (settled_refused (known_at known)) (renewed (typed_as (found_by kernel) local kernel) (entries externs)) ≡ Some e → IsRefused steps source (Some local) kernel externs e
     unfolding types_refused names_read names_refused typed

@@ -1,9 +1,9 @@
 -- What stands at each extern after resolution, and why it is refused.
-use Rattle.std.specs.Prelude.{◌≡◌, ℕ, Bool, true, false, ◌&&◌, ◌++◌, List, [], ◌∷◌, map, is_some, not, nat_lt, length, Option, Some, None, Result, Ok, Err, if◌then◌else◌, ◌⊎◌}
+use Rattle.std.specs.Prelude.{◌≡◌, ℕ, Bool, true, ◌&&◌, ◌++◌, List, [], ◌∷◌, map, not, nat_lt, length, Option, Some, None, Ok, Err, if◌then◌else◌, ◌⊎◌}
 use Rattle.std.specs.List.{filter_map}
 use Rattle.std.specs.FinMap.{FinMap, entries, from_sorted}
 use Rattle.std.specs.Iterator.{Yields}
-use Rattle.ebpf_base.specs.Faults.{fault_of, first_some, or_else}
+use Rattle.ebpf_base.specs.Faults.{fault_of, first_some}
 use Rattle.ebpf_base.specs.Keys.{text_cmp}
 use Rattle.ebpf_btf.specs.Steps.{type_at}
 use Rattle.ebpf_btf.specs.TypeInfo.{TypeInfo}
@@ -145,11 +145,12 @@ module _ {S : Type 0} (steps : S → Option Item → S → Type 0) (lines : S) w
   abbrev pub StopsAtType : Option TypeInfo → Option TypeInfo → Externs → KsymsError → Type 0
   StopsAtType local kernel externs e = types_refused local kernel externs ≡ Some e
 
-  -- the last item that was read is refused, and none before it
+  -- the last item that was read is refused, and none before it; lines are read
   pub record StopsAtLine (local kernel : Option TypeInfo) (externs : Externs) (e : KsymsError) : Type 0 where
     pub items : List Item
     pub item : Item
     pub rest : S
+    pub wanted : reads_lines local externs ≡ true
     pub came : Yields steps lines (items ++ item ∷ []) rest
     pub types : types_refused local kernel externs ≡ None
     pub before : lines_refused local externs (map line_of items) ≡ None

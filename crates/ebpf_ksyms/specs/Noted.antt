@@ -1,6 +1,6 @@
 -- The addresses of names, line by line, and where reading stops.
-use Rattle.std.specs.Prelude.{◌≡◌, ℕ, Bool, List, [], ◌∷◌, ◌++◌, length, map, nat_lt, Option, Some, None, Result, Ok, Err, option_map}
-use Rattle.std.specs.Iterator.{Drains, Yields}
+use Rattle.std.specs.Prelude.{◌≡◌, ℕ, true, List, [], ◌∷◌, ◌++◌, length, map, nat_lt, Option, Some, None, Ok, Err, option_map}
+use Rattle.std.specs.Iterator.{Yields}
 use Rattle.ebpf_base.specs.Faults.{or_else}
 use Rattle.ebpf_ksyms.specs.declared.error.KsymsError.{KsymsError}
 use Rattle.ebpf_ksyms.specs.Addresses.{Item, Line, address_of, line_of, lines_fault, said_of, stated_fault}
@@ -44,11 +44,12 @@ module _ {S : Type 0} (steps : S → Option Item → S → Type 0) (lines : S) (
     pub read : lines_fault (is_among names) (map line_of items) ≡ None
     pub addresses : (q : List ℕ) → known q ≡ only_at names (λ name. address_of name (map line_of items)) q
 
-  -- the last item that was read is refused, and none before it
+  -- the last item that was read is refused, and none before it; there are names to read for
   pub record StopsAt (e : KsymsError) : Type 0 where
     pub items : List Item
     pub item : Item
     pub rest : S
+    pub wanted : nat_lt 0 (length names) ≡ true
     pub came : Yields steps lines (items ++ item ∷ []) rest
     pub before : lines_fault (is_among names) (map line_of items) ≡ None
     pub refused : lines_fault (is_among names) (map line_of (items ++ item ∷ [])) ≡ Some e

@@ -1,11 +1,17 @@
--- Resolution with the lines of a reader.
-use Rattle.std.specs.Prelude.{◌≡◌, ℕ, ◌<◌, ◌⊎◌, ⊤, Bool, true, false, List, [], ◌∷◌, ◌++◌, length, map, Option, Some, None, Ok}
+-- Resolution with the lines of a reader. `known` are the reader's bytes, where they are known; of other readers all is said
+-- but which lines came.
+use Rattle.std.specs.Prelude.{◌≡◌, ℕ, ◌<◌, ◌⊎◌, ⊤, Bool, true, false, List, [], ◌∷◌, ◌++◌, length, map, Option, Some, None, Ok, IfSome}
 use Rattle.std.specs.Io.BufRead.{drop_through, first_line}
+use Rattle.std.specs.IoError.{error_kind}
+use Rattle.std.specs.List.{AllByRecursion}
+use Rattle.std.specs.Str.{IsUtf8}
+use Rattle.std.specs.declared.io.Error.{Error}
 use Rattle.ebpf_btf.specs.TypeInfo.{TypeInfo}
 use Rattle.ebpf_ksyms.specs.declared.error.KsymsError.{KsymsError}
 use Rattle.ebpf_ksyms.specs.declared.error.KsymsError.TheVariants.{KallsymsAccessError}
 use Rattle.ebpf_ksyms.specs.Addresses.{Line}
 use Rattle.ebpf_ksyms.specs.Externs.{Externs, lines_refused, names_refused, reads_lines, resolved, types_refused}
+use Rattle.ebpf_ksyms.specs.Faults.{is_memory_kind}
 
 -- what stands after some lines
 abbrev pub after_lines : List ℕ → List (List ℕ) → List ℕ
@@ -25,45 +31,67 @@ AreLines bytes lines = AreFirst bytes lines × (after_lines bytes lines ≡ [])
 abbrev pub readable : List (List ℕ) → List Line
 readable lines = map Ok lines
 
+-- ---- the lines that came from a reader
+
+-- all are UTF-8
+abbrev pub AreTexts : List (List ℕ) → Type 0
+AreTexts lines = AllByRecursion IsUtf8 lines
+
+-- lines that came first: those of the bytes, where these are known
+abbrev pub CameFirst : Option (List ℕ) → List (List ℕ) → Type 0
+CameFirst known lines = AreTexts lines × IfSome known (λ bytes. AreFirst bytes lines)
+
+-- all lines that came
+abbrev pub CameAll : Option (List ℕ) → List (List ℕ) → Type 0
+CameAll known lines = AreTexts lines × IfSome known (λ bytes. AreLines bytes lines)
+
 -- the lines that count: all of them, where lines are read
-abbrev pub CountsLines : Bool → List ℕ → List (List ℕ) → Type 0
-CountsLines true bytes lines = AreLines bytes lines
-CountsLines false bytes lines = lines ≡ []
+abbrev pub CountsLines : Bool → Option (List ℕ) → List (List ℕ) → Type 0
+CountsLines true known lines = CameAll known lines
+CountsLines false known lines = lines ≡ []
+
+-- ---- answers
 
 -- the externs afterwards, where nothing is refused
-pub record IsResolvedIn (bytes : List ℕ) (local kernel : Option TypeInfo) (externs after : Externs) : Type 0 where
+pub record IsResolvedIn (known : Option (List ℕ)) (local kernel : Option TypeInfo) (externs after : Externs) : Type 0 where
   pub lines : List (List ℕ)
-  pub counted : CountsLines (reads_lines local externs) bytes lines
+  pub counted : CountsLines (reads_lines local externs) known lines
   pub types : types_refused local kernel externs ≡ None
   pub read : lines_refused local externs (readable lines) ≡ None
   pub names : names_refused local externs (readable lines) ≡ None
   pub stands : after ≡ resolved local kernel (readable lines) externs
 
 -- the last line that was read is refused, and none before it
-pub record StopsAtLineIn (bytes : List ℕ) (local kernel : Option TypeInfo) (externs : Externs) (e : KsymsError) : Type 0 where
+pub record StopsAtLineIn (known : Option (List ℕ)) (local kernel : Option TypeInfo) (externs : Externs) (e : KsymsError) : Type 0 where
   pub lines : List (List ℕ)
   pub line : List ℕ
-  pub came : AreFirst bytes (lines ++ line ∷ [])
+  pub wanted : reads_lines local externs ≡ true
+  pub came : CameFirst known (lines ++ line ∷ [])
   pub types : types_refused local kernel externs ≡ None
   pub before : lines_refused local externs (readable lines) ≡ None
   pub refused : lines_refused local externs (readable (lines ++ line ∷ [])) ≡ Some e
 
 -- all lines are accepted, and an extern is left without an address
-pub record StopsAtNameIn (bytes : List ℕ) (local kernel : Option TypeInfo) (externs : Externs) (e : KsymsError) : Type 0 where
+pub record StopsAtNameIn (known : Option (List ℕ)) (local kernel : Option TypeInfo) (externs : Externs) (e : KsymsError) : Type 0 where
   pub lines : List (List ℕ)
-  pub counted : CountsLines (reads_lines local externs) bytes lines
+  pub counted : CountsLines (reads_lines local externs) known lines
   pub types : types_refused local kernel externs ≡ None
   pub read : lines_refused local externs (readable lines) ≡ None
   pub refused : names_refused local externs (readable lines) ≡ Some e
 
--- a line that could not be read
-abbrev pub IsAccess : KsymsError → Type 0
-IsAccess (KallsymsAccessError e) = ⊤
-IsAccess _ = ⊥
+-- a line could not be read, for another reason than want of memory, and none before it is refused
+pub record StopsAtAccessIn (known : Option (List ℕ)) (local kernel : Option TypeInfo) (externs : Externs) (e : KsymsError) : Type 0 where
+  pub lines : List (List ℕ)
+  pub error : Error
+  pub wanted : reads_lines local externs ≡ true
+  pub came : CameFirst known lines
+  pub types : types_refused local kernel externs ≡ None
+  pub before : lines_refused local externs (readable lines) ≡ None
+  pub other : is_memory_kind (error_kind error) ≡ false
+  pub is : e ≡ KallsymsAccessError error
 
--- The least refusal: externs with types come first, then the lines, then the names left. Beside these a line that could
--- not be read.
-abbrev pub IsRefusedIn : List ℕ → Option TypeInfo → Option TypeInfo → Externs → KsymsError → Type 0
-IsRefusedIn bytes local kernel externs e =
+-- The least refusal: externs with types come first, then the lines, each refused or not read, then the names left.
+abbrev pub IsRefusedIn : Option (List ℕ) → Option TypeInfo → Option TypeInfo → Externs → KsymsError → Type 0
+IsRefusedIn known local kernel externs e =
     (types_refused local kernel externs ≡ Some e)
-    ⊎ (StopsAtLineIn bytes local kernel externs e ⊎ (StopsAtNameIn bytes local kernel externs e ⊎ IsAccess e))
+    ⊎ (StopsAtLineIn known local kernel externs e ⊎ (StopsAtNameIn known local kernel externs e ⊎ StopsAtAccessIn known local kernel externs e))

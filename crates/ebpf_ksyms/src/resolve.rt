@@ -1,6 +1,6 @@
 //! The resolution of externs.
 
-ghost use Rattle.std.specs.Prelude.{IfOk, IfErr, IfSome, MatchBool, ⊤};
+ghost use Rattle.std.specs.Prelude.{IfOk, IfErr, MatchBool, ⊤};
 ghost use Rattle.std.specs.Iterator.{IsFinite};
 ghost use Rattle.std.specs.Option.{option_copied};
 ghost use Rattle.ebpf_ksyms.specs.Externs.{IsRefused, IsResolved};
@@ -73,8 +73,8 @@ pub fn resolve_externs<R: BufRead + Drop>(
     kernel_btf: Option<&Btf>,
     kallsyms: R,
 ) -> Result<ByName<ExternDesc>, KsymsError>
-    ensures ok { IfOk result (λ after. IfSome (R.remaining kallsyms) (λ bytes. IsResolvedIn bytes (option_copied btf.entry) (option_copied kernel_btf.entry) externs.now after)) }
-    ensures fault { IfErr result (λ e. MatchBool (is_memory e) ⊤ (IfSome (R.remaining kallsyms) (λ bytes. IsRefusedIn bytes (option_copied btf.entry) (option_copied kernel_btf.entry) externs.now e))) }
+    ensures ok { IfOk result (λ after. IsResolvedIn (R.remaining kallsyms) (option_copied btf.entry) (option_copied kernel_btf.entry) externs.now after) }
+    ensures fault { IfErr result (λ e. MatchBool (is_memory e) ⊤ (IsRefusedIn (R.remaining kallsyms) (option_copied btf.entry) (option_copied kernel_btf.entry) externs.now e)) }
 {
     resolve_lines(alloc, btf, externs, kernel_btf, kallsyms.lines(alloc))
 }

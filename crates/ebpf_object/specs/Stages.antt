@@ -1,6 +1,6 @@
 -- The stages of preparing an object: what each leaves of it, and how it refuses it. A stage that is not chosen leaves
 -- it as it is.
-use Rattle.std.specs.Prelude.{◌≡◌, ℕ, Bool, true, false, List, Option, Some, None, option_map, IfSome, Err}
+use Rattle.std.specs.Prelude.{◌≡◌, ℕ, Bool, true, false, List, Option, Some, None, option_map, Err}
 use Rattle.std.specs.FinMap.{FinMap, get}
 use Rattle.std.specs.List.{filter_map}
 use Rattle.ebpf_base.specs.Keys.{text_cmp}
@@ -54,16 +54,16 @@ describing_fault (Some descriptors) o = maps_fault o (has_function_in o.function
 
 -- ---- externs
 
--- the object with its externs resolved by these lines, where they are known
+-- the object with its externs resolved by the lines of a reader, whose bytes are given where they are known
 abbrev pub Resolves : Option (Option TypeInfo) → Option (List ℕ) → Object → Object → Type 0
 Resolves None lines o after = after ≡ o
 Resolves (Some kernel) lines o after =
-    IfSome lines (λ bytes. IsResolvedIn bytes o.btf kernel o.externs after.externs) × (after ≡ record o { externs = after.externs })
+    IsResolvedIn lines o.btf kernel o.externs after.externs × (after ≡ record o { externs = after.externs })
 
 -- the least fault of resolving
 abbrev pub ResolvingFault : Option (Option TypeInfo) → Option (List ℕ) → Object → KsymsError → Type 0
 ResolvingFault None lines o e = ⊥
-ResolvingFault (Some kernel) lines o e = IfSome lines (λ bytes. IsRefusedIn bytes o.btf kernel o.externs e)
+ResolvingFault (Some kernel) lines o e = IsRefusedIn lines o.btf kernel o.externs e
 
 -- the object with what is known of its externs
 abbrev pub externs_known : Option (Option TypeInfo) → Object → Object

@@ -1,6 +1,6 @@
 //! The externs of an object, found in a kernel.
 
-ghost use Rattle.std.specs.Prelude.{◌≡◌, IfErr, IfSome, MatchBool, OnErr, OnOk, ⊤};
+ghost use Rattle.std.specs.Prelude.{◌≡◌, IfErr, MatchBool, OnErr, OnOk, ⊤};
 ghost use Rattle.std.specs.Iterator.{IsFinite};
 ghost use Rattle.std.specs.Option.{option_copied};
 ghost use Rattle.ebpf_ksyms.specs.Externs.{IsRefused, IsResolved};
@@ -59,8 +59,8 @@ impl Object {
         kernel_btf: Option<&Btf>,
         kallsyms: R,
     ) -> Result<(), KsymsError>
-        ensures ok { OnOk result (IfSome (R.remaining kallsyms) (λ bytes. IsResolvedIn bytes self.old.btf (option_copied kernel_btf.entry) self.old.externs self.new.externs)) }
-        ensures fault { IfErr result (λ e. MatchBool (is_memory e) ⊤ (IfSome (R.remaining kallsyms) (λ bytes. IsRefusedIn bytes self.old.btf (option_copied kernel_btf.entry) self.old.externs e))) }
+        ensures ok { OnOk result (IsResolvedIn (R.remaining kallsyms) self.old.btf (option_copied kernel_btf.entry) self.old.externs self.new.externs) }
+        ensures fault { IfErr result (λ e. MatchBool (is_memory e) ⊤ (IsRefusedIn (R.remaining kallsyms) self.old.btf (option_copied kernel_btf.entry) self.old.externs e)) }
         ensures others_stay { self.new ≡ record self.old { externs = self.new.externs } }
         ensures unchanged { OnErr result (self.new ≡ self.old) }
     {

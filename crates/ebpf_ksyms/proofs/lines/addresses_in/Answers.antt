@@ -1,10 +1,9 @@
-use Rattle.std.proofs.Common.{◌≡◌, ◌++◌, [], ◌∷◌, None, sym, subst, ◌∙◌}
+use Rattle.std.proofs.Common.{sym, subst, ◌∙◌}
 use Rattle.std.specs.Iterator.{Yields}
 use Rattle.ebpf_base.specs.Keys.{lent_bytes}
-use Rattle.ebpf_ksyms.specs.Addresses.{line_of}
 use Rattle.ebpf_ksyms.specs.Faults.{is_memory}
 use Rattle.ebpf_ksyms.specs.Named.{value_at}
-use Rattle.ebpf_ksyms.proofs.Reading.{first_known, lines_fault-none, match_then, no_lines, read-more, refused-here, tells-more, yields-push}
+use Rattle.ebpf_ksyms.proofs.Reading.{first_known, lines_fault-none, match_then, no_lines, read-more, refused-here, some_names, tells-more, yields-push}
 use Rattle.ebpf_ksyms.proofs.lines.addresses_in.Goals as goal
 
 pub returns-then-is_empty-clause-ok : goal.returns-then-is_empty-clause-ok
@@ -30,6 +29,7 @@ returns-in-Err-clause-fault g c =
       items = c.loop-item.yielded;
       item = c.in-Some.item;
       rest = c.next.new.self;
+      wanted = some_names c.args.names.now (sym c.is_empty.ensures ∙ c.if-is_empty.false);
       came = yields-push g.I.Iterator.next_gives c.args.lines c.loop-item.item-iterator c.next.new.self c.loop-item.yielded c.in-Some.item (subst (λ s. Yields g.I.Iterator.next_gives s c.loop-item.yielded c.loop-item.item-iterator) c.into_iter-item-iterator.ensures.into_iter_gives c.loop-item.yielded_by) c.in-Some.ensures.steps;
       before = c.loop-item.invariant.read;
       refused = refused-here (lent_bytes c.args.names.now) c.loop-item.yielded c.in-Some.item (value_at c.loop-item.addresses) c.loop-item.invariant.read c.loop-item.invariant.known c.in-Err.error h;
