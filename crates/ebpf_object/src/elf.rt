@@ -1,6 +1,7 @@
 //! ELF64 files.
 
 pub use ebpf_elf::{
-    ElfFile, ElfReadError, ElfRelocation, ElfRelocationSection, ElfSection, ElfSymbol,
-    SectionIndex, SymbolKind,
+    ElfFile, ElfReadError, ElfRelocation, ElfRelocationSection, ElfSection, ElfSymbol, EntryPlaces,
+    RelocationEntries, RelocationSections, Relocations, SectionIndex, Sections, SymbolKind,
+    Symbols,
 };
