@@ -9,7 +9,7 @@ from rows.elf import CALL, CALL32, EXIT, FUNCTION, OBJECT, PROGBITS, File
 S = [ty("int", INT, 4, 0x01000020), struct_of("s", 8, ("a", 1, 0), ("b", 1, 32))]
 KERNEL = btf(INT_4, struct_of("s", 12, ("a", 1, 0), ("x", 1, 32), ("b", 1, 64)))
 
-# The words of a map struct.
+# The words of a map struct, and its id.
 STRUCT = words([1, 2, 3, 4, 5, 0x80706])
 
 
@@ -52,7 +52,10 @@ def cases():
                     1 int: Int {{ name_offset: 1, size: 4, int_data: 16777248 }}
                     2 s: Struct {{ name_offset: 5, size: 8, kind_flag: false, members: {members} }}
                 """,
-                "parsed maps": "map m type 1 key 2 value 3 entries 4 flags 5 None symbol Some(3) data []",
+                "parsed maps map_ids": """
+                    map m type 1 key 2 value 3 entries 4 flags 5 None symbol Some(3) data []
+                    map m id 526086
+                """,
                 "parsed type_relocations": """
                     in Ok("kprobe/p")
                     0 at 0 type 2 Ok("0:1") FieldByteOffset

@@ -5,6 +5,7 @@ from rows.elf import LOAD64, NOTHING, slot
 from rows.resolved import variable_of_void
 
 FAILED = "KallsymsAccessError(Kind(Other))"
+NO_TYPES = "TypedKsymRequiresKernelBtf"
 
 # Two variables, in lines of several forms.
 GOOD = b"1000 D a\n3000 T other\n+2000 d b [module]\r\n1000 D a\n0 D b\n"
@@ -100,6 +101,8 @@ def unread():
                 "failing a=4096 f=typed": answer("Ok", externs(a=4096) + weak, asked=False),
                 "failing a=weak": answer(FAILED, externs(a=None)),
                 "failing a=4096 b": answer(FAILED, externs(a=4096, b=None)),
+                # without a kernel's types, an extern that has to have its type there is refused before any line is read
+                "failing a f=strong_typed": answer(NO_TYPES, externs(a=None, f=None), asked=False),
             },
         )
     ]

@@ -52,7 +52,16 @@ def cases():
         ),
     ]
     given = [Case(name, bytes_, {"parsed maps": expected}) for name, bytes_, expected in rows]
-    return given + made()
+    return given + with_ids() + made()
+
+
+def with_ids():
+    """The id of a map struct: of 20 bytes it has none, of 23 the three low bytes of one."""
+    ids = {20: 0, 23: 526086}
+    return [
+        Case(f"the id in a map struct of {size} bytes", struct(0, size), {"parsed map_ids": f"map m id {number}"})
+        for size, number in ids.items()
+    ]
 
 
 def made():

@@ -119,6 +119,7 @@ def cases():
                 "program_type 33": "Err(InvalidTypeBinding { value: 33 })",
                 "pinning 1": "Ok(ByName)",
                 "pinning 2": "Err(Unsupported { pinning_type: 2 })",
+                "default_attach_type": "SockCreate",
             },
         ),
     ]

@@ -2,7 +2,7 @@
 import struct
 
 from make_call_object import call_object
-from rows import reader
+from rows import joining_reader, reader
 from rows.case import Case
 from rows.elf import changed
 
@@ -48,6 +48,9 @@ def cases():
                 # nor does any of its bytes, set to 00 or ff, give anything but this
                 "bytes 0 616 0": reader.each_byte(call_object(), 0),
                 "bytes 0 616 255": reader.each_byte(call_object(), 255),
+                # nor where its programs are joined
+                "prepared_bytes 0 616 0": joining_reader.each_byte(call_object(), 0),
+                "prepared_bytes 0 616 255": joining_reader.each_byte(call_object(), 255),
             },
         ),
         Case(

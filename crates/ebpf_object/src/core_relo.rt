@@ -1,3 +1,8 @@
-//! Adapting slots to another kernel's types, and why it can refuse.
+//! Adapting slots to another kernel's types, and why it can refuse; what one relocation by types asks, and what comes
+//! out.
 
+pub use ebpf_core::{
+    CoreSearch, FieldClass, LoadedField, LocalPath, NamedPath, Outcome, local_path, outcome_among,
+};
 pub use ebpf_core_relo::{BtfRelocationError, RelocationError};
+pub use ebpf_ext::{Relocation, RelocationKind};

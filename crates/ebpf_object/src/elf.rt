@@ -2,6 +2,7 @@
 
 pub use crate::section_names::section_name;
 pub use ebpf_elf::{
-    ElfFile, ElfReadError, ElfRelocation, ElfRelocationSection, ElfSection, ElfSymbol,
-    SectionIndex, SymbolKind,
+    ElfFile, ElfReadError, ElfRelocation, ElfRelocationSection, ElfSection, ElfSymbol, EntryPlaces,
+    RelocationEntries, RelocationSections, Relocations, SectionIndex, Sections, SymbolKind,
+    Symbols,
 };

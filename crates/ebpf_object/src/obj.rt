@@ -4,7 +4,9 @@ pub use crate::explained_parse::ExplainedParse;
 pub use crate::object::Object;
 pub use ebpf_base::{ByIndex, ByKey, ByName, ByOffset, BySection, Items, Text};
 pub use ebpf_btf::{Btf, BtfError, Endianness};
-pub use ebpf_ext::BtfExt;
+pub use ebpf_ext::{
+    BtfExt, FuncInfo, FuncSecInfo, LineInfo, LineSecInfo, bpf_func_info, bpf_line_info,
+};
 pub use ebpf_parsing::Program;
 pub use ebpf_parts::{EbpfSectionKind, ParseError, ProgramSection, Relocation, Section};
 pub use ebpf_reloc::{ExternDesc, Function, Symbol};

@@ -1,4 +1,6 @@
 //! Relocation, and why it can refuse; what linked programs are made of.
 
 pub use crate::link_map::ProgramMaps;
-pub use ebpf_reloc::{CodeCopy, EbpfRelocationError, LinkMap, Reference, RelocationError};
+pub use ebpf_reloc::{
+    CodeCopy, EbpfRelocationError, LinkMap, NumberedFunctions, Reference, RelocationError,
+};

@@ -23,15 +23,22 @@ fn at_address(address: u64) -> ExternDesc {
     }
 }
 
-/// What is known of an extern, as `weak`, `typed` (and weak), or its address.
+/// An extern of which nothing is known.
+fn unknown(is_typed: bool, is_weak: bool) -> ExternDesc {
+    ExternDesc {
+        is_typed,
+        is_weak,
+        ..STRONG
+    }
+}
+
+/// What is known of an extern, as `weak`, `typed` (and weak), `strong_typed`, or its address.
 fn known_by(said: &str) -> Option<ExternDesc> {
-    let is_typed = said == "typed";
-    if is_typed || said == "weak" {
-        return Some(ExternDesc {
-            is_typed,
-            is_weak: true,
-            ..STRONG
-        });
+    if said == "weak" || said == "typed" {
+        return Some(unknown(said == "typed", true));
+    }
+    if said == "strong_typed" {
+        return Some(unknown(true, false));
     }
     Some(at_address(said.parse::<u64>().ok()?))
 }

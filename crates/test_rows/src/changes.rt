@@ -1,6 +1,7 @@
 //! Files that are cut, and files with another byte.
 
 use crate::objects::on_object;
+use crate::prepared::joined_in_one_call;
 use std::alloc::{AllocError, Global};
 use test_cases::{Action, Files, changed, front, no_action, tally_each};
 
@@ -39,5 +40,30 @@ pub fn bytes(alloc: Global, files: &Files, action: &Action<'_>) -> Result<String
     };
     tally_each(alloc, action.range(), |place| {
         changed_outcome(alloc, files, place, value)
+    })
+}
+
+/// What preparing the bytes gives with another one at a place.
+fn changed_preparation(
+    alloc: Global,
+    files: &Files,
+    place: usize,
+    value: u8,
+) -> Result<String, AllocError> {
+    let bytes = changed(alloc, files.get("object"), place, value)?;
+    joined_in_one_call(alloc, &bytes)
+}
+
+/// The same of preparing them, with the programs joined.
+pub fn prepared_bytes(
+    alloc: Global,
+    files: &Files,
+    action: &Action<'_>,
+) -> Result<String, AllocError> {
+    let Ok(value) = action.word(2).parse::<u8>() else {
+        return no_action(alloc);
+    };
+    tally_each(alloc, action.range(), |place| {
+        changed_preparation(alloc, files, place, value)
     })
 }

@@ -1,6 +1,7 @@
 //! Maps, line by line.
 
 use crate::lines::{Line, put_numbers};
+use ebpf_base::ByName;
 use ebpf_parts::maps::{Map, PinningType, bpf_map_info, parse_map_info};
 use std::alloc::{AllocError, Global};
 use test_cases::{Action, no_action};
@@ -56,6 +57,29 @@ fn described_with_id(alloc: Global, map: &Map) -> Result<String, AllocError> {
         put_numbers(&mut text, &[("id", u64::from(legacy.def.id))])?;
     }
     Ok(text)
+}
+
+/// A line for the id of a legacy map.
+fn put_map_id(text: &mut String, name: &str, map: &Map) -> Result<(), AllocError> {
+    if let Map::Legacy(legacy) = map {
+        let id = legacy.def.id;
+        writeln!(text, "map {name} id {id}")?;
+    }
+    Ok(())
+}
+
+/// A line for the id of each legacy map, in byte order of their names.
+pub fn put_map_ids(
+    alloc: Global,
+    text: &mut String,
+    maps: &ByName<Map>,
+) -> Result<(), AllocError> {
+    for name in maps.names(alloc)? {
+        if let Some(map) = maps.get(name) {
+            put_map_id(text, name, map)?;
+        }
+    }
+    Ok(())
 }
 
 /// A Bloom filter, as a kernel describes it.

@@ -2,7 +2,7 @@
 
 use ebpf_parts::ProgramSection;
 use ebpf_parts::maps::{PinningType, bpf_map_type};
-use ebpf_parts::programs::{ProgramKind, bpf_prog_type, program_kind};
+use ebpf_parts::programs::{CgroupSockAttachType, ProgramKind, bpf_prog_type, program_kind};
 use std::alloc::{AllocError, Global};
 use test_cases::{Action, no_action, shown};
 
@@ -49,4 +49,9 @@ pub fn of_number(alloc: Global, action: &Action<'_>) -> Result<String, AllocErro
         "pinning" => shown(alloc, PinningType::try_from(number)),
         _ => no_action(alloc),
     }
+}
+
+/// What a program of a control group's sockets is attached to where nothing is said.
+pub fn default_attach_type(alloc: Global) -> Result<String, AllocError> {
+    shown(alloc, CgroupSockAttachType::default())
 }

@@ -1,8 +1,8 @@
 //! The actions, by name.
 
-use crate::changes::{bytes, prefixes};
+use crate::changes::{bytes, prefixes, prepared_bytes};
 use crate::maps::{map_copy, map_info};
-use crate::names::{kind, loaded, of_number};
+use crate::names::{default_attach_type, kind, loaded, of_number};
 use crate::objects::on_object;
 use crate::prepared::prepared;
 use crate::printed::printed;
@@ -28,6 +28,8 @@ impl Outcomes for ObjectOutcomes {
             "map_copy" => map_copy(alloc),
             "prefixes" => prefixes(alloc, files, action),
             "bytes" => bytes(alloc, files, action),
+            "prepared_bytes" => prepared_bytes(alloc, files, action),
+            "default_attach_type" => default_attach_type(alloc),
             "prepared" => prepared(alloc, files, action),
             "link" | "inspect" => printed(alloc, files, action),
             _ => on_object(alloc, files, files.get("object"), action),

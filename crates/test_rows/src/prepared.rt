@@ -5,7 +5,7 @@ use ebpf_btf::{Btf, BtfError, Endianness};
 use ebpf_object::Object;
 use ebpf_object::prepare::{Steps, prepare};
 use std::alloc::{AllocError, Global};
-use test_cases::{Action, Files, shown_line};
+use test_cases::{Action, Files, shown, shown_line};
 
 /// The name of a map and its descriptor, as `NAME=DESCRIPTOR`.
 fn descriptor(word: &str) -> Option<(&str, i32)> {
@@ -69,6 +69,21 @@ fn prepared_with(
     match prepare(alloc, files.get("object"), &steps, files.get("kallsyms")) {
         Ok(object) => programs(alloc, &object),
         Err(error) => shown_line(alloc, error),
+    }
+}
+
+/// Whether the programs of a file can be joined with the functions that they reach, or the error.
+pub fn joined_in_one_call(alloc: Global, bytes: &[u8]) -> Result<String, AllocError> {
+    let steps = Steps {
+        target_btf: None,
+        map_fds: None,
+        externs: None,
+        calls: true,
+    };
+    let none: &[u8] = &[];
+    match prepare(alloc, bytes, &steps, none) {
+        Ok(_) => String::from_str(alloc, "prepared"),
+        Err(error) => shown(alloc, error),
     }
 }
 

@@ -3,6 +3,7 @@
 use crate::declared::{put_declared_maps, put_types};
 use crate::joined::put_slots;
 use crate::lines::{Line, put_lines, put_numbers};
+use crate::maps::put_map_ids;
 use crate::records::{put_records, put_type_relocations};
 use ebpf_base::{ByIndex, ByKey, ByOffset, BySection};
 use ebpf_elf::SectionIndex;
@@ -116,6 +117,7 @@ pub fn put_table(
         "sections" => put_lines(alloc, text, &object.section_infos),
         "terms" => put_terms(text, object),
         "maps" => put_lines(alloc, text, &object.maps),
+        "map_ids" => put_map_ids(alloc, text, &object.maps),
         "declared_maps" => put_declared_maps(alloc, text, &object.maps),
         "externs" => put_lines(alloc, text, &object.externs),
         "records" => put_records(text, &object.functions),
