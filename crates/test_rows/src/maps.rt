@@ -69,11 +69,7 @@ fn put_map_id(text: &mut String, name: &str, map: &Map) -> Result<(), AllocError
 }
 
 /// A line for the id of each legacy map, in byte order of their names.
-pub fn put_map_ids(
-    alloc: Global,
-    text: &mut String,
-    maps: &ByName<Map>,
-) -> Result<(), AllocError> {
+pub fn put_map_ids(alloc: Global, text: &mut String, maps: &ByName<Map>) -> Result<(), AllocError> {
     for name in maps.names(alloc)? {
         if let Some(map) = maps.get(name) {
             put_map_id(text, name, map)?;
