@@ -55,11 +55,14 @@ fn print_for_kernel(
 }
 
 /// Prepares the object in place without a kernel's types and without descriptors, which is refused.
-fn print_refused(rt: &HostRuntime, object: &mut Object, symbols: &[u8]) -> io::Result<()> {
-    if let Err(error) = passes::by_symbols(rt.alloc(), object, &[], symbols) {
-        refusals::print_refusal(rt, &error)?;
+fn print_refused(rt: &HostRuntime, mut object: Object, symbols: &[u8]) -> io::Result<()> {
+    match passes::by_symbols(rt.alloc(), &mut object, &[], symbols) {
+        Ok(()) => slots::print_programs(rt, &object),
+        Err(error) => {
+            refusals::print_refusal(rt, &error)?;
+            slots::print_programs(rt, &object)
+        }
     }
-    slots::print_programs(rt, object)
 }
 
 /// Reads the kernel's types, and prepares the object for it.
@@ -79,13 +82,13 @@ fn print_file(rt: &HostRuntime, file: &[u8], object: &Object) -> io::Result<()> 
 
 /// Goes through the steps.
 fn go_through(rt: &HostRuntime, file: &[u8], types: &[u8], symbols: &[u8]) -> io::Result<()> {
-    let mut object = match Object::parse(rt.alloc(), file) {
+    let object = match Object::parse(rt.alloc(), file) {
         Ok(object) => object,
         Err(error) => return println!(rt; "refused: {error}"),
     };
     print_file(rt, file, &object)?;
     print_kernel(rt, &object, types, symbols)?;
-    print_refused(rt, &mut object, symbols)
+    print_refused(rt, object, symbols)
 }
 
 fn main(rt: HostRuntime) -> io::Result<()> {
