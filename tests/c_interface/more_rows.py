@@ -24,7 +24,7 @@ def kinds():
             if word != "kind" or name in OTHERS:
                 continue
             files = File().code(name, EXIT).symbol("p", FUNCTION, 3, 0, 8).bytes(), b"", b""
-            if text.startswith("invalid program section"):
+            if text.startswith("the "):
                 wanted = [f"open 144 {name}"]
             else:
                 wanted = ["open 0", f"program p {numbers_of(text)} section 3 address 0"]

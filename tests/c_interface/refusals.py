@@ -46,7 +46,7 @@ def word(text):
 
 def named(text):
     """The first text that an error has."""
-    found = re.search(r'Text \{ text: "([^"]*)" \}', text)
+    found = re.search(r'"([^"]*)"', text)
     return found[1] if found else ""
 
 
