@@ -32,7 +32,7 @@ def member(name_at, bits):
 
 def cases():
     load, adapted, end = "61 12 00 00 00 00 00 00", "61 12 08 00 00 00 00 00", "95 00 00 00 00 00 00 00"
-    members = f"Items {{ items: [{member(7, 0)}, {member(9, 32)}] }}"
+    members = f"[{member(7, 0)}, {member(9, 32)}]"
     return [
         Case(
             "a big endian object",
