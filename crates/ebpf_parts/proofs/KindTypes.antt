@@ -137,7 +137,7 @@ no_pieces : (rest : List ℕ) (second : Option (List ℕ)) → pieces (63 ∷ re
 unfolding probe_sections trace_sections packet_sections kernel_sections pair_sections
 no_pieces rest second = refl
 
-marked_says_none : (name : List ℕ) → is_marked name ≡ true → program_section name ≡ None
+pub marked_says_none : (name : List ℕ) → is_marked name ≡ true → program_section name ≡ None
 marked_says_none [] mark = absurd (cc)
 marked_says_none (b ∷ name) mark =
     let is : b ≡ 63 = eqb-true b 63 mark in

@@ -5,3 +5,4 @@ pub mod SlotWords
 pub mod KindRows
 pub mod KindTypes
 pub mod TypeNumbers
+pub mod NamesRead

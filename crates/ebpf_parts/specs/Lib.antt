@@ -7,6 +7,7 @@ pub mod Pinning
 pub mod ProgramKinds
 pub mod ProgramSections
 pub mod ProgramTypes
+pub mod Readings
 pub mod SectionKinds
 pub mod Sections
 pub mod Slots

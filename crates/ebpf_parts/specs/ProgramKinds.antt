@@ -9,7 +9,7 @@ use Rattle.ebpf_parts.specs.declared.programs.named_kinds.TheConstants.{NAMED_KI
 use Rattle.ebpf_parts.specs.declared.programs.program_type.bpf_prog_type.{bpf_prog_type}
 use Rattle.ebpf_parts.specs.declared.programs.program_type.bpf_prog_type.TheVariants as types
 use Rattle.ebpf_parts.specs.declared.program_section.ProgramSection.{ProgramSection}
-use Rattle.ebpf_parts.specs.declared.program_section.ProgramSection.TheVariants.{KRetProbe, KProbe, UProbe, URetProbe, TracePoint, SocketFilter, Xdp, SkMsg, SkSkbStream, SockOps, SchedClassifier, CgroupSkb, CgroupSockAddr, CgroupSysctl, CgroupSockopt, LircMode2, PerfEvent, RawTracePoint, Lsm, LsmCgroup, BtfTracePoint, FEntry, FExit, FlowDissector, Extension, SkLookup, SkReuseport, CgroupSock, CgroupDevice, Iter}
+use Rattle.ebpf_parts.specs.declared.program_section.ProgramSection.TheVariants.{KRetProbe, KProbe, UProbe, URetProbe, TracePoint, SocketFilter, Xdp, SkMsg, SkSkbStream, SockOps, SchedClassifier, CgroupSkb, CgroupSockAddr, CgroupSysctl, CgroupSockopt, LircMode2, PerfEvent, RawTracePoint, Lsm, LsmCgroup, BtfTracePoint, FEntry, FExit, FlowDissector, Extension, SkLookup, SkReuseport, CgroupSock, CgroupDevice, Iter, Other}
 use Rattle.ebpf_parts.specs.ProgramSections.{program_section}
 
 -- what stands before a place, where there is one
@@ -87,6 +87,7 @@ section_type (SkReuseport _) = Some types.BPF_PROG_TYPE_SK_REUSEPORT
 section_type (CgroupSock _) = Some types.BPF_PROG_TYPE_CGROUP_SOCK
 section_type CgroupDevice = Some types.BPF_PROG_TYPE_CGROUP_DEVICE
 section_type (Iter _) = Some types.BPF_PROG_TYPE_TRACING
+section_type Other = None
 
 -- a name that is in both tables has one type
 abbrev pub TypesAgree : Type 0

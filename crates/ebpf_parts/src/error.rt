@@ -87,6 +87,8 @@ pub enum ParseError {
     NoBTF,
     #[error("out of memory")]
     OutOfMemory,
+    #[error("the file is big-endian and has code")]
+    BigEndianCode,
 }
 
 impl From<AllocError> for ParseError {

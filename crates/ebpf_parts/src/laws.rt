@@ -1,6 +1,7 @@
 //! What holds of slots, and of the names of program sections.
 
 ghost use Rattle.ebpf_parts.specs.ProgramKinds.{TypesAgree};
+ghost use Rattle.ebpf_parts.specs.Readings.{NoNameSaysOther, BroadKeepsKinds, BroadTakesNames};
 ghost use Rattle.ebpf_parts.specs.SlotBytes.{SlotIsBytes, SlotsAreBytes};
 
 /// The bytes of a slot are the eight that it was read of, and the bytes of all slots, joined, are those that they were
@@ -13,4 +14,12 @@ pub fn slots_are_bytes()
 /// Where `ProgramSection::from_str` has a kind for a name and `program_kind` one too, both load its programs as one type.
 pub fn kinds_of_names_agree()
     ensures { TypesAgree }
+{}
+
+/// No name of the table says `Other`: `ProgramSection::from_str` never gives it. What a name says there it says in the
+/// broad reading too, which refuses no name.
+pub fn names_are_read()
+    ensures stated { NoNameSaysOther }
+    ensures kept { BroadKeepsKinds }
+    ensures taken { BroadTakesNames }
 {}

@@ -8,6 +8,7 @@ pub mod laws;
 pub mod maps;
 mod program_section;
 pub mod programs;
+mod reading;
 mod section;
 mod section_kind;
 mod section_name;
@@ -15,6 +16,7 @@ mod wording;
 
 pub use error::ParseError;
 pub use program_section::ProgramSection;
+pub use reading::Reading;
 pub use section::{Relocation, Section};
 pub use section_kind::EbpfSectionKind;
 pub use wording::{SymbolWords, Within};

@@ -3,13 +3,16 @@
 ghost use Rattle.std.specs.Prelude.{◌≡◌, IfOk, Some};
 ghost use Rattle.ebpf_base.specs.Faults.{Refuses};
 ghost use Rattle.ebpf_parts.specs.Memory.{is_memory};
+ghost use Rattle.ebpf_parts.specs.ProgramKinds.{unmarked};
 ghost use Rattle.ebpf_parts.specs.ProgramSections.{program_section, program_section_fault};
+ghost use Rattle.ebpf_parts.specs.Readings.{section_as, section_fault_as};
 
 use crate::error::ParseError;
 use crate::programs::{
     CgroupSkbAttachType, CgroupSockAddrAttachType, CgroupSockAttachType, CgroupSockoptAttachType,
     SkReuseportAttachType, SkSkbKind, XdpAttachType,
 };
+use crate::reading::Reading;
 use crate::section_name::program_section;
 use ebpf_base::Text;
 use std::alloc::Global;
@@ -76,6 +79,18 @@ pub enum ProgramSection {
     Iter {
         sleepable: bool,
     },
+    /// A name that is in no row of the table: only in the broad reading.
+    Other,
+}
+
+/// The name without the mark before it, `?`.
+fn unmarked(name: &str) -> &str
+    ensures { result.now ≡ unmarked name.now }
+{
+    match name.strip_prefix('?') {
+        Some(rest) => rest,
+        None => name,
+    }
 }
 
 impl ProgramSection {
@@ -94,6 +109,25 @@ impl ProgramSection {
             None => Err(ParseError::InvalidProgramSection {
                 section: Text::from_str(alloc, name)?,
             }),
+        }
+    }
+
+    /// The kind that the name of a program's section says, by how its object is read: `Stated` as `from_str`. `Broad`
+    /// has the same kinds, those of names with a `?` before them too, and for every other name `Other`.
+    ///
+    /// # Errors
+    ///
+    /// `InvalidProgramSection` where the name says no kind, and the reading is `Stated`.
+    #[tactic(auto, unfolding(crate::specs::Readings::section_as))]
+    pub fn read(alloc: Global, name: &str, reading: Reading) -> Result<ProgramSection, ParseError>
+        ensures section { IfOk result (λ section. section_as reading name.now ≡ Some section) }
+        ensures fault { Refuses is_memory result (section_fault_as reading name.now) }
+    {
+        match reading {
+            Reading::Stated => ProgramSection::from_str(alloc, name),
+            Reading::Broad => {
+                Ok(program_section(unmarked(name)).unwrap_or(ProgramSection::Other))
+            }
         }
     }
 }
