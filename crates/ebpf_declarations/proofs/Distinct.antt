@@ -26,6 +26,7 @@ use Rattle.ebpf_declarations.proofs.NamedSections.{equal, flat_map-append, or_no
 use Rattle.ebpf_parts.specs.declared.error.ParseError.{ParseError}
 use Rattle.ebpf_parts.specs.declared.error.ParseError.TheVariants as errors
 use Rattle.ebpf_parts.specs.declared.maps.either.Map.{Map}
+use Rattle.ebpf_parts.specs.declared.reading.Reading.{Reading}
 
 -- ---- choices
 
@@ -220,10 +221,10 @@ pub all_added : {A : Type 0} (more : A → (List ℕ → Option ℕ) → ℕ →
 all_added more wrong a b items i past = subst (AddsAll a b more wrong) (take_all i items past)
 
 -- an entry that is declared
-pub entry_added : (info : TypeInfo) (entry : DataSecEntry) (kept after : DistinctMaps) (name : List ℕ) (d : MapDefinitions) → AreNamed kept → declared info entry ≡ Ok (name, d) → IsWith kept name d after
-    → Adds kept after (λ symbols section. given (map_of info symbols section entry)) (λ symbols section. fault_of (map_of info symbols section entry))
+pub entry_added : (reading : Reading) (info : TypeInfo) (entry : DataSecEntry) (kept after : DistinctMaps) (name : List ℕ) (d : MapDefinitions) → AreNamed kept → declared reading info entry ≡ Ok (name, d) → IsWith kept name d after
+    → Adds kept after (λ symbols section. given (map_of reading info symbols section entry)) (λ symbols section. fault_of (map_of reading info symbols section entry))
 unfolding map_of
-entry_added info entry kept after name d named is more =
+entry_added reading info entry kept after name d named is more =
     subst (λ r. Adds kept after (λ symbols section. given (placed symbols section r)) (λ symbols section. fault_of (placed symbols section r))) (sym is) (one_added kept name d named after more)
 
 -- what was added is there under other offsets too
@@ -240,51 +241,51 @@ same_added a b c more wrong adds same = record {
         ∙ ap (λ l. flat_map (last_map symbols section (λ q. if_some (get c.numbers q) (λ n. slice_get l n) None)) b.names) same.last
         ∙ ap (λ x. flat_map (last_map symbols section (λ q. if_some (get x q) (λ n. slice_get b.last n) None)) b.names) same.numbers
 
-pub entries_more : (info : TypeInfo) (a b c : DistinctMaps) (entries : List DataSecEntry) (i : ℕ) (x entry : DataSecEntry)
+pub entries_more : (reading : Reading) (info : TypeInfo) (a b c : DistinctMaps) (entries : List DataSecEntry) (i : ℕ) (x entry : DataSecEntry)
     → i < length entries
-    → Adds a b (λ symbols section. entries_maps info symbols section (take i entries)) (λ symbols section. entries_fault info symbols section (take i entries))
+    → Adds a b (λ symbols section. entries_maps reading info symbols section (take i entries)) (λ symbols section. entries_fault reading info symbols section (take i entries))
     → entry ≡ slice_index_or entries i x
-    → Adds b c (λ symbols section. given (map_of info symbols section entry)) (λ symbols section. fault_of (map_of info symbols section entry))
-    → Adds a c (λ symbols section. entries_maps info symbols section (take (i + 1) entries)) (λ symbols section. entries_fault info symbols section (take (i + 1) entries))
-entries_more info a b c entries i x entry below before is one =
-    more_added (λ entry symbols section. given (map_of info symbols section entry)) (λ entry symbols section. fault_of (map_of info symbols section entry)) a b c entries i x below before
-    (subst (λ (e : DataSecEntry). Adds b c (λ symbols section. given (map_of info symbols section e)) (λ symbols section. fault_of (map_of info symbols section e))) is one)
+    → Adds b c (λ symbols section. given (map_of reading info symbols section entry)) (λ symbols section. fault_of (map_of reading info symbols section entry))
+    → Adds a c (λ symbols section. entries_maps reading info symbols section (take (i + 1) entries)) (λ symbols section. entries_fault reading info symbols section (take (i + 1) entries))
+entries_more reading info a b c entries i x entry below before is one =
+    more_added (λ entry symbols section. given (map_of reading info symbols section entry)) (λ entry symbols section. fault_of (map_of reading info symbols section entry)) a b c entries i x below before
+    (subst (λ (e : DataSecEntry). Adds b c (λ symbols section. given (map_of reading info symbols section e)) (λ symbols section. fault_of (map_of reading info symbols section e))) is one)
 
-pub sections_more : (info : TypeInfo) (a b c : DistinctMaps) (ids : List ℕ) (i id : ℕ) (entries : List DataSecEntry)
+pub sections_more : (reading : Reading) (info : TypeInfo) (a b c : DistinctMaps) (ids : List ℕ) (i id : ℕ) (entries : List DataSecEntry)
     → i < length ids
-    → Adds a b (λ symbols section. ids_maps info symbols section (take i ids)) (λ symbols section. ids_fault info symbols section (take i ids))
+    → Adds a b (λ symbols section. ids_maps reading info symbols section (take i ids)) (λ symbols section. ids_fault reading info symbols section (take i ids))
     → entries ≡ entries_at info.types (slice_index_or ids i id)
-    → Adds b c (λ symbols section. entries_maps info symbols section entries) (λ symbols section. entries_fault info symbols section entries)
-    → Adds a c (λ symbols section. ids_maps info symbols section (take (i + 1) ids)) (λ symbols section. ids_fault info symbols section (take (i + 1) ids))
-sections_more info a b c ids i id entries below before are more =
-    more_added (λ id symbols section. entries_maps info symbols section (entries_at info.types id)) (λ id symbols section. entries_fault info symbols section (entries_at info.types id)) a b c ids i id below before
-    (subst (λ l. Adds b c (λ symbols section. entries_maps info symbols section l) (λ symbols section. entries_fault info symbols section l)) are more)
+    → Adds b c (λ symbols section. entries_maps reading info symbols section entries) (λ symbols section. entries_fault reading info symbols section entries)
+    → Adds a c (λ symbols section. ids_maps reading info symbols section (take (i + 1) ids)) (λ symbols section. ids_fault reading info symbols section (take (i + 1) ids))
+sections_more reading info a b c ids i id entries below before are more =
+    more_added (λ id symbols section. entries_maps reading info symbols section (entries_at info.types id)) (λ id symbols section. entries_fault reading info symbols section (entries_at info.types id)) a b c ids i id below before
+    (subst (λ l. Adds b c (λ symbols section. entries_maps reading info symbols section l) (λ symbols section. entries_fault reading info symbols section l)) are more)
 
 -- ---- by the names of sections
 
-pub none_kept : (info : TypeInfo) (kept : FinMap text_cmp DistinctMaps) → kept ≡ empty → AreKept info kept
-none_kept info kept is = record {
+pub none_kept : (reading : Reading) (info : TypeInfo) (kept : FinMap text_cmp DistinctMaps) → kept ≡ empty → AreKept reading info kept
+none_kept reading info kept is = record {
   maps = λ name k at symbols section m q. let wrong : None ≡ Some k = sym (get-empty text_cmp name) ∙ ap (λ x. get x name) (sym is) ∙ at in absurd (cc);
   fault = λ name k at symbols section. let wrong : None ≡ Some k = sym (get-empty text_cmp name) ∙ ap (λ x. get x name) (sym is) ∙ at in absurd (cc);
 }
 
-module _ (info : TypeInfo) (sections : NamedSections) (found : AreFound info sections) (readable : sections.unreadable ≡ None) (name ids : List ℕ) (there : get sections.by_name name ≡ Some ids)
-    (none k : DistinctMaps) (nameless : none.names ≡ []) (adds : Adds none k (λ symbols section. ids_maps info symbols section ids) (λ symbols section. ids_fault info symbols section ids)) where
-  all_maps : (symbols : List ℕ → Option ℕ) (section : ℕ) (m : FinMap text_cmp Map) → put_all m (distinct_maps symbols section k) ≡ put_all m (btf_maps info symbols section name)
+module _ (reading : Reading) (info : TypeInfo) (sections : NamedSections) (found : AreFound info sections) (readable : sections.unreadable ≡ None) (name ids : List ℕ) (there : get sections.by_name name ≡ Some ids)
+    (none k : DistinctMaps) (nameless : none.names ≡ []) (adds : Adds none k (λ symbols section. ids_maps reading info symbols section ids) (λ symbols section. ids_fault reading info symbols section ids)) where
+  all_maps : (symbols : List ℕ → Option ℕ) (section : ℕ) (m : FinMap text_cmp Map) → put_all m (distinct_maps symbols section k) ≡ put_all m (btf_maps reading info symbols section name)
   all_maps symbols section m =
       adds.maps symbols section m
-      ∙ ap (λ l. put_all (put_all m (flat_map (last_map symbols section (last_of none)) l)) (ids_maps info symbols section ids)) nameless
-      ∙ ap (put_all m) (found.maps name ids there readable symbols section)
+      ∙ ap (λ l. put_all (put_all m (flat_map (last_map symbols section (last_of none)) l)) (ids_maps reading info symbols section ids)) nameless
+      ∙ ap (put_all m) (found.maps reading name ids there readable symbols section)
 
-  all_fault : (symbols : List ℕ → Option ℕ) (section : ℕ) → distinct_fault symbols k ≡ btf_maps_fault info symbols section name
+  all_fault : (symbols : List ℕ → Option ℕ) (section : ℕ) → distinct_fault symbols k ≡ btf_maps_fault reading info symbols section name
   all_fault symbols section =
       adds.fault symbols section
-      ∙ ap (λ l. or_else (first_some (missing symbols) l) (ids_fault info symbols section ids)) nameless
-      ∙ sym (or_none (ids_fault info symbols section ids))
-      ∙ ap (λ u. or_else (ids_fault info symbols section ids) (unreadable_fault u)) (sym readable)
-      ∙ found.fault name ids there symbols section
+      ∙ ap (λ l. or_else (first_some (missing symbols) l) (ids_fault reading info symbols section ids)) nameless
+      ∙ sym (or_none (ids_fault reading info symbols section ids))
+      ∙ ap (λ u. or_else (ids_fault reading info symbols section ids) (unreadable_fault u)) (sym readable)
+      ∙ found.fault reading name ids there symbols section
 
-  pub one_kept : (kept after : FinMap text_cmp DistinctMaps) → AreKept info kept → after ≡ insert kept name k → AreKept info after
+  pub one_kept : (kept after : FinMap text_cmp DistinctMaps) → AreKept reading info kept → after ≡ insert kept name k → AreKept reading info after
   one_kept kept after before put = record {
     maps = λ q e at symbols section m r. maps_step q e symbols section m r (eq_by_cmp text_cmp q name) refl (looked q ∙ at);
     fault = λ q e at symbols section. fault_step q e symbols section (eq_by_cmp text_cmp q name) refl (looked q ∙ at);
@@ -294,21 +295,21 @@ module _ (info : TypeInfo) (sections : NamedSections) (found : AreFound info sec
       looked q = sym (ap (λ x. get x q) put ∙ get-insert text_total kept name k q)
 
       maps_step : (q : List ℕ) (e : DistinctMaps) (symbols : List ℕ → Option ℕ) (section : ℕ) (m : FinMap text_cmp Map) (r : List ℕ) (b : Bool) → eq_by_cmp text_cmp q name ≡ b → cond (eq_by_cmp text_cmp q name) (Some k) (get kept q) ≡ Some e
-          → get (put_all m (distinct_maps symbols section e)) r ≡ get (put_all m (btf_maps info symbols section q)) r
+          → get (put_all m (distinct_maps symbols section e)) r ≡ get (put_all m (btf_maps reading info symbols section q)) r
       maps_step q e symbols section m r true here at =
           let value : Some k ≡ Some e = sym (ap (λ b. cond b (Some k) (get kept q)) here) ∙ at in
           let same : k ≡ e = cc in
-          ap (λ (x : DistinctMaps). get (put_all m (distinct_maps symbols section x)) r) (sym same) ∙ ap (λ x. get x r) (all_maps symbols section m) ∙ ap (λ n. get (put_all m (btf_maps info symbols section n)) r) (sym (at_name q name here))
+          ap (λ (x : DistinctMaps). get (put_all m (distinct_maps symbols section x)) r) (sym same) ∙ ap (λ x. get x r) (all_maps symbols section m) ∙ ap (λ n. get (put_all m (btf_maps reading info symbols section n)) r) (sym (at_name q name here))
       maps_step q e symbols section m r false here at = before.maps q e (sym (ap (λ b. cond b (Some k) (get kept q)) here) ∙ at) symbols section m r
 
       fault_step : (q : List ℕ) (e : DistinctMaps) (symbols : List ℕ → Option ℕ) (section : ℕ) (b : Bool) → eq_by_cmp text_cmp q name ≡ b → cond (eq_by_cmp text_cmp q name) (Some k) (get kept q) ≡ Some e
-          → distinct_fault symbols e ≡ btf_maps_fault info symbols section q
+          → distinct_fault symbols e ≡ btf_maps_fault reading info symbols section q
       fault_step q e symbols section true here at =
           let value : Some k ≡ Some e = sym (ap (λ b. cond b (Some k) (get kept q)) here) ∙ at in
           let same : k ≡ e = cc in
-          ap (λ (x : DistinctMaps). distinct_fault symbols x) (sym same) ∙ all_fault symbols section ∙ ap (btf_maps_fault info symbols section) (sym (at_name q name here))
+          ap (λ (x : DistinctMaps). distinct_fault symbols x) (sym same) ∙ all_fault symbols section ∙ ap (btf_maps_fault reading info symbols section) (sym (at_name q name here))
       fault_step q e symbols section false here at = before.fault q e (sym (ap (λ b. cond b (Some k) (get kept q)) here) ∙ at) symbols section
 
-pub kept_maps : (info : TypeInfo) (kept : FinMap text_cmp DistinctMaps) (name : List ℕ) (k : DistinctMaps) → AreKept info kept → get kept name ≡ Some k → (symbols : List ℕ → Option ℕ) (section : ℕ) (m : FinMap text_cmp Map)
-    → put_all m (distinct_maps symbols section k) ≡ put_all m (btf_maps info symbols section name)
-kept_maps info kept name k are at symbols section m = same_map text_total text_exact _ _ (are.maps name k at symbols section m)
+pub kept_maps : (reading : Reading) (info : TypeInfo) (kept : FinMap text_cmp DistinctMaps) (name : List ℕ) (k : DistinctMaps) → AreKept reading info kept → get kept name ≡ Some k → (symbols : List ℕ → Option ℕ) (section : ℕ) (m : FinMap text_cmp Map)
+    → put_all m (distinct_maps symbols section k) ≡ put_all m (btf_maps reading info symbols section name)
+kept_maps reading info kept name k are at symbols section m = same_map text_total text_exact _ _ (are.maps name k at symbols section m)

@@ -15,7 +15,7 @@ use Rattle.ebpf_btf.specs.declared.members.BtfMember.{BtfMember}
 use Rattle.ebpf_declarations.specs.Attempts.{all_given}
 use Rattle.ebpf_declarations.specs.KnownStructs.{Remembers}
 use Rattle.ebpf_declarations.specs.MapMembers.{unexpected, members_at, pointed_struct, held_struct, member_at}
-use Rattle.ebpf_declarations.specs.Maps.{with_members, inner_saying_of, inner_saying, inner_definition, inner_says, saying_of, saying, definitions, struct_says}
+use Rattle.ebpf_declarations.specs.Maps.{with_members, inner_saying_of, inner_saying, inner_definition, inner_says, are_programs, saying_of, saying, definitions, struct_says}
 use Rattle.ebpf_declarations.specs.Sayings.{no_definitions, with_all}
 use Rattle.ebpf_declarations.specs.declared.definitions.MapDefinitions.{MapDefinitions}
 use Rattle.ebpf_declarations.specs.declared.map_member.MapMember.{MapMember}
@@ -23,10 +23,11 @@ use Rattle.ebpf_declarations.specs.declared.map_member.MapMember.TheVariants.{Nu
 use Rattle.ebpf_declarations.specs.declared.saying.Saying.{Saying}
 use Rattle.ebpf_declarations.specs.declared.saying.Saying.TheVariants as said
 use Rattle.ebpf_parts.specs.declared.maps.definition.BtfMapDef.{BtfMapDef}
+use Rattle.ebpf_parts.specs.declared.reading.Reading.{Reading}
 
 module _ {X Y : Type 0} where
   -- an answer that goes on from an answer, where each step still gives what it gave
-  via : (r s : Result X BtfError) (f g : X → Result Y BtfError) (y : Y) → ((x : X) → r ≡ Ok x → s ≡ Ok x) → ((x : X) → f x ≡ Ok y → g x ≡ Ok y) → if_ok r f ≡ Ok y → if_ok s g ≡ Ok y
+  pub via : (r s : Result X BtfError) (f g : X → Result Y BtfError) (y : Y) → ((x : X) → r ≡ Ok x → s ≡ Ok x) → ((x : X) → f x ≡ Ok y → g x ≡ Ok y) → if_ok r f ≡ Ok y → if_ok s g ≡ Ok y
   via (Ok x) s f g y first next h = ap (λ t. if_ok t g) (first x refl) ∙ next x h
   via (Err e) s f g y first next h = cc
 
@@ -46,11 +47,11 @@ all_same says other same (m ∷ ms) all h =
     via (says m) (other m) (λ x. if_ok (all_given says ms) (λ xs. Ok (x ∷ xs))) (λ x. if_ok (all_given other ms) (λ xs. Ok (x ∷ xs))) all (same m)
     (λ x g. via (all_given says ms) (all_given other ms) (λ xs. Ok (x ∷ xs)) (λ xs. Ok (x ∷ xs)) all (all_same says other same ms) (λ xs k. k) g) h
 
-with_same : (says other : BtfMember → Result Saying BtfError) → ((m : BtfMember) (s : Saying) → says m ≡ Ok s → other m ≡ Ok s) → (d e : MapDefinitions) (ms : List BtfMember) → with_members says d ms ≡ Ok e → with_members other d ms ≡ Ok e
+pub with_same : (says other : BtfMember → Result Saying BtfError) → ((m : BtfMember) (s : Saying) → says m ≡ Ok s → other m ≡ Ok s) → (d e : MapDefinitions) (ms : List BtfMember) → with_members says d ms ≡ Ok e → with_members other d ms ≡ Ok e
 with_same says other same d e ms h = via (all_given says ms) (all_given other ms) (λ all. Ok (with_all d all)) (λ all. Ok (with_all d all)) e (all_same says other same ms) (λ all k. k) h
 
-module _ (info : TypeInfo) (n o : List ℕ) where
-  inner_of : (about : MapMember) (id : ℕ) (s : Saying) → inner_saying_of info n about id ≡ Ok s → inner_saying_of info o about id ≡ Ok s
+module _ (reading : Reading) (info : TypeInfo) (n o : List ℕ) where
+  inner_of : (about : MapMember) (id : ℕ) (s : Saying) → inner_saying_of reading info n about id ≡ Ok s → inner_saying_of reading info o about id ≡ Ok s
   unfolding inner_saying_of
   inner_of (Number of) id s h = h
   inner_of Pinning id s h = cc
@@ -59,18 +60,18 @@ module _ (info : TypeInfo) (n o : List ℕ) where
   inner_of Values id s h = cc
   inner_of Other id s h = h
 
-  inner_same : (m : BtfMember) (s : Saying) → inner_saying info n m ≡ Ok s → inner_saying info o m ≡ Ok s
+  inner_same : (m : BtfMember) (s : Saying) → inner_saying reading info n m ≡ Ok s → inner_saying reading info o m ≡ Ok s
   unfolding inner_saying
   inner_same m s h = via (member_at info.strings m) (member_at info.strings m) _ _ s (λ x k. k) (λ about k. inner_of about m.btf_type s k) h
 
-  inner_definition_same : (ms : List BtfMember) (d : BtfMapDef) → inner_definition info n ms ≡ Ok d → inner_definition info o ms ≡ Ok d
+  inner_definition_same : (ms : List BtfMember) (d : BtfMapDef) → inner_definition reading info n ms ≡ Ok d → inner_definition reading info o ms ≡ Ok d
   inner_definition_same ms d h =
-      via (with_members (inner_saying info n) no_definitions ms) (with_members (inner_saying info o) no_definitions ms) (λ e. Ok e.def) (λ e. Ok e.def) d
-      (λ e k. with_same (inner_saying info n) (inner_saying info o) inner_same no_definitions e ms k) (λ e k. k) h
+      via (with_members (inner_saying reading info n) no_definitions ms) (with_members (inner_saying reading info o) no_definitions ms) (λ e. Ok e.def) (λ e. Ok e.def) d
+      (λ e k. with_same (inner_saying reading info n) (inner_saying reading info o) inner_same no_definitions e ms k) (λ e k. k) h
 
-  pub inner_says_same : (id : ℕ) (d : BtfMapDef) → inner_says info n id ≡ Ok d → inner_says info o id ≡ Ok d
+  pub inner_says_same : (id : ℕ) (d : BtfMapDef) → inner_says reading info n id ≡ Ok d → inner_says reading info o id ≡ Ok d
   inner_says_same id d h =
-      via (members_at info.types id) (members_at info.types id) (λ ms. inner_definition info n ms) (λ ms. inner_definition info o ms) d (λ ms k. k) (λ ms k. inner_definition_same ms d k) h
+      via (members_at info.types id) (members_at info.types id) (λ ms. inner_definition reading info n ms) (λ ms. inner_definition reading info o ms) d (λ ms k. k) (λ ms k. inner_definition_same ms d k) h
 
   held_same : (id : ℕ) (s : ℕ) → held_struct info.types n id ≡ Ok s → held_struct info.types o id ≡ Ok s
   unfolding held_struct
@@ -78,25 +79,32 @@ module _ (info : TypeInfo) (n o : List ℕ) where
       via (type_at info.types id) (type_at info.types id) _ _ s (λ t k. k)
       (λ t k. where_some (array_of t) (λ array. array.len == 0) (λ array. pointed_struct info.types array.element_type) (InvalidValuesSpec n) (InvalidValuesSpec o) (unexpected t) s k) h
 
-  saying_of_same : (about : MapMember) (id : ℕ) (s : Saying) → saying_of info n about id ≡ Ok s → saying_of info o about id ≡ Ok s
+  abbrev values_by : List ℕ → ℕ → Bool → Result Saying BtfError
+  values_by name held programs = if programs then Ok said.Programs else if_ok (inner_says reading info name held) (λ inner. Ok (said.Values inner))
+
+  values_same : (held : ℕ) (programs : Bool) (s : Saying) → values_by n held programs ≡ Ok s → values_by o held programs ≡ Ok s
+  values_same held true s h = h
+  values_same held false s h = via (inner_says reading info n held) (inner_says reading info o held) (λ inner. Ok (said.Values inner)) (λ inner. Ok (said.Values inner)) s (inner_says_same held) (λ inner g. g) h
+
+  saying_of_same : (about : MapMember) (id : ℕ) (s : Saying) → saying_of reading info n about id ≡ Ok s → saying_of reading info o about id ≡ Ok s
   unfolding saying_of
   saying_of_same (Number of) id s h = h
   saying_of_same Pinning id s h = h
   saying_of_same Key id s h = h
   saying_of_same Value id s h = h
   saying_of_same Values id s h =
-      via (held_struct info.types n id) (held_struct info.types o id) (λ held. if_ok (inner_says info n held) (λ inner. Ok (said.Values inner))) (λ held. if_ok (inner_says info o held) (λ inner. Ok (said.Values inner))) s (held_same id)
-      (λ held k. via (inner_says info n held) (inner_says info o held) (λ inner. Ok (said.Values inner)) (λ inner. Ok (said.Values inner)) s (inner_says_same held) (λ inner g. g) k) h
+      via (held_struct info.types n id) (held_struct info.types o id) (λ held. values_by n held (are_programs reading info.types held)) (λ held. values_by o held (are_programs reading info.types held)) s (held_same id)
+      (λ held k. values_same held (are_programs reading info.types held) s k) h
   saying_of_same Other id s h = h
 
-  saying_same : (m : BtfMember) (s : Saying) → saying info n m ≡ Ok s → saying info o m ≡ Ok s
+  saying_same : (m : BtfMember) (s : Saying) → saying reading info n m ≡ Ok s → saying reading info o m ≡ Ok s
   unfolding saying
   saying_same m s h = via (member_at info.strings m) (member_at info.strings m) _ _ s (λ x k. k) (λ about k. saying_of_same about m.btf_type s k) h
 
-  pub says_same : (id : ℕ) (d : MapDefinitions) → struct_says info n id ≡ Ok d → struct_says info o id ≡ Ok d
+  pub says_same : (id : ℕ) (d : MapDefinitions) → struct_says reading info n id ≡ Ok d → struct_says reading info o id ≡ Ok d
   says_same id d h =
-      via (members_at info.types id) (members_at info.types id) (λ ms. definitions info n ms) (λ ms. definitions info o ms) d (λ ms k. k)
-      (λ ms k. with_same (saying info n) (saying info o) saying_same no_definitions d ms k) h
+      via (members_at info.types id) (members_at info.types id) (λ ms. definitions reading info n ms) (λ ms. definitions reading info o ms) d (λ ms k. k)
+      (λ ms k. with_same (saying reading info n) (saying reading info o) saying_same no_definitions d ms k) h
 
 pub equal_numbers : (k q : ℕ) → is_at (nat_cmp k) q ≡ true → k ≡ q
 equal_numbers k q h = grind (arith, nat_tests)

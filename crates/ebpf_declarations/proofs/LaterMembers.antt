@@ -2,15 +2,16 @@
 use Rattle.std.proofs.Common.{◌≡◌, ℕ, Bool, true, false, List, [], ◌∷◌, ◌++◌, Option, Some, None, Result, Ok, Err, refl, sym, ap, ◌∙◌}
 use Rattle.std.specs.Prelude.{is_some, if◌then◌else◌}
 use Rattle.ebpf_base.specs.Faults.{or_else, fault_of}
-use Rattle.ebpf_btf.specs.Next.{if_ok}
+use Rattle.ebpf_btf.specs.Next.{if_ok, if_some}
 use Rattle.ebpf_btf.specs.Strings.{text_at}
 use Rattle.ebpf_btf.specs.TypeInfo.{TypeInfo}
 use Rattle.ebpf_btf.specs.declared.error.BtfError.{BtfError}
 use Rattle.ebpf_btf.specs.declared.members.BtfMember.{BtfMember}
+use Rattle.ebpf_btf.specs.declared.types.BtfType.{BtfType}
 use Rattle.ebpf_declarations.specs.Attempts.{all_given}
 use Rattle.ebpf_declarations.specs.Laws.{LaterMembersStand, LaterInnerMembersStand}
-use Rattle.ebpf_declarations.specs.MapMembers.{map_member, member_at, number, sized_type, held_struct}
-use Rattle.ebpf_declarations.specs.Maps.{with_members, plain_saying, inner_saying_of, inner_saying, inner_says, saying_of, saying, pinning_of}
+use Rattle.ebpf_declarations.specs.MapMembers.{map_member, member_at, number, own_number, sized_type, held_struct}
+use Rattle.ebpf_declarations.specs.Maps.{with_members, are_programs, number_saying, plain_saying, inner_saying_of, inner_saying, inner_says, saying_of, saying, pinning_of}
 use Rattle.ebpf_declarations.specs.Sayings.{same_number, number_said, pinning_said, key_type_said, value_type_said, inner_said, last_some, with_all, no_definitions}
 use Rattle.ebpf_declarations.specs.declared.definitions.MapDefinitions.{MapDefinitions}
 use Rattle.ebpf_declarations.specs.declared.map_member.MapMember.{MapMember}
@@ -18,8 +19,11 @@ use Rattle.ebpf_declarations.specs.declared.map_member.MapMember.TheVariants as 
 use Rattle.ebpf_declarations.specs.declared.map_member.MapNumber.{MapNumber}
 use Rattle.ebpf_declarations.specs.declared.map_member.MapNumber.TheVariants.{MapType, KeySize, ValueSize, MaxEntries, MapFlags, MapExtra}
 use Rattle.ebpf_declarations.specs.declared.saying.Saying.{Saying}
-use Rattle.ebpf_declarations.specs.declared.saying.Saying.TheVariants.{Number, Pinning, Key, Value, Values, Nothing}
+use Rattle.ebpf_declarations.specs.declared.saying.Saying.TheVariants.{Number, Pinning, Key, Value, Values, Programs, Extra, Nothing}
 use Rattle.ebpf_declarations.proofs.Said.{first_said, said_first}
+use Rattle.ebpf_parts.specs.declared.maps.definition.BtfMapDef.{BtfMapDef}
+use Rattle.ebpf_parts.specs.declared.reading.Reading.{Reading}
+use Rattle.ebpf_parts.specs.declared.reading.Reading.TheVariants.{Stated, Broad}
 
 -- ---- what a member that says this is about
 
@@ -29,6 +33,8 @@ subject (Pinning how) = about.Pinning
 subject (Key id size) = about.Key
 subject (Value id size) = about.Value
 subject (Values inner) = about.Values
+subject Programs = about.Values
+subject (Extra n) = about.Number MapExtra
 subject Nothing = about.Other
 
 -- whether a member of a subject says a number, and so on
@@ -82,6 +88,8 @@ number_by w (Pinning how) = refl
 number_by w (Key id size) = chosen (same_number w KeySize) size
 number_by w (Value id size) = chosen (same_number w ValueSize) size
 number_by w (Values inner) = chosen (same_number w ValueSize) 4
+number_by w Programs = chosen (same_number w ValueSize) 4
+number_by w (Extra n) = chosen (same_number w MapExtra) n
 number_by w Nothing = refl
 
 pinning_by : (s : Saying) → is_some (pinning_said s) ≡ says_pinning (subject s)
@@ -90,6 +98,8 @@ pinning_by (Pinning how) = refl
 pinning_by (Key id size) = refl
 pinning_by (Value id size) = refl
 pinning_by (Values inner) = refl
+pinning_by Programs = refl
+pinning_by (Extra n) = refl
 pinning_by Nothing = refl
 
 key_by : (s : Saying) → is_some (key_type_said s) ≡ says_key (subject s)
@@ -98,6 +108,8 @@ key_by (Pinning how) = refl
 key_by (Key id size) = refl
 key_by (Value id size) = refl
 key_by (Values inner) = refl
+key_by Programs = refl
+key_by (Extra n) = refl
 key_by Nothing = refl
 
 value_by : (s : Saying) → is_some (value_type_said s) ≡ says_value (subject s)
@@ -106,6 +118,8 @@ value_by (Pinning how) = refl
 value_by (Key id size) = refl
 value_by (Value id size) = refl
 value_by (Values inner) = refl
+value_by Programs = refl
+value_by (Extra n) = refl
 value_by Nothing = refl
 
 inner_by : (s : Saying) → is_some (inner_said s) ≡ says_inner (subject s)
@@ -114,6 +128,8 @@ inner_by (Pinning how) = refl
 inner_by (Key id size) = refl
 inner_by (Value id size) = refl
 inner_by (Values inner) = refl
+inner_by Programs = refl
+inner_by (Extra n) = refl
 inner_by Nothing = refl
 
 -- ---- a saying before a later one on the same subject
@@ -224,25 +240,49 @@ by_inner : {A : Type 0} (r : Result A BtfError) (next : A → Result Saying BtfE
 by_inner (Ok x) next s each is = each x is
 by_inner (Err e) next s each is = absurd (cc)
 
-saying_subject : (info : TypeInfo) (name : List ℕ) (m : MapMember) (id : ℕ) (s : Saying) → saying_of info name m id ≡ Ok s → subject s ≡ m
-unfolding saying_of plain_saying
-saying_subject info name (about.Number of) id s is = by_subject (about.Number of) (number info.types id) (λ n. Number of n) s (λ n. refl) is
-saying_subject info name about.Pinning id s is = by_subject about.Pinning (number info.types id) (λ n. Pinning (pinning_of n)) s (λ n. refl) is
-saying_subject info name about.Key id s is = by_subject about.Key (sized_type info.types id) (λ t. Key t.0 t.1) s (λ t. refl) is
-saying_subject info name about.Value id s is = by_subject about.Value (sized_type info.types id) (λ t. Value t.0 t.1) s (λ t. refl) is
-saying_subject info name about.Values id s is =
-    by_inner (held_struct info.types name id) (λ held. if_ok (inner_says info name held) (λ inner. Ok (Values inner))) s
-    (λ held here. by_subject about.Values (inner_says info name held) Values s (λ inner. refl) here) is
-saying_subject info name about.Other id s is = let e : Nothing ≡ s = cc in ap subject (sym e)
+-- a number, which the member spells or is
+spelled : (types : List BtfType) (of : MapNumber) (id : ℕ) (s : Saying) → if_ok (number types id) (λ n. Ok (Number of n)) ≡ Ok s → subject s ≡ about.Number of
+spelled types of id s is = by_subject (about.Number of) (number types id) (λ n. Number of n) s (λ n. refl) is
 
-inner_subject : (info : TypeInfo) (name : List ℕ) (m : MapMember) (id : ℕ) (s : Saying) → inner_saying_of info name m id ≡ Ok s → subject s ≡ m
+extra_subject : (types : List BtfType) (id : ℕ) (own : Option ℕ) (s : Saying)
+    → if_some own (λ n. Ok (Extra n)) (if_ok (number types id) (λ n. Ok (Number MapExtra n))) ≡ Ok s → subject s ≡ about.Number MapExtra
+extra_subject types id None s is = spelled types MapExtra id s is
+extra_subject types id (Some n) s is = let e : Extra n ≡ s = cc in ap subject (sym e)
+
+number_subject : (reading : Reading) (types : List BtfType) (of : MapNumber) (id : ℕ) (s : Saying) → number_saying reading types of id ≡ Ok s → subject s ≡ about.Number of
+number_subject Stated types of id s is = spelled types of id s is
+number_subject Broad types MapExtra id s is = extra_subject types id (own_number types id) s is
+number_subject Broad types MapType id s is = spelled types MapType id s is
+number_subject Broad types KeySize id s is = spelled types KeySize id s is
+number_subject Broad types ValueSize id s is = spelled types ValueSize id s is
+number_subject Broad types MaxEntries id s is = spelled types MaxEntries id s is
+number_subject Broad types MapFlags id s is = spelled types MapFlags id s is
+
+-- values are programs or maps
+values_subject : (programs : Bool) (inner : Result BtfMapDef BtfError) (s : Saying)
+    → (if programs then Ok Programs else if_ok inner (λ inner. Ok (Values inner))) ≡ Ok s → subject s ≡ about.Values
+values_subject true inner s is = let e : Programs ≡ s = cc in ap subject (sym e)
+values_subject false inner s is = by_subject about.Values inner Values s (λ inner. refl) is
+
+saying_subject : (reading : Reading) (info : TypeInfo) (name : List ℕ) (m : MapMember) (id : ℕ) (s : Saying) → saying_of reading info name m id ≡ Ok s → subject s ≡ m
+unfolding saying_of plain_saying
+saying_subject reading info name (about.Number of) id s is = number_subject reading info.types of id s is
+saying_subject reading info name about.Pinning id s is = by_subject about.Pinning (number info.types id) (λ n. Pinning (pinning_of n)) s (λ n. refl) is
+saying_subject reading info name about.Key id s is = by_subject about.Key (sized_type info.types id) (λ t. Key t.0 t.1) s (λ t. refl) is
+saying_subject reading info name about.Value id s is = by_subject about.Value (sized_type info.types id) (λ t. Value t.0 t.1) s (λ t. refl) is
+saying_subject reading info name about.Values id s is =
+    by_inner (held_struct info.types name id) (λ held. if are_programs reading info.types held then Ok Programs else if_ok (inner_says reading info name held) (λ inner. Ok (Values inner))) s
+    (λ held here. values_subject (are_programs reading info.types held) (inner_says reading info name held) s here) is
+saying_subject reading info name about.Other id s is = let e : Nothing ≡ s = cc in ap subject (sym e)
+
+inner_subject : (reading : Reading) (info : TypeInfo) (name : List ℕ) (m : MapMember) (id : ℕ) (s : Saying) → inner_saying_of reading info name m id ≡ Ok s → subject s ≡ m
 unfolding inner_saying_of plain_saying
-inner_subject info name (about.Number of) id s is = by_subject (about.Number of) (number info.types id) (λ n. Number of n) s (λ n. refl) is
-inner_subject info name about.Pinning id s is = absurd (cc)
-inner_subject info name about.Key id s is = by_subject about.Key (sized_type info.types id) (λ t. Key t.0 t.1) s (λ t. refl) is
-inner_subject info name about.Value id s is = by_subject about.Value (sized_type info.types id) (λ t. Value t.0 t.1) s (λ t. refl) is
-inner_subject info name about.Values id s is = absurd (cc)
-inner_subject info name about.Other id s is = let e : Nothing ≡ s = cc in ap subject (sym e)
+inner_subject reading info name (about.Number of) id s is = number_subject reading info.types of id s is
+inner_subject reading info name about.Pinning id s is = absurd (cc)
+inner_subject reading info name about.Key id s is = by_subject about.Key (sized_type info.types id) (λ t. Key t.0 t.1) s (λ t. refl) is
+inner_subject reading info name about.Value id s is = by_subject about.Value (sized_type info.types id) (λ t. Value t.0 t.1) s (λ t. refl) is
+inner_subject reading info name about.Values id s is = absurd (cc)
+inner_subject reading info name about.Other id s is = let e : Nothing ≡ s = cc in ap subject (sym e)
 
 -- two answers by members that are about one thing
 one_subject : (a b : Result MapMember BtfError) (f g : MapMember → Result Saying BtfError) (s t : Saying) → a ≡ b
@@ -261,19 +301,19 @@ same_member strings a b same = ap (λ (r : Result (List ℕ) BtfError). if_ok r 
 
 pub later_members : LaterMembersStand
 unfolding saying
-later_members info name before between after earlier later same is =
-    let p : (s : Saying) × (saying info name earlier ≡ Ok s) = said_ok (saying info name earlier) is in
-    later_stands (saying info name) before between after earlier later p.0 p.1
-    (λ t said. one_subject (member_at info.strings earlier) (member_at info.strings later) (λ m. saying_of info name m earlier.btf_type) (λ m. saying_of info name m later.btf_type) p.0 t (same_member info.strings earlier later same)
-    (λ m. saying_subject info name m earlier.btf_type p.0) (λ m. saying_subject info name m later.btf_type t) p.1 said)
+later_members reading info name before between after earlier later same is =
+    let p : (s : Saying) × (saying reading info name earlier ≡ Ok s) = said_ok (saying reading info name earlier) is in
+    later_stands (saying reading info name) before between after earlier later p.0 p.1
+    (λ t said. one_subject (member_at info.strings earlier) (member_at info.strings later) (λ m. saying_of reading info name m earlier.btf_type) (λ m. saying_of reading info name m later.btf_type) p.0 t (same_member info.strings earlier later same)
+    (λ m. saying_subject reading info name m earlier.btf_type p.0) (λ m. saying_subject reading info name m later.btf_type t) p.1 said)
     no_definitions
 
 pub later_inner_members : LaterInnerMembersStand
 unfolding inner_saying
-later_inner_members info name before between after earlier later same is =
-    let p : (s : Saying) × (inner_saying info name earlier ≡ Ok s) = said_ok (inner_saying info name earlier) is in
+later_inner_members reading info name before between after earlier later same is =
+    let p : (s : Saying) × (inner_saying reading info name earlier ≡ Ok s) = said_ok (inner_saying reading info name earlier) is in
     ap (λ (r : Result MapDefinitions BtfError). if_ok r (λ d. Ok d.def))
-    (later_stands (inner_saying info name) before between after earlier later p.0 p.1
-    (λ t said. one_subject (member_at info.strings earlier) (member_at info.strings later) (λ m. inner_saying_of info name m earlier.btf_type) (λ m. inner_saying_of info name m later.btf_type) p.0 t (same_member info.strings earlier later same)
-    (λ m. inner_subject info name m earlier.btf_type p.0) (λ m. inner_subject info name m later.btf_type t) p.1 said)
+    (later_stands (inner_saying reading info name) before between after earlier later p.0 p.1
+    (λ t said. one_subject (member_at info.strings earlier) (member_at info.strings later) (λ m. inner_saying_of reading info name m earlier.btf_type) (λ m. inner_saying_of reading info name m later.btf_type) p.0 t (same_member info.strings earlier later same)
+    (λ m. inner_subject reading info name m earlier.btf_type p.0) (λ m. inner_subject reading info name m later.btf_type t) p.1 said)
     no_definitions)

@@ -7,3 +7,4 @@ pub mod NamedSections
 pub mod ExternNames
 pub mod MoreMaps
 pub mod Distinct
+pub mod BothReadings

@@ -1,8 +1,8 @@
 -- One more map among those of which each name is kept once.
-use Rattle.std.proofs.Common.{◌≡◌, ℕ, zero, suc, ◌+◌, ◌<◌, ◌≤◌, Bool, true, false, cond, List, [], ◌∷◌, ◌++◌, length, Option, Some, None, refl, sym, ap, ◌∙◌, arith, length-append, length-set}
+use Rattle.std.proofs.Common.{◌≡◌, ℕ, zero, suc, ◌+◌, ◌<◌, Bool, true, false, cond, List, [], ◌∷◌, ◌++◌, length, Option, Some, None, refl, sym, ap, ◌∙◌, arith, length-append, length-set}
 use Rattle.std.specs.Prelude.{◌≢◌, MatchOption, Result, Ok, Err, slice_get, slice_set, if◌then◌else◌}
 use Rattle.std.specs.BTreeMap.{get as at_key, is_at, Updates}
-use Rattle.std.specs.FinMap.{FinMap, get, insert, empty, get-insert, get-empty}
+use Rattle.std.specs.FinMap.{get, insert, empty, get-insert, get-empty}
 use Rattle.std.specs.Ordering.{eq_by_cmp, nat_cmp}
 use Rattle.std.proofs.lemmas.Cmp.{eq_by_cmp_equiv}
 use Rattle.std.proofs.lemmas.Option.{slice_get_within}
@@ -23,6 +23,7 @@ use Rattle.ebpf_declarations.proofs.KnownStructs.{equal_numbers}
 use Rattle.ebpf_declarations.specs.declared.definitions.MapDefinitions.{MapDefinitions}
 use Rattle.ebpf_declarations.specs.declared.distinct_maps.DistinctMaps.{DistinctMaps}
 use Rattle.ebpf_declarations.proofs.NamedSections.{equal}
+use Rattle.ebpf_parts.specs.declared.reading.Reading.{Reading}
 
 -- ---- lists
 
@@ -224,30 +225,30 @@ same_named before after same named = record {
 
 -- ---- what an entry declares
 
-abbrev named_with : List ℕ → MapDefinitions → Result (List ℕ × MapDefinitions) BtfError
+abbrev pub named_with : List ℕ → MapDefinitions → Result (List ℕ × MapDefinitions) BtfError
 named_with name d = Ok (name, d)
 
 -- what a VAR with a name declares, by the type that it holds
-abbrev named_by : TypeInfo → List ℕ → ℕ → Result (List ℕ × MapDefinitions) BtfError
-named_by info name id = if_ok (resolved info.types id) (λ held. if_ok (struct_says info name held) (λ d. named_with name d))
+abbrev pub named_by : Reading → TypeInfo → List ℕ → ℕ → Result (List ℕ × MapDefinitions) BtfError
+named_by reading info name id = if_ok (resolved info.types id) (λ held. if_ok (struct_says reading info name held) (λ d. named_with name d))
 
-abbrev from_type : TypeInfo → BtfType → Result (List ℕ × MapDefinitions) BtfError
-from_type info t = if_some (variable t) (λ id. if_ok (type_name info t) (λ name. named_by info name id)) (Err (unexpected t))
+abbrev pub from_type : Reading → TypeInfo → BtfType → Result (List ℕ × MapDefinitions) BtfError
+from_type reading info t = if_some (variable t) (λ id. if_ok (type_name info t) (λ name. named_by reading info name id)) (Err (unexpected t))
 
-by_type : (info : TypeInfo) (entry : DataSecEntry) → declared info entry ≡ if_ok (type_at info.types entry.btf_type) (from_type info)
+pub by_type : (reading : Reading) (info : TypeInfo) (entry : DataSecEntry) → declared reading info entry ≡ if_ok (type_at info.types entry.btf_type) (from_type reading info)
 unfolding declared
-by_type info entry = refl
+by_type reading info entry = refl
 
 -- an entry whose name was read before
-pub known_declared : (info : TypeInfo) (entry : DataSecEntry) (t : BtfType) (held : ℕ) (name : List ℕ) (d : MapDefinitions) → type_at info.types entry.btf_type ≡ Ok t → variable t ≡ Some held
-    → text_at info.strings (name_of t) ≡ Ok name → held_says info name held ≡ Ok d → declared info entry ≡ Ok (name, d)
-known_declared info entry t held name d type is_variable named says =
-    by_type info entry ∙ ap (λ r. if_ok r (from_type info)) type
-    ∙ ap (λ o. if_some o (λ id. if_ok (type_name info t) (λ q. named_by info q id)) (Err (unexpected t))) is_variable
-    ∙ ap (λ r. if_ok r (λ q. named_by info q held)) named
+pub known_declared : (reading : Reading) (info : TypeInfo) (entry : DataSecEntry) (t : BtfType) (held : ℕ) (name : List ℕ) (d : MapDefinitions) → type_at info.types entry.btf_type ≡ Ok t → variable t ≡ Some held
+    → text_at info.strings (name_of t) ≡ Ok name → held_says reading info name held ≡ Ok d → declared reading info entry ≡ Ok (name, d)
+known_declared reading info entry t held name d type is_variable named says =
+    by_type reading info entry ∙ ap (λ r. if_ok r (from_type reading info)) type
+    ∙ ap (λ o. if_some o (λ id. if_ok (type_name info t) (λ q. named_by reading info q id)) (Err (unexpected t))) is_variable
+    ∙ ap (λ r. if_ok r (λ q. named_by reading info q held)) named
     ∙ by_held (resolved info.types held) says
   where
-    by_held : (r : Result ℕ BtfError) → if_ok r (λ held. struct_says info name held) ≡ Ok d → if_ok r (λ held. if_ok (struct_says info name held) (λ d. named_with name d)) ≡ Ok (name, d)
+    by_held : (r : Result ℕ BtfError) → if_ok r (λ held. struct_says reading info name held) ≡ Ok d → if_ok r (λ held. if_ok (struct_says reading info name held) (λ d. named_with name d)) ≡ Ok (name, d)
     by_held (Err e) is = absurd (cc)
     by_held (Ok h) is = ap (λ (r : Result MapDefinitions BtfError). if_ok r (λ d. named_with name d)) is
 
@@ -256,22 +257,22 @@ name_in (Ok p) = p.0
 name_in (Err e) = []
 
 -- the name that was read is at the offset of the entry's type
-pub declared_name : (info : TypeInfo) (entry : DataSecEntry) (t : BtfType) (name : List ℕ) (d : MapDefinitions) → declared info entry ≡ Ok (name, d) → type_at info.types entry.btf_type ≡ Ok t
+pub declared_name : (reading : Reading) (info : TypeInfo) (entry : DataSecEntry) (t : BtfType) (name : List ℕ) (d : MapDefinitions) → declared reading info entry ≡ Ok (name, d) → type_at info.types entry.btf_type ≡ Ok t
     → text_at info.strings (name_of t) ≡ Ok name
-declared_name info entry t name d is type = by_variable (variable t) (sym (by_type info entry ∙ ap (λ r. if_ok r (from_type info)) type) ∙ is)
+declared_name reading info entry t name d is type = by_variable (variable t) (sym (by_type reading info entry ∙ ap (λ r. if_ok r (from_type reading info)) type) ∙ is)
   where
     by_said : (q : List ℕ) (r : Result MapDefinitions BtfError) → if_ok r (λ d. named_with q d) ≡ Ok (name, d) → q ≡ name
     by_said q (Err e) is = absurd (cc)
     by_said q (Ok e) is = ap name_in is
 
-    by_held : (q : List ℕ) (r : Result ℕ BtfError) → if_ok r (λ held. if_ok (struct_says info q held) (λ d. named_with q d)) ≡ Ok (name, d) → q ≡ name
+    by_held : (q : List ℕ) (r : Result ℕ BtfError) → if_ok r (λ held. if_ok (struct_says reading info q held) (λ d. named_with q d)) ≡ Ok (name, d) → q ≡ name
     by_held q (Err e) is = absurd (cc)
-    by_held q (Ok h) is = by_said q (struct_says info q h) is
+    by_held q (Ok h) is = by_said q (struct_says reading info q h) is
 
-    by_name : (id : ℕ) (r : Result (List ℕ) BtfError) → if_ok r (λ q. named_by info q id) ≡ Ok (name, d) → r ≡ Ok name
+    by_name : (id : ℕ) (r : Result (List ℕ) BtfError) → if_ok r (λ q. named_by reading info q id) ≡ Ok (name, d) → r ≡ Ok name
     by_name id (Err e) is = absurd (cc)
     by_name id (Ok q) is = ap Ok (by_held q (resolved info.types id) is)
 
-    by_variable : (o : Option ℕ) → if_some o (λ id. if_ok (type_name info t) (λ q. named_by info q id)) (Err (unexpected t)) ≡ Ok (name, d) → type_name info t ≡ Ok name
+    by_variable : (o : Option ℕ) → if_some o (λ id. if_ok (type_name info t) (λ q. named_by reading info q id)) (Err (unexpected t)) ≡ Ok (name, d) → type_name info t ≡ Ok name
     by_variable None is = absurd (cc)
     by_variable (Some id) is = by_name id (type_name info t) is

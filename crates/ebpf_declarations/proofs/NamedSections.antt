@@ -28,6 +28,7 @@ use Rattle.ebpf_btf.proofs.LongNames.{too_long}
 use Rattle.ebpf_declarations.specs.NamedSections.{is_met, name_fault, noted, AreSought, AreWithin, AreNoted, entries_at, ids_maps, ids_fault, unreadable_fault, AreFound}
 use Rattle.ebpf_declarations.specs.declared.named_sections.NamedSections.{NamedSections}
 use Rattle.ebpf_parts.specs.declared.error.ParseError.TheVariants as errors
+use Rattle.ebpf_parts.specs.declared.reading.Reading.{Reading}
 
 -- ---- names
 
@@ -127,22 +128,22 @@ first_some-append f (x ∷ xs) ys = ap (or_else (f x)) (first_some-append f xs y
 -- what the ids so far and the types that are left declare is what all types declare
 pub record AreGathered (info : TypeInfo) (longest : ℕ) (m : FinMap text_cmp (List ℕ)) (rest : List BtfType) : Type 0 where
   pub within : AreWithin longest m
-  pub maps : (q ids : List ℕ) → get m q ≡ Some ids → (symbols : List ℕ → Option ℕ) (section : ℕ)
-      → ids_maps info symbols section ids ++ flat_map (type_maps info symbols section q) rest ≡ btf_maps info symbols section q
-  pub fault : (q ids : List ℕ) → get m q ≡ Some ids → (symbols : List ℕ → Option ℕ) (section : ℕ)
-      → or_else (ids_fault info symbols section ids) (first_some (type_fault info symbols section q) rest) ≡ btf_maps_fault info symbols section q
+  pub maps : (reading : Reading) (q ids : List ℕ) → get m q ≡ Some ids → (symbols : List ℕ → Option ℕ) (section : ℕ)
+      → ids_maps reading info symbols section ids ++ flat_map (type_maps reading info symbols section q) rest ≡ btf_maps reading info symbols section q
+  pub fault : (reading : Reading) (q ids : List ℕ) → get m q ≡ Some ids → (symbols : List ℕ → Option ℕ) (section : ℕ)
+      → or_else (ids_fault reading info symbols section ids) (first_some (type_fault reading info symbols section q) rest) ≡ btf_maps_fault reading info symbols section q
 
 pub all_left : (info : TypeInfo) (longest : ℕ) (m : FinMap text_cmp (List ℕ)) → AreSought longest m → AreGathered info longest m info.types
 all_left info longest m sought = record {
   within = record { is = λ q ids at. (sought.is q ids at).1 };
-  maps = λ q ids at symbols section. ap (λ l. ids_maps info symbols section l ++ flat_map (type_maps info symbols section q) info.types) (sought.is q ids at).0;
-  fault = λ q ids at symbols section. ap (λ l. or_else (ids_fault info symbols section l) (first_some (type_fault info symbols section q) info.types)) (sought.is q ids at).0;
+  maps = λ reading q ids at symbols section. ap (λ l. ids_maps reading info symbols section l ++ flat_map (type_maps reading info symbols section q) info.types) (sought.is q ids at).0;
+  fault = λ reading q ids at symbols section. ap (λ l. or_else (ids_fault reading info symbols section l) (first_some (type_fault reading info symbols section q) info.types)) (sought.is q ids at).0;
 }
 
 pub none_left : (info : TypeInfo) (longest : ℕ) (found : NamedSections) → AreGathered info longest found.by_name [] → found.unreadable ≡ None → AreFound info found
 none_left info longest found gathered readable = record {
-  maps = λ q ids at none symbols section. sym (append-nil (ids_maps info symbols section ids)) ∙ gathered.maps q ids at symbols section;
-  fault = λ q ids at symbols section. ap (λ u. or_else (ids_fault info symbols section ids) (unreadable_fault u)) readable ∙ gathered.fault q ids at symbols section;
+  maps = λ reading q ids at none symbols section. sym (append-nil (ids_maps reading info symbols section ids)) ∙ gathered.maps reading q ids at symbols section;
+  fault = λ reading q ids at symbols section. ap (λ u. or_else (ids_fault reading info symbols section ids) (unreadable_fault u)) readable ∙ gathered.fault reading q ids at symbols section;
 }
 
 -- what a search meets at a type, by its entries and its name
@@ -152,29 +153,29 @@ met_by es r q = if_some es (λ entries. met_if entries (if_ok r (λ read. Ok (by
 abbrev fault_by_name : Option (List DataSecEntry) → Result (List ℕ) BtfError → Option BtfError
 fault_by_name es r = if_some es (λ entries. fault_of r) None
 
-module _ (info : TypeInfo) (symbols : List ℕ → Option ℕ) (section id : ℕ) (q : List ℕ) where
+module _ (reading : Reading) (info : TypeInfo) (symbols : List ℕ → Option ℕ) (section id : ℕ) (q : List ℕ) where
   one_maps : (es : Option (List DataSecEntry)) (r : Result (List ℕ) BtfError) → entries_at info.types id ≡ if_some es (λ e. e) []
-      → ids_maps info symbols section (if is_met (met_by es r q) then id ∷ [] else []) ≡ maps_by info symbols section (met_by es r q)
+      → ids_maps reading info symbols section (if is_met (met_by es r q) then id ∷ [] else []) ≡ maps_by reading info symbols section (met_by es r q)
   one_maps None r here = refl
   one_maps (Some es) (Err e) here = refl
   one_maps (Some es) (Ok name) here = by_name (bytes_eq name q)
     where
-      by_name : (b : Bool) → ids_maps info symbols section (if is_met (met_if es (Ok b)) then id ∷ [] else []) ≡ maps_by info symbols section (met_if es (Ok b))
-      by_name true = append-nil (entries_maps info symbols section (entries_at info.types id)) ∙ ap (entries_maps info symbols section) here
+      by_name : (b : Bool) → ids_maps reading info symbols section (if is_met (met_if es (Ok b)) then id ∷ [] else []) ≡ maps_by reading info symbols section (met_if es (Ok b))
+      by_name true = append-nil (entries_maps reading info symbols section (entries_at info.types id)) ∙ ap (entries_maps reading info symbols section) here
       by_name false = refl
 
   one_fault : (es : Option (List DataSecEntry)) (r : Result (List ℕ) BtfError) → entries_at info.types id ≡ if_some es (λ e. e) [] → fault_by_name es r ≡ None
-      → ids_fault info symbols section (if is_met (met_by es r q) then id ∷ [] else []) ≡ fault_by info symbols section (met_by es r q)
+      → ids_fault reading info symbols section (if is_met (met_by es r q) then id ∷ [] else []) ≡ fault_by reading info symbols section (met_by es r q)
   one_fault None r here none = refl
   one_fault (Some es) (Err e) here none = absurd (cc)
   one_fault (Some es) (Ok name) here none = by_name (bytes_eq name q)
     where
-      by_name : (b : Bool) → ids_fault info symbols section (if is_met (met_if es (Ok b)) then id ∷ [] else []) ≡ fault_by info symbols section (met_if es (Ok b))
-      by_name true = or_none (entries_fault info symbols section (entries_at info.types id)) ∙ ap (entries_fault info symbols section) here
+      by_name : (b : Bool) → ids_fault reading info symbols section (if is_met (met_if es (Ok b)) then id ∷ [] else []) ≡ fault_by reading info symbols section (met_if es (Ok b))
+      by_name true = or_none (entries_fault reading info symbols section (entries_at info.types id)) ∙ ap (entries_fault reading info symbols section) here
       by_name false = refl
 
   last_fault : (es : Option (List DataSecEntry)) (r : Result (List ℕ) BtfError) (e : BtfError) → fault_by_name es r ≡ Some e
-      → fault_by info symbols section (met_by es r q) ≡ Some (errors.BtfError e)
+      → fault_by reading info symbols section (met_by es r q) ≡ Some (errors.BtfError e)
   last_fault None r e is = absurd (cc)
   last_fault (Some es) (Ok name) e is = absurd (cc)
   last_fault (Some es) (Err d) e is = let same : d ≡ e = cc in ap (λ x. Some (errors.BtfError x)) same
@@ -269,36 +270,36 @@ module _ (info : TypeInfo) (t : BtfType) where
     unfolding met_section name_fault type_maps type_fault
     one_less id n noted readable at = record {
       within = record { is = λ q ids there. let p = noted.ids q ids there in gathered.within.is q p.0 p.1 };
-      maps = λ q ids there symbols section.
+      maps = λ reading q ids there symbols section.
           let p : (had : List ℕ) × (get m q ≡ Some had) × (ids ≡ had ++ (if is_met (met_section info q t) then id ∷ [] else [])) = noted.ids q ids there in
-          let left = flat_map (type_maps info symbols section q) rest in
+          let left = flat_map (type_maps reading info symbols section q) rest in
           let more = if is_met (met_section info q t) then id ∷ [] else [] in
-          ap (λ l. ids_maps info symbols section l ++ left) p.2
-          ∙ ap (λ l. l ++ left) (flat_map-append (λ i. entries_maps info symbols section (entries_at info.types i)) p.0 more)
-          ∙ append_assoc (ids_maps info symbols section p.0) (ids_maps info symbols section more) left
-          ∙ ap (λ l. ids_maps info symbols section p.0 ++ (l ++ left)) (one_maps info symbols section id q (entries_of t) (text_at info.strings (name_of t)) (here id at))
-          ∙ gathered.maps q p.0 p.1 symbols section;
-      fault = λ q ids there symbols section.
+          ap (λ l. ids_maps reading info symbols section l ++ left) p.2
+          ∙ ap (λ l. l ++ left) (flat_map-append (λ i. entries_maps reading info symbols section (entries_at info.types i)) p.0 more)
+          ∙ append_assoc (ids_maps reading info symbols section p.0) (ids_maps reading info symbols section more) left
+          ∙ ap (λ l. ids_maps reading info symbols section p.0 ++ (l ++ left)) (one_maps reading info symbols section id q (entries_of t) (text_at info.strings (name_of t)) (here id at))
+          ∙ gathered.maps reading q p.0 p.1 symbols section;
+      fault = λ reading q ids there symbols section.
           let p : (had : List ℕ) × (get m q ≡ Some had) × (ids ≡ had ++ (if is_met (met_section info q t) then id ∷ [] else [])) = noted.ids q ids there in
-          let left = first_some (type_fault info symbols section q) rest in
+          let left = first_some (type_fault reading info symbols section q) rest in
           let more = if is_met (met_section info q t) then id ∷ [] else [] in
-          ap (λ l. or_else (ids_fault info symbols section l) left) p.2
-          ∙ ap (λ l. or_else l left) (first_some-append (λ i. entries_fault info symbols section (entries_at info.types i)) p.0 more)
-          ∙ or_other (ids_fault info symbols section p.0) (ids_fault info symbols section more) left
-          ∙ ap (λ l. or_else (ids_fault info symbols section p.0) (or_else l left)) (one_fault info symbols section id q (entries_of t) (text_at info.strings (name_of t)) (here id at) readable)
-          ∙ gathered.fault q p.0 p.1 symbols section;
+          ap (λ l. or_else (ids_fault reading info symbols section l) left) p.2
+          ∙ ap (λ l. or_else l left) (first_some-append (λ i. entries_fault reading info symbols section (entries_at info.types i)) p.0 more)
+          ∙ or_other (ids_fault reading info symbols section p.0) (ids_fault reading info symbols section more) left
+          ∙ ap (λ l. or_else (ids_fault reading info symbols section p.0) (or_else l left)) (one_fault reading info symbols section id q (entries_of t) (text_at info.strings (name_of t)) (here id at) readable)
+          ∙ gathered.fault reading q p.0 p.1 symbols section;
     }
 
     -- a name that can't be read
     pub stopped : (offset : ℕ) (n : FinMap text_cmp (List ℕ)) (found : NamedSections) → n ≡ m → name_fault info t ≡ Some (InvalidStringOffset offset) → found ≡ record { by_name = n; unreadable = Some offset } → AreFound info found
     unfolding met_section name_fault type_fault
     stopped offset n found same is made = record {
-      maps = λ q ids at none symbols section. let wrong : Some offset ≡ None = sym (ap (λ (f : NamedSections). f.unreadable) made) ∙ none in absurd (cc);
-      fault = λ q ids at symbols section.
-          ap (λ (f : NamedSections). or_else (ids_fault info symbols section ids) (unreadable_fault f.unreadable)) made
-          ∙ ap (λ x. or_else (ids_fault info symbols section ids) (or_else x (first_some (type_fault info symbols section q) rest)))
-          (sym (last_fault info symbols section 0 q (entries_of t) (text_at info.strings (name_of t)) (InvalidStringOffset offset) is))
-          ∙ gathered.fault q ids (ap (λ x. get x q) (sym same) ∙ ap (λ (f : NamedSections). get f.by_name q) (sym made) ∙ at) symbols section;
+      maps = λ reading q ids at none symbols section. let wrong : Some offset ≡ None = sym (ap (λ (f : NamedSections). f.unreadable) made) ∙ none in absurd (cc);
+      fault = λ reading q ids at symbols section.
+          ap (λ (f : NamedSections). or_else (ids_fault reading info symbols section ids) (unreadable_fault f.unreadable)) made
+          ∙ ap (λ x. or_else (ids_fault reading info symbols section ids) (or_else x (first_some (type_fault reading info symbols section q) rest)))
+          (sym (last_fault reading info symbols section 0 q (entries_of t) (text_at info.strings (name_of t)) (InvalidStringOffset offset) is))
+          ∙ gathered.fault reading q ids (ap (λ x. get x q) (sym same) ∙ ap (λ (f : NamedSections). get f.by_name q) (sym made) ∙ at) symbols section;
     }
 
 -- a fault that comes first

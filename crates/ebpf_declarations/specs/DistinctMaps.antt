@@ -23,6 +23,7 @@ use Rattle.ebpf_declarations.specs.declared.distinct_maps.DistinctMaps.{Distinct
 use Rattle.ebpf_parts.specs.declared.error.ParseError.{ParseError}
 use Rattle.ebpf_parts.specs.declared.error.ParseError.TheVariants as errors
 use Rattle.ebpf_parts.specs.declared.maps.either.Map.{Map}
+use Rattle.ebpf_parts.specs.declared.reading.Reading.{Reading}
 
 -- ---- names
 
@@ -56,8 +57,8 @@ abbrev pub IsKnown : TypeInfo → DistinctMaps → DataSecEntry → ℕ → ℕ 
 IsKnown info kept entry n held = (t : BtfType) × (type_at info.types entry.btf_type ≡ Ok t) × (variable t ≡ Some held) × (at_key nat_cmp kept.offsets (name_of t) ≡ Some n)
 
 -- what the type with an id says of the map with a name
-abbrev pub held_says : TypeInfo → List ℕ → ℕ → Result MapDefinitions BtfError
-held_says info name id = if_ok (resolved info.types id) (λ held. struct_says info name held)
+abbrev pub held_says : Reading → TypeInfo → List ℕ → ℕ → Result MapDefinitions BtfError
+held_says reading info name id = if_ok (resolved info.types id) (λ held. struct_says reading info name held)
 
 -- ---- as maps of a section with this number, the symbols of which have these numbers
 
@@ -84,9 +85,9 @@ pub record Adds (before after : DistinctMaps) (more : (List ℕ → Option ℕ) 
       → put_all m (distinct_maps symbols section after) ≡ put_all (put_all m (distinct_maps symbols section before)) (more symbols section)
   pub fault : (symbols : List ℕ → Option ℕ) (section : ℕ) → distinct_fault symbols after ≡ or_else (distinct_fault symbols before) (wrong symbols section)
 
--- of each of some names, key by key, what all types declare in a section of the name
-pub record AreKept (info : TypeInfo) (kept : FinMap text_cmp DistinctMaps) : Type 0 where
+-- in one reading, of each of some names, key by key, what all types declare in a section of the name
+pub record AreKept (reading : Reading) (info : TypeInfo) (kept : FinMap text_cmp DistinctMaps) : Type 0 where
   pub maps : (name : List ℕ) (k : DistinctMaps) → get kept name ≡ Some k → (symbols : List ℕ → Option ℕ) (section : ℕ) (m : FinMap text_cmp Map) (q : List ℕ)
-      → get (put_all m (distinct_maps symbols section k)) q ≡ get (put_all m (btf_maps info symbols section name)) q
+      → get (put_all m (distinct_maps symbols section k)) q ≡ get (put_all m (btf_maps reading info symbols section name)) q
   pub fault : (name : List ℕ) (k : DistinctMaps) → get kept name ≡ Some k → (symbols : List ℕ → Option ℕ) (section : ℕ)
-      → distinct_fault symbols k ≡ btf_maps_fault info symbols section name
+      → distinct_fault symbols k ≡ btf_maps_fault reading info symbols section name

@@ -7,15 +7,16 @@ use Rattle.ebpf_btf.specs.declared.error.BtfError.{BtfError}
 use Rattle.ebpf_declarations.specs.Maps.{inner_says, struct_says}
 use Rattle.ebpf_declarations.specs.declared.known_structs.KnownStructs.{KnownStructs}
 use Rattle.ebpf_parts.specs.declared.maps.definition.BtfMapDef.{BtfMapDef}
+use Rattle.ebpf_parts.specs.declared.reading.Reading.{Reading}
 
 -- what is remembered is what the structs say, whatever the map's name
 pub record Remembers {X : Type 0} (says : List ℕ → ℕ → Result X BtfError) (known : BTreeMap ℕ X) : Type 0 where
   pub said : (id : ℕ) (d : X) → get nat_cmp known id ≡ Some d → (name : List ℕ) → says name id ≡ Ok d
 
-abbrev pub RemembersInner : TypeInfo → BTreeMap ℕ BtfMapDef → Type 0
-RemembersInner info known = Remembers (inner_says info) known
+abbrev pub RemembersInner : Reading → TypeInfo → BTreeMap ℕ BtfMapDef → Type 0
+RemembersInner reading info known = Remembers (inner_says reading info) known
 
 -- of maps, and of the maps that they hold
-pub record Knows (info : TypeInfo) (known : KnownStructs) : Type 0 where
-  pub maps : Remembers (struct_says info) known.maps
-  pub inner_maps : RemembersInner info known.inner_maps
+pub record Knows (reading : Reading) (info : TypeInfo) (known : KnownStructs) : Type 0 where
+  pub maps : Remembers (struct_says reading info) known.maps
+  pub inner_maps : RemembersInner reading info known.inner_maps

@@ -1,5 +1,6 @@
 pub mod Attempts
 pub mod DataSections
+pub mod Declaring
 pub mod Externs
 pub mod Laws
 pub mod MapMembers

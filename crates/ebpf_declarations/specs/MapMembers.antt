@@ -1,6 +1,6 @@
 -- The members of a struct that declares a map (libbpf's "BTF-defined maps"). A number is spelled by the length of
 -- an array that a member points to, a type by a member that points to it.
-use Rattle.std.specs.Prelude.{ℕ, List, [], ◌∷◌, Option, Some, None, Result, Ok, Err, ◌==◌, unwrap_or, codes, if◌then◌else◌}
+use Rattle.std.specs.Prelude.{ℕ, ◌+◌, ◌*◌, ◌^◌, Bool, true, false, List, [], ◌∷◌, Option, Some, None, Result, Ok, Err, ◌==◌, nat_lt, unwrap_or, slice_get, codes, if◌then◌else◌}
 use Rattle.std.specs.Str.{bytes_eq}
 use Rattle.ebpf_base.specs.Faults.{first_of}
 use Rattle.ebpf_btf.specs.Next.{if_some, if_ok}
@@ -11,7 +11,7 @@ use Rattle.ebpf_btf.specs.declared.error.BtfError.{BtfError}
 use Rattle.ebpf_btf.specs.declared.error.BtfError.TheVariants.{UnexpectedBtfType, InvalidValuesSpec}
 use Rattle.ebpf_btf.specs.declared.members.BtfMember.{BtfMember}
 use Rattle.ebpf_btf.specs.declared.types.BtfType.{BtfType}
-use Rattle.ebpf_btf.specs.declared.types.BtfType.TheVariants.{Ptr, Struct}
+use Rattle.ebpf_btf.specs.declared.types.BtfType.TheVariants.{Ptr, Struct, Enum, Enum64, FuncProto}
 use Rattle.ebpf_declarations.specs.declared.map_member.MapMember.{MapMember}
 use Rattle.ebpf_declarations.specs.declared.map_member.MapMember.TheVariants.{Number, Pinning, Key, Value, Values, Other}
 use Rattle.ebpf_declarations.specs.declared.map_member.MapNumber.TheVariants.{MapType, KeySize, ValueSize, MaxEntries, MapFlags, MapExtra}
@@ -58,6 +58,24 @@ number types id =
     (λ a. if_ok (type_at types a) (λ t. if_some (array_of t) (λ array. Ok array.len) (Err (unexpected t))))
     (Err (unexpected p)))
 
+-- an ENUM's value is widened by its sign, as libbpf widens it whatever the ENUM says of its values
+abbrev pub widened : ℕ → ℕ
+widened value = if nat_lt value 0x80000000 then value else value + 0xFFFFFFFF00000000
+
+-- the number that an ENUM or ENUM64 of one value is (libbpf's `__ulong`)
+unfoldable pub sole_value : BtfType → Option ℕ
+sole_value (Enum _ _ _ (e ∷ [])) = Some (widened e.value)
+sole_value (Enum64 _ _ _ (e ∷ [])) = Some (e.value_high * 2 ^ 32 + e.value_low)
+sole_value _ = None
+
+abbrev pub number_in : Result BtfType BtfError → Option ℕ
+number_in (Ok t) = sole_value t
+number_in (Err e) = None
+
+-- the number that a member is itself, past types that stand for others
+unfoldable pub own_number : List BtfType → ℕ → Option ℕ
+own_number types id = number_in (resolved_type types id)
+
 -- the type that a member spells, with its size
 unfoldable pub sized_type : List BtfType → ℕ → Result (ℕ × ℕ) BtfError
 sized_type types id =
@@ -65,6 +83,19 @@ sized_type types id =
     if_some (pointed p)
     (λ t. if_ok (size_of types t) (λ size. Ok (t, size)))
     (Err (UnexpectedBtfType id)))
+
+-- a type of functions
+unfoldable pub is_prototype : BtfType → Bool
+is_prototype (FuncProto _ _ _) = true
+is_prototype _ = false
+
+abbrev pub is_prototype_in : Option BtfType → Bool
+is_prototype_in (Some t) = is_prototype t
+is_prototype_in None = false
+
+-- whether the type with an id is one
+unfoldable pub is_prototype_at : List BtfType → ℕ → Bool
+is_prototype_at types id = is_prototype_in (slice_get types id)
 
 -- the members of the STRUCT with an id
 unfoldable pub members_at : List BtfType → ℕ → Result (List BtfMember) BtfError

@@ -1,5 +1,5 @@
 -- The maps that types declare in the DATASECs of a section as `.maps` (libbpf's "BTF-defined maps").
-use Rattle.std.specs.Prelude.{ℕ, List, [], Option, Some, None, Result, Ok, Err, ◌==◌, if◌then◌else◌}
+use Rattle.std.specs.Prelude.{ℕ, Bool, false, List, [], Option, Some, None, Result, Ok, Err, ◌==◌, if◌then◌else◌}
 use Rattle.std.specs.List.{flat_map}
 use Rattle.ebpf_base.specs.Faults.{first_some, fault_of}
 use Rattle.ebpf_btf.specs.Next.{if_some, if_ok}
@@ -14,10 +14,12 @@ use Rattle.ebpf_btf.specs.declared.types.BtfType.{BtfType}
 use Rattle.ebpf_btf.specs.declared.types.BtfType.TheVariants.{Var}
 use Rattle.ebpf_declarations.specs.Attempts.{given, all_given}
 use Rattle.ebpf_declarations.specs.DataSections.{MetSection, Named, UnreadableName, met_section}
-use Rattle.ebpf_declarations.specs.MapMembers.{unexpected, number, sized_type, members_at, held_struct, member_at}
+use Rattle.ebpf_declarations.specs.MapMembers.{unexpected, number, sized_type, own_number, is_prototype_at, members_at, held_struct, member_at}
 use Rattle.ebpf_declarations.specs.Sayings.{no_definitions, with_all}
 use Rattle.ebpf_declarations.specs.declared.map_member.MapMember.{MapMember}
 use Rattle.ebpf_declarations.specs.declared.map_member.MapMember.TheVariants as about
+use Rattle.ebpf_declarations.specs.declared.map_member.MapNumber.{MapNumber}
+use Rattle.ebpf_declarations.specs.declared.map_member.MapNumber.TheVariants as numbers
 use Rattle.ebpf_declarations.specs.declared.definitions.MapDefinitions.{MapDefinitions}
 use Rattle.ebpf_declarations.specs.declared.saying.Saying.{Saying}
 use Rattle.ebpf_declarations.specs.declared.saying.Saying.TheVariants as said
@@ -28,56 +30,74 @@ use Rattle.ebpf_parts.specs.declared.maps.either.Map.{Map}
 use Rattle.ebpf_parts.specs.declared.maps.either.Map.TheVariants.{Btf}
 use Rattle.ebpf_parts.specs.declared.maps.pinning.PinningType.{PinningType}
 use Rattle.ebpf_parts.specs.declared.maps.pinning.PinningType.TheVariants as pinned
+use Rattle.ebpf_parts.specs.declared.reading.Reading.{Reading}
+use Rattle.ebpf_parts.specs.declared.reading.Reading.TheVariants.{Stated, Broad}
 
 -- ---- what a member says
 
 abbrev pub pinning_of : ℕ → PinningType
 pinning_of n = if n == 1 then pinned.ByName else pinned.None
 
+-- what `map_extra` is itself: only in the broad reading
+abbrev pub own_extra : Reading → List BtfType → MapNumber → ℕ → Option ℕ
+own_extra Broad types numbers.MapExtra id = own_number types id
+own_extra _ types of id = None
+
+-- a number, which a member spells, or is itself
+abbrev pub number_saying : Reading → List BtfType → MapNumber → ℕ → Result Saying BtfError
+number_saying reading types of id =
+    if_some (own_extra reading types of id) (λ n. Ok (said.Extra n)) (if_ok (number types id) (λ n. Ok (said.Number of n)))
+
 -- a number or a type; members of other names say nothing
-unfoldable pub plain_saying : List BtfType → MapMember → ℕ → Result Saying BtfError
-plain_saying types (about.Number of) id = if_ok (number types id) (λ n. Ok (said.Number of n))
-plain_saying types about.Pinning id = if_ok (number types id) (λ n. Ok (said.Pinning (pinning_of n)))
-plain_saying types about.Key id = if_ok (sized_type types id) (λ t. Ok (said.Key t.0 t.1))
-plain_saying types about.Value id = if_ok (sized_type types id) (λ t. Ok (said.Value t.0 t.1))
-plain_saying types _ id = Ok said.Nothing
+unfoldable pub plain_saying : Reading → List BtfType → MapMember → ℕ → Result Saying BtfError
+plain_saying reading types (about.Number of) id = number_saying reading types of id
+plain_saying reading types about.Pinning id = if_ok (number types id) (λ n. Ok (said.Pinning (pinning_of n)))
+plain_saying reading types about.Key id = if_ok (sized_type types id) (λ t. Ok (said.Key t.0 t.1))
+plain_saying reading types about.Value id = if_ok (sized_type types id) (λ t. Ok (said.Value t.0 t.1))
+plain_saying reading types _ id = Ok said.Nothing
 
 -- a definition with what members say, or the first fault of a member
 abbrev pub with_members : (BtfMember → Result Saying BtfError) → MapDefinitions → List BtfMember → Result MapDefinitions BtfError
 with_members says d members = if_ok (all_given says members) (λ all. Ok (with_all d all))
 
 -- of an inner map of the map with a name, which neither is pinned nor holds maps
-unfoldable pub inner_saying_of : TypeInfo → List ℕ → MapMember → ℕ → Result Saying BtfError
-inner_saying_of info name about.Pinning id = Err (InnerMapCannotBePinned name)
-inner_saying_of info name about.Values id = Err (MultiLevelMapInMapNotSupported name)
-inner_saying_of info name member id = plain_saying info.types member id
+unfoldable pub inner_saying_of : Reading → TypeInfo → List ℕ → MapMember → ℕ → Result Saying BtfError
+inner_saying_of reading info name about.Pinning id = Err (InnerMapCannotBePinned name)
+inner_saying_of reading info name about.Values id = Err (MultiLevelMapInMapNotSupported name)
+inner_saying_of reading info name member id = plain_saying reading info.types member id
 
-unfoldable pub inner_saying : TypeInfo → List ℕ → BtfMember → Result Saying BtfError
-inner_saying info name m = if_ok (member_at info.strings m) (λ member. inner_saying_of info name member m.btf_type)
+unfoldable pub inner_saying : Reading → TypeInfo → List ℕ → BtfMember → Result Saying BtfError
+inner_saying reading info name m = if_ok (member_at info.strings m) (λ member. inner_saying_of reading info name member m.btf_type)
 
-abbrev pub inner_definition : TypeInfo → List ℕ → List BtfMember → Result BtfMapDef BtfError
-inner_definition info name members = if_ok (with_members (inner_saying info name) no_definitions members) (λ d. Ok d.def)
+abbrev pub inner_definition : Reading → TypeInfo → List ℕ → List BtfMember → Result BtfMapDef BtfError
+inner_definition reading info name members = if_ok (with_members (inner_saying reading info name) no_definitions members) (λ d. Ok d.def)
 
 -- what the STRUCT with an id says of the maps that the map with a name holds
-abbrev pub inner_says : TypeInfo → List ℕ → ℕ → Result BtfMapDef BtfError
-inner_says info name id = if_ok (members_at info.types id) (λ members. inner_definition info name members)
+abbrev pub inner_says : Reading → TypeInfo → List ℕ → ℕ → Result BtfMapDef BtfError
+inner_says reading info name id = if_ok (members_at info.types id) (λ members. inner_definition reading info name members)
 
--- of the map with a name, which may hold maps
-unfoldable pub saying_of : TypeInfo → List ℕ → MapMember → ℕ → Result Saying BtfError
-saying_of info name about.Values id =
+-- whether values are programs, by the type that an element points to: only in the broad reading
+abbrev pub are_programs : Reading → List BtfType → ℕ → Bool
+are_programs Broad types id = is_prototype_at types id
+are_programs Stated types id = false
+
+-- of the map with a name, which may hold maps or programs
+unfoldable pub saying_of : Reading → TypeInfo → List ℕ → MapMember → ℕ → Result Saying BtfError
+saying_of reading info name about.Values id =
     if_ok (held_struct info.types name id) (λ held.
-    if_ok (inner_says info name held) (λ inner. Ok (said.Values inner)))
-saying_of info name member id = plain_saying info.types member id
+    if are_programs reading info.types held then Ok said.Programs
+    else if_ok (inner_says reading info name held) (λ inner. Ok (said.Values inner)))
+saying_of reading info name member id = plain_saying reading info.types member id
 
-unfoldable pub saying : TypeInfo → List ℕ → BtfMember → Result Saying BtfError
-saying info name m = if_ok (member_at info.strings m) (λ member. saying_of info name member m.btf_type)
+unfoldable pub saying : Reading → TypeInfo → List ℕ → BtfMember → Result Saying BtfError
+saying reading info name m = if_ok (member_at info.strings m) (λ member. saying_of reading info name member m.btf_type)
 
-abbrev pub definitions : TypeInfo → List ℕ → List BtfMember → Result MapDefinitions BtfError
-definitions info name members = with_members (saying info name) no_definitions members
+abbrev pub definitions : Reading → TypeInfo → List ℕ → List BtfMember → Result MapDefinitions BtfError
+definitions reading info name members = with_members (saying reading info name) no_definitions members
 
 -- what the STRUCT with an id says of the map with a name
-abbrev pub struct_says : TypeInfo → List ℕ → ℕ → Result MapDefinitions BtfError
-struct_says info name id = if_ok (members_at info.types id) (λ members. definitions info name members)
+abbrev pub struct_says : Reading → TypeInfo → List ℕ → ℕ → Result MapDefinitions BtfError
+struct_says reading info name id = if_ok (members_at info.types id) (λ members. definitions reading info name members)
 
 -- ---- one map
 
@@ -87,14 +107,14 @@ variable (Var _ id _) = Some id
 variable _ = None
 
 -- what an entry declares: a VAR, whose name is the map's, of a type that stands for a STRUCT
-unfoldable pub declared : TypeInfo → DataSecEntry → Result (List ℕ × MapDefinitions) BtfError
-declared info entry =
+unfoldable pub declared : Reading → TypeInfo → DataSecEntry → Result (List ℕ × MapDefinitions) BtfError
+declared reading info entry =
     if_ok (type_at info.types entry.btf_type) (λ t.
     if_some (variable t)
     (λ id.
     if_ok (type_name info t) (λ name.
     if_ok (resolved info.types id) (λ held.
-    if_ok (struct_says info name held) (λ d. Ok (name, d)))))
+    if_ok (struct_says reading info name held) (λ d. Ok (name, d)))))
     (Err (unexpected t)))
 
 abbrev pub map_at : MapDefinitions → ℕ → ℕ → Map
@@ -105,36 +125,36 @@ abbrev pub placed : (List ℕ → Option ℕ) → ℕ → Result (List ℕ × Ma
 placed symbols section (Err e) = Err (errors.BtfError e)
 placed symbols section (Ok d) = if_some (symbols d.0) (λ y. Ok (d.0, map_at d.1 section y)) (Err (errors.SymbolNotFound d.0))
 
-unfoldable pub map_of : TypeInfo → (List ℕ → Option ℕ) → ℕ → DataSecEntry → Result (List ℕ × Map) ParseError
-map_of info symbols section entry = placed symbols section (declared info entry)
+unfoldable pub map_of : Reading → TypeInfo → (List ℕ → Option ℕ) → ℕ → DataSecEntry → Result (List ℕ × Map) ParseError
+map_of reading info symbols section entry = placed symbols section (declared reading info entry)
 
 -- ---- the maps of a section, DATASEC by DATASEC
 
-abbrev pub entries_maps : TypeInfo → (List ℕ → Option ℕ) → ℕ → List DataSecEntry → List (List ℕ × Map)
-entries_maps info symbols section entries = flat_map (λ entry. given (map_of info symbols section entry)) entries
+abbrev pub entries_maps : Reading → TypeInfo → (List ℕ → Option ℕ) → ℕ → List DataSecEntry → List (List ℕ × Map)
+entries_maps reading info symbols section entries = flat_map (λ entry. given (map_of reading info symbols section entry)) entries
 
-abbrev pub entries_fault : TypeInfo → (List ℕ → Option ℕ) → ℕ → List DataSecEntry → Option ParseError
-entries_fault info symbols section entries = first_some (λ entry. fault_of (map_of info symbols section entry)) entries
+abbrev pub entries_fault : Reading → TypeInfo → (List ℕ → Option ℕ) → ℕ → List DataSecEntry → Option ParseError
+entries_fault reading info symbols section entries = first_some (λ entry. fault_of (map_of reading info symbols section entry)) entries
 
-abbrev pub maps_by : TypeInfo → (List ℕ → Option ℕ) → ℕ → Option MetSection → List (List ℕ × Map)
-maps_by info symbols section (Some (Named entries)) = entries_maps info symbols section entries
-maps_by info symbols section _ = []
+abbrev pub maps_by : Reading → TypeInfo → (List ℕ → Option ℕ) → ℕ → Option MetSection → List (List ℕ × Map)
+maps_by reading info symbols section (Some (Named entries)) = entries_maps reading info symbols section entries
+maps_by reading info symbols section _ = []
 
-abbrev pub fault_by : TypeInfo → (List ℕ → Option ℕ) → ℕ → Option MetSection → Option ParseError
-fault_by info symbols section None = None
-fault_by info symbols section (Some (UnreadableName e)) = Some (errors.BtfError e)
-fault_by info symbols section (Some (Named entries)) = entries_fault info symbols section entries
+abbrev pub fault_by : Reading → TypeInfo → (List ℕ → Option ℕ) → ℕ → Option MetSection → Option ParseError
+fault_by reading info symbols section None = None
+fault_by reading info symbols section (Some (UnreadableName e)) = Some (errors.BtfError e)
+fault_by reading info symbols section (Some (Named entries)) = entries_fault reading info symbols section entries
 
 -- those of one type, where it is a DATASEC of the section's name
-unfoldable pub type_maps : TypeInfo → (List ℕ → Option ℕ) → ℕ → List ℕ → BtfType → List (List ℕ × Map)
-type_maps info symbols section name t = maps_by info symbols section (met_section info name t)
+unfoldable pub type_maps : Reading → TypeInfo → (List ℕ → Option ℕ) → ℕ → List ℕ → BtfType → List (List ℕ × Map)
+type_maps reading info symbols section name t = maps_by reading info symbols section (met_section info name t)
 
-unfoldable pub type_fault : TypeInfo → (List ℕ → Option ℕ) → ℕ → List ℕ → BtfType → Option ParseError
-type_fault info symbols section name t = fault_by info symbols section (met_section info name t)
+unfoldable pub type_fault : Reading → TypeInfo → (List ℕ → Option ℕ) → ℕ → List ℕ → BtfType → Option ParseError
+type_fault reading info symbols section name t = fault_by reading info symbols section (met_section info name t)
 
 -- Of a section with this number and name, the symbols of which have these numbers.
-abbrev pub btf_maps : TypeInfo → (List ℕ → Option ℕ) → ℕ → List ℕ → List (List ℕ × Map)
-btf_maps info symbols section name = flat_map (type_maps info symbols section name) info.types
+abbrev pub btf_maps : Reading → TypeInfo → (List ℕ → Option ℕ) → ℕ → List ℕ → List (List ℕ × Map)
+btf_maps reading info symbols section name = flat_map (type_maps reading info symbols section name) info.types
 
-abbrev pub btf_maps_fault : TypeInfo → (List ℕ → Option ℕ) → ℕ → List ℕ → Option ParseError
-btf_maps_fault info symbols section name = first_some (type_fault info symbols section name) info.types
+abbrev pub btf_maps_fault : Reading → TypeInfo → (List ℕ → Option ℕ) → ℕ → List ℕ → Option ParseError
+btf_maps_fault reading info symbols section name = first_some (type_fault reading info symbols section name) info.types

@@ -19,6 +19,7 @@ use Rattle.ebpf_declarations.specs.declared.named_sections.NamedSections.{NamedS
 use Rattle.ebpf_parts.specs.declared.error.ParseError.{ParseError}
 use Rattle.ebpf_parts.specs.declared.error.ParseError.TheVariants as errors
 use Rattle.ebpf_parts.specs.declared.maps.either.Map.{Map}
+use Rattle.ebpf_parts.specs.declared.reading.Reading.{Reading}
 
 -- ---- one DATASEC
 
@@ -60,11 +61,11 @@ Looked info t id before after readable =
 unfoldable pub entries_at : List BtfType → ℕ → List DataSecEntry
 entries_at types id = if_some (slice_get types id) (λ t. if_some (entries_of t) (λ entries. entries) []) []
 
-abbrev pub ids_maps : TypeInfo → (List ℕ → Option ℕ) → ℕ → List ℕ → List (List ℕ × Map)
-ids_maps info symbols section ids = flat_map (λ id. entries_maps info symbols section (entries_at info.types id)) ids
+abbrev pub ids_maps : Reading → TypeInfo → (List ℕ → Option ℕ) → ℕ → List ℕ → List (List ℕ × Map)
+ids_maps reading info symbols section ids = flat_map (λ id. entries_maps reading info symbols section (entries_at info.types id)) ids
 
-abbrev pub ids_fault : TypeInfo → (List ℕ → Option ℕ) → ℕ → List ℕ → Option ParseError
-ids_fault info symbols section ids = first_some (λ id. entries_fault info symbols section (entries_at info.types id)) ids
+abbrev pub ids_fault : Reading → TypeInfo → (List ℕ → Option ℕ) → ℕ → List ℕ → Option ParseError
+ids_fault reading info symbols section ids = first_some (λ id. entries_fault reading info symbols section (entries_at info.types id)) ids
 
 -- a name that can't be read, at its offset
 abbrev pub unreadable_fault : Option ℕ → Option ParseError
@@ -73,7 +74,7 @@ unreadable_fault (Some offset) = Some (errors.BtfError (InvalidStringOffset offs
 
 -- of each name the types with the ids declare what all types declare in a section of the name
 pub record AreFound (info : TypeInfo) (found : NamedSections) : Type 0 where
-  pub maps : (name ids : List ℕ) → get found.by_name name ≡ Some ids → found.unreadable ≡ None → (symbols : List ℕ → Option ℕ) (section : ℕ)
-      → ids_maps info symbols section ids ≡ btf_maps info symbols section name
-  pub fault : (name ids : List ℕ) → get found.by_name name ≡ Some ids → (symbols : List ℕ → Option ℕ) (section : ℕ)
-      → or_else (ids_fault info symbols section ids) (unreadable_fault found.unreadable) ≡ btf_maps_fault info symbols section name
+  pub maps : (reading : Reading) (name ids : List ℕ) → get found.by_name name ≡ Some ids → found.unreadable ≡ None → (symbols : List ℕ → Option ℕ) (section : ℕ)
+      → ids_maps reading info symbols section ids ≡ btf_maps reading info symbols section name
+  pub fault : (reading : Reading) (name ids : List ℕ) → get found.by_name name ≡ Some ids → (symbols : List ℕ → Option ℕ) (section : ℕ)
+      → or_else (ids_fault reading info symbols section ids) (unreadable_fault found.unreadable) ≡ btf_maps_fault reading info symbols section name

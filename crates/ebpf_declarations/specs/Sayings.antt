@@ -6,7 +6,7 @@ use Rattle.ebpf_declarations.specs.declared.definitions.MapDefinitions.{MapDefin
 use Rattle.ebpf_declarations.specs.declared.map_member.MapNumber.{MapNumber}
 use Rattle.ebpf_declarations.specs.declared.map_member.MapNumber.TheVariants.{MapType, KeySize, ValueSize, MaxEntries, MapFlags, MapExtra}
 use Rattle.ebpf_declarations.specs.declared.saying.Saying.{Saying}
-use Rattle.ebpf_declarations.specs.declared.saying.Saying.TheVariants.{Number, Pinning, Key, Value, Values}
+use Rattle.ebpf_declarations.specs.declared.saying.Saying.TheVariants.{Number, Pinning, Key, Value, Values, Programs, Extra}
 use Rattle.ebpf_parts.specs.declared.maps.definition.BtfMapDef.{BtfMapDef}
 use Rattle.ebpf_parts.specs.declared.maps.pinning.PinningType.{PinningType}
 use Rattle.ebpf_parts.specs.declared.maps.pinning.PinningType.TheVariants as pinned
@@ -24,12 +24,14 @@ number_place MapExtra = 5
 abbrev pub same_number : MapNumber → MapNumber → Bool
 same_number a b = number_place a == number_place b
 
--- a number: its own, the size of a key or value of a type, 4 for a value that is a map
+-- a number: its own, the size of a key or value of a type, 4 for a value that is a map or a program
 abbrev pub number_said : MapNumber → Saying → Option ℕ
 number_said wanted (Number of n) = if same_number wanted of then Some n else None
 number_said wanted (Key id size) = if same_number wanted KeySize then Some size else None
 number_said wanted (Value id size) = if same_number wanted ValueSize then Some size else None
 number_said wanted (Values inner) = if same_number wanted ValueSize then Some 4 else None
+number_said wanted Programs = if same_number wanted ValueSize then Some 4 else None
+number_said wanted (Extra n) = if same_number wanted MapExtra then Some n else None
 number_said wanted _ = None
 
 abbrev pub pinning_said : Saying → Option PinningType
@@ -45,9 +47,10 @@ abbrev pub value_type_said : Saying → Option ℕ
 value_type_said (Value id size) = Some id
 value_type_said _ = None
 
--- the maps that a map holds
-abbrev pub inner_said : Saying → Option BtfMapDef
-inner_said (Values inner) = Some inner
+-- the maps that a map holds, where its values are none but maps or programs
+abbrev pub inner_said : Saying → Option (Option BtfMapDef)
+inner_said (Values inner) = Some (Some inner)
+inner_said Programs = Some None
 inner_said _ = None
 
 -- ---- what all say
@@ -75,7 +78,7 @@ with_all d all = record {
     btf_key_type_id = last_or key_type_said d.def.btf_key_type_id all;
     btf_value_type_id = last_or value_type_said d.def.btf_value_type_id all;
   };
-  inner_def = or_else (last_some inner_said all) d.inner_def;
+  inner_def = last_or inner_said d.inner_def all;
 }
 
 -- where nothing is said

@@ -19,7 +19,7 @@ use crate::named_sections::{NamedSections, entries_at};
 use ebpf_base::{ByName, Items, Text};
 use ebpf_btf::{Btf, BtfError};
 use ebpf_parts::maps::Map;
-use ebpf_parts::{ParseError, Section};
+use ebpf_parts::{ParseError, Reading, Section};
 use std::alloc::Global;
 use std::marker::Model;
 
@@ -29,18 +29,19 @@ fn add_sections(
     alloc: Global,
     found: &mut Items<(Text, Map)>,
     btf: &Btf,
+    reading: Reading,
     known: &mut KnownStructs,
     section: &Section<'_>,
     symbols: &ByName<usize>,
     ids: &[u32],
 ) -> Result<(), ParseError>
-    requires { Knows btf.now known.old }
-    ensures added { OnOk result (found.new ≡ found.old ++ ids_maps btf.now (map.get symbols.now) section.now.index.0 ids.now) }
-    ensures fault { Refuses is_memory result (ids_fault btf.now (map.get symbols.now) section.now.index.0 ids.now) }
+    requires { Knows reading btf.now known.old }
+    ensures added { OnOk result (found.new ≡ found.old ++ ids_maps reading btf.now (map.get symbols.now) section.now.index.0 ids.now) }
+    ensures fault { Refuses is_memory result (ids_fault reading btf.now (map.get symbols.now) section.now.index.0 ids.now) }
 {
     for id in ids {
         let entries = entries_at(btf, *id);
-        add_entries(alloc, found, btf, known, section, symbols, entries)?;
+        add_entries(alloc, found, btf, reading, known, section, symbols, entries)?;
     }
     Ok(())
 }
@@ -49,16 +50,19 @@ fn add_sections(
 fn collect_sections(
     alloc: Global,
     btf: &Btf,
+    reading: Reading,
     section: &Section<'_>,
     symbols: &ByName<usize>,
     ids: &[u32],
 ) -> Result<Items<(Text, Map)>, ParseError>
-    ensures found { IfOk result (λ found. found ≡ ids_maps btf.now (map.get symbols.now) section.now.index.0 ids.now) }
-    ensures fault { Refuses is_memory result (ids_fault btf.now (map.get symbols.now) section.now.index.0 ids.now) }
+    ensures found { IfOk result (λ found. found ≡ ids_maps reading btf.now (map.get symbols.now) section.now.index.0 ids.now) }
+    ensures fault { Refuses is_memory result (ids_fault reading btf.now (map.get symbols.now) section.now.index.0 ids.now) }
 {
     let mut found = Items::new(alloc);
     let mut known = KnownStructs::none(alloc);
-    add_sections(alloc, &mut found, btf, &mut known, section, symbols, ids)?;
+    add_sections(
+        alloc, &mut found, btf, reading, &mut known, section, symbols, ids,
+    )?;
     Ok(found)
 }
 
@@ -74,22 +78,23 @@ fn put_maps(maps: &mut ByName<Map>, found: Items<(Text, Map)>) -> Result<(), Par
 }
 
 /// Types that declare maps, of which the DATASECs of some names were found before, and the maps of those names that
-/// have no fault, each name of a map once. Contracts see the types.
+/// have no fault, each name of a map once. Contracts see the types and how they are read.
 #[derive(Drop)]
 pub struct DeclaredMaps<'b> {
     btf: &'b Btf,
+    reading: Reading,
     sections: NamedSections,
     distinct: ByName<DistinctMaps>,
     ghost found: { AreFound btf.now sections },
-    ghost kept: { AreKept btf.now distinct },
+    ghost kept: { AreKept reading btf.now distinct },
 }
 
 impl<'b> Model for DeclaredMaps<'b> {
-    ghost use Rattle.ebpf_btf.specs.TypeInfo.{TypeInfo};
+    ghost use Rattle.ebpf_declarations.specs.Declaring.{Declaring};
 
-    ghost Value = { TypeInfo };
+    ghost Value = { Declaring };
 
-    ghost view = { λ d. d.btf.now };
+    ghost view = { λ d. record { reading = d.reading; types = d.btf.now } };
 }
 
 impl<'b> DeclaredMaps<'b> {
@@ -99,16 +104,18 @@ impl<'b> DeclaredMaps<'b> {
     pub fn gather(
         alloc: Global,
         btf: &'b Btf,
+        reading: Reading,
         names: &[&str],
         symbols: &ByName<usize>,
     ) -> Result<DeclaredMaps<'b>, BtfError>
-        ensures types { IfOk result (λ d. d ≡ btf.now) }
+        ensures types { IfOk result (λ d. d ≡ record { reading = reading; types = btf.now }) }
         ensures memory { IfErr result (λ e. is_btf_memory e ≡ true) }
     {
         let sections = NamedSections::gather(alloc, btf, names)?;
-        let distinct = keep_sections(alloc, btf, &sections, names, symbols)?;
+        let distinct = keep_sections(alloc, btf, reading, &sections, names, symbols)?;
         Ok(DeclaredMaps {
             btf,
+            reading,
             sections,
             distinct,
         })
@@ -124,8 +131,8 @@ impl<'b> DeclaredMaps<'b> {
         section: &Section<'_>,
         symbols: &ByName<usize>,
     ) -> Result<(), ParseError>
-        ensures put { OnOk result (maps.new ≡ put_all maps.old (btf_maps self.now (map.get symbols.now) section.now.index.0 section.now.name)) }
-        ensures fault { Refuses is_memory result (btf_maps_fault self.now (map.get symbols.now) section.now.index.0 section.now.name) }
+        ensures put { OnOk result (maps.new ≡ put_all maps.old (btf_maps self.now.reading self.now.types (map.get symbols.now) section.now.index.0 section.now.name)) }
+        ensures fault { Refuses is_memory result (btf_maps_fault self.now.reading self.now.types (map.get symbols.now) section.now.index.0 section.now.name) }
     {
         if let Some(distinct) = self.distinct.get(section.name) {
             return distinct.put(alloc, maps, section, symbols);
@@ -142,13 +149,20 @@ impl<'b> DeclaredMaps<'b> {
         section: &Section<'_>,
         symbols: &ByName<usize>,
     ) -> Result<Items<(Text, Map)>, ParseError>
-        ensures found { IfOk result (λ found. found ≡ btf_maps self.now (map.get symbols.now) section.now.index.0 section.now.name) }
-        ensures fault { Refuses is_memory result (btf_maps_fault self.now (map.get symbols.now) section.now.index.0 section.now.name) }
+        ensures found { IfOk result (λ found. found ≡ btf_maps self.now.reading self.now.types (map.get symbols.now) section.now.index.0 section.now.name) }
+        ensures fault { Refuses is_memory result (btf_maps_fault self.now.reading self.now.types (map.get symbols.now) section.now.index.0 section.now.name) }
     {
         let Some(ids) = self.sections.by_name.get(section.name) else {
-            return collect_btf_maps(alloc, self.btf, section, symbols);
+            return collect_btf_maps(alloc, self.btf, self.reading, section, symbols);
         };
-        let found = collect_sections(alloc, self.btf, section, symbols, ids.as_slice())?;
+        let found = collect_sections(
+            alloc,
+            self.btf,
+            self.reading,
+            section,
+            symbols,
+            ids.as_slice(),
+        )?;
         match self.sections.unreadable {
             Some(offset) => Err(ParseError::BtfError(BtfError::InvalidStringOffset { offset })),
             None => Ok(found),

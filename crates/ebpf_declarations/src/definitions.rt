@@ -8,7 +8,7 @@ use crate::map_member::MapNumber;
 use crate::saying::Saying;
 use ebpf_parts::maps::{BtfMapDef, PinningType};
 
-/// The size of a value that is a map, in bytes.
+/// The size of a value that is a map or a program, in bytes.
 const MAP_VALUE: u32 = 4;
 
 /// The definition of a map, and of the maps that it holds.
@@ -108,6 +108,17 @@ impl MapDefinitions {
                     ..def
                 },
                 inner_def: Some(inner),
+            },
+            Saying::Programs => MapDefinitions {
+                def: BtfMapDef {
+                    value_size: MAP_VALUE,
+                    ..def
+                },
+                inner_def: None,
+            },
+            Saying::Extra(map_extra) => MapDefinitions {
+                def: BtfMapDef { map_extra, ..def },
+                inner_def,
             },
             Saying::Nothing => self,
         }

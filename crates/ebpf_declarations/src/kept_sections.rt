@@ -19,6 +19,7 @@ use crate::maps::{declared, variable};
 use crate::named_sections::{NamedSections, entries_at};
 use ebpf_base::ByName;
 use ebpf_btf::{Btf, BtfError, DataSecEntry};
+use ebpf_parts::Reading;
 use std::alloc::Global;
 
 /// The number of the name of an entry's VAR, where a name was read at its offset before, and the id of the type that
@@ -38,16 +39,17 @@ fn known_name(distinct: &DistinctMaps, btf: &Btf, entry: &DataSecEntry) -> Optio
 fn held_says(
     alloc: Global,
     btf: &Btf,
+    reading: Reading,
     known: &mut KnownStructs,
     name: &str,
     type_id: u32,
 ) -> Result<MapDefinitions, BtfError>
-    requires { Knows btf.now known.old }
-    ensures says { Gives is_memory result (held_says btf.now name.now type_id) }
-    ensures known { OnOk result (Knows btf.now known.new) }
+    requires { Knows reading btf.now known.old }
+    ensures says { Gives is_memory result (held_says reading btf.now name.now type_id) }
+    ensures known { OnOk result (Knows reading btf.now known.new) }
 {
     let held = btf.resolve_type(type_id)?;
-    said_by_struct(alloc, btf, known, name, held)
+    said_by_struct(alloc, btf, reading, known, name, held)
 }
 
 /// Adds a map whose name has a number, and which a type defines.
@@ -55,19 +57,20 @@ fn add_known(
     alloc: Global,
     distinct: &mut DistinctMaps,
     btf: &Btf,
+    reading: Reading,
     known: &mut KnownStructs,
     number: usize,
     type_id: u32,
 ) -> Result<(), BtfError>
     requires named { AreNamed distinct.old }
-    requires known { Knows btf.now known.old }
-    ensures known { OnOk result (Knows btf.now known.new) }
-    ensures added { (name : List ℕ) → map.get distinct.old.numbers name ≡ Some number → OnOk result ((d : MapDefinitions) × (held_says btf.now name type_id ≡ Ok d) × IsWith distinct.old name d distinct.new) }
+    requires known { Knows reading btf.now known.old }
+    ensures known { OnOk result (Knows reading btf.now known.new) }
+    ensures added { (name : List ℕ) → map.get distinct.old.numbers name ≡ Some number → OnOk result ((d : MapDefinitions) × (held_says reading btf.now name type_id ≡ Ok d) × IsWith distinct.old name d distinct.new) }
 {
     let Some(name) = distinct.names.get(number) else {
         return Err(BtfError::InvalidSymbolName);
     };
-    let definitions = held_says(alloc, btf, known, name.as_str(), type_id)?;
+    let definitions = held_says(alloc, btf, reading, known, name.as_str(), type_id)?;
     distinct.set(number, definitions);
     Ok(())
 }
@@ -77,18 +80,19 @@ fn add_read(
     alloc: Global,
     distinct: &mut DistinctMaps,
     btf: &Btf,
+    reading: Reading,
     known: &mut KnownStructs,
     symbols: &ByName<usize>,
     entry: &DataSecEntry,
 ) -> Result<(), BtfError>
     requires named { AreNamed distinct.old }
     requires remembers { Remembers btf.now distinct.old }
-    requires known { Knows btf.now known.old }
-    ensures known { OnOk result (Knows btf.now known.new) }
+    requires known { Knows reading btf.now known.old }
+    ensures known { OnOk result (Knows reading btf.now known.new) }
     ensures remembers { OnOk result (Remembers btf.now distinct.new) }
-    ensures added { OnOk result (Adds distinct.old distinct.new (λ symbols section. given (map_of btf.now symbols section entry.now)) (λ symbols section. fault_of (map_of btf.now symbols section entry.now))) }
+    ensures added { OnOk result (Adds distinct.old distinct.new (λ symbols section. given (map_of reading btf.now symbols section entry.now)) (λ symbols section. fault_of (map_of reading btf.now symbols section entry.now))) }
 {
-    let (name, definitions) = declared(alloc, btf, known, entry)?;
+    let (name, definitions) = declared(alloc, btf, reading, known, entry)?;
     if symbols.get(name.as_str()).is_none() {
         return Err(BtfError::InvalidSymbolName);
     }
@@ -102,20 +106,21 @@ fn add_entry(
     alloc: Global,
     distinct: &mut DistinctMaps,
     btf: &Btf,
+    reading: Reading,
     known: &mut KnownStructs,
     symbols: &ByName<usize>,
     entry: &DataSecEntry,
 ) -> Result<(), BtfError>
     requires named { AreNamed distinct.old }
     requires remembers { Remembers btf.now distinct.old }
-    requires known { Knows btf.now known.old }
-    ensures known { OnOk result (Knows btf.now known.new) }
+    requires known { Knows reading btf.now known.old }
+    ensures known { OnOk result (Knows reading btf.now known.new) }
     ensures remembers { OnOk result (Remembers btf.now distinct.new) }
-    ensures added { OnOk result (Adds distinct.old distinct.new (λ symbols section. given (map_of btf.now symbols section entry.now)) (λ symbols section. fault_of (map_of btf.now symbols section entry.now))) }
+    ensures added { OnOk result (Adds distinct.old distinct.new (λ symbols section. given (map_of reading btf.now symbols section entry.now)) (λ symbols section. fault_of (map_of reading btf.now symbols section entry.now))) }
 {
     match known_name(distinct, btf, entry) {
-        Some((number, held)) => add_known(alloc, distinct, btf, known, number, held),
-        None => add_read(alloc, distinct, btf, known, symbols, entry),
+        Some((number, held)) => add_known(alloc, distinct, btf, reading, known, number, held),
+        None => add_read(alloc, distinct, btf, reading, known, symbols, entry),
     }
 }
 
@@ -124,19 +129,20 @@ fn add_entries(
     alloc: Global,
     distinct: &mut DistinctMaps,
     btf: &Btf,
+    reading: Reading,
     known: &mut KnownStructs,
     symbols: &ByName<usize>,
     entries: &[DataSecEntry],
 ) -> Result<(), BtfError>
     requires named { AreNamed distinct.old }
     requires remembers { Remembers btf.now distinct.old }
-    requires known { Knows btf.now known.old }
-    ensures known { OnOk result (Knows btf.now known.new) }
+    requires known { Knows reading btf.now known.old }
+    ensures known { OnOk result (Knows reading btf.now known.new) }
     ensures remembers { OnOk result (Remembers btf.now distinct.new) }
-    ensures added { OnOk result (Adds distinct.old distinct.new (λ symbols section. entries_maps btf.now symbols section entries.now) (λ symbols section. entries_fault btf.now symbols section entries.now)) }
+    ensures added { OnOk result (Adds distinct.old distinct.new (λ symbols section. entries_maps reading btf.now symbols section entries.now) (λ symbols section. entries_fault reading btf.now symbols section entries.now)) }
 {
     for entry in entries {
-        add_entry(alloc, distinct, btf, known, symbols, entry)?;
+        add_entry(alloc, distinct, btf, reading, known, symbols, entry)?;
     }
     Ok(())
 }
@@ -146,18 +152,27 @@ fn add_sections(
     alloc: Global,
     distinct: &mut DistinctMaps,
     btf: &Btf,
+    reading: Reading,
     known: &mut KnownStructs,
     symbols: &ByName<usize>,
     ids: &[u32],
 ) -> Result<(), BtfError>
     requires named { AreNamed distinct.old }
     requires remembers { Remembers btf.now distinct.old }
-    requires known { Knows btf.now known.old }
-    ensures known { OnOk result (Knows btf.now known.new) }
-    ensures added { OnOk result (Adds distinct.old distinct.new (λ symbols section. ids_maps btf.now symbols section ids.now) (λ symbols section. ids_fault btf.now symbols section ids.now)) }
+    requires known { Knows reading btf.now known.old }
+    ensures known { OnOk result (Knows reading btf.now known.new) }
+    ensures added { OnOk result (Adds distinct.old distinct.new (λ symbols section. ids_maps reading btf.now symbols section ids.now) (λ symbols section. ids_fault reading btf.now symbols section ids.now)) }
 {
     for id in ids {
-        add_entries(alloc, distinct, btf, known, symbols, entries_at(btf, *id))?;
+        add_entries(
+            alloc,
+            distinct,
+            btf,
+            reading,
+            known,
+            symbols,
+            entries_at(btf, *id),
+        )?;
     }
     Ok(())
 }
@@ -168,6 +183,7 @@ fn keep_section(
     alloc: Global,
     kept: &mut ByName<DistinctMaps>,
     btf: &Btf,
+    reading: Reading,
     known: &mut KnownStructs,
     sections: &NamedSections,
     symbols: &ByName<usize>,
@@ -175,10 +191,10 @@ fn keep_section(
 ) -> Result<bool, BtfError>
     requires found { AreFound btf.now sections.now }
     requires readable { sections.now.unreadable ≡ None }
-    requires kept { AreKept btf.now kept.old }
-    requires known { Knows btf.now known.old }
-    ensures kept { OnOk result (AreKept btf.now kept.new) }
-    ensures known { IfOk result (λ clear. MatchBool clear (Knows btf.now known.new) ⊤) }
+    requires kept { AreKept reading btf.now kept.old }
+    requires known { Knows reading btf.now known.old }
+    ensures kept { OnOk result (AreKept reading btf.now kept.new) }
+    ensures known { IfOk result (λ clear. MatchBool clear (Knows reading btf.now known.new) ⊤) }
     ensures memory { IfErr result (λ e. is_memory e ≡ true) }
 {
     if kept.contains_key(name) {
@@ -188,7 +204,15 @@ fn keep_section(
         return Ok(true);
     };
     let mut distinct = DistinctMaps::none(alloc);
-    match add_sections(alloc, &mut distinct, btf, known, symbols, ids.as_slice()) {
+    match add_sections(
+        alloc,
+        &mut distinct,
+        btf,
+        reading,
+        known,
+        symbols,
+        ids.as_slice(),
+    ) {
         Ok(()) => {}
         Err(BtfError::OutOfMemory) => return Err(BtfError::OutOfMemory),
         Err(_) => return Ok(false),
@@ -202,12 +226,13 @@ fn keep_section(
 pub fn keep_sections(
     alloc: Global,
     btf: &Btf,
+    reading: Reading,
     sections: &NamedSections,
     names: &[&str],
     symbols: &ByName<usize>,
 ) -> Result<ByName<DistinctMaps>, BtfError>
     requires { AreFound btf.now sections.now }
-    ensures kept { IfOk result (λ kept. AreKept btf.now kept) }
+    ensures kept { IfOk result (λ kept. AreKept reading btf.now kept) }
     ensures memory { IfErr result (λ e. is_memory e ≡ true) }
 {
     let mut kept = ByName::new(alloc);
@@ -216,7 +241,9 @@ pub fn keep_sections(
     }
     let mut known = KnownStructs::none(alloc);
     for name in names {
-        if !keep_section(alloc, &mut kept, btf, &mut known, sections, symbols, name)? {
+        if !keep_section(
+            alloc, &mut kept, btf, reading, &mut known, sections, symbols, name,
+        )? {
             return Ok(kept);
         }
     }

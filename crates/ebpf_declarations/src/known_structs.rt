@@ -6,11 +6,13 @@ ghost use Rattle.ebpf_btf.specs.Memory.{is_memory};
 ghost use Rattle.ebpf_btf.specs.TypeInfo.{TypeInfo};
 ghost use Rattle.ebpf_declarations.specs.KnownStructs.{Knows, RemembersInner};
 ghost use Rattle.ebpf_declarations.specs.Maps.{struct_says};
+ghost use Rattle.ebpf_parts.specs.declared.reading.Reading.{Reading};
 
 use crate::definitions::MapDefinitions;
 use crate::map_sayings::definitions;
 use crate::map_structs::members_at;
 use ebpf_btf::{Btf, BtfError};
+use ebpf_parts::Reading;
 use ebpf_parts::maps::BtfMapDef;
 use std::alloc::Global;
 use std::collections::BTreeMap;
@@ -27,7 +29,7 @@ pub struct KnownStructs {
 impl KnownStructs {
     /// Where no struct was read.
     pub fn none(alloc: Global) -> KnownStructs
-        ensures { (info : TypeInfo) → Knows info result }
+        ensures { (reading : Reading) (info : TypeInfo) → Knows reading info result }
     {
         KnownStructs {
             maps: BTreeMap::new(alloc),
@@ -40,34 +42,36 @@ impl KnownStructs {
 fn read_struct(
     alloc: Global,
     btf: &Btf,
+    reading: Reading,
     inner_maps: &mut BTreeMap<u32, BtfMapDef>,
     name: &str,
     struct_id: u32,
 ) -> Result<MapDefinitions, BtfError>
-    requires { RemembersInner btf.now inner_maps.old }
-    ensures says { Gives is_memory result (struct_says btf.now name.now struct_id) }
-    ensures known { OnOk result (RemembersInner btf.now inner_maps.new) }
+    requires { RemembersInner reading btf.now inner_maps.old }
+    ensures says { Gives is_memory result (struct_says reading btf.now name.now struct_id) }
+    ensures known { OnOk result (RemembersInner reading btf.now inner_maps.new) }
 {
     let members = members_at(btf, struct_id)?;
-    definitions(alloc, btf, inner_maps, name, members)
+    definitions(alloc, btf, reading, inner_maps, name, members)
 }
 
 /// The same, read at the first map that the struct declares.
 pub fn said_by_struct(
     alloc: Global,
     btf: &Btf,
+    reading: Reading,
     known: &mut KnownStructs,
     name: &str,
     struct_id: u32,
 ) -> Result<MapDefinitions, BtfError>
-    requires { Knows btf.now known.old }
-    ensures says { Gives is_memory result (struct_says btf.now name.now struct_id) }
-    ensures known { OnOk result (Knows btf.now known.new) }
+    requires { Knows reading btf.now known.old }
+    ensures says { Gives is_memory result (struct_says reading btf.now name.now struct_id) }
+    ensures known { OnOk result (Knows reading btf.now known.new) }
 {
     if let Some(said) = known.maps.get(&struct_id) {
         return Ok(*said);
     }
-    let said = read_struct(alloc, btf, &mut known.inner_maps, name, struct_id)?;
+    let said = read_struct(alloc, btf, reading, &mut known.inner_maps, name, struct_id)?;
     known.maps.insert(struct_id, said)?;
     Ok(said)
 }

@@ -1,10 +1,15 @@
 //! What holds of the maps that types declare.
 
-ghost use Rattle.ebpf_declarations.specs.Laws.{LaterMembersStand, LaterInnerMembersStand};
+ghost use Rattle.ebpf_declarations.specs.Laws.{BroadDeclaresAsStated, LaterMembersStand, LaterInnerMembersStand};
 
 /// Of two members of one name of a struct that declares a map the later stands, also of one that declares the maps
 /// that a map holds.
 pub fn later_members_stand()
     ensures maps { LaterMembersStand }
     ensures inner_maps { LaterInnerMembersStand }
+{}
+
+/// What types declare in a section without a fault in the stated reading they declare in the broad one, without a fault.
+pub fn broad_declares_as_stated()
+    ensures { BroadDeclaresAsStated }
 {}

@@ -4,15 +4,16 @@ ghost use Rattle.std.specs.Prelude.{◌≡◌, OnOk};
 ghost use Rattle.ebpf_base.specs.Faults.{Gives};
 ghost use Rattle.ebpf_btf.specs.Memory.{is_memory};
 ghost use Rattle.ebpf_declarations.specs.KnownStructs.{RemembersInner};
-ghost use Rattle.ebpf_declarations.specs.Maps.{pinning_of, plain_saying, inner_saying_of, inner_saying, inner_definition, inner_says, saying_of, saying, definitions};
+ghost use Rattle.ebpf_declarations.specs.Maps.{pinning_of, own_extra, number_saying, are_programs, plain_saying, inner_saying_of, inner_saying, inner_definition, inner_says, saying_of, saying, definitions};
 
 use crate::definitions::MapDefinitions;
-use crate::map_member::{MapMember, member_at};
-use crate::map_structs::{held_struct, members_at};
-use crate::map_types::{number, sized_type};
+use crate::map_member::{MapMember, MapNumber, member_at};
+use crate::map_structs::{held_struct, is_prototype_at, members_at};
+use crate::map_types::{number, own_number, sized_type};
 use crate::saying::Saying;
 use ebpf_base::Text;
 use ebpf_btf::{Btf, BtfError, BtfMember};
+use ebpf_parts::Reading;
 use ebpf_parts::maps::{BtfMapDef, PinningType};
 use std::alloc::Global;
 use std::collections::BTreeMap;
@@ -26,16 +27,54 @@ fn pinning_of(number: u32) -> PinningType
     PinningType::None
 }
 
+/// What `map_extra` is itself, in the broad reading.
+fn own_extra(btf: &Btf, reading: Reading, of: MapNumber, type_id: u32) -> Option<u64>
+    ensures { result ≡ own_extra reading btf.now.types of type_id }
+{
+    match (reading, of) {
+        (Reading::Broad, MapNumber::MapExtra) => own_number(btf, type_id),
+        _ => None,
+    }
+}
+
+/// What a member says that is about a number.
+fn number_saying(
+    btf: &Btf,
+    reading: Reading,
+    of: MapNumber,
+    type_id: u32,
+) -> Result<Saying, BtfError>
+    ensures { result ≡ number_saying reading btf.now.types of type_id }
+{
+    if let Some(number) = own_extra(btf, reading, of, type_id) {
+        return Ok(Saying::Extra(number));
+    }
+    let number = number(btf, type_id)?;
+    Ok(Saying::Number { of, number })
+}
+
+/// Whether values are programs, by the type that an element points to, in the broad reading.
+fn are_programs(btf: &Btf, reading: Reading, type_id: u32) -> bool
+    ensures { result ≡ are_programs reading btf.now.types type_id }
+{
+    match reading {
+        Reading::Broad => is_prototype_at(btf, type_id),
+        Reading::Stated => false,
+    }
+}
+
 /// What a member says that is about a number or a type; others say nothing.
 #[tactic(auto, unfolding(crate::specs::Maps::plain_saying))]
-fn plain_saying(btf: &Btf, member: MapMember, type_id: u32) -> Result<Saying, BtfError>
-    ensures { result ≡ plain_saying btf.now.types member type_id }
+fn plain_saying(
+    btf: &Btf,
+    reading: Reading,
+    member: MapMember,
+    type_id: u32,
+) -> Result<Saying, BtfError>
+    ensures { result ≡ plain_saying reading btf.now.types member type_id }
 {
     match member {
-        MapMember::Number(of) => {
-            let number = number(btf, type_id)?;
-            Ok(Saying::Number { of, number })
-        }
+        MapMember::Number(of) => number_saying(btf, reading, of, type_id),
         MapMember::Pinning => Ok(Saying::Pinning(pinning_of(number(btf, type_id)?))),
         MapMember::Key => {
             let (type_id, size) = sized_type(btf, type_id)?;
@@ -54,11 +93,12 @@ fn plain_saying(btf: &Btf, member: MapMember, type_id: u32) -> Result<Saying, Bt
 fn inner_saying_of(
     alloc: Global,
     btf: &Btf,
+    reading: Reading,
     name: &str,
     member: MapMember,
     type_id: u32,
 ) -> Result<Saying, BtfError>
-    ensures { Gives is_memory result (inner_saying_of btf.now name.now member type_id) }
+    ensures { Gives is_memory result (inner_saying_of reading btf.now name.now member type_id) }
 {
     match member {
         MapMember::Pinning => Err(BtfError::InnerMapCannotBePinned {
@@ -67,7 +107,7 @@ fn inner_saying_of(
         MapMember::Values => Err(BtfError::MultiLevelMapInMapNotSupported {
             name: Text::from_str(alloc, name)?,
         }),
-        _ => plain_saying(btf, member, type_id),
+        _ => plain_saying(btf, reading, member, type_id),
     }
 }
 
@@ -76,13 +116,14 @@ fn inner_saying_of(
 fn inner_saying(
     alloc: Global,
     btf: &Btf,
+    reading: Reading,
     name: &str,
     member: &BtfMember,
 ) -> Result<Saying, BtfError>
-    ensures { Gives is_memory result (inner_saying btf.now name.now member.now) }
+    ensures { Gives is_memory result (inner_saying reading btf.now name.now member.now) }
 {
     let about = member_at(btf, member)?;
-    inner_saying_of(alloc, btf, name, about, member.btf_type)
+    inner_saying_of(alloc, btf, reading, name, about, member.btf_type)
 }
 
 /// What members say of an inner map of the map with a name.
@@ -90,14 +131,15 @@ fn inner_saying(
 fn inner_definition(
     alloc: Global,
     btf: &Btf,
+    reading: Reading,
     name: &str,
     members: &[BtfMember],
 ) -> Result<BtfMapDef, BtfError>
-    ensures { Gives is_memory result (inner_definition btf.now name.now members.now) }
+    ensures { Gives is_memory result (inner_definition reading btf.now name.now members.now) }
 {
     let mut all = MapDefinitions::none();
     for member in members {
-        all = all.with(inner_saying(alloc, btf, name, member)?);
+        all = all.with(inner_saying(alloc, btf, reading, name, member)?);
     }
     Ok(all.def)
 }
@@ -106,31 +148,33 @@ fn inner_definition(
 fn read_inner_struct(
     alloc: Global,
     btf: &Btf,
+    reading: Reading,
     name: &str,
     struct_id: u32,
 ) -> Result<BtfMapDef, BtfError>
-    ensures { Gives is_memory result (inner_says btf.now name.now struct_id) }
+    ensures { Gives is_memory result (inner_says reading btf.now name.now struct_id) }
 {
     let members = members_at(btf, struct_id)?;
-    inner_definition(alloc, btf, name, members)
+    inner_definition(alloc, btf, reading, name, members)
 }
 
 /// The same, read at the first map that holds such maps.
 fn said_by_inner_struct(
     alloc: Global,
     btf: &Btf,
+    reading: Reading,
     known: &mut BTreeMap<u32, BtfMapDef>,
     name: &str,
     struct_id: u32,
 ) -> Result<BtfMapDef, BtfError>
-    requires { RemembersInner btf.now known.old }
-    ensures says { Gives is_memory result (inner_says btf.now name.now struct_id) }
-    ensures known { OnOk result (RemembersInner btf.now known.new) }
+    requires { RemembersInner reading btf.now known.old }
+    ensures says { Gives is_memory result (inner_says reading btf.now name.now struct_id) }
+    ensures known { OnOk result (RemembersInner reading btf.now known.new) }
 {
     if let Some(said) = known.get(&struct_id) {
         return Ok(*said);
     }
-    let said = read_inner_struct(alloc, btf, name, struct_id)?;
+    let said = read_inner_struct(alloc, btf, reading, name, struct_id)?;
     known.insert(struct_id, said)?;
     Ok(said)
 }
@@ -140,20 +184,24 @@ fn said_by_inner_struct(
 fn saying_of(
     alloc: Global,
     btf: &Btf,
+    reading: Reading,
     known: &mut BTreeMap<u32, BtfMapDef>,
     name: &str,
     member: MapMember,
     type_id: u32,
 ) -> Result<Saying, BtfError>
-    requires { RemembersInner btf.now known.old }
-    ensures says { Gives is_memory result (saying_of btf.now name.now member type_id) }
-    ensures known { OnOk result (RemembersInner btf.now known.new) }
+    requires { RemembersInner reading btf.now known.old }
+    ensures says { Gives is_memory result (saying_of reading btf.now name.now member type_id) }
+    ensures known { OnOk result (RemembersInner reading btf.now known.new) }
 {
     if member != MapMember::Values {
-        return plain_saying(btf, member, type_id);
+        return plain_saying(btf, reading, member, type_id);
     }
     let held = held_struct(alloc, btf, name, type_id)?;
-    let inner = said_by_inner_struct(alloc, btf, known, name, held)?;
+    if are_programs(btf, reading, held) {
+        return Ok(Saying::Programs);
+    }
+    let inner = said_by_inner_struct(alloc, btf, reading, known, name, held)?;
     Ok(Saying::Values(inner))
 }
 
@@ -162,16 +210,17 @@ fn saying_of(
 fn saying(
     alloc: Global,
     btf: &Btf,
+    reading: Reading,
     known: &mut BTreeMap<u32, BtfMapDef>,
     name: &str,
     member: &BtfMember,
 ) -> Result<Saying, BtfError>
-    requires { RemembersInner btf.now known.old }
-    ensures says { Gives is_memory result (saying btf.now name.now member.now) }
-    ensures known { OnOk result (RemembersInner btf.now known.new) }
+    requires { RemembersInner reading btf.now known.old }
+    ensures says { Gives is_memory result (saying reading btf.now name.now member.now) }
+    ensures known { OnOk result (RemembersInner reading btf.now known.new) }
 {
     let about = member_at(btf, member)?;
-    saying_of(alloc, btf, known, name, about, member.btf_type)
+    saying_of(alloc, btf, reading, known, name, about, member.btf_type)
 }
 
 /// What members say of the map with a name.
@@ -179,17 +228,18 @@ fn saying(
 pub fn definitions(
     alloc: Global,
     btf: &Btf,
+    reading: Reading,
     known: &mut BTreeMap<u32, BtfMapDef>,
     name: &str,
     members: &[BtfMember],
 ) -> Result<MapDefinitions, BtfError>
-    requires { RemembersInner btf.now known.old }
-    ensures says { Gives is_memory result (definitions btf.now name.now members.now) }
-    ensures known { OnOk result (RemembersInner btf.now known.new) }
+    requires { RemembersInner reading btf.now known.old }
+    ensures says { Gives is_memory result (definitions reading btf.now name.now members.now) }
+    ensures known { OnOk result (RemembersInner reading btf.now known.new) }
 {
     let mut all = MapDefinitions::none();
     for member in members {
-        all = all.with(saying(alloc, btf, known, name, member)?);
+        all = all.with(saying(alloc, btf, reading, known, name, member)?);
     }
     Ok(all)
 }

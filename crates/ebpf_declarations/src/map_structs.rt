@@ -3,12 +3,20 @@
 ghost use Rattle.std.specs.Prelude.{◌≡◌, IfOk, Ok};
 ghost use Rattle.ebpf_base.specs.Faults.{Gives, fault_of};
 ghost use Rattle.ebpf_btf.specs.Memory.{is_memory};
-ghost use Rattle.ebpf_declarations.specs.MapMembers.{members_at, pointed_struct, held_struct};
+ghost use Rattle.ebpf_declarations.specs.MapMembers.{is_prototype_at, members_at, pointed_struct, held_struct};
 
 use crate::map_types::{pointed, struct_members, unexpected};
 use ebpf_base::Text;
-use ebpf_btf::{Btf, BtfError, BtfMember};
+use ebpf_btf::{Btf, BtfError, BtfMember, BtfType};
 use std::alloc::Global;
+
+/// Whether the type with an id is one of functions.
+#[tactic(auto, unfolding(crate::specs::MapMembers::is_prototype, crate::specs::MapMembers::is_prototype_at))]
+pub fn is_prototype_at(btf: &Btf, type_id: u32) -> bool
+    ensures { result ≡ is_prototype_at btf.now.types type_id }
+{
+    matches!(btf.type_by_id(type_id), Ok(BtfType::FuncProto { .. }))
+}
 
 /// The members of the STRUCT with an id.
 #[tactic(auto, unfolding(crate::specs::MapMembers::members_at))]

@@ -4,7 +4,7 @@ ghost use Rattle.std.specs.Prelude.{◌≡◌, Some};
 ghost use Rattle.std.specs.Option.{option_copied};
 ghost use Rattle.ebpf_base.specs.Faults.{Gives};
 ghost use Rattle.ebpf_btf.specs.Memory.{is_memory};
-ghost use Rattle.ebpf_declarations.specs.MapMembers.{unexpected, pointed, struct_members, number, sized_type};
+ghost use Rattle.ebpf_declarations.specs.MapMembers.{unexpected, pointed, struct_members, number, widened, sole_value, own_number, sized_type};
 
 use ebpf_btf::{Btf, BtfError, BtfMember, BtfType};
 
@@ -52,6 +52,45 @@ pub fn number(btf: &Btf, type_id: u32) -> Result<u32, BtfError>
     match target.array() {
         Some(array) => Ok(array.len),
         None => Err(unexpected(target)),
+    }
+}
+
+/// An ENUM's value, widened by its sign.
+fn widened(value: u32) -> u64
+    ensures { result ≡ widened value }
+{
+    if value < 0x8000_0000 {
+        return value as u64;
+    }
+    value as u64 + 0xFFFF_FFFF_0000_0000
+}
+
+/// The number that an ENUM or ENUM64 of one value is.
+#[tactic(auto, unfolding(crate::specs::MapMembers::sole_value))]
+fn sole_value(ty: &BtfType) -> Option<u64>
+    ensures { result ≡ sole_value ty.now }
+{
+    match ty {
+        BtfType::Enum { variants, .. } => match variants.as_slice() {
+            [only] => Some(widened(only.value)),
+            _ => None,
+        },
+        BtfType::Enum64 { variants, .. } => match variants.as_slice() {
+            [only] => Some(only.value_high as u64 * 0x1_0000_0000 + only.value_low as u64),
+            _ => None,
+        },
+        _ => None,
+    }
+}
+
+/// The number that a member is itself, past types that stand for others.
+#[tactic(auto, unfolding(crate::specs::MapMembers::own_number))]
+pub fn own_number(btf: &Btf, type_id: u32) -> Option<u64>
+    ensures { result ≡ own_number btf.now.types type_id }
+{
+    match btf.resolved_type(type_id) {
+        Ok(ty) => sole_value(ty),
+        Err(_) => None,
     }
 }
 

@@ -16,7 +16,7 @@ use crate::map_types::unexpected;
 use ebpf_base::{ByName, Items, Text};
 use ebpf_btf::{Btf, BtfError, BtfType, DataSecEntry};
 use ebpf_parts::maps::{BtfMap, Map};
-use ebpf_parts::{ParseError, Section};
+use ebpf_parts::{ParseError, Reading, Section};
 use std::alloc::Global;
 
 /// The id of the type that a VAR holds.
@@ -35,12 +35,13 @@ pub fn variable(ty: &BtfType) -> Option<u32>
 pub fn declared(
     alloc: Global,
     btf: &Btf,
+    reading: Reading,
     known: &mut KnownStructs,
     entry: &DataSecEntry,
 ) -> Result<(Text, MapDefinitions), BtfError>
-    requires { Knows btf.now known.old }
-    ensures declared { Gives is_btf_memory result (declared btf.now entry.now) }
-    ensures known { OnOk result (Knows btf.now known.new) }
+    requires { Knows reading btf.now known.old }
+    ensures declared { Gives is_btf_memory result (declared reading btf.now entry.now) }
+    ensures known { OnOk result (Knows reading btf.now known.new) }
 {
     let ty = btf.type_by_id(entry.btf_type)?;
     let Some(held) = variable(ty) else {
@@ -48,7 +49,7 @@ pub fn declared(
     };
     let name = Text::from_str(alloc, btf.type_name(ty)?.as_str())?;
     let held = btf.resolve_type(held)?;
-    let definitions = said_by_struct(alloc, btf, known, name.as_str(), held)?;
+    let definitions = said_by_struct(alloc, btf, reading, known, name.as_str(), held)?;
     Ok((name, definitions))
 }
 
@@ -75,16 +76,17 @@ pub fn map_at(
 fn map_of(
     alloc: Global,
     btf: &Btf,
+    reading: Reading,
     known: &mut KnownStructs,
     section: &Section<'_>,
     symbols: &ByName<usize>,
     entry: &DataSecEntry,
 ) -> Result<(Text, Map), ParseError>
-    requires { Knows btf.now known.old }
-    ensures map { Gives is_memory result (map_of btf.now (map.get symbols.now) section.now.index.0 entry.now) }
-    ensures known { OnOk result (Knows btf.now known.new) }
+    requires { Knows reading btf.now known.old }
+    ensures map { Gives is_memory result (map_of reading btf.now (map.get symbols.now) section.now.index.0 entry.now) }
+    ensures known { OnOk result (Knows reading btf.now known.new) }
 {
-    let (name, definitions) = match declared(alloc, btf, known, entry) {
+    let (name, definitions) = match declared(alloc, btf, reading, known, entry) {
         Ok(declared) => declared,
         Err(error) => return Err(parse_error(error)),
     };
@@ -101,18 +103,19 @@ pub fn add_entries(
     alloc: Global,
     found: &mut Items<(Text, Map)>,
     btf: &Btf,
+    reading: Reading,
     known: &mut KnownStructs,
     section: &Section<'_>,
     symbols: &ByName<usize>,
     entries: &[DataSecEntry],
 ) -> Result<(), ParseError>
-    requires { Knows btf.now known.old }
-    ensures known { OnOk result (Knows btf.now known.new) }
-    ensures added { OnOk result (found.new ≡ found.old ++ entries_maps btf.now (map.get symbols.now) section.now.index.0 entries.now) }
-    ensures fault { Refuses is_memory result (entries_fault btf.now (map.get symbols.now) section.now.index.0 entries.now) }
+    requires { Knows reading btf.now known.old }
+    ensures known { OnOk result (Knows reading btf.now known.new) }
+    ensures added { OnOk result (found.new ≡ found.old ++ entries_maps reading btf.now (map.get symbols.now) section.now.index.0 entries.now) }
+    ensures fault { Refuses is_memory result (entries_fault reading btf.now (map.get symbols.now) section.now.index.0 entries.now) }
 {
     for entry in entries {
-        found.push(map_of(alloc, btf, known, section, symbols, entry)?)?;
+        found.push(map_of(alloc, btf, reading, known, section, symbols, entry)?)?;
     }
     Ok(())
 }
@@ -123,18 +126,21 @@ fn add_type(
     alloc: Global,
     found: &mut Items<(Text, Map)>,
     btf: &Btf,
+    reading: Reading,
     known: &mut KnownStructs,
     section: &Section<'_>,
     symbols: &ByName<usize>,
     ty: &BtfType,
 ) -> Result<(), ParseError>
-    requires { Knows btf.now known.old }
-    ensures known { OnOk result (Knows btf.now known.new) }
-    ensures added { OnOk result (found.new ≡ found.old ++ type_maps btf.now (map.get symbols.now) section.now.index.0 section.now.name ty.now) }
-    ensures fault { Refuses is_memory result (type_fault btf.now (map.get symbols.now) section.now.index.0 section.now.name ty.now) }
+    requires { Knows reading btf.now known.old }
+    ensures known { OnOk result (Knows reading btf.now known.new) }
+    ensures added { OnOk result (found.new ≡ found.old ++ type_maps reading btf.now (map.get symbols.now) section.now.index.0 section.now.name ty.now) }
+    ensures fault { Refuses is_memory result (type_fault reading btf.now (map.get symbols.now) section.now.index.0 section.now.name ty.now) }
 {
     match section_entries(btf, section.name, ty) {
-        Ok(Some(entries)) => add_entries(alloc, found, btf, known, section, symbols, entries),
+        Ok(Some(entries)) => add_entries(
+            alloc, found, btf, reading, known, section, symbols, entries,
+        ),
         Ok(None) => Ok(()),
         Err(error) => Err(parse_error(error)),
     }
@@ -151,16 +157,19 @@ fn add_type(
 pub fn collect_btf_maps(
     alloc: Global,
     btf: &Btf,
+    reading: Reading,
     section: &Section<'_>,
     symbols: &ByName<usize>,
 ) -> Result<Items<(Text, Map)>, ParseError>
-    ensures found { IfOk result (λ found. found ≡ btf_maps btf.now (map.get symbols.now) section.now.index.0 section.now.name) }
-    ensures fault { Refuses is_memory result (btf_maps_fault btf.now (map.get symbols.now) section.now.index.0 section.now.name) }
+    ensures found { IfOk result (λ found. found ≡ btf_maps reading btf.now (map.get symbols.now) section.now.index.0 section.now.name) }
+    ensures fault { Refuses is_memory result (btf_maps_fault reading btf.now (map.get symbols.now) section.now.index.0 section.now.name) }
 {
     let mut found = Items::new(alloc);
     let mut known = KnownStructs::none(alloc);
     for ty in btf.types() {
-        add_type(alloc, &mut found, btf, &mut known, section, symbols, ty)?;
+        add_type(
+            alloc, &mut found, btf, reading, &mut known, section, symbols, ty,
+        )?;
     }
     Ok(found)
 }

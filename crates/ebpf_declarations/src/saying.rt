@@ -16,6 +16,10 @@ pub enum Saying {
     Value { type_id: u32, size: u32 },
     /// The maps that it holds.
     Values(BtfMapDef),
+    /// That it holds programs.
+    Programs,
+    /// What the map's type asks further, in 64 bits.
+    Extra(u64),
     /// Nothing.
     Nothing,
 }

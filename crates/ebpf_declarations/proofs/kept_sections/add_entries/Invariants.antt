@@ -7,7 +7,7 @@ use Rattle.ebpf_declarations.proofs.kept_sections.add_entries.Given as goal
 -- what the entries so far declare is added
 abbrev pub invariant-loop-entry : goal.invariant-loop-entry
 invariant-loop-entry l = record {
-  known : Knows l.btf l.known;
+  known : Knows l.reading l.btf l.known;
   remembers : Remembers l.btf l.distinct;
-  added : Adds l.fn.distinct l.distinct (λ symbols section. entries_maps l.btf symbols section (take l.entry-index l.entries)) (λ symbols section. entries_fault l.btf symbols section (take l.entry-index l.entries));
+  added : Adds l.fn.distinct l.distinct (λ symbols section. entries_maps l.reading l.btf symbols section (take l.entry-index l.entries)) (λ symbols section. entries_fault l.reading l.btf symbols section (take l.entry-index l.entries));
 }

@@ -1,4 +1,4 @@
-use Rattle.std.proofs.Common.{◌≡◌, ◌∙◌, ℕ, Ok, Err, Result, OnOk, sym}
+use Rattle.std.proofs.Common.{Ok, Err, Result, OnOk}
 use Rattle.ebpf_btf.specs.Types.{name_of}
 use Rattle.ebpf_declarations.proofs.Distinct.{entry_added}
 use Rattle.ebpf_declarations.proofs.MoreMaps.{known_declared, still_remembered}
@@ -20,5 +20,5 @@ returns-in-Some-clause-added c =
     let info = c.args.btf.now in
     let known = c.in-Some.ensures in
     let name = c.requires.remembers.at (name_of known.0) c.in-Some.number known.3 in
-    when_ok c.add_known.result (λ p. entry_added info c.args.entry.now c.args.distinct.now c.add_known.new.distinct name.0 p.0 c.requires.named
-    (known_declared info c.args.entry.now known.0 c.in-Some.held name.0 p.0 known.1 known.2 name.1 p.1) p.2) (c.add_known.ensures.added name.0 name.2)
+    when_ok c.add_known.result (λ p. entry_added c.args.reading info c.args.entry.now c.args.distinct.now c.add_known.new.distinct name.0 p.0 c.requires.named
+    (known_declared c.args.reading info c.args.entry.now known.0 c.in-Some.held name.0 p.0 known.1 known.2 name.1 p.1) p.2) (c.add_known.ensures.added name.0 name.2)

@@ -7,7 +7,7 @@ use Rattle.ebpf_declarations.proofs.kept_sections.add_sections.Given as goal
 -- what the DATASECs so far declare is added
 abbrev pub invariant-loop-id : goal.invariant-loop-id
 invariant-loop-id l = record {
-  known : Knows l.btf l.known;
+  known : Knows l.reading l.btf l.known;
   remembers : Remembers l.btf l.distinct;
-  added : Adds l.fn.distinct l.distinct (λ symbols section. ids_maps l.btf symbols section (take l.id-index l.ids)) (λ symbols section. ids_fault l.btf symbols section (take l.id-index l.ids));
+  added : Adds l.fn.distinct l.distinct (λ symbols section. ids_maps l.reading l.btf symbols section (take l.id-index l.ids)) (λ symbols section. ids_fault l.reading l.btf symbols section (take l.id-index l.ids));
 }

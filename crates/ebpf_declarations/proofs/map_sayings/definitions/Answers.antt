@@ -6,7 +6,7 @@ use Rattle.ebpf_declarations.proofs.map_sayings.definitions.Goals as goal
 pub loop-member-preserved : goal.loop-member-preserved
 loop-member-preserved c = record {
   known = c.in_ok-saying.ensures.known;
-  says = sym (more_said (saying c.args.btf.now c.args.name.now) c.loop-member.all c.with-all.result c.args.members.now c.loop-member.member-index _ c.in_ok-saying.field-0
+  says = sym (more_said (saying c.args.reading c.args.btf.now c.args.name.now) c.loop-member.all c.with-all.result c.args.members.now c.loop-member.member-index _ c.in_ok-saying.field-0
       c.loop-member-test.true c.in_ok-saying.ensures.says c.with-all.ensures)
       ∙ c.loop-member.invariant.says;
 }

@@ -6,6 +6,6 @@ use Rattle.ebpf_declarations.proofs.map_sayings.definitions.Given as goal
 -- with what the members from here on say it is what all say
 abbrev pub invariant-loop-member : goal.invariant-loop-member
 invariant-loop-member l = record {
-  known : RemembersInner l.btf l.known;
-  says : with_members (saying l.btf l.name) l.all (drop l.member-index l.members) ≡ definitions l.fn.btf l.fn.name l.fn.members;
+  known : RemembersInner l.reading l.btf l.known;
+  says : with_members (saying l.reading l.btf l.name) l.all (drop l.member-index l.members) ≡ definitions l.fn.reading l.fn.btf l.fn.name l.fn.members;
 }

@@ -7,7 +7,7 @@ use Rattle.ebpf_declarations.proofs.maps.add_entries.Given as goal
 -- what is left to do from here is what was to do from the start
 abbrev pub invariant-loop-entry : goal.invariant-loop-entry
 invariant-loop-entry l = record {
-  known : Knows l.btf l.known;
-  added : l.found ++ entries_maps l.btf (get l.symbols) l.section.index.0 (drop l.entry-index l.entries) ≡ l.fn.found ++ entries_maps l.btf (get l.symbols) l.section.index.0 l.entries;
-  fault : entries_fault l.btf (get l.symbols) l.section.index.0 (drop l.entry-index l.entries) ≡ entries_fault l.btf (get l.symbols) l.section.index.0 l.entries;
+  known : Knows l.reading l.btf l.known;
+  added : l.found ++ entries_maps l.reading l.btf (get l.symbols) l.section.index.0 (drop l.entry-index l.entries) ≡ l.fn.found ++ entries_maps l.reading l.btf (get l.symbols) l.section.index.0 l.entries;
+  fault : entries_fault l.reading l.btf (get l.symbols) l.section.index.0 (drop l.entry-index l.entries) ≡ entries_fault l.reading l.btf (get l.symbols) l.section.index.0 l.entries;
 }
