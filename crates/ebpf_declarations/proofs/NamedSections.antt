@@ -25,7 +25,7 @@ use Rattle.ebpf_btf.specs.declared.types.BtfType.{BtfType}
 use Rattle.ebpf_declarations.specs.DataSections.{MetSection, met_if, met_section, entries_of}
 use Rattle.ebpf_declarations.specs.Maps.{entries_maps, entries_fault, maps_by, fault_by, type_maps, type_fault, btf_maps, btf_maps_fault}
 use Rattle.ebpf_btf.proofs.LongNames.{too_long}
-use Rattle.ebpf_declarations.specs.NamedSections.{is_met, name_fault, noted, AreSought, AreWithin, AreNoted, entries_at, ids_maps, ids_fault, unreadable_fault, AreFound}
+use Rattle.ebpf_declarations.specs.NamedSections.{is_met, name_fault, noted, AreSought, AreWithin, Stay, AreNoted, entries_at, ids_maps, ids_fault, unreadable_fault, AreFound}
 use Rattle.ebpf_declarations.specs.declared.named_sections.NamedSections.{NamedSections}
 use Rattle.ebpf_parts.specs.declared.error.ParseError.TheVariants as errors
 use Rattle.ebpf_parts.specs.declared.reading.Reading.{Reading}
@@ -82,6 +82,19 @@ module _ (m : FinMap text_cmp (List ℕ)) (name : List ℕ) (id : ℕ) (q ids : 
           put (bytes_eq name q) refl had is
           (sym (get-insert text_total m name (had ++ id ∷ []) q ∙ ap (λ b. cond b (Some (had ++ id ∷ [])) (get m q)) (same_tests q name)) ∙ there)
 
+-- a name that was sought is sought still
+noted_stay : (m : FinMap text_cmp (List ℕ)) (name : List ℕ) (id : ℕ) (q : List ℕ) → is_some (get m q) ≡ true → is_some (get (noted m name id) q) ≡ true
+unfolding noted
+noted_stay m name id q there = by_had (get m name)
+  where
+    put : (b : Bool) (had : List ℕ) → is_some (cond b (Some had) (get m q)) ≡ true
+    put true had = refl
+    put false had = there
+
+    by_had : (o : Option (List ℕ)) → is_some (get (if_some o (λ had. insert m name (had ++ id ∷ [])) m) q) ≡ true
+    by_had None = there
+    by_had (Some had) = ap is_some (get-insert text_total m name (had ++ id ∷ []) q) ∙ put (eq_by_cmp text_cmp q name) (had ++ id ∷ [])
+
 -- one more id of a name that is sought
 pub noted_more : (m n : FinMap text_cmp (List ℕ)) (name ids : List ℕ) (id : ℕ) → get m name ≡ Some ids → n ≡ insert m name (ids ++ (id ∷ [])) → n ≡ noted m name id
 unfolding noted
@@ -105,6 +118,17 @@ sought_more longest more m n name before up here is = record { is = λ q ids at.
         let was : (ids ≡ []) × (length q ≤ longest) = before.is q ids there in
         (was.0, omega (arith, was.1))
 
+-- one name alone is sought
+pub one_sought : (m n : FinMap text_cmp (List ℕ)) (name : List ℕ) (longest : ℕ) → m ≡ empty → longest ≡ length name → n ≡ insert m name [] → AreSought longest n
+one_sought m n name longest none long put = sought_more 0 longest m n name (none_sought 0 m none) (omega (arith)) (omega (arith, long)) put
+
+pub one_there : (m n : FinMap text_cmp (List ℕ)) (name : List ℕ) → n ≡ insert m name [] → is_some (get n name) ≡ true
+one_there m n name put = ap (λ x. is_some (get x name)) put ∙ ap is_some (get-insert text_total m name [] name) ∙ by_test (eq_by_cmp text_cmp name name) ((eq_by_cmp_equiv text_total).refl name)
+  where
+    by_test : (b : Bool) → b ≡ true → is_some (cond b (Some []) (get m name)) ≡ true
+    by_test true e = refl
+    by_test false e = absurd (cc)
+
 -- ---- lists
 
 pub flat_map-append : {A X : Type 0} (f : A → List X) (xs ys : List A) → flat_map f (xs ++ ys) ≡ flat_map f xs ++ flat_map f ys
@@ -126,22 +150,24 @@ first_some-append f (x ∷ xs) ys = ap (or_else (f x)) (first_some-append f xs y
 -- ---- the types that are left
 
 -- what the ids so far and the types that are left declare is what all types declare
-pub record AreGathered (info : TypeInfo) (longest : ℕ) (m : FinMap text_cmp (List ℕ)) (rest : List BtfType) : Type 0 where
+pub record AreGathered (info : TypeInfo) (start : FinMap text_cmp (List ℕ)) (longest : ℕ) (m : FinMap text_cmp (List ℕ)) (rest : List BtfType) : Type 0 where
+  pub stay : Stay start m
   pub within : AreWithin longest m
   pub maps : (reading : Reading) (q ids : List ℕ) → get m q ≡ Some ids → (symbols : List ℕ → Option ℕ) (section : ℕ)
       → ids_maps reading info symbols section ids ++ flat_map (type_maps reading info symbols section q) rest ≡ btf_maps reading info symbols section q
   pub fault : (reading : Reading) (q ids : List ℕ) → get m q ≡ Some ids → (symbols : List ℕ → Option ℕ) (section : ℕ)
       → or_else (ids_fault reading info symbols section ids) (first_some (type_fault reading info symbols section q) rest) ≡ btf_maps_fault reading info symbols section q
 
-pub all_left : (info : TypeInfo) (longest : ℕ) (m : FinMap text_cmp (List ℕ)) → AreSought longest m → AreGathered info longest m info.types
+pub all_left : (info : TypeInfo) (longest : ℕ) (m : FinMap text_cmp (List ℕ)) → AreSought longest m → AreGathered info m longest m info.types
 all_left info longest m sought = record {
+  stay = λ q there. there;
   within = record { is = λ q ids at. (sought.is q ids at).1 };
   maps = λ reading q ids at symbols section. ap (λ l. ids_maps reading info symbols section l ++ flat_map (type_maps reading info symbols section q) info.types) (sought.is q ids at).0;
   fault = λ reading q ids at symbols section. ap (λ l. or_else (ids_fault reading info symbols section l) (first_some (type_fault reading info symbols section q) info.types)) (sought.is q ids at).0;
 }
 
-pub none_left : (info : TypeInfo) (longest : ℕ) (found : NamedSections) → AreGathered info longest found.by_name [] → found.unreadable ≡ None → AreFound info found
-none_left info longest found gathered readable = record {
+pub none_left : (info : TypeInfo) (start : FinMap text_cmp (List ℕ)) (longest : ℕ) (found : NamedSections) → AreGathered info start longest found.by_name [] → found.unreadable ≡ None → AreFound info found
+none_left info start longest found gathered readable = record {
   maps = λ reading q ids at none symbols section. sym (append-nil (ids_maps reading info symbols section ids)) ∙ gathered.maps reading q ids at symbols section;
   fault = λ reading q ids at symbols section. ap (λ u. or_else (ids_fault reading info symbols section ids) (unreadable_fault u)) readable ∙ gathered.fault reading q ids at symbols section;
 }
@@ -193,7 +219,10 @@ met_text (Some es) (Ok name) q = by_name (bytes_eq name q)
 -- a type that was looked at, by its entries and its name
 module _ (info : TypeInfo) (t : BtfType) (id : ℕ) (m : FinMap text_cmp (List ℕ)) where
   same_ids : ((q ids : List ℕ) → get m q ≡ Some ids → is_met (met_section info q t) ≡ false) → AreNoted info t id m m
-  same_ids other = record { ids = λ q ids at. (ids, at, sym (append-nil ids) ∙ ap (λ b. ids ++ (if b then id ∷ [] else [])) (sym (other q ids at))) }
+  same_ids other = record {
+    ids = λ q ids at. (ids, at, sym (append-nil ids) ∙ ap (λ b. ids ++ (if b then id ∷ [] else [])) (sym (other q ids at)));
+    stay = λ q there. there;
+  }
 
   pub not_section : is_some (entries_of t) ≡ false → AreNoted info t id m m × (name_fault info t ≡ None)
   unfolding met_section name_fault
@@ -251,6 +280,7 @@ module _ (info : TypeInfo) (t : BtfType) (id : ℕ) (m : FinMap text_cmp (List �
       ids = λ q ids at.
           let p : (had : List ℕ) × (get m q ≡ Some had) × (ids ≡ had ++ (if bytes_eq name q then id ∷ [] else [])) = noted_ids m name id q ids (ap (λ x. get x q) (sym put) ∙ at) in
           (p.0, p.1, p.2 ∙ ap (λ b. p.0 ++ (if b then id ∷ [] else [])) (sym (met_text (entries_of t) (text_at info.strings (name_of t)) q ∙ by_entries (entries_of t) section (text_at info.strings (name_of t)) is q)));
+      stay = λ q there. ap (λ x. is_some (get x q)) put ∙ noted_stay m name id q there;
     },
     readable right,
   )
@@ -264,11 +294,12 @@ module _ (info : TypeInfo) (t : BtfType) where
   unfolding entries_at
   here id at = ap (λ o. if_some o (λ t. if_some (entries_of t) (λ entries. entries) []) []) at
 
-  module _ (longest : ℕ) (m : FinMap text_cmp (List ℕ)) (rest : List BtfType) (gathered : AreGathered info longest m (t ∷ rest)) where
+  module _ (start : FinMap text_cmp (List ℕ)) (longest : ℕ) (m : FinMap text_cmp (List ℕ)) (rest : List BtfType) (gathered : AreGathered info start longest m (t ∷ rest)) where
     -- a type that was looked at
-    pub one_less : (id : ℕ) (n : FinMap text_cmp (List ℕ)) → AreNoted info t id m n → name_fault info t ≡ None → slice_get info.types id ≡ Some t → AreGathered info longest n rest
+    pub one_less : (id : ℕ) (n : FinMap text_cmp (List ℕ)) → AreNoted info t id m n → name_fault info t ≡ None → slice_get info.types id ≡ Some t → AreGathered info start longest n rest
     unfolding met_section name_fault type_maps type_fault
     one_less id n noted readable at = record {
+      stay = λ q there. noted.stay q (gathered.stay q there);
       within = record { is = λ q ids there. let p = noted.ids q ids there in gathered.within.is q p.0 p.1 };
       maps = λ reading q ids there symbols section.
           let p : (had : List ℕ) × (get m q ≡ Some had) × (ids ≡ had ++ (if is_met (met_section info q t) then id ∷ [] else [])) = noted.ids q ids there in

@@ -1,5 +1,5 @@
 -- The DATASECs of some names, found in one pass over the types.
-use Rattle.std.specs.Prelude.{◌≡◌, ◌≤◌, ◌++◌, ℕ, Bool, true, false, List, [], ◌∷◌, length, Option, Some, None, slice_get, if◌then◌else◌}
+use Rattle.std.specs.Prelude.{◌≡◌, ◌≤◌, ◌++◌, ℕ, Bool, true, false, List, [], ◌∷◌, length, Option, Some, None, is_some, slice_get, if◌then◌else◌}
 use Rattle.std.specs.Bool.{MatchBool}
 use Rattle.std.specs.FinMap.{FinMap, get, insert}
 use Rattle.std.specs.List.{flat_map}
@@ -46,10 +46,15 @@ pub record AreSought (longest : ℕ) (found : FinMap text_cmp (List ℕ)) : Type
 pub record AreWithin (longest : ℕ) (found : FinMap text_cmp (List ℕ)) : Type 0 where
   pub is : (name ids : List ℕ) → get found name ≡ Some ids → length name ≤ longest
 
+-- each name that was sought is sought still
+abbrev pub Stay : FinMap text_cmp (List ℕ) → FinMap text_cmp (List ℕ) → Type 0
+Stay before after = (name : List ℕ) → is_some (get before name) ≡ true → is_some (get after name) ≡ true
+
 -- of each name that is sought the id of this type is added, where it is a DATASEC of the name
 pub record AreNoted (info : TypeInfo) (t : BtfType) (id : ℕ) (before after : FinMap text_cmp (List ℕ)) : Type 0 where
   pub ids : (name ids : List ℕ) → get after name ≡ Some ids
       → (had : List ℕ) × (get before name ≡ Some had) × (ids ≡ had ++ (if is_met (met_section info name t) then id ∷ [] else []))
+  pub stay : Stay before after
 
 -- so it is where the type's name can be read, or else nothing changes
 abbrev pub Looked : TypeInfo → BtfType → ℕ → FinMap text_cmp (List ℕ) → FinMap text_cmp (List ℕ) → Bool → Type 0

@@ -1,6 +1,6 @@
 //! The maps that types declare in the sections of a file.
 
-ghost use Rattle.std.specs.Prelude.{◌≡◌, ◌++◌, IfOk, IfErr, OnOk, true};
+ghost use Rattle.std.specs.Prelude.{◌≡◌, ◌++◌, is_some, IfOk, IfErr, OnOk, true};
 ghost use Rattle.std.specs.FinMap as map;
 ghost use Rattle.ebpf_base.specs.Faults.{Refuses};
 ghost use Rattle.ebpf_base.specs.Keyed.{put_all};
@@ -12,9 +12,10 @@ ghost use Rattle.ebpf_declarations.specs.NamedSections.{ids_maps, ids_fault, Are
 ghost use Rattle.ebpf_parts.specs.Memory.{is_memory};
 
 use crate::distinct_maps::DistinctMaps;
+use crate::error::parse_error;
 use crate::kept_sections::keep_sections;
 use crate::known_structs::KnownStructs;
-use crate::maps::{add_entries, collect_btf_maps};
+use crate::maps::add_entries;
 use crate::named_sections::{NamedSections, entries_at};
 use ebpf_base::{ByName, Items, Text};
 use ebpf_btf::{Btf, BtfError};
@@ -64,6 +65,30 @@ fn collect_sections(
         alloc, &mut found, btf, reading, &mut known, section, symbols, ids,
     )?;
     Ok(found)
+}
+
+/// The maps that types declare in a section whose DATASECs were found.
+fn found_in(
+    alloc: Global,
+    btf: &Btf,
+    reading: Reading,
+    sections: &NamedSections,
+    section: &Section<'_>,
+    symbols: &ByName<usize>,
+) -> Result<Items<(Text, Map)>, ParseError>
+    requires found { AreFound btf.now sections.now }
+    requires there { is_some (map.get sections.now.by_name section.now.name) ≡ true }
+    ensures found { IfOk result (λ found. found ≡ btf_maps reading btf.now (map.get symbols.now) section.now.index.0 section.now.name) }
+    ensures fault { Refuses is_memory result (btf_maps_fault reading btf.now (map.get symbols.now) section.now.index.0 section.now.name) }
+{
+    let Some(ids) = sections.by_name.get(section.name) else {
+        unreachable!()
+    };
+    let found = collect_sections(alloc, btf, reading, section, symbols, ids.as_slice())?;
+    match sections.unreadable {
+        Some(offset) => Err(ParseError::BtfError(BtfError::InvalidStringOffset { offset })),
+        None => Ok(found),
+    }
 }
 
 /// Puts maps by name; the later of equal names stands.
@@ -121,8 +146,8 @@ impl<'b> DeclaredMaps<'b> {
         })
     }
 
-    /// Puts the maps that the types declare in a section by their names, as `collect_btf_maps` gives them; of equal
-    /// names the later stands. Of a section whose name was given, where no fault is, each name is put once, however
+    /// Puts the maps that the types declare in a section by their names, DATASEC by
+    /// DATASEC of the section's name and of each its entries in order; of equal names the later stands. Of a section whose name was given, where no fault is, each name is put once, however
     /// many entries declare it.
     pub fn put(
         &self,
@@ -152,20 +177,13 @@ impl<'b> DeclaredMaps<'b> {
         ensures found { IfOk result (λ found. found ≡ btf_maps self.now.reading self.now.types (map.get symbols.now) section.now.index.0 section.now.name) }
         ensures fault { Refuses is_memory result (btf_maps_fault self.now.reading self.now.types (map.get symbols.now) section.now.index.0 section.now.name) }
     {
-        let Some(ids) = self.sections.by_name.get(section.name) else {
-            return collect_btf_maps(alloc, self.btf, self.reading, section, symbols);
-        };
-        let found = collect_sections(
-            alloc,
-            self.btf,
-            self.reading,
-            section,
-            symbols,
-            ids.as_slice(),
-        )?;
-        match self.sections.unreadable {
-            Some(offset) => Err(ParseError::BtfError(BtfError::InvalidStringOffset { offset })),
-            None => Ok(found),
+        let (btf, reading) = (self.btf, self.reading);
+        if self.sections.by_name.contains_key(section.name) {
+            return found_in(alloc, btf, reading, &self.sections, section, symbols);
+        }
+        match NamedSections::of_name(alloc, btf, section.name) {
+            Ok(sections) => found_in(alloc, btf, reading, &sections, section, symbols),
+            Err(error) => Err(parse_error(error)),
         }
     }
 }

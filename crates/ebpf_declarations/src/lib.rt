@@ -24,4 +24,3 @@ mod saying;
 pub use declared_maps::DeclaredMaps;
 pub use error::parse_error;
 pub use externs::{collect_externs, may_declare_externs};
-pub use maps::collect_btf_maps;

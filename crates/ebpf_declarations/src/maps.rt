@@ -1,14 +1,13 @@
 //! The maps of a section that types declare.
 
-ghost use Rattle.std.specs.Prelude.{◌≡◌, ◌++◌, OnOk, IfOk};
+ghost use Rattle.std.specs.Prelude.{◌≡◌, ◌++◌, OnOk};
 ghost use Rattle.std.specs.FinMap as map;
 ghost use Rattle.ebpf_base.specs.Faults.{Gives, Refuses};
 ghost use Rattle.ebpf_btf.specs.Memory.{is_memory as is_btf_memory};
 ghost use Rattle.ebpf_declarations.specs.KnownStructs.{Knows};
-ghost use Rattle.ebpf_declarations.specs.Maps.{variable, declared, map_at, map_of, entries_maps, entries_fault, type_maps, type_fault, btf_maps, btf_maps_fault};
+ghost use Rattle.ebpf_declarations.specs.Maps.{variable, declared, map_at, map_of, entries_maps, entries_fault};
 ghost use Rattle.ebpf_parts.specs.Memory.{is_memory};
 
-use crate::data_sections::section_entries;
 use crate::definitions::MapDefinitions;
 use crate::error::parse_error;
 use crate::known_structs::{KnownStructs, said_by_struct};
@@ -118,58 +117,4 @@ pub fn add_entries(
         found.push(map_of(alloc, btf, reading, known, section, symbols, entry)?)?;
     }
     Ok(())
-}
-
-/// Adds the maps of a type, where it is a DATASEC of the section's name.
-#[tactic(auto, unfolding(crate::specs::Maps::type_maps, crate::specs::Maps::type_fault))]
-fn add_type(
-    alloc: Global,
-    found: &mut Items<(Text, Map)>,
-    btf: &Btf,
-    reading: Reading,
-    known: &mut KnownStructs,
-    section: &Section<'_>,
-    symbols: &ByName<usize>,
-    ty: &BtfType,
-) -> Result<(), ParseError>
-    requires { Knows reading btf.now known.old }
-    ensures known { OnOk result (Knows reading btf.now known.new) }
-    ensures added { OnOk result (found.new ≡ found.old ++ type_maps reading btf.now (map.get symbols.now) section.now.index.0 section.now.name ty.now) }
-    ensures fault { Refuses is_memory result (type_fault reading btf.now (map.get symbols.now) section.now.index.0 section.now.name ty.now) }
-{
-    match section_entries(btf, section.name, ty) {
-        Ok(Some(entries)) => add_entries(
-            alloc, found, btf, reading, known, section, symbols, entries,
-        ),
-        Ok(None) => Ok(()),
-        Err(error) => Err(parse_error(error)),
-    }
-}
-
-/// The maps that types declare in a section, with their names: DATASEC by DATASEC of the section's name, and of each
-/// its entries in order. What a struct says, of maps or of the maps that they hold, is read once. `symbols` has the
-/// numbers of the section's symbols by name, of equal names the greatest.
-///
-/// Faults in that order: `BtfError` of a DATASEC's name; of each entry `BtfError` where its type is no VAR, where
-/// its name can't be read, where its type stands for no STRUCT, and of each member; `SymbolNotFound` where the
-/// section has no symbol of the map's name. `OutOfMemory` only where memory was refused.
-#[tactic(auto, using(crate::proofs::Added::more_added, ebpf_parts::proofs::Walks::rest_more, ebpf_parts::proofs::Walks::rest_none))]
-pub fn collect_btf_maps(
-    alloc: Global,
-    btf: &Btf,
-    reading: Reading,
-    section: &Section<'_>,
-    symbols: &ByName<usize>,
-) -> Result<Items<(Text, Map)>, ParseError>
-    ensures found { IfOk result (λ found. found ≡ btf_maps reading btf.now (map.get symbols.now) section.now.index.0 section.now.name) }
-    ensures fault { Refuses is_memory result (btf_maps_fault reading btf.now (map.get symbols.now) section.now.index.0 section.now.name) }
-{
-    let mut found = Items::new(alloc);
-    let mut known = KnownStructs::none(alloc);
-    for ty in btf.types() {
-        add_type(
-            alloc, &mut found, btf, reading, &mut known, section, symbols, ty,
-        )?;
-    }
-    Ok(found)
 }

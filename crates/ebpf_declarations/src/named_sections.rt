@@ -3,7 +3,8 @@
 ghost use Rattle.std.specs.Prelude.{◌≡◌, is_some, IfOk, IfErr, OnOk, true};
 ghost use Rattle.ebpf_btf.specs.Memory.{is_memory};
 ghost use Rattle.ebpf_declarations.specs.DataSections.{entries_of};
-ghost use Rattle.ebpf_declarations.specs.NamedSections.{noted, entries_at, AreSought, AreWithin, Looked, AreFound};
+ghost use Rattle.ebpf_declarations.specs.NamedSections.{noted, entries_at, AreSought, AreWithin, Stay, Looked, AreFound};
+ghost use Rattle.std.specs.FinMap.{get};
 
 use crate::data_sections::entries_of;
 use ebpf_base::{ByName, Items};
@@ -94,24 +95,50 @@ fn sought(alloc: Global, names: &[&str]) -> Result<(ByName<Items<u32>>, usize), 
     Ok((by_name, longest))
 }
 
+/// The DATASECs of names that have no ids yet, of which none is longer.
+fn gather_into(
+    btf: &Btf,
+    by_name: ByName<Items<u32>>,
+    longest: usize,
+) -> Result<NamedSections, BtfError>
+    requires { AreSought longest by_name }
+    ensures found { IfOk result (λ found. AreFound btf.now found) }
+    ensures stay { IfOk result (λ found. Stay by_name found.by_name) }
+    ensures memory { IfErr result (λ e. is_memory e ≡ true) }
+{
+    let mut by_name = by_name;
+    for (id, ty) in btf.types().iter().enumerate() {
+        if !look_at(&mut by_name, btf, longest, id as u32, ty)? {
+            return Ok(NamedSections {
+                by_name,
+                unreadable: Some(ty.name_offset() as usize),
+            });
+        }
+    }
+    Ok(NamedSections {
+        by_name,
+        unreadable: None,
+    })
+}
+
 impl NamedSections {
     /// The DATASECs of these names. `OutOfMemory` where memory is refused.
     pub fn gather(alloc: Global, btf: &Btf, names: &[&str]) -> Result<NamedSections, BtfError>
         ensures found { IfOk result (λ found. AreFound btf.now found) }
         ensures memory { IfErr result (λ e. is_memory e ≡ true) }
     {
-        let (mut by_name, longest) = sought(alloc, names)?;
-        for (id, ty) in btf.types().iter().enumerate() {
-            if !look_at(&mut by_name, btf, longest, id as u32, ty)? {
-                return Ok(NamedSections {
-                    by_name,
-                    unreadable: Some(ty.name_offset() as usize),
-                });
-            }
-        }
-        Ok(NamedSections {
-            by_name,
-            unreadable: None,
-        })
+        let (by_name, longest) = sought(alloc, names)?;
+        gather_into(btf, by_name, longest)
+    }
+
+    /// The DATASECs of one name. `OutOfMemory` where memory is refused.
+    pub fn of_name(alloc: Global, btf: &Btf, name: &str) -> Result<NamedSections, BtfError>
+        ensures found { IfOk result (λ found. AreFound btf.now found) }
+        ensures there { IfOk result (λ found. is_some (get found.by_name name.now) ≡ true) }
+        ensures memory { IfErr result (λ e. is_memory e ≡ true) }
+    {
+        let mut by_name = ByName::new(alloc);
+        by_name.insert(String::from_str(alloc, name)?, Items::new(alloc))?;
+        gather_into(btf, by_name, name.len())
     }
 }
