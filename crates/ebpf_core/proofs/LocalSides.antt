@@ -111,22 +111,22 @@ module _ (info : TypeInfo) (r : Relocation) where
 
   -- ---- the local side
 
-  abbrev with_path : List ℕ → Result NamedPath RelocationError → Result LocalPath RelocationError
+  abbrev pub with_path : List ℕ → Result NamedPath RelocationError → Result LocalPath RelocationError
   with_path name x = if_ok x (λ path. Ok (record { type_name = name; path = path }))
 
-  abbrev with_id : List ℕ → List ℕ → List ℕ → Result ℕ TypeError → Result LocalPath RelocationError
+  abbrev pub with_id : List ℕ → List ℕ → List ℕ → Result ℕ TypeError → Result LocalPath RelocationError
   with_id name access parts x = if_ok (of_types x) (λ id. with_path name (path_for info r.number access id parts (subject_of r.kind)))
 
-  abbrev with_parts : List ℕ → List ℕ → Result (List ℕ) RelocationError → Result LocalPath RelocationError
+  abbrev pub with_parts : List ℕ → List ℕ → Result (List ℕ) RelocationError → Result LocalPath RelocationError
   with_parts name access x = if_ok x (λ parts. with_id name access parts (resolved info.types r.type_id))
 
-  abbrev with_access : List ℕ → Result (List ℕ) TypeError → Result LocalPath RelocationError
+  abbrev pub with_access : List ℕ → Result (List ℕ) TypeError → Result LocalPath RelocationError
   with_access name x = if_ok (of_types x) (λ access. with_parts name access (access_parts name access))
 
-  abbrev with_name : Result (List ℕ) TypeError → Result LocalPath RelocationError
+  abbrev pub with_name : Result (List ℕ) TypeError → Result LocalPath RelocationError
   with_name x = if_ok (of_types x) (λ name. with_access name (text_at info.strings r.access_str_off))
 
-  abbrev with_type : Result BtfType TypeError → Result LocalPath RelocationError
+  abbrev pub with_type : Result BtfType TypeError → Result LocalPath RelocationError
   with_type x = if_ok (of_types x) (λ t. with_name (type_name info t))
 
   path_side : (name access parts : List ℕ) (id : ℕ) (x : Result NamedPath RelocationError) → IsRead info r name access → access_parts name access ≡ Ok parts

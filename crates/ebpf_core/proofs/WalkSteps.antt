@@ -1,12 +1,12 @@
 -- One step of a walk over the parts of an access string, and over matches that may differ.
-use Rattle.std.proofs.Common.{◌≡◌, ℕ, ◌+◌, ◌<◌, ◌≤◌, Bool, true, false, List, [], ◌∷◌, ◌++◌, length, drop, Result, Ok, Err, refl, sym, ap, ◌∙◌, append-nil, get_or}
-use Rattle.std.specs.Prelude.{slice_index_or, filter, fold, not, if◌then◌else◌}
+use Rattle.std.proofs.Common.{◌≡◌, ℕ, ◌+◌, ◌<◌, ◌≤◌, true, false, List, [], ◌∷◌, ◌++◌, length, drop, Result, Ok, Err, refl, sym, ap, ◌∙◌, append-nil, get_or}
+use Rattle.std.specs.Prelude.{slice_index_or, fold}
 use Rattle.ebpf_btf.specs.TypeInfo.{TypeInfo}
 use Rattle.ebpf_core.specs.declared.error.RelocationError.{RelocationError}
 use Rattle.ebpf_core.specs.declared.local_walk.LocalSpot.{LocalSpot}
 use Rattle.ebpf_core.specs.declared.values.MatchValue.{MatchValue}
 use Rattle.std.specs.Result.{IsErrAnd}
-use Rattle.ebpf_core.specs.Answers.{Tells, each, if_ok, of_types, told}
+use Rattle.ebpf_core.specs.Answers.{Tells, if_ok, of_types}
 use Rattle.ebpf_core.specs.LocalPaths.{part_step, walked}
 use Rattle.ebpf_core.specs.Matches.{name_at}
 use Rattle.ebpf_core.specs.Outcomes.{agree, differing_names}

@@ -1,9 +1,10 @@
 -- What holds of every record and all types.
-use Rattle.std.specs.Prelude.{◌≡◌, ℕ, List, Option, Result, Err}
+use Rattle.std.specs.Prelude.{◌≡◌, ℕ, List, Option, Result, Ok, Err}
 use Rattle.ebpf_btf.specs.TypeInfo.{TypeInfo}
 use Rattle.ebpf_btf.specs.declared.error.BtfError.{BtfError as TypeError}
 use Rattle.ebpf_btf.specs.declared.variants.BtfVariant.{BtfVariant}
 use Rattle.ebpf_ext.specs.declared.relocation.Relocation.{Relocation}
+use Rattle.ebpf_core.specs.Asked.{asked}
 use Rattle.ebpf_core.specs.FirstVariants.{FirstVariantIs}
 use Rattle.ebpf_core.specs.LocalPaths.{local_path}
 use Rattle.ebpf_core.specs.LocalSides.{LocalSideIs}
@@ -12,6 +13,7 @@ use Rattle.ebpf_core.specs.Outcomes.{outcome_among}
 use Rattle.ebpf_core.specs.Refused.{AmongIsRefused, OutcomeIsRefused}
 use Rattle.ebpf_core.specs.Searches.{outcome_of}
 use Rattle.ebpf_core.specs.declared.error.RelocationError.{RelocationError}
+use Rattle.ebpf_core.specs.declared.outcome.Outcome.{Outcome}
 use Rattle.ebpf_core.specs.declared.paths.LocalPath.{LocalPath}
 
 -- the local side of a record is, step by step, the one that `local_path` gives
@@ -47,3 +49,8 @@ FaultIsFirst = (local target : TypeInfo) (r : Relocation) (fault : RelocationErr
 
 abbrev pub FirstFaultRefuses : Type 0
 FirstFaultRefuses = (local target : TypeInfo) (r : Relocation) (fault : RelocationError) → OutcomeIsRefused local target r fault → outcome_of local target r ≡ Err fault
+
+-- Records that ask the same come to the same outcome: it rests neither on their numbers nor on their instructions.
+abbrev pub OutcomesRestOnWhatIsAsked : Type 0
+OutcomesRestOnWhatIsAsked = (local target : TypeInfo) (r s : Relocation) (outcome : Outcome) → asked r ≡ asked s
+    → outcome_of local target r ≡ Ok outcome → outcome_of local target s ≡ Ok outcome

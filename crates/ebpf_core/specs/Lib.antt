@@ -1,5 +1,6 @@
 pub mod AccessStrings
 pub mod Answers
+pub mod Asked
 pub mod Containers
 pub mod Fields
 pub mod FirstVariants

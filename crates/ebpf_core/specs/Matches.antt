@@ -1,10 +1,9 @@
 -- Which candidates a local path fits (the kernel's tools/lib/bpf/relo_core.c, bpf_core_spec_match).
-use Rattle.std.specs.Prelude.{ℕ, Bool, List, [], ◌∷◌, Option, Some, None, option_map, unwrap_or, Result, Ok, Err, if◌then◌else◌}
+use Rattle.std.specs.Prelude.{ℕ, Bool, List, [], Option, Some, None, option_map, unwrap_or, Result, Ok, Err, if◌then◌else◌}
 use Rattle.std.specs.List.{filter_map}
 use Rattle.ebpf_base.specs.Faults.{first_some}
 use Rattle.ebpf_candidates.specs.Compatibility.{types_compatible}
 use Rattle.ebpf_btf.specs.declared.error.BtfError.{BtfError as TypeError}
-use Rattle.ebpf_btf.specs.declared.types.BtfType.{BtfType}
 use Rattle.ebpf_btf.specs.declared.variants.BtfVariant.{BtfVariant}
 use Rattle.ebpf_btf.specs.Steps.{resolved_type, type_at}
 use Rattle.ebpf_btf.specs.Strings.{is_essential_name_at, type_name}

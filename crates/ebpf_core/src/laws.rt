@@ -1,6 +1,6 @@
 //! What holds of every record and all types.
 
-ghost use Rattle.ebpf_core.specs.Laws.{AmongFaultIsFirst, AmongFirstFaultRefuses, FaultIsFirst, FirstFaultRefuses, FirstVariantIsOne, FirstVariantIsSo, LocalSideIsOne, LocalSideIsSo};
+ghost use Rattle.ebpf_core.specs.Laws.{AmongFaultIsFirst, AmongFirstFaultRefuses, FaultIsFirst, FirstFaultRefuses, FirstVariantIsOne, FirstVariantIsSo, LocalSideIsOne, LocalSideIsSo, OutcomesRestOnWhatIsAsked};
 
 /// The local side of a record, step by step, is the one that the equation gives: the way from part to part of its access
 /// string, up to the first fault.
@@ -23,4 +23,10 @@ pub fn first_fault_refuses()
     ensures among_refuses { AmongFirstFaultRefuses }
     ensures outcome { FaultIsFirst }
     ensures outcome_refuses { FirstFaultRefuses }
+{}
+
+/// Records with the same type, access string and kind come to the same outcome: it rests neither on their numbers nor on
+/// their instructions.
+pub fn outcomes_rest_on_what_is_asked()
+    ensures { OutcomesRestOnWhatIsAsked }
 {}
