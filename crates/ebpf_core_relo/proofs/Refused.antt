@@ -2,7 +2,6 @@
 use Rattle.std.proofs.Common.{◌≡◌, ℕ, zero, suc, ◌-◌, ◌/◌, List, [], ◌∷◌, ◌++◌, take, Option, Some, None, Result, Ok, Err, refl, sym, ap, ◌∙◌, subst, slice_get}
 use Rattle.std.specs.FinMap.{empty, get, insert}
 use Rattle.std.proofs.lemmas.Option.{same_Some}
-use Rattle.ebpf_base.specs.Keys.{key_cmp}
 use Rattle.ebpf_btf.specs.Next.{if_some}
 use Rattle.ebpf_btf.specs.Strings.{text_at}
 use Rattle.ebpf_btf.specs.declared.error.BtfError.{BtfError as TypeError}
@@ -52,16 +51,17 @@ module _ {A S E : Type 0} (step : A → S → Result S E) (run : List A → S �
     fails = h.fails;
   }
 
+  no_fault : (s : S) (fault : E) → ◌≡◌ {A = Result S E} (Ok s) (Err fault) → ⊥
+  no_fault s fault e = cc
+
+  stops_by : (x : A) (xs : List A) (from : S) (fault : E) (r : Result S E) → step x from ≡ r → if_ok r (run xs) ≡ Err fault
+      → ((next : S) → run xs next ≡ Err fault → StopsAt xs next fault) → StopsAt (x ∷ xs) from fault
+  stops_by x xs from fault (Ok next) is e later = stops_on x xs from next fault is (later next e)
+  stops_by x xs from fault (Err g) is e later = record { n = 0; x = x; at = refl; so_far = from; taken = none from; fails = is ∙ ap Err (same_err _ _ e) }
+
   pub stops : (xs : List A) (from : S) (fault : E) → run xs from ≡ Err fault → StopsAt xs from fault
-  stops [] from fault e = absurd (never (sym (none from) ∙ e))
-    where
-      never : ◌≡◌ {A = Result S E} (Ok from) (Err fault) → ⊥
-      never f = cc
-  stops (x ∷ xs) from fault e = by (step x from) refl (sym (more x xs from) ∙ e)
-    where
-      by : (r : Result S E) → step x from ≡ r → if_ok r (run xs) ≡ Err fault → StopsAt (x ∷ xs) from fault
-      by (Ok next) is f = stops_on x xs from next fault is (stops xs next fault f)
-      by (Err g) is f = record { n = 0; x = x; at = refl; so_far = from; taken = none from; fails = is ∙ ap Err (same_err _ _ f) }
+  stops [] from fault e = absurd (no_fault from fault (sym (none from) ∙ e))
+  stops (x ∷ xs) from fault e = stops_by x xs from fault (step x from) refl (sym (more x xs from) ∙ e) (λ next rest. stops xs next fault rest)
 
   refused_at : (xs : List A) (n : ℕ) (x : A) (from so_far : S) (fault : E) → slice_get xs n ≡ Some x → run (take n xs) from ≡ Ok so_far
       → step x so_far ≡ Err fault → run xs from ≡ Err fault
@@ -198,9 +198,9 @@ module _ (scene : Scene) where
     record_fails n part so_far name section fault at taken is there h =
         let own : ℕ × List Relocation = (part.0, take h.n part.1) in
         let applied : AreApplied scene parts n part h.n h.so_far =
-            and_one (named_applied scene) (all_applied scene) (λ s. refl) (λ x xs s. refl) (take n parts) own empty so_far taken
-            ∙ placed_by own so_far name (Some section) is there
-            ∙ ap (in_section name) h.taken in
+        and_one (named_applied scene) (all_applied scene) (λ s. refl) (λ x xs s. refl) (take n parts) own empty so_far taken
+        ∙ placed_by own so_far name (Some section) is there
+        ∙ ap (in_section name) h.taken in
         RecordFails n h.n part h.so_far name section h.x fault at h.at applied is there (record_stops scene section.0 h.so_far h.x fault h.fails)
 
     section_fails : (n : ℕ) (part : ℕ × List Relocation) (so_far : Written) (name : List ℕ) (o : Option SectionIndex) (fault : BtfRelocationError)
@@ -242,8 +242,8 @@ module _ (scene : Scene) where
         let own : ℕ × List Relocation = (part.0, take m part.1) in
         let (so_far, taken, last) = but_one (named_applied scene) (all_applied scene) (λ s. refl) (λ x xs s. refl) (take n parts) own empty left applied in
         let some : records_applied scene section.0 (take m part.1) so_far ≡ Ok left =
-            in_section_ok name (records_applied scene section.0 (take m part.1) so_far) left (sym (placed_by own so_far name (Some section) is placed) ∙ last) in
+        in_section_ok name (records_applied scene section.0 (take m part.1) so_far) left (sym (placed_by own so_far name (Some section) is placed) ∙ last) in
         let all : records_applied scene section.0 part.1 so_far ≡ Err fault =
-            is_refused (one section.0) (records_applied scene section.0) (λ s. refl) (λ x xs s. refl) part.1 so_far fault
-            (record { n = m; x = r; at = there; so_far = left; taken = some; fails = record_refuses scene section.0 left r fault h }) in
+        is_refused (one section.0) (records_applied scene section.0) (λ s. refl) (λ x xs s. refl) part.1 so_far fault
+        (record { n = m; x = r; at = there; so_far = left; taken = some; fails = record_refuses scene section.0 left r fault h }) in
         part_refuses n part so_far _ at taken (placed_by part so_far name (Some section) is placed ∙ ap (in_section name) all)
