@@ -1,10 +1,6 @@
 -- One step of a walk over candidates, over variants, over matches that may differ.
-use Rattle.std.proofs.Common.{◌≡◌, ℕ, suc, ◌+◌, ◌<◌, ◌≤◌, Bool, true, false, List, [], ◌∷◌, ◌++◌, length, drop, map, Option, Some, None, Result, Ok, Err, refl, sym, ap, ◌∙◌, append-nil, get_or}
-use Rattle.std.specs.Prelude.{slice_index_or, slice_get, filter, if◌then◌else◌}
+use Rattle.std.proofs.Common.{◌≡◌, ℕ, ◌+◌, ◌<◌, ◌≤◌, List, [], ◌∷◌, ◌++◌, length, drop, Option, Some, None, Result, Ok, Err, refl, sym, ap, ◌∙◌, append-nil, get_or}
 use Rattle.std.specs.List.{filter_map}
-use Rattle.ebpf_btf.specs.declared.error.BtfError.{BtfError}
-use Rattle.ebpf_btf.specs.declared.variants.BtfVariant.{BtfVariant}
-use Rattle.ebpf_btf.specs.Strings.{is_essential_name_at}
 use Rattle.ebpf_btf.specs.TypeInfo.{TypeInfo}
 use Rattle.ebpf_core.specs.declared.error.RelocationError.{RelocationError}
 use Rattle.ebpf_core.specs.declared.matches.Found.{Found}
@@ -12,7 +8,7 @@ use Rattle.ebpf_core.specs.declared.matches.Match.{Match}
 use Rattle.ebpf_core.specs.declared.paths.NamedPath.{NamedPath}
 use Rattle.std.specs.Result.{IsErrAnd}
 use Rattle.ebpf_core.specs.Answers.{Tells, each, if_ok, told}
-use Rattle.ebpf_core.specs.Matches.{first_variant, found_in, match_in, match_of, matches}
+use Rattle.ebpf_core.specs.Matches.{found_in, match_in, match_of, matches}
 use Rattle.ebpf_core.proofs.Lists.{onto, number_more, onto_push, rest_none}
 use Rattle.ebpf_core.proofs.Refusals.{refused_by}
 

@@ -1,13 +1,12 @@
 -- A refusal that a call hands on: want of memory, or what is stated.
-use Rattle.std.proofs.Common.{◌≡◌, ℕ, Bool, true, false, Option, Some, None, Result, Ok, Err, refl, ap}
+use Rattle.std.proofs.Common.{◌≡◌, ℕ, Bool, true, false, Option, Some, None, Result, Ok, Err, refl, ap, subst}
 use Rattle.std.specs.Prelude.{MatchBool, ⊤}
 use Rattle.std.specs.Result.{IsErrAnd}
 use Rattle.ebpf_base.specs.Faults.{Gives}
 use Rattle.ebpf_btf.specs.Memory as types
 use Rattle.ebpf_btf.specs.declared.error.BtfError.{BtfError as TypeError}
 use Rattle.ebpf_core.specs.declared.error.RelocationError.{RelocationError}
-use Rattle.ebpf_core.specs.declared.error.RelocationError.TheVariants.{BtfError}
-use Rattle.ebpf_core.specs.Answers.{Tells, of_type_error, of_types, if_ok, told}
+use Rattle.ebpf_core.specs.Answers.{Tells, TellsSo, of_type_error, of_types, if_ok, told}
 use Rattle.ebpf_core.specs.Matches.{by_place}
 use Rattle.ebpf_core.specs.Memory.{is_memory}
 use Rattle.ebpf_core.specs.declared.matches.Found.{Found}
@@ -61,6 +60,16 @@ handed (Err f) e is = ap Err is
 pub refused_by : {X Y : Type 0} (e : RelocationError) (one : Result X RelocationError) (r other : Result Y RelocationError) → IsErrAnd r (λ f. f ≡ e)
     → (one ≡ Err (told e) → other ≡ Err (told e)) → Tells {X = X} (Err e) one → Tells r other
 refused_by e one r other is to h = rw (handed r e is) (also e one other to h)
+
+-- what holds of the stated answer holds of the one that is given, memory and texts for people aside
+module _ {X : Type 0} (Holds : Result X RelocationError → Type 0) where
+  held_so : (b : Bool) (e : RelocationError) (stated : Result X RelocationError) → MatchBool b ⊤ (stated ≡ Err (told e)) → Holds stated → MatchBool b ⊤ (Holds (Err (told e)))
+  held_so true e stated is holds = tt
+  held_so false e stated is holds = subst Holds is holds
+
+  pub told_so : (r stated : Result X RelocationError) → Tells r stated → Holds stated → TellsSo r Holds
+  told_so (Ok x) stated is holds = subst Holds is holds
+  told_so (Err e) stated is holds = held_so (is_memory e) e stated is holds
 
 -- ---- places
 

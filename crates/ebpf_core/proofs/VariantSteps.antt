@@ -1,6 +1,6 @@
 -- One step of a walk over the variants of a type.
-use Rattle.std.proofs.Common.{◌≡◌, ◌⊎◌, inl, inr, ℕ, suc, ◌+◌, ◌<◌, ◌≤◌, Bool, true, false, List, [], ◌∷◌, length, drop, Option, Some, None, Result, Ok, Err, refl, sym, ap, ◌∙◌, get_or, arith}
-use Rattle.std.specs.Prelude.{slice_get, option_map, unwrap_or, if◌then◌else◌}
+use Rattle.std.proofs.Common.{◌≡◌, inl, inr, ℕ, ◌+◌, ◌<◌, ◌≤◌, Bool, true, false, List, [], ◌∷◌, length, drop, Option, Some, None, Result, Ok, Err, refl, sym, ap, ◌∙◌, get_or, arith}
+use Rattle.std.specs.Prelude.{slice_get, option_map, unwrap_or}
 use Rattle.std.specs.Option.{option_and_then}
 use Rattle.std.proofs.lemmas.List.{drop_all}
 use Rattle.std.proofs.lemmas.Option.{slice_get_cases, slice_get_within, get_or_from_slice_get}
@@ -8,7 +8,8 @@ use Rattle.ebpf_btf.specs.declared.error.BtfError.{BtfError}
 use Rattle.ebpf_btf.specs.declared.variants.BtfVariant.{BtfVariant}
 use Rattle.ebpf_btf.specs.Strings.{is_essential_name_at}
 use Rattle.ebpf_btf.specs.TypeInfo.{TypeInfo}
-use Rattle.ebpf_core.specs.Matches.{first_variant}
+use Rattle.ebpf_base.specs.Faults.{first_some, or_else}
+use Rattle.ebpf_core.specs.Matches.{first_variant, variant_answer, variant_sought}
 use Rattle.ebpf_core.proofs.Lists.{rest_more}
 
 -- ---- the variants that are left
@@ -42,22 +43,29 @@ all_passed (Some vs) i past = drop_all i vs past
 -- ---- the first of a name
 
 module _ (info : TypeInfo) (name : List ℕ) where
-  first_on : (v : BtfVariant) (vs : List BtfVariant) → is_essential_name_at info.strings v.name_offset name ≡ Ok false
+  -- what the first variant answers, or those behind it
+  abbrev led_by : Result Bool BtfError → BtfVariant → List BtfVariant → Result (Option ℕ) BtfError
+  led_by same v vs = unwrap_or (or_else (variant_answer v.value same) (first_some (variant_sought info name) vs)) (Ok None)
+
+  first_by : (v : BtfVariant) (vs : List BtfVariant) (same : Result Bool BtfError) → is_essential_name_at info.strings v.name_offset name ≡ same
+      → first_variant info name (v ∷ vs) ≡ led_by same v vs
+  unfolding first_variant
+  first_by v vs same is = ap (λ (r : Result Bool BtfError). led_by r v vs) is
+
+  pub first_on : (v : BtfVariant) (vs : List BtfVariant) → is_essential_name_at info.strings v.name_offset name ≡ Ok false
       → first_variant info name (v ∷ vs) ≡ first_variant info name vs
   unfolding first_variant
-  first_on v vs is = rw is refl
+  first_on v vs is = ap (λ (r : Result Bool BtfError). led_by r v vs) is
 
-  first_here : (v : BtfVariant) (vs : List BtfVariant) → is_essential_name_at info.strings v.name_offset name ≡ Ok true
+  pub first_here : (v : BtfVariant) (vs : List BtfVariant) → is_essential_name_at info.strings v.name_offset name ≡ Ok true
       → first_variant info name (v ∷ vs) ≡ Ok (Some v.value)
-  unfolding first_variant
-  first_here v vs is = rw is refl
+  first_here v vs is = first_by v vs (Ok true) is
 
-  first_fault : (v : BtfVariant) (vs : List BtfVariant) (e : BtfError) → is_essential_name_at info.strings v.name_offset name ≡ Err e
+  pub first_fault : (v : BtfVariant) (vs : List BtfVariant) (e : BtfError) → is_essential_name_at info.strings v.name_offset name ≡ Err e
       → first_variant info name (v ∷ vs) ≡ Err e
-  unfolding first_variant
-  first_fault v vs e is = rw is refl
+  first_fault v vs e is = first_by v vs (Err e) is
 
-  first_none : first_variant info name [] ≡ Ok None
+  pub first_none : first_variant info name [] ≡ Ok None
   unfolding first_variant
   first_none = refl
 

@@ -1,12 +1,12 @@
 -- One step of a walk over the parts of an access string, and over matches that may differ.
-use Rattle.std.proofs.Common.{◌≡◌, ℕ, ◌+◌, ◌<◌, ◌≤◌, Bool, true, false, List, [], ◌∷◌, ◌++◌, length, drop, Result, Ok, Err, refl, sym, ap, ◌∙◌, append-nil, get_or}
-use Rattle.std.specs.Prelude.{slice_index_or, filter, not, if◌then◌else◌}
+use Rattle.std.proofs.Common.{◌≡◌, ℕ, ◌+◌, ◌<◌, ◌≤◌, true, false, List, [], ◌∷◌, ◌++◌, length, drop, Result, Ok, Err, refl, sym, ap, ◌∙◌, append-nil, get_or}
+use Rattle.std.specs.Prelude.{slice_index_or, fold}
 use Rattle.ebpf_btf.specs.TypeInfo.{TypeInfo}
 use Rattle.ebpf_core.specs.declared.error.RelocationError.{RelocationError}
 use Rattle.ebpf_core.specs.declared.local_walk.LocalSpot.{LocalSpot}
 use Rattle.ebpf_core.specs.declared.values.MatchValue.{MatchValue}
 use Rattle.std.specs.Result.{IsErrAnd}
-use Rattle.ebpf_core.specs.Answers.{Tells, each, if_ok, of_types, told}
+use Rattle.ebpf_core.specs.Answers.{Tells, if_ok, of_types}
 use Rattle.ebpf_core.specs.LocalPaths.{part_step, walked}
 use Rattle.ebpf_core.specs.Matches.{name_at}
 use Rattle.ebpf_core.specs.Outcomes.{agree, differing_names}
@@ -16,11 +16,24 @@ use Rattle.ebpf_core.proofs.Refusals.{refused_by}
 -- ---- parts
 
 module _ (info : TypeInfo) (number : ℕ) (access : List ℕ) where
-  walked_on : (part : ℕ) (parts : List ℕ) (from : LocalSpot) → walked info number access (part ∷ parts) from ≡ if_ok (part_step info number access from part) (walked info number access parts)
-  unfolding walked
-  walked_on part parts from = refl
+  abbrev on_by : Result LocalSpot RelocationError → ℕ → Result LocalSpot RelocationError
+  on_by so_far part = if_ok so_far (λ spot. part_step info number access spot part)
 
-  walked_none : (from : LocalSpot) → walked info number access [] from ≡ Ok from
+  -- a fault stays
+  fault_stays : (parts : List ℕ) (e : RelocationError) → fold on_by (Err e) parts ≡ Err e
+  fault_stays [] e = refl
+  fault_stays (part ∷ parts) e = fault_stays parts e
+
+  walked_from : (parts : List ℕ) (r : Result LocalSpot RelocationError) → fold on_by r parts ≡ if_ok r (walked info number access parts)
+  unfolding walked
+  walked_from parts (Ok from) = refl
+  walked_from parts (Err e) = fault_stays parts e
+
+  pub walked_on : (part : ℕ) (parts : List ℕ) (from : LocalSpot) → walked info number access (part ∷ parts) from ≡ if_ok (part_step info number access from part) (walked info number access parts)
+  unfolding walked
+  walked_on part parts from = walked_from parts (part_step info number access from part)
+
+  pub walked_none : (from : LocalSpot) → walked info number access [] from ≡ Ok from
   unfolding walked
   walked_none from = refl
 

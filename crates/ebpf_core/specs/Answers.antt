@@ -1,5 +1,5 @@
 -- Answers, and how they are stated: an error without the texts in it that are for people to read.
-use Rattle.std.specs.Prelude.{◌≡◌, List, [], ◌∷◌, ⊤, MatchBool, Result, Ok, Err, if◌then◌else◌}
+use Rattle.std.specs.Prelude.{◌≡◌, ℕ, ◌<◌, true, List, [], ◌∷◌, ⊤, MatchBool, Some, Result, Ok, Err, is_ok, slice_get, if◌then◌else◌}
 use Rattle.ebpf_btf.specs.declared.error.BtfError.{BtfError}
 use Rattle.ebpf_btf.specs.Memory as types
 use Rattle.ebpf_core.specs.declared.error.RelocationError.{RelocationError}
@@ -17,6 +17,11 @@ told e = e
 abbrev pub Tells : {X : Type 0} → Result X RelocationError → Result X RelocationError → Type 0
 Tells (Ok x) stated = stated ≡ Ok x
 Tells (Err e) stated = MatchBool (is_memory e) ⊤ (stated ≡ Err (told e))
+
+-- What is said of an answer holds of this one, such texts aside, unless it is a want of memory.
+abbrev pub TellsSo : {X : Type 0} → Result X RelocationError → (Result X RelocationError → Type 0) → Type 0
+TellsSo (Ok x) Holds = Holds (Ok x)
+TellsSo (Err e) Holds = MatchBool (is_memory e) ⊤ (Holds (Err (told e)))
 
 -- a fault of types as a fault of a record
 abbrev pub of_type_error : BtfError → RelocationError
@@ -36,3 +41,11 @@ if_ok (Err e) next = Err e
 abbrev pub each : {A X E : Type 0} → (A → Result X E) → List A → Result (List X) E
 each f [] = Ok []
 each f (x ∷ xs) = if_ok (f x) (λ y. if_ok (each f xs) (λ ys. Ok (y ∷ ys)))
+
+-- The first member of a list that has a fault has this one.
+pub record FirstFails {A X E : Type 0} (f : A → Result X E) (xs : List A) (fault : E) : Type 0 where
+  pub n : ℕ
+  pub x : A
+  pub at : slice_get xs n ≡ Some x
+  pub fails : f x ≡ Err fault
+  pub before : (k : ℕ) (y : A) → k < n → slice_get xs k ≡ Some y → is_ok (f y) ≡ true

@@ -1,5 +1,5 @@
 -- What an access string means in a local type (the kernel's tools/lib/bpf/relo_core.c, bpf_core_parse_spec).
-use Rattle.std.specs.Prelude.{ℕ, ◌+◌, ◌*◌, ◌^◌, ◌==◌, ◌&&◌, ◌||◌, nat_lt, Bool, true, false, List, [], ◌∷◌, ◌++◌, length, Option, Some, None, Result, Ok, Err, slice_get, if◌then◌else◌}
+use Rattle.std.specs.Prelude.{ℕ, ◌+◌, ◌*◌, ◌^◌, ◌==◌, ◌&&◌, ◌||◌, nat_lt, Bool, false, List, [], ◌∷◌, ◌++◌, length, fold, Option, Some, None, Result, Ok, Err, slice_get, if◌then◌else◌}
 use Rattle.std.specs.Result.{result_ok}
 use Rattle.ebpf_btf.specs.declared.array.BtfArray.{BtfArray}
 use Rattle.ebpf_btf.specs.declared.error.BtfError.TheVariants.{InvalidTypeInfo}
@@ -101,8 +101,7 @@ part_step info number access from part =
 
 -- where parts lead, one after the other
 unfoldable pub walked : TypeInfo → ℕ → List ℕ → List ℕ → LocalSpot → Result LocalSpot RelocationError
-walked info number access [] from = Ok from
-walked info number access (part ∷ parts) from = if_ok (part_step info number access from part) (walked info number access parts)
+walked info number access parts from = fold (λ so_far part. if_ok so_far (λ spot. part_step info number access spot part)) (Ok from) parts
 
 -- the first part counts in the local type itself
 unfoldable pub field_path : TypeInfo → ℕ → List ℕ → ℕ → List ℕ → Result NamedPath RelocationError

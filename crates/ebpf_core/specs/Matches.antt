@@ -1,9 +1,9 @@
 -- Which candidates a local path fits (the kernel's tools/lib/bpf/relo_core.c, bpf_core_spec_match).
-use Rattle.std.specs.Prelude.{ℕ, Bool, List, [], ◌∷◌, Option, Some, None, option_map, unwrap_or, Result, Ok, Err, if◌then◌else◌}
+use Rattle.std.specs.Prelude.{ℕ, Bool, List, [], Option, Some, None, option_map, unwrap_or, Result, Ok, Err, if◌then◌else◌}
 use Rattle.std.specs.List.{filter_map}
+use Rattle.ebpf_base.specs.Faults.{first_some}
 use Rattle.ebpf_candidates.specs.Compatibility.{types_compatible}
 use Rattle.ebpf_btf.specs.declared.error.BtfError.{BtfError as TypeError}
-use Rattle.ebpf_btf.specs.declared.types.BtfType.{BtfType}
 use Rattle.ebpf_btf.specs.declared.variants.BtfVariant.{BtfVariant}
 use Rattle.ebpf_btf.specs.Steps.{resolved_type, type_at}
 use Rattle.ebpf_btf.specs.Strings.{is_essential_name_at, type_name}
@@ -26,11 +26,17 @@ use Rattle.ebpf_core.specs.Answers.{each, if_ok, of_types}
 abbrev pub name_at : TypeInfo → ℕ → Result (List ℕ) TypeError
 name_at info id = if_ok (type_at info.types id) (type_name info)
 
+-- what a variant answers by whether it has the name that is sought; one that has another answers nothing
+abbrev pub variant_answer : ℕ → Result Bool TypeError → Option (Result (Option ℕ) TypeError)
+variant_answer value (Ok same) = if same then Some (Ok (Some value)) else None
+variant_answer value (Err e) = Some (Err e)
+
+abbrev pub variant_sought : TypeInfo → List ℕ → BtfVariant → Option (Result (Option ℕ) TypeError)
+variant_sought info name v = variant_answer v.value (is_essential_name_at info.strings v.name_offset name)
+
 -- the value of the first variant of a name, flavors aside
 unfoldable pub first_variant : TypeInfo → List ℕ → List BtfVariant → Result (Option ℕ) TypeError
-first_variant info name [] = Ok None
-first_variant info name (v ∷ vs) =
-    if_ok (is_essential_name_at info.strings v.name_offset name) (λ same. if same then Ok (Some v.value) else first_variant info name vs)
+first_variant info name vs = unwrap_or (first_some (variant_sought info name) vs) (Ok None)
 
 -- in the type that a candidate stands for; one that is no enumeration has no variants
 abbrev pub variant_in : TypeInfo → List ℕ → ℕ → Result (Option ℕ) TypeError

@@ -1,6 +1,6 @@
 -- What a record comes to over all candidates (the kernel's Documentation/bpf/llvm_reloc.rst, "CO-RE Relocations", and
 -- tools/lib/bpf/relo_core.c, bpf_core_calc_relo_insn).
-use Rattle.std.specs.Prelude.{ℕ, ◌==◌, ◌&&◌, not, nat_eq, Bool, List, [], ◌∷◌, filter, Option, Some, None, option_map, option_and_then, Result, Ok, Err, if◌then◌else◌}
+use Rattle.std.specs.Prelude.{ℕ, ◌==◌, ◌&&◌, not, nat_eq, Bool, List, [], ◌∷◌, filter, Option, Some, None, option_map, option_and_then, Result, Ok, Err}
 use Rattle.std.specs.Option.{option_eq}
 use Rattle.std.specs.Result.{result_ok}
 use Rattle.ebpf_btf.specs.declared.error.BtfError.{BtfError as TypeError}

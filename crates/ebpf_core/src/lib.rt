@@ -9,6 +9,7 @@ mod error;
 mod extent;
 mod faults;
 mod field;
+pub mod laws;
 mod local_walk;
 mod matches;
 mod outcome;

@@ -1,7 +1,8 @@
 //! What a record says of its local type.
 
 ghost use Rattle.std.specs.Prelude.{◌≡◌};
-ghost use Rattle.ebpf_core.specs.Answers.{Tells};
+ghost use Rattle.ebpf_core.specs.Answers.{Tells, TellsSo};
+ghost use Rattle.ebpf_core.specs.LocalSides.{LocalSideIs};
 ghost use Rattle.ebpf_core.specs.LocalPaths.{local_path, lone, named_variant, path_for, type_path, variant_path};
 ghost use Rattle.ebpf_core.specs.Subjects.{subject_of};
 
@@ -124,18 +125,9 @@ fn path_for(
     }
 }
 
-/// The local side of a record: the name of its type, and what its access string means there.
-///
-/// Faults in this order: `BtfError` of the type, its name or the string; `InvalidAccessString` where a piece between
-/// colons is no `usize`, `MaximumNestingLevelReached` where there are more than 64; `BtfError` where the type can't
-/// be resolved. Then, of a record on a type, `InvalidAccessString` where the string isn't one 0. On a variant
-/// `InvalidRelocationKindForType` where the type is no enumeration, `InvalidAccessString` where there is more than
-/// one part, `InvalidAccessIndex` where there is no such variant, `BtfError` of its name. On a field, part by part,
-/// `BtfError` of a size, a type or a name, or where the field lies past 4,294,967,295 bits; `InvalidAccessIndex`
-/// past the members or elements; `InvalidRelocationKindForType` in a type that has neither. `OutOfMemory` only where
-/// memory was refused.
+/// The name of a record's local type, and what the access string means there.
 #[tactic(auto, unfolding(crate::specs::LocalPaths::local_path))]
-pub fn local_path(
+fn local_side(
     alloc: Global,
     local: &Btf,
     relocation: &Relocation,
@@ -157,4 +149,25 @@ pub fn local_path(
         type_name: Text::from_str(alloc, type_name.as_str())?,
         path,
     })
+}
+
+/// The local side of a record: the name of its type, and what its access string means there.
+///
+/// Faults in this order: `BtfError` of the type, its name or the string; `InvalidAccessString` where a piece between
+/// colons is no `usize`, `MaximumNestingLevelReached` where there are more than 64; `BtfError` where the type can't
+/// be resolved. Then, of a record on a type, `InvalidAccessString` where the string isn't one 0. On a variant
+/// `InvalidRelocationKindForType` where the type is no enumeration, `InvalidAccessString` where there is more than
+/// one part, `InvalidAccessIndex` where there is no such variant, `BtfError` of its name. On a field, part by part,
+/// `BtfError` of a size, a type or a name, or where the field lies past 4,294,967,295 bits; `InvalidAccessIndex`
+/// past the members or elements; `InvalidRelocationKindForType` in a type that has neither. `OutOfMemory` only where
+/// memory was refused.
+pub fn local_path(
+    alloc: Global,
+    local: &Btf,
+    relocation: &Relocation,
+) -> Result<LocalPath, RelocationError>
+    ensures side { TellsSo result (LocalSideIs local.now relocation.now) }
+    ensures same { Tells result (local_path local.now relocation.now) }
+{
+    local_side(alloc, local, relocation)
 }

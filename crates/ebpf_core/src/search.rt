@@ -1,19 +1,19 @@
 //! Records over the types of a kernel, one after the other.
 
 ghost use Rattle.std.specs.Prelude.{◌≡◌, Ok};
-ghost use Rattle.ebpf_base.specs.Faults.{Gives};
-ghost use Rattle.ebpf_btf.specs.Memory.{is_memory as is_btf_memory};
-ghost use Rattle.ebpf_core.specs.Answers.{Tells, of_types};
-ghost use Rattle.ebpf_core.specs.Searches.{candidates_for, candidates_named, is_local, itself, outcome_of, was_enum64};
+ghost use Rattle.ebpf_core.specs.Answers.{Tells, if_ok, of_types};
+ghost use Rattle.ebpf_core.specs.Asked.{asked};
+ghost use Rattle.ebpf_core.specs.Outcomes.{outcome_among};
+ghost use Rattle.ebpf_core.specs.Searches.{candidates_for, candidates_named, is_local, outcome_of, was_enum64};
 
 use crate::error::RelocationError;
 use crate::outcome::{Outcome, outcome_among};
-use crate::paths::local_path;
-use ebpf_base::{ByIndex, Items};
-use ebpf_btf::{Btf, BtfError, BtfKind, BtfType};
+use crate::paths::{LocalPath, local_path};
+use ebpf_btf::{Btf, BtfKind, BtfType};
 use ebpf_candidates::TypeIndex;
 use ebpf_ext::{Relocation, RelocationKind};
 use std::alloc::{AllocError, Global};
+use std::collections::BTreeMap;
 use std::marker::Model;
 
 /// Whether the local id of a type is asked for, which is not searched.
@@ -31,40 +31,57 @@ fn was_enum64(ty: &BtfType) -> bool
     ty.kind() == BtfKind::Union && ty.variant_count().is_some()
 }
 
-/// The target types of the kind and name of a local type.
+/// What a record comes to over the target types of the kind and name of a local type.
 #[tactic(auto, unfolding(crate::specs::Searches::candidates_named))]
-fn candidates_named(
-    alloc: Global,
-    index: &TypeIndex<'_>,
-    ty: &BtfType,
-    name: &str,
-) -> Result<Items<u32>, BtfError>
-    ensures { Gives is_btf_memory result (candidates_named index.now ty.now name.now) }
-{
-    if was_enum64(ty) {
-        let ids = index.candidates_of_both(alloc, BtfKind::Union, BtfKind::Enum64, name)?;
-        return Ok(Items::from_vec(ids));
-    }
-    let ids = index.candidates(ty.kind(), name)?;
-    Ok(Items::from_vec(Vec::from_slice(alloc, ids)?))
-}
-
-/// The target types that the local type with an id may stand for.
-fn candidates_for(
+fn outcome_named(
     alloc: Global,
     local: &Btf,
     index: &TypeIndex<'_>,
-    local_id: u32,
-) -> Result<Items<u32>, RelocationError>
-    ensures { Tells result (of_types (candidates_for local.now index.now local_id)) }
+    relocation: &Relocation,
+    path: &LocalPath,
+    ty: &BtfType,
+    name: &str,
+) -> Result<Outcome, RelocationError>
+    ensures { Tells result (if_ok (of_types (candidates_named index.now ty.now name.now)) (outcome_among local.now index.now relocation.now path.now)) }
 {
-    let ty = local.type_by_id(local_id)?;
+    if was_enum64(ty) {
+        let ids = index.candidates_of_both(alloc, BtfKind::Union, BtfKind::Enum64, name)?;
+        return outcome_among(alloc, local, index.btf(), relocation, path, ids.as_slice());
+    }
+    let ids = index.candidates(ty.kind(), name)?;
+    outcome_among(alloc, local, index.btf(), relocation, path, ids)
+}
+
+/// What a record comes to over the target types that its local type may stand for.
+fn outcome_over(
+    alloc: Global,
+    local: &Btf,
+    index: &TypeIndex<'_>,
+    relocation: &Relocation,
+    path: &LocalPath,
+) -> Result<Outcome, RelocationError>
+    ensures { Tells result (if_ok (of_types (candidates_for local.now index.now relocation.now.type_id)) (outcome_among local.now index.now relocation.now path.now)) }
+{
+    let ty = local.type_by_id(relocation.type_id)?;
     let name = local.type_name(ty)?;
-    Ok(candidates_named(alloc, index, ty, name.as_str())?)
+    outcome_named(alloc, local, index, relocation, path, ty, name.as_str())
+}
+
+/// What a record asks, by which its outcome is kept: its type and its access string, and the number of its kind.
+type Asked = ((u32, u32), u32);
+
+/// What a record asks.
+fn asked(relocation: &Relocation) -> Asked
+    ensures { result ≡ asked relocation.now }
+{
+    (
+        (relocation.type_id, relocation.access_str_off),
+        relocation.kind.number(),
+    )
 }
 
 /// The types of an object, and those of a kernel in which they are looked for, record by record. The index of the
-/// kernel's types is made at the first record that searches, and the candidates of each local type are kept.
+/// kernel's types is made at the first record that searches. Outcomes are kept: what was asked once is looked up.
 ///
 /// Contracts see the two sides alone.
 #[derive(Drop)]
@@ -72,23 +89,20 @@ pub struct CoreSearch<'a> {
     local: &'a Btf,
     target: &'a Btf,
     index: Option<TypeIndex<'a>>,
-    kept: ByIndex<Items<u32>>,
+    kept: BTreeMap<Asked, Outcome>,
 }
 
 impl<'a> Model for CoreSearch<'a> {
-    ghost use Rattle.std.specs.Prelude.{◌≡◌, ℕ, List, Some, Ok};
+    ghost use Rattle.std.specs.Prelude.{◌≡◌};
     ghost use Rattle.std.specs.Option.{ForSome};
-    ghost use Rattle.std.specs.FinMap as map;
-    ghost use Rattle.ebpf_btf.specs.TypeInfo.{TypeInfo};
+    ghost use Rattle.ebpf_core.specs.Asked.{AreKept};
     ghost use Rattle.ebpf_core.specs.Sides.{Sides};
-    ghost use Rattle.ebpf_core.specs.Searches.{candidates_for};
 
     ghost Value = { Sides };
 
     ghost view = { λ s. record { local = s.local.now; target = s.target.now } };
 
-    ghost invariant = { λ s. ForSome s.index (λ index. index ≡ s.target.now)
-        × ((id : ℕ) (ids : List ℕ) → map.get s.kept id ≡ Some ids → candidates_for s.local.now s.target.now id ≡ Ok ids) };
+    ghost invariant = { λ s. ForSome s.index (λ index. index ≡ s.target.now) × AreKept s.local.now s.target.now s.kept };
 }
 
 impl<'a> CoreSearch<'a> {
@@ -101,40 +115,31 @@ impl<'a> CoreSearch<'a> {
             local,
             target,
             index: None,
-            kept: ByIndex::new(alloc),
+            kept: BTreeMap::new(alloc),
         }
     }
 
-    /// Looks up the candidates of a local type.
-    fn look_up(&mut self, alloc: Global, local_id: u32) -> Result<Items<u32>, RelocationError>
-        ensures candidates { Tells result (of_types (candidates_for self.old.local self.old.target local_id)) }
+    /// What a record comes to over the kernel's types that its local type may stand for.
+    fn search(
+        &mut self,
+        alloc: Global,
+        relocation: &Relocation,
+        path: &LocalPath,
+    ) -> Result<Outcome, RelocationError>
+        ensures outcome { Tells result (if_ok (of_types (candidates_for self.old.local self.old.target relocation.now.type_id)) (outcome_among self.old.local self.old.target relocation.now path.now)) }
         ensures stays { self.new ≡ self.old }
     {
         let index = match self.index.take() {
             Some(index) => index,
             None => TypeIndex::new(alloc, self.target)?,
         };
-        let ids = candidates_for(alloc, self.local, &index, local_id);
+        let outcome = outcome_over(alloc, self.local, &index, relocation, path);
         self.index = Some(index);
-        ids
+        outcome
     }
 
-    /// Keeps the candidates of a local type.
-    fn keep(&mut self, local_id: u32, ids: Items<u32>) -> Result<(), AllocError>
-        requires { candidates_for self.old.local self.old.target local_id ≡ Ok ids }
-        ensures { self.new ≡ self.old }
-    {
-        self.kept.insert(local_id as usize, ids)?;
-        Ok(())
-    }
-
-    /// What a record comes to.
-    #[tactic(auto, using(crate::proofs::Searching::ids_looked_up))]
-    pub fn outcome(
-        &mut self,
-        alloc: Global,
-        relocation: &Relocation,
-    ) -> Result<Outcome, RelocationError>
+    /// What a record comes to, whatever is kept.
+    fn find(&mut self, alloc: Global, relocation: &Relocation) -> Result<Outcome, RelocationError>
         ensures outcome { Tells result (outcome_of self.old.local self.old.target relocation.now) }
         ensures stays { self.new ≡ self.old }
     {
@@ -146,27 +151,32 @@ impl<'a> CoreSearch<'a> {
                 target: None,
             });
         }
-        let type_id = relocation.type_id as usize;
-        if let Some(ids) = self.kept.get(type_id) {
-            return outcome_among(
-                alloc,
-                self.local,
-                self.target,
-                relocation,
-                &path,
-                ids.as_slice(),
-            );
+        self.search(alloc, relocation, &path)
+    }
+
+    /// Keeps the outcome of a record for all that ask the same.
+    fn keep(&mut self, relocation: &Relocation, outcome: Outcome) -> Result<(), AllocError>
+        requires { outcome_of self.old.local self.old.target relocation.now ≡ Ok outcome }
+        ensures { self.new ≡ self.old }
+    {
+        self.kept.insert(asked(relocation), outcome)?;
+        Ok(())
+    }
+
+    /// What a record comes to.
+    pub fn outcome(
+        &mut self,
+        alloc: Global,
+        relocation: &Relocation,
+    ) -> Result<Outcome, RelocationError>
+        ensures outcome { Tells result (outcome_of self.old.local self.old.target relocation.now) }
+        ensures stays { self.new ≡ self.old }
+    {
+        if let Some(outcome) = self.kept.get(&asked(relocation)) {
+            return Ok(*outcome);
         }
-        let ids = self.look_up(alloc, relocation.type_id)?;
-        let outcome = outcome_among(
-            alloc,
-            self.local,
-            self.target,
-            relocation,
-            &path,
-            ids.as_slice(),
-        );
-        self.keep(relocation.type_id, ids)?;
-        outcome
+        let outcome = self.find(alloc, relocation)?;
+        self.keep(relocation, outcome)?;
+        Ok(outcome)
     }
 }

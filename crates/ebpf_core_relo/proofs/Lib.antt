@@ -4,5 +4,6 @@ pub mod OneRecord
 pub mod OutcomeSlots
 pub mod PutSlots
 pub mod RecordRuns
+pub mod Refused
 pub mod Rewritten
 pub mod Tops

@@ -3,6 +3,7 @@ pub mod Answers
 pub mod Carried
 pub mod Places
 pub mod Records
+pub mod Refused
 pub mod SlotOutcomes
 pub mod Spans
 pub mod SpanLists

@@ -1,6 +1,7 @@
 //! What holds of the slots that records write.
 
 ghost use Rattle.ebpf_core_relo.specs.Alone.{OtherSlotsStay, PutSlotsStand, RecordsAloneAreCarried, RecordsArePlaced, RecordsHaveSlots, RecordsKeepShapes, SlotsStayAsMany};
+ghost use Rattle.ebpf_core_relo.specs.Refused.{FaultsAreRefusals, RefusalIsOne};
 ghost use Rattle.ebpf_core_relo.specs.SlotOutcomes.{WrittenSlotsCarry};
 
 /// The slots that one record alone touches are those of its function with its outcome written into them: whatever the
@@ -33,4 +34,13 @@ pub fn put_slots_stand()
 /// are as before.
 pub fn written_slots_carry()
     ensures { WrittenSlotsCarry }
+{}
+
+/// Where the records of an object are refused with a fault, all records before it were applied, over the slots that they
+/// left the next one has this fault, and its section is named: no function holds its instruction, the first step of its
+/// search that has a fault has this one, or its slot can't carry the outcome. Or the section's name can't be read, or no
+/// section has it.
+pub fn records_are_refused()
+    ensures refused { FaultsAreRefusals }
+    ensures alone { RefusalIsOne }
 {}

@@ -6,9 +6,12 @@ ghost use Rattle.ebpf_object.specs.JoinedMaps.{MapsTellOfJoined};
 ghost use Rattle.ebpf_object.specs.OlderHelpers.{TwiceIsOnce};
 ghost use Rattle.ebpf_object.specs.PatchedBytes.{GreatestNameStands, OtherBytesStay, LengthsStay, MapsStay, PatchesAreValues, ValuesArePatches};
 
+pub use ebpf_core::laws::{
+    first_fault_refuses, one_first_variant, one_local_side, outcomes_rest_on_what_is_asked,
+};
 pub use ebpf_core_relo::laws::{
-    other_slots_stay, put_slots_stand, records_alone_are_carried, records_have_slots,
-    written_slots_carry,
+    other_slots_stay, put_slots_stand, records_alone_are_carried, records_are_refused,
+    records_have_slots, written_slots_carry,
 };
 pub use ebpf_parsing::laws::{
     externs_are_unresolved, functions_stand_at_their_keys, functions_tile, later_entries_stand,
