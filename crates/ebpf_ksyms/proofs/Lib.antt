@@ -1,5 +1,7 @@
 pub mod Cuts
+pub mod Cutting
 pub mod Flavors
+pub mod FromText
 pub mod Identities
 pub mod Listed
 pub mod Numbers

@@ -34,21 +34,21 @@ texts-push [] line h is = (is, tt)
 texts-push (l ∷ lines) line h is = (h.0, texts-push lines line h.1 is)
 
 -- the last of some calls
-last_call : {S A : Type 0} (steps : S → Option A → S → Type 0) (xs : List A) (x : A) (s u : S) → Yields steps s (xs ++ x ∷ []) u → (t : S) × Yields steps s xs t × steps t (Some x) u
+pub last_call : {S A : Type 0} (steps : S → Option A → S → Type 0) (xs : List A) (x : A) (s u : S) → Yields steps s (xs ++ x ∷ []) u → (t : S) × Yields steps s xs t × steps t (Some x) u
 last_call steps [] x s u y = (s, refl, subst (λ r. steps s (Some x) r) y.2 y.1)
 last_call steps (z ∷ xs) x s u y = let r = last_call steps xs x y.0 u y.2 in (r.0, (y.0, y.1, r.1), r.2)
 
 -- ---- want of memory aside
 
-given : {P : Type 0} (b : Bool) → P → MatchBool b ⊤ P
+pub given : {P : Type 0} (b : Bool) → P → MatchBool b ⊤ P
 given true p = tt
 given false p = p
 
-match_after : {P : Type 0} (Q : Type 0) (b : Bool) → (P → MatchBool b ⊤ Q) → MatchBool b ⊤ P → MatchBool b ⊤ Q
+pub match_after : {P : Type 0} (Q : Type 0) (b : Bool) → (P → MatchBool b ⊤ Q) → MatchBool b ⊤ P → MatchBool b ⊤ Q
 match_after Q true f h = tt
 match_after Q false f h = f h
 
-access_or_memory : (P : KsymsError → Type 0) (err : Error) (e : KsymsError) → (is_memory_kind (error_kind err) ≡ false → P (KallsymsAccessError err)) → read_fault err ≡ e → MatchBool (is_memory e) ⊤ (P e)
+pub access_or_memory : (P : KsymsError → Type 0) (err : Error) (e : KsymsError) → (is_memory_kind (error_kind err) ≡ false → P (KallsymsAccessError err)) → read_fault err ≡ e → MatchBool (is_memory e) ⊤ (P e)
 access_or_memory P err e other is =
     subst (λ f. MatchBool (is_memory f) ⊤ (P f)) is (
     elim (is_memory_kind (error_kind err)) as (λ b. is_memory_kind (error_kind err) ≡ b → MatchBool (is_memory (cond b OutOfMemory (KallsymsAccessError err))) ⊤ (P (cond b OutOfMemory (KallsymsAccessError err)))) [ true ↦ λ k. tt | false ↦ λ k. other k ] refl)

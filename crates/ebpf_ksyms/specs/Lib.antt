@@ -11,4 +11,7 @@ pub mod Readers
 pub mod Settled
 pub mod Sought
 pub mod SoughtValue
+pub mod Sources
+pub mod TextLines
+pub mod Texts
 pub mod Typed

@@ -9,8 +9,12 @@ mod named;
 mod resolve;
 mod settled;
 mod sought;
+mod source;
+mod text_lines;
 mod typed;
 mod words;
 
 pub use error::KsymsError;
-pub use resolve::{resolve_externs, resolve_lines};
+pub use resolve::{resolve_externs, resolve_lines, resolve_text};
+pub use source::{SymbolSource, SymbolText};
+pub use text_lines::TextLines;

@@ -6,11 +6,13 @@ ghost use Rattle.std.specs.Option.{option_copied};
 ghost use Rattle.ebpf_ksyms.specs.Externs.{IsRefused, IsResolved};
 ghost use Rattle.ebpf_ksyms.specs.Faults.{is_memory};
 ghost use Rattle.ebpf_ksyms.specs.Readers.{IsRefusedIn, IsResolvedIn};
+ghost use Rattle.ebpf_ksyms.specs.Texts.{IsRefusedBy, IsResolvedBy};
 
 use crate::entry::{entries_of, map_of, wanted_names};
 use crate::error::KsymsError;
 use crate::lines::addresses_in;
 use crate::settled::settled;
+use crate::text_lines::TextLines;
 use crate::typed::with_types;
 use ebpf_base::ByName;
 use ebpf_btf::Btf;
@@ -77,4 +79,20 @@ pub fn resolve_externs<R: BufRead + Drop>(
     ensures fault { IfErr result (λ e. MatchBool (is_memory e) ⊤ (IsRefusedIn (R.remaining kallsyms) (option_copied btf.entry) (option_copied kernel_btf.entry) externs.now e)) }
 {
     resolve_lines(alloc, btf, externs, kernel_btf, kallsyms.lines(alloc))
+}
+
+/// `resolve_lines` with the lines of a text in memory, split as `resolve_externs` splits those of a reader. It is refused
+/// exactly where there is a fault: `KallsymsAccessError` is that of the first line that is not UTF-8, where lines are
+/// wanted, of kind `InvalidData`.
+pub fn resolve_text(
+    alloc: Global,
+    btf: Option<&Btf>,
+    externs: &ByName<ExternDesc>,
+    kernel_btf: Option<&Btf>,
+    text: &[u8],
+) -> Result<ByName<ExternDesc>, KsymsError>
+    ensures ok { IfOk result (λ after. IsResolvedBy text.now (option_copied btf.entry) (option_copied kernel_btf.entry) externs.now after) }
+    ensures fault { IfErr result (λ e. MatchBool (is_memory e) ⊤ (IsRefusedBy text.now (option_copied btf.entry) (option_copied kernel_btf.entry) externs.now e)) }
+{
+    resolve_lines(alloc, btf, externs, kernel_btf, TextLines::new(alloc, text))
 }
