@@ -73,6 +73,7 @@ enum ebpf_number {
 	EBPF_PARSE_MAP_SYMBOL_NAME = 153, /* kept, never answered */
 	EBPF_PARSE_NO_SYMBOLS = 154,	  /* about the section */
 	EBPF_PARSE_NO_TYPES = 155,
+	EBPF_PARSE_BIG_ENDIAN_CODE = 156, /* the broad reading alone */
 
 	/* 200 to 299: types. About the section, from 220 on */
 	EBPF_TYPES_READ = 200,	/* + ebpf_type_fault: the kernel's types can't be read */
@@ -245,6 +246,7 @@ enum ebpf_program_kind {
 	EBPF_KIND_CGROUP_SOCK = 27,
 	EBPF_KIND_CGROUP_DEVICE = 28,
 	EBPF_KIND_ITER = 29,
+	EBPF_KIND_OTHER = 30, /* a name that says none of these: the broad reading alone */
 };
 
 /* flags of a program */

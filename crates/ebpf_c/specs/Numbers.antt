@@ -86,6 +86,7 @@ parse_refusal (parse.MapSymbolNameNotFound _) = plain 153
 parse_refusal (parse.NoSymbolsForSection section) = named 154 section
 parse_refusal parse.NoBTF = plain 155
 parse_refusal parse.OutOfMemory = plain MEMORY
+parse_refusal parse.BigEndianCode = plain 156
 
 -- ---- 200 to 299: types; of a record about its section
 

@@ -13,6 +13,7 @@ use Rattle.ebpf_c.specs.Numbers.{prepare_refusal}
 use Rattle.ebpf_c.specs.TargetTypes.{types_if, CannotReadIf}
 use Rattle.ebpf_c.specs.declared.descriptors.ebpf_descriptor.{ebpf_descriptor}
 use Rattle.ebpf_c.specs.declared.refusal.Refusal.{Refusal}
+use Rattle.ebpf_parts.specs.declared.reading.Reading.TheVariants.{Stated}
 
 -- what a caller gives
 pub record Given : Type 0 where
@@ -39,14 +40,14 @@ pub record HasPrepared (given : Given) (o : Object) : Type 0 where
   pub kernel : Option TypeInfo
   pub spelled : types_if given.types ≡ Ok kernel
   pub named : have_names given.text given.rows ≡ true
-  pub headline : Headline (all_passes given kernel) (Some given.symbols) given.file o
+  pub headline : Headline (all_passes given kernel) (Some given.symbols) Stated given.file o
   pub others_stay : KeepsOthers (object_of given.file) o
 
 -- a stage has the first fault
 pub record HasFault (given : Given) (r : Refusal) : Type 0 where
   pub kernel : Option TypeInfo
   pub spelled : types_if given.types ≡ Ok kernel
-  pub refusal : IsRefusal (Refuses (IsFirstFault (all_passes given kernel) (Some given.symbols) given.file)) prepare_refusal r
+  pub refusal : IsRefusal (Refuses (IsFirstFault (all_passes given kernel) (Some given.symbols) Stated given.file)) prepare_refusal r
 
 -- the names are looked at first, then the types are read, then come the stages
 abbrev pub CannotPrepare : Given → Refusal → Type 0

@@ -2,7 +2,7 @@
 use Rattle.std.specs.Prelude.{ℕ, ◌+◌, ◌*◌, Some, None, if◌then◌else◌}
 use Rattle.ebpf_parts.specs.AttachTypes.{attach_type_number, cgroup_skb_attach_type, cgroup_sock_attach_type, cgroup_sock_addr_attach_type, cgroup_sockopt_attach_type, sk_reuseport_attach_type, sk_skb_attach_type, xdp_attach_type}
 use Rattle.ebpf_parts.specs.declared.program_section.ProgramSection.{ProgramSection}
-use Rattle.ebpf_parts.specs.declared.program_section.ProgramSection.TheVariants.{KRetProbe, KProbe, UProbe, URetProbe, TracePoint, SocketFilter, Xdp, SkMsg, SkSkbStream, SockOps, SchedClassifier, CgroupSkb, CgroupSockAddr, CgroupSysctl, CgroupSockopt, LircMode2, PerfEvent, RawTracePoint, Lsm, LsmCgroup, BtfTracePoint, FEntry, FExit, FlowDissector, Extension, SkLookup, SkReuseport, CgroupSock, CgroupDevice, Iter}
+use Rattle.ebpf_parts.specs.declared.program_section.ProgramSection.TheVariants.{KRetProbe, KProbe, UProbe, URetProbe, TracePoint, SocketFilter, Xdp, SkMsg, SkSkbStream, SockOps, SchedClassifier, CgroupSkb, CgroupSockAddr, CgroupSysctl, CgroupSockopt, LircMode2, PerfEvent, RawTracePoint, Lsm, LsmCgroup, BtfTracePoint, FEntry, FExit, FlowDissector, Extension, SkLookup, SkReuseport, CgroupSock, CgroupDevice, Iter, Other}
 use Rattle.ebpf_c.specs.Flags.{flag}
 use Rattle.ebpf_c.specs.declared.program_kind.TheConstants.{NO_ATTACH_TYPE}
 
@@ -38,6 +38,7 @@ kind_number (SkReuseport _) = 26
 kind_number (CgroupSock _) = 27
 kind_number CgroupDevice = 28
 kind_number (Iter _) = 29
+kind_number Other = 30
 
 -- the type that the kernel loads such a program as (its include/uapi/linux/bpf.h, enum bpf_prog_type, by libbpf's table
 -- of section names)
@@ -72,6 +73,7 @@ program_type (SkReuseport _) = 21
 program_type (CgroupSock _) = 9
 program_type CgroupDevice = 15
 program_type (Iter _) = 26
+program_type Other = 0
 
 -- how the kernel attaches it (enum bpf_attach_type, by the same table)
 abbrev pub attach_type : ProgramSection → ℕ
@@ -106,6 +108,7 @@ attach_type (SkReuseport way) = attach_type_number (sk_reuseport_attach_type way
 attach_type (CgroupSock way) = attach_type_number (cgroup_sock_attach_type way)
 attach_type CgroupDevice = 6
 attach_type (Iter _) = 28
+attach_type Other = NO_ATTACH_TYPE
 
 -- sleepable 1, multi 2, frags 4, added up
 abbrev pub kind_flags : ProgramSection → ℕ
@@ -139,3 +142,4 @@ kind_flags (SkReuseport _) = 0
 kind_flags (CgroupSock _) = 0
 kind_flags CgroupDevice = 0
 kind_flags (Iter sleepable) = flag sleepable
+kind_flags Other = 0

@@ -72,6 +72,7 @@ pub fn parse_name(place: u32) -> &'static [u8] {
         13 => b"MapSymbolNameNotFound",
         14 => b"NoSymbolsForSection",
         15 => b"NoBTF",
+        16 => b"BigEndianCode",
         _ => b"",
     }
 }

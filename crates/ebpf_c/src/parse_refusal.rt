@@ -35,5 +35,6 @@ pub fn parse_refusal(error: ParseError) -> Refusal
         ParseError::NoSymbolsForSection { section_name } => Refusal::named(154, section_name),
         ParseError::NoBTF => Refusal::plain(155),
         ParseError::OutOfMemory => Refusal::plain(MEMORY),
+        ParseError::BigEndianCode => Refusal::plain(156),
     }
 }

@@ -45,6 +45,7 @@ pub fn kind_number(section: ProgramSection) -> u32
         ProgramSection::CgroupSock { .. } => 27,
         ProgramSection::CgroupDevice => 28,
         ProgramSection::Iter { .. } => 29,
+        ProgramSection::Other => 30,
     }
 }
 
@@ -83,6 +84,7 @@ pub fn program_type(section: ProgramSection) -> u32
         ProgramSection::CgroupSock { .. } => 9,
         ProgramSection::CgroupDevice => 15,
         ProgramSection::Iter { .. } => 26,
+        ProgramSection::Other => 0,
     }
 }
 

@@ -12,6 +12,7 @@ use Rattle.ebpf_object.specs.Prepared.{IsFirstFault}
 use Rattle.ebpf_object.specs.Prepared as preparing
 use Rattle.ebpf_object.specs.Steps.{Chosen}
 use Rattle.ebpf_object.specs.declared.object.Object.{Object}
+use Rattle.ebpf_parts.specs.declared.reading.Reading.TheVariants.{Stated}
 
 -- memory was refused, or a writer failed: nothing that a file says
 abbrev pub is_outside : Failure → Bool
@@ -38,7 +39,7 @@ LacksAsked o (Some name) f = Lacks o name f
 
 -- preparing a file with these passes has this first fault
 abbrev pub CannotPrepare : Chosen → Option (List ℕ) → List ℕ → Failure → Type 0
-CannotPrepare steps lines file (Preparing e) = IsFirstFault steps lines file e
+CannotPrepare steps lines file (Preparing e) = IsFirstFault steps lines Stated file e
 CannotPrepare steps lines file _ = ⊥
 
 -- What a refusal says of the files is so: the kernel's types can't be read, or, where they can, preparing the file has
@@ -46,7 +47,7 @@ CannotPrepare steps lines file _ = ⊥
 abbrev pub Stands : List ℕ → Option (List ℕ) → Option (List ℕ) → Option (List ℕ) → Failure → Type 0
 Stands file btf lines program (Btf e) = kernel_types btf ≡ Err e
 Stands file btf lines program (Preparing e) =
-    (kernel : Option TypeInfo) × (kernel_types btf ≡ Ok kernel) × IsFirstFault (asked kernel (object_of file).maps) lines file e
+    (kernel : Option TypeInfo) × (kernel_types btf ≡ Ok kernel) × IsFirstFault (asked kernel (object_of file).maps) lines Stated file e
 Stands file btf lines program (NoProgram name) =
     (o : Object) × IsLinked file btf lines o × (program ≡ Some name.now) × (get o.programs name.now ≡ None)
 Stands file btf lines program (CannotRead path) = ⊥

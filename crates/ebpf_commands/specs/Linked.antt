@@ -13,6 +13,7 @@ use Rattle.ebpf_object.specs.Headline.{Headline}
 use Rattle.ebpf_object.specs.Steps.{Chosen, Descriptor}
 use Rattle.ebpf_object.specs.declared.object.Object.{Object}
 use Rattle.ebpf_parts.specs.declared.maps.either.Map.{Map}
+use Rattle.ebpf_parts.specs.declared.reading.Reading.TheVariants.{Stated}
 
 abbrev pub read_as_types : Result TypeInfo BtfError → Result (Option TypeInfo) BtfError
 read_as_types (Ok types) = Ok (Some types)
@@ -49,4 +50,4 @@ asked types maps = asked_of types (keys_of (entries maps))
 pub record IsLinked (file : List ℕ) (btf : Option (List ℕ)) (lines : Option (List ℕ)) (o : Object) : Type 0 where
   pub types : Option TypeInfo
   pub kernel : kernel_types btf ≡ Ok types
-  pub headline : Headline (asked types (object_of file).maps) lines file o
+  pub headline : Headline (asked types (object_of file).maps) lines Stated file o

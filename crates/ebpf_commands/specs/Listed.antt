@@ -14,6 +14,7 @@ use Rattle.ebpf_inspect.specs.declared.report.ProgramReport.{ProgramReport}
 use Rattle.ebpf_object.specs.Objects.{object_of}
 use Rattle.ebpf_reloc.specs.declared.link_map.CodeCopy.{CodeCopy}
 use Rattle.ebpf_linker.specs.declared.link_map.Reference.{Reference}
+use Rattle.ebpf_parts.specs.declared.reading.Reading.TheVariants.{Stated}
 
 -- an address, of base 16
 abbrev pub address_text : ℕ → List ℕ
@@ -56,7 +57,7 @@ listed reports None = flat_map report_text reports
 pub record HasInspected (file : List ℕ) (btf : Option (List ℕ)) (lines : Option (List ℕ)) (reports : List ProgramReport) : Type 0 where
   pub types : Option TypeInfo
   pub kernel : kernel_types btf ≡ Ok types
-  pub inspected : IsInspected (asked types (object_of file).maps) lines file reports
+  pub inspected : IsInspected (asked types (object_of file).maps) lines Stated file reports
 
 -- The file is inspected, it has the program that is asked for, and the writer, whose bytes were these before and are
 -- these now, has got the lines of that program or of all.

@@ -8,6 +8,7 @@ ghost use Rattle.ebpf_commands.specs.Linked.{asked};
 ghost use Rattle.ebpf_commands.specs.Listed.{report_named, listed, HasInspected, HasListed, LacksReport, LacksAskedReport};
 ghost use Rattle.ebpf_inspect.specs.Inspected.{IsInspected};
 ghost use Rattle.ebpf_object.specs.Prepared.{IsParsed};
+ghost use Rattle.ebpf_parts.specs.declared.reading.Reading.TheVariants.{Stated};
 
 use crate::arguments::Words;
 use crate::failure::{Failure, report};
@@ -111,8 +112,8 @@ fn inspect_all<K: BufRead + Drop>(
     types: Option<&Btf>,
     kallsyms: K,
 ) -> Result<Items<ProgramReport>, Failure<'static>>
-    ensures inspected { (file : List ℕ) → IsParsed file object → IfOk result (IsInspected (asked (option_copied types.entry) object.maps) (K.remaining kallsyms) file) }
-    ensures refused { (file : List ℕ) → IsParsed file object → IfErr result (λ f. MatchBool (is_outside f) ⊤ (CannotPrepare (asked (option_copied types.entry) object.maps) (K.remaining kallsyms) file f)) }
+    ensures inspected { (file : List ℕ) → IsParsed Stated file object → IfOk result (IsInspected (asked (option_copied types.entry) object.maps) (K.remaining kallsyms) Stated file) }
+    ensures refused { (file : List ℕ) → IsParsed Stated file object → IfErr result (λ f. MatchBool (is_outside f) ⊤ (CannotPrepare (asked (option_copied types.entry) object.maps) (K.remaining kallsyms) file f)) }
 {
     let Ok(names) = map_names(alloc, &object) else {
         return Err(Failure::Memory);

@@ -11,6 +11,7 @@ ghost use Rattle.ebpf_commands.specs.Done.{HasPrinted};
 ghost use Rattle.ebpf_commands.specs.Failures.{is_outside, is_writers, Stands, Lacks, LacksAsked, CannotPrepare};
 ghost use Rattle.ebpf_commands.specs.Linked.{asked, IsLinked};
 ghost use Rattle.ebpf_commands.specs.Printed.{function_named, lines_of, printed};
+ghost use Rattle.ebpf_parts.specs.declared.reading.Reading.TheVariants.{Stated};
 
 use crate::arguments::Words;
 use crate::failure::{Failure, report};
@@ -138,8 +139,8 @@ pub fn prepare_all<K: BufRead + Drop>(
     types: Option<&Btf>,
     kallsyms: K,
 ) -> Result<Object, Failure<'static>>
-    ensures headline { (file : List ℕ) → IsParsed file object → IfOk result (Headline (asked (option_copied types.entry) object.maps) (K.remaining kallsyms) file) }
-    ensures refused { (file : List ℕ) → IsParsed file object → IfErr result (λ f. MatchBool (is_outside f) ⊤ (CannotPrepare (asked (option_copied types.entry) object.maps) (K.remaining kallsyms) file f)) }
+    ensures headline { (file : List ℕ) → IsParsed Stated file object → IfOk result (Headline (asked (option_copied types.entry) object.maps) (K.remaining kallsyms) Stated file) }
+    ensures refused { (file : List ℕ) → IsParsed Stated file object → IfErr result (λ f. MatchBool (is_outside f) ⊤ (CannotPrepare (asked (option_copied types.entry) object.maps) (K.remaining kallsyms) file f)) }
 {
     let Ok(names) = map_names(alloc, &object) else {
         return Err(Failure::Memory);

@@ -29,6 +29,7 @@ pub fn variant_of_parsing(error: &ParseError) -> &'static str {
         ParseError::NoSymbolsForSection { .. } => "NoSymbolsForSection",
         ParseError::NoBTF => "NoBTF",
         ParseError::OutOfMemory => "OutOfMemory",
+        ParseError::BigEndianCode => "BigEndianCode",
     }
 }
 

@@ -4,7 +4,7 @@ use Rattle.ebpf_inspect.specs.Inspected.{joining, AreReports, AreReportsOf, IsIn
 use Rattle.ebpf_inspect.specs.declared.report.ProgramReport.{ProgramReport}
 use Rattle.ebpf_object.proofs.Headline.{finished}
 use Rattle.ebpf_object.specs.Joined.{programs_in_order}
-use Rattle.ebpf_object.specs.Objects.{object_of, parse_fault}
+use Rattle.ebpf_object.specs.Objects.{object_as, parse_fault_as}
 use Rattle.ebpf_object.specs.Prepared.{AfterMaps, AfterResolution, AfterExterns, AfterCalls, IsFault, IsParsed, IsPrepared}
 use Rattle.ebpf_object.specs.StageFaults.{OfCalls}
 use Rattle.ebpf_object.specs.Stages.{Joins, JoiningFault}
@@ -12,6 +12,7 @@ use Rattle.ebpf_object.specs.Steps.{Chosen}
 use Rattle.ebpf_object.specs.declared.object.Object.{Object}
 use Rattle.ebpf_object.specs.declared.prepare_error.PrepareError.{PrepareError}
 use Rattle.ebpf_object.specs.declared.prepare_error.PrepareError.TheVariants.{Parse, Types, Maps, Ksyms, Externs, Calls, OutOfMemory}
+use Rattle.ebpf_parts.specs.declared.reading.Reading.{Reading}
 
 module _ (s : Chosen) (lines : Option (List ℕ)) where
   abbrev pub alone : Chosen
@@ -60,15 +61,15 @@ module _ (s : Chosen) (lines : Option (List ℕ)) where
         }
 
   -- of a file
-  module _ (bytes : List ℕ) (rs : List ProgramReport) where
-    inspected_parsed : parse_fault bytes ≡ None → AreReportsOf s lines (object_of bytes) rs → IsInspected s lines bytes rs
+  module _ (reading : Reading) (bytes : List ℕ) (rs : List ProgramReport) where
+    inspected_parsed : parse_fault_as reading bytes ≡ None → AreReportsOf s lines (object_as reading bytes) rs → IsInspected s lines reading bytes rs
     inspected_parsed sound of =
-        let whole : IsPrepared (joining s) lines bytes of.linked = record { sound = sound; stages = of.stages } in
+        let whole : IsPrepared (joining s) lines reading bytes of.linked = record { sound = sound; stages = of.stages } in
         record {
           linked = of.linked;
-          headline = record { prepared = whole; finished = finished (joining s) lines bytes of.linked whole };
+          headline = record { prepared = whole; finished = finished (joining s) lines reading bytes of.linked whole };
           each = of.each;
         }
 
-    pub inspected : (o : Object) → IsParsed bytes o → AreReportsOf s lines o rs → IsInspected s lines bytes rs
+    pub inspected : (o : Object) → IsParsed reading bytes o → AreReportsOf s lines o rs → IsInspected s lines reading bytes rs
     inspected o parsed of = inspected_parsed parsed.sound (subst (λ (x : Object). AreReportsOf s lines x rs) parsed.is of)

@@ -12,6 +12,7 @@ use Rattle.ebpf_reloc.specs.Linking.{ProgramValue, key_of, IsLinked}
 use Rattle.ebpf_reloc.specs.MapLaws.{TellsOf}
 use Rattle.ebpf_reloc.specs.declared.function.Function.{Function}
 use Rattle.ebpf_reloc.specs.declared.link_map.LinkMap.{LinkMap}
+use Rattle.ebpf_parts.specs.declared.reading.Reading.{Reading}
 
 -- the chosen passes, and the joining of programs
 abbrev pub joining : Chosen → Chosen
@@ -45,8 +46,8 @@ pub record AreReportsOf (steps : Chosen) (lines : Option (List ℕ)) (o : Object
   pub stages : AfterCalls (joining steps) lines o linked
   pub each : AreReports stages.before linked (programs_in_order linked.programs) reports
 
--- the same of a file
-pub record IsInspected (steps : Chosen) (lines : Option (List ℕ)) (bytes : List ℕ) (reports : List ProgramReport) : Type 0 where
+-- the same of a file in a reading
+pub record IsInspected (steps : Chosen) (lines : Option (List ℕ)) (reading : Reading) (bytes : List ℕ) (reports : List ProgramReport) : Type 0 where
   pub linked : Object
-  pub headline : Headline (joining steps) lines bytes linked
+  pub headline : Headline (joining steps) lines reading bytes linked
   pub each : AreReports (unlinked_object headline.prepared) linked (programs_in_order linked.programs) reports

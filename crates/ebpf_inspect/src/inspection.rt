@@ -8,6 +8,8 @@ ghost use Rattle.ebpf_object.specs.Prepared.{IsParsed, IsFault, IsFirstFault, Re
 ghost use Rattle.ebpf_object.specs.StageFaults.{OfCalls};
 ghost use Rattle.ebpf_object.specs.Stages.{Joins, JoiningFault};
 ghost use Rattle.ebpf_object.specs.Steps.{chosen};
+ghost use Rattle.ebpf_parts.specs.declared.reading.Reading.{Reading};
+ghost use Rattle.ebpf_parts.specs.declared.reading.Reading.TheVariants.{Stated};
 
 use crate::maps::{NamedMap, link_maps};
 use crate::report::ProgramReport;
@@ -114,9 +116,9 @@ pub fn inspect_object<K: BufRead + Drop>(
     kallsyms: K,
 ) -> Result<Items<ProgramReport>, PrepareError>
     ensures reports { IfOk result (AreReportsOf (chosen steps.now) (K.remaining kallsyms) object) }
-    ensures inspected { (file : List ℕ) → IsParsed file object → IfOk result (IsInspected (chosen steps.now) (K.remaining kallsyms) file) }
+    ensures inspected { (reading : Reading) (file : List ℕ) → IsParsed reading file object → IfOk result (IsInspected (chosen steps.now) (K.remaining kallsyms) reading file) }
     ensures fault { IfErr result (Refuses (IsFault (joining (chosen steps.now)) (K.remaining kallsyms) object)) }
-    ensures first_fault { (file : List ℕ) → IsParsed file object → IfErr result (Refuses (IsFirstFault (joining (chosen steps.now)) (K.remaining kallsyms) file)) }
+    ensures first_fault { (reading : Reading) (file : List ℕ) → IsParsed reading file object → IfErr result (Refuses (IsFirstFault (joining (chosen steps.now)) (K.remaining kallsyms) reading file)) }
 {
     inspect_all(alloc, object, steps, kallsyms)
 }
@@ -135,8 +137,8 @@ pub fn inspect<K: BufRead + Drop>(
     steps: &Steps<'_>,
     kallsyms: K,
 ) -> Result<Items<ProgramReport>, PrepareError>
-    ensures reports { IfOk result (IsInspected (chosen steps.now) (K.remaining kallsyms) bytes.now) }
-    ensures fault { IfErr result (Refuses (IsFirstFault (joining (chosen steps.now)) (K.remaining kallsyms) bytes.now)) }
+    ensures reports { IfOk result (IsInspected (chosen steps.now) (K.remaining kallsyms) Stated bytes.now) }
+    ensures fault { IfErr result (Refuses (IsFirstFault (joining (chosen steps.now)) (K.remaining kallsyms) Stated bytes.now)) }
 {
     match Object::parse(alloc, bytes) {
         Ok(object) => inspect_object(alloc, object, steps, kallsyms),

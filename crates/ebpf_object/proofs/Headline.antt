@@ -17,7 +17,7 @@ use Rattle.ebpf_object.specs.AdaptedSlots.{AreAdapted, adapted_by}
 use Rattle.ebpf_object.specs.Chain.{Chain, Links, with_descriptors}
 use Rattle.ebpf_object.specs.Headline.{key_of, ProgramsAreWhole, slot_in, scene_of, IsCopiedTo, StandsAt, RecordsAreCarried, IsFinished, PassesFinish, relocated_object, unlinked_object, passes_of, Headline}
 use Rattle.ebpf_object.specs.Joined.{with_name, linkable_of, programs_in_order, is_program_key}
-use Rattle.ebpf_object.specs.Objects.{object_of}
+use Rattle.ebpf_object.specs.Objects.{object_as}
 use Rattle.ebpf_object.specs.Prepared.{IsPrepared}
 use Rattle.ebpf_object.specs.Stages.{Adapts, Joins, Resolves, described, externs_known, own_maps}
 use Rattle.ebpf_object.specs.Steps.{Chosen, Descriptor}
@@ -32,6 +32,7 @@ use Rattle.ebpf_reloc.specs.Linking.{ProgramValue}
 use Rattle.ebpf_reloc.specs.Places.{TextSections}
 use Rattle.ebpf_reloc.specs.References.{Key, content_of}
 use Rattle.ebpf_reloc.specs.declared.function.Function.{Function}
+use Rattle.ebpf_parts.specs.declared.reading.Reading.{Reading}
 
 -- ---- programs
 
@@ -188,14 +189,14 @@ linked_by : (calls : Bool) (d o : Object) → Joins calls d o → Links (if call
 linked_by true d o joins = joins
 linked_by false d o joins = joins
 
-module _ (steps : Chosen) (lines : Option (List ℕ)) (bytes : List ℕ) (o : Object) (p : IsPrepared steps lines bytes o) where
+module _ (steps : Chosen) (lines : Option (List ℕ)) (reading : Reading) (bytes : List ℕ) (o : Object) (p : IsPrepared steps lines reading bytes o) where
   abbrev a : Object
   a = relocated_object p
 
   abbrev d : Object
   d = unlinked_object p
 
-  chain : Chain (passes_of p) (object_of bytes) o
+  chain : Chain (passes_of p) (object_as reading bytes) o
   chain = record {
     relocated = a;
     described = p.stages.externs.resolution.before;
@@ -208,8 +209,8 @@ module _ (steps : Chosen) (lines : Option (List ℕ)) (bytes : List ℕ) (o : Ob
     calls = linked_by steps.calls d o p.stages.joins;
   }
 
-  pub finished : IsFinished (passes_of p) (object_of bytes) o
-  finished = passes_finish (passes_of p) (object_of bytes) o chain
+  pub finished : IsFinished (passes_of p) (object_as reading bytes) o
+  finished = passes_finish (passes_of p) (object_as reading bytes) o chain
 
-pub headline : (steps : Chosen) (lines : Option (List ℕ)) (bytes : List ℕ) (o : Object) → IsPrepared steps lines bytes o → Headline steps lines bytes o
-headline steps lines bytes o p = record { prepared = p; finished = finished steps lines bytes o p }
+pub headline : (steps : Chosen) (lines : Option (List ℕ)) (reading : Reading) (bytes : List ℕ) (o : Object) → IsPrepared steps lines reading bytes o → Headline steps lines reading bytes o
+headline steps lines reading bytes o p = record { prepared = p; finished = finished steps lines reading bytes o p }

@@ -18,3 +18,4 @@ pub mod OwnMaps
 pub mod GivenMaps
 pub mod MapNames
 pub mod StatedLicense
+pub mod BothReadings

@@ -2,13 +2,14 @@
 use Rattle.std.proofs.Common.{◌≡◌, ℕ, Bool, true, false, List, Option, None, subst, sym}
 use Rattle.std.specs.Prelude.{MatchBool, Result, Ok, Err, OnOk, IfOk, IfErr, IsErrAnd}
 use Rattle.ebpf_object.specs.Prepared.{AfterMaps, AfterResolution, AfterExterns, AfterCalls, IsFault, IsFirstFault, IsPrepared, IsParsed, Refuses, NamesNothing, is_memory}
-use Rattle.ebpf_object.specs.Objects.{object_of, parse_fault}
+use Rattle.ebpf_object.specs.Objects.{object_as, parse_fault_as}
 use Rattle.ebpf_object.specs.StageFaults.{OfTypes, OfMaps, OfKsyms, OfExterns, OfCalls}
 use Rattle.ebpf_object.specs.Stages.{Adapts, AdaptingFault, described, describing_fault, Resolves, ResolvingFault, externs_known, knowing_fault, Joins, JoiningFault}
 use Rattle.ebpf_object.specs.Steps.{Chosen}
 use Rattle.ebpf_object.specs.declared.object.Object.{Object}
 use Rattle.ebpf_object.specs.declared.prepare_error.PrepareError.{PrepareError}
 use Rattle.ebpf_object.specs.declared.prepare_error.PrepareError.TheVariants.{Parse, Types, Maps, Ksyms, Externs, Calls, OutOfMemory}
+use Rattle.ebpf_parts.specs.declared.reading.Reading.{Reading}
 
 -- what follows of an answer
 module _ {U E : Type 0} where
@@ -123,32 +124,32 @@ module _ (steps : Chosen) (lines : Option (List ℕ)) (o : Object) where
 
 -- ---- with parsing before the stages
 
-first_of : (steps : Chosen) (lines : Option (List ℕ)) (bytes : List ℕ) → parse_fault bytes ≡ None → (e : PrepareError) → IsFault steps lines (object_of bytes) e → IsFirstFault steps lines bytes e
-first_of steps lines bytes sound (Parse e) f = elim f [ ]
-first_of steps lines bytes sound (Types e) f = (sound, f)
-first_of steps lines bytes sound (Maps e) f = (sound, f)
-first_of steps lines bytes sound (Ksyms e) f = (sound, f)
-first_of steps lines bytes sound (Externs e) f = (sound, f)
-first_of steps lines bytes sound (Calls e) f = (sound, f)
-first_of steps lines bytes sound OutOfMemory f = elim f [ ]
+first_of : (steps : Chosen) (lines : Option (List ℕ)) (reading : Reading) (bytes : List ℕ) → parse_fault_as reading bytes ≡ None → (e : PrepareError) → IsFault steps lines (object_as reading bytes) e → IsFirstFault steps lines reading bytes e
+first_of steps lines reading bytes sound (Parse e) f = elim f [ ]
+first_of steps lines reading bytes sound (Types e) f = (sound, f)
+first_of steps lines reading bytes sound (Maps e) f = (sound, f)
+first_of steps lines reading bytes sound (Ksyms e) f = (sound, f)
+first_of steps lines reading bytes sound (Externs e) f = (sound, f)
+first_of steps lines reading bytes sound (Calls e) f = (sound, f)
+first_of steps lines reading bytes sound OutOfMemory f = elim f [ ]
 
-pub stage_refused : (steps : Chosen) (lines : Option (List ℕ)) (bytes : List ℕ) (o : Object) → o ≡ object_of bytes → parse_fault bytes ≡ None
-    → (e : PrepareError) → Refuses (IsFault steps lines o) e → Refuses (IsFirstFault steps lines bytes) e
-stage_refused steps lines bytes o is sound e r =
-    other_fault (is_memory e) (NamesNothing e) (IsFault steps lines (object_of bytes) e) (IsFirstFault steps lines bytes e) (first_of steps lines bytes sound e)
+pub stage_refused : (steps : Chosen) (lines : Option (List ℕ)) (reading : Reading) (bytes : List ℕ) (o : Object) → o ≡ object_as reading bytes → parse_fault_as reading bytes ≡ None
+    → (e : PrepareError) → Refuses (IsFault steps lines o) e → Refuses (IsFirstFault steps lines reading bytes) e
+stage_refused steps lines reading bytes o is sound e r =
+    other_fault (is_memory e) (NamesNothing e) (IsFault steps lines (object_as reading bytes) e) (IsFirstFault steps lines reading bytes e) (first_of steps lines reading bytes sound e)
     (subst (λ (x : Object). Refuses (IsFault steps lines x) e) is r)
 
-pub prepared : (steps : Chosen) (lines : Option (List ℕ)) (bytes : List ℕ) (o after : Object) → o ≡ object_of bytes → parse_fault bytes ≡ None → AfterCalls steps lines o after → IsPrepared steps lines bytes after
-prepared steps lines bytes o after is sound stages = record { sound = sound; stages = subst (λ (x : Object). AfterCalls steps lines x after) is stages }
+pub prepared : (steps : Chosen) (lines : Option (List ℕ)) (reading : Reading) (bytes : List ℕ) (o after : Object) → o ≡ object_as reading bytes → parse_fault_as reading bytes ≡ None → AfterCalls steps lines o after → IsPrepared steps lines reading bytes after
+prepared steps lines reading bytes o after is sound stages = record { sound = sound; stages = subst (λ (x : Object). AfterCalls steps lines x after) is stages }
 
 -- ---- an object as the bytes of a file are parsed
 
-pub parsed : (bytes : List ℕ) (o : Object) → o ≡ object_of bytes → parse_fault bytes ≡ None → IsParsed bytes o
-parsed bytes o is sound = record { sound = sound; is = is }
+pub parsed : (reading : Reading) (bytes : List ℕ) (o : Object) → o ≡ object_as reading bytes → parse_fault_as reading bytes ≡ None → IsParsed reading bytes o
+parsed reading bytes o is sound = record { sound = sound; is = is }
 
-module _ (steps : Chosen) (lines : Option (List ℕ)) (bytes : List ℕ) (o : Object) (from : IsParsed bytes o) where
-  pub prepared_file : (after : Object) → AfterCalls steps lines o after → IsPrepared steps lines bytes after
-  prepared_file after stages = prepared steps lines bytes o after from.is from.sound stages
+module _ (steps : Chosen) (lines : Option (List ℕ)) (reading : Reading) (bytes : List ℕ) (o : Object) (from : IsParsed reading bytes o) where
+  pub prepared_file : (after : Object) → AfterCalls steps lines o after → IsPrepared steps lines reading bytes after
+  prepared_file after stages = prepared steps lines reading bytes o after from.is from.sound stages
 
-  pub file_refused : (e : PrepareError) → Refuses (IsFault steps lines o) e → Refuses (IsFirstFault steps lines bytes) e
-  file_refused e r = stage_refused steps lines bytes o from.is from.sound e r
+  pub file_refused : (e : PrepareError) → Refuses (IsFault steps lines o) e → Refuses (IsFirstFault steps lines reading bytes) e
+  file_refused e r = stage_refused steps lines reading bytes o from.is from.sound e r

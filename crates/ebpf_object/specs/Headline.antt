@@ -17,7 +17,7 @@ use Rattle.ebpf_core_relo.specs.Records.{Scene, Written, own_slots, scene_betwee
 use Rattle.ebpf_linker.specs.Functions.{Functions, Nothing, BeginsAt}
 use Rattle.ebpf_object.specs.Chain.{Passes, Chain}
 use Rattle.ebpf_object.specs.Joined.{linkable_of, programs_in_order, is_program_key}
-use Rattle.ebpf_object.specs.Objects.{object_of}
+use Rattle.ebpf_object.specs.Objects.{object_as}
 use Rattle.ebpf_object.specs.Prepared.{IsPrepared}
 use Rattle.ebpf_object.specs.Stages.{own_maps}
 use Rattle.ebpf_object.specs.Steps.{Chosen}
@@ -25,6 +25,7 @@ use Rattle.ebpf_object.specs.TextSections.{has_function_in}
 use Rattle.ebpf_object.specs.declared.object.Object.{Object}
 use Rattle.ebpf_parsing.specs.declared.program.Program.{Program}
 use Rattle.ebpf_parts.specs.declared.insn.bpf_insn.{bpf_insn}
+use Rattle.ebpf_parts.specs.declared.reading.Reading.{Reading}
 use Rattle.ebpf_reloc.specs.Linking.{IsLinked}
 use Rattle.ebpf_reloc.specs.Places.{LinkableValue, TextSections}
 use Rattle.ebpf_reloc.specs.References.{Key, functions_of}
@@ -120,16 +121,16 @@ PassesFinish = (passes : Passes) (parsed o : Object) → Chain passes parsed o �
 
 -- ---- a prepared file
 
-module _ {steps : Chosen} {lines : Option (List ℕ)} {bytes : List ℕ} {o : Object} where
+module _ {steps : Chosen} {lines : Option (List ℕ)} {reading : Reading} {bytes : List ℕ} {o : Object} where
   -- the object relocated to types, and the object as linking begins, by the stages that a file went through
-  abbrev pub relocated_object : IsPrepared steps lines bytes o → Object
+  abbrev pub relocated_object : IsPrepared steps lines reading bytes o → Object
   relocated_object p = p.stages.externs.resolution.maps.before
 
-  abbrev pub unlinked_object : IsPrepared steps lines bytes o → Object
+  abbrev pub unlinked_object : IsPrepared steps lines reading bytes o → Object
   unlinked_object p = p.stages.before
 
   -- the passes that were made: the sections of code are those of the functions
-  abbrev pub passes_of : IsPrepared steps lines bytes o → Passes
+  abbrev pub passes_of : IsPrepared steps lines reading bytes o → Passes
   passes_of p = record {
     target = steps.target;
     maps = option_map (λ descriptors. (has_function_in (relocated_object p).functions, own_maps (relocated_object p).maps descriptors)) steps.descriptors;
@@ -137,7 +138,7 @@ module _ {steps : Chosen} {lines : Option (List ℕ)} {bytes : List ℕ} {o : Ob
     calls = if steps.calls then Some (has_function_in (unlinked_object p).functions) else None;
   }
 
--- a file, prepared, is finished
-pub record Headline (steps : Chosen) (lines : Option (List ℕ)) (bytes : List ℕ) (o : Object) : Type 0 where
-  pub prepared : IsPrepared steps lines bytes o
-  pub finished : IsFinished (passes_of prepared) (object_of bytes) o
+-- a file, read in a reading and prepared, is finished
+pub record Headline (steps : Chosen) (lines : Option (List ℕ)) (reading : Reading) (bytes : List ℕ) (o : Object) : Type 0 where
+  pub prepared : IsPrepared steps lines reading bytes o
+  pub finished : IsFinished (passes_of prepared) (object_as reading bytes) o

@@ -16,6 +16,7 @@ pub mod StageFaults
 pub mod Prepared
 pub mod KeptParts
 pub mod Chain
+pub mod BothReadings
 pub mod Headline
 pub mod MapNames
 pub mod NamedPrograms

@@ -5,22 +5,27 @@ use Rattle.ebpf_object.specs.declared.object.Object.{Object}
 use Rattle.ebpf_parsing.specs.FileExterns.{types_of, externs_of}
 use Rattle.ebpf_parsing.specs.FileSymbols.{file_symbols, symbol_table}
 use Rattle.ebpf_parsing.specs.FileTypes.{ext_of}
-use Rattle.ebpf_parsing.specs.Terms.{license_of, kernel_version_of}
-pub use Rattle.ebpf_parsing.specs.Contents.{parse_fault}
-unfoldable pub use Rattle.ebpf_parsing.specs.Contents.{maps, programs, functions, kept, section_infos}
+use Rattle.ebpf_parsing.specs.Terms.{license_as, kernel_version_of}
+use Rattle.ebpf_parts.specs.declared.reading.Reading.{Reading}
+use Rattle.ebpf_parts.specs.declared.reading.Reading.TheVariants.{Stated}
+pub use Rattle.ebpf_parsing.specs.Contents.{maps, programs, parse_fault, parse_fault_as}
+unfoldable pub use Rattle.ebpf_parsing.specs.Contents.{maps_as, programs_as, functions, kept, section_infos}
 
-abbrev pub object_of : List ℕ → Object
-object_of bytes = record {
+abbrev pub object_as : Reading → List ℕ → Object
+object_as reading bytes = record {
   endianness = order_of bytes;
-  license = license_of bytes;
+  license = license_as reading bytes;
   kernel_version = kernel_version_of bytes;
   btf = types_of bytes;
   btf_ext = ext_of bytes;
   externs = externs_of bytes;
-  maps = maps bytes;
-  programs = programs bytes;
+  maps = maps_as reading bytes;
+  programs = programs_as reading bytes;
   functions = functions bytes;
   symbol_table = symbol_table (file_symbols bytes);
   relocations = kept bytes;
   section_infos = section_infos bytes;
 }
+
+abbrev pub object_of : List ℕ → Object
+object_of bytes = object_as Stated bytes

@@ -2,13 +2,14 @@
 use Rattle.std.specs.Prelude.{◌≡◌, ⊤, ℕ, Bool, true, List, [], Option, Some, None, MatchBool}
 use Rattle.ebpf_core_relo.specs.Answers as adapting
 use Rattle.ebpf_ksyms.specs.Faults as resolving
-use Rattle.ebpf_object.specs.Objects.{object_of, parse_fault}
+use Rattle.ebpf_object.specs.Objects.{object_as, parse_fault_as}
 use Rattle.ebpf_object.specs.Stages.{Adapts, AdaptingFault, described, describing_fault, Resolves, ResolvingFault, externs_known, knowing_fault, Joins, JoiningFault}
 use Rattle.ebpf_object.specs.Steps.{Chosen}
 use Rattle.ebpf_object.specs.declared.object.Object.{Object}
 use Rattle.ebpf_object.specs.declared.prepare_error.PrepareError.{PrepareError}
 use Rattle.ebpf_object.specs.declared.prepare_error.PrepareError.TheVariants.{Parse, Types, Maps, Ksyms, Externs, Calls, OutOfMemory}
 use Rattle.ebpf_parts.specs.Memory as parsing
+use Rattle.ebpf_parts.specs.declared.reading.Reading.{Reading}
 use Rattle.ebpf_reloc.specs.Memory as relocating
 
 -- ---- the stages in order, for what is chosen and the lines of the kernel's symbols
@@ -46,19 +47,19 @@ module _ (steps : Chosen) (lines : Option (List ℕ)) where
   IsFault o _ = ⊥
 
   -- the object of a file, prepared
-  pub record IsPrepared (bytes : List ℕ) (o : Object) : Type 0 where
-    pub sound : parse_fault bytes ≡ None
-    pub stages : AfterCalls (object_of bytes) o
+  pub record IsPrepared (reading : Reading) (bytes : List ℕ) (o : Object) : Type 0 where
+    pub sound : parse_fault_as reading bytes ≡ None
+    pub stages : AfterCalls (object_as reading bytes) o
 
   -- the first fault: the file's own, or that of a stage of its object
-  abbrev pub IsFirstFault : List ℕ → PrepareError → Type 0
-  IsFirstFault bytes (Parse e) = parse_fault bytes ≡ Some e
-  IsFirstFault bytes e = (parse_fault bytes ≡ None) × IsFault (object_of bytes) e
+  abbrev pub IsFirstFault : Reading → List ℕ → PrepareError → Type 0
+  IsFirstFault reading bytes (Parse e) = parse_fault_as reading bytes ≡ Some e
+  IsFirstFault reading bytes e = (parse_fault_as reading bytes ≡ None) × IsFault (object_as reading bytes) e
 
--- an object as the bytes of a file are parsed
-pub record IsParsed (bytes : List ℕ) (o : Object) : Type 0 where
-  pub sound : parse_fault bytes ≡ None
-  pub is : o ≡ object_of bytes
+-- an object as the bytes of a file are parsed in a reading
+pub record IsParsed (reading : Reading) (bytes : List ℕ) (o : Object) : Type 0 where
+  pub sound : parse_fault_as reading bytes ≡ None
+  pub is : o ≡ object_as reading bytes
 
 -- ---- want of memory
 

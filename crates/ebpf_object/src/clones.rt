@@ -3,10 +3,10 @@
 ghost use Rattle.std.specs.Prelude.{◌≡◌, IfOk};
 
 use crate::object::Object;
-use ebpf_base::{ByIndex, ByKey, ByName, ByOffset, BySection};
+use ebpf_base::{ByIndex, ByKey, ByName, ByOffset, BySection, Items};
 use ebpf_btf::Btf;
 use ebpf_ext::BtfExt;
-use ebpf_parsing::{Parts, Shared};
+use ebpf_parsing::Parts;
 use ebpf_parts::Relocation;
 use std::alloc::AllocError;
 
@@ -67,11 +67,20 @@ fn copy_ext(ext: &Option<BtfExt>) -> Result<Option<BtfExt>, AllocError>
     }
 }
 
+/// What programs and functions carry of their object.
+#[derive(Drop)]
+struct Carried {
+    license: Items<u8>,
+    kernel_version: Option<u32>,
+    btf: Option<Btf>,
+    btf_ext: Option<BtfExt>,
+}
+
 /// A copy of what programs and functions carry of their object.
-fn copy_shared(object: &Object) -> Result<Shared, AllocError>
+fn copy_carried(object: &Object) -> Result<Carried, AllocError>
     ensures { IfOk result (λ copy. copy ≡ record { license = object.now.license; kernel_version = object.now.kernel_version; btf = object.now.btf; btf_ext = object.now.btf_ext }) }
 {
-    Ok(Shared {
+    Ok(Carried {
         license: object.license.copied()?,
         kernel_version: object.kernel_version,
         btf: copy_btf(&object.btf)?,
@@ -98,14 +107,14 @@ impl Clone for Object {
     fn clone(&self) -> Result<Object, AllocError> {
         let externs = copy_names(&self.externs)?;
         let symbol_table = copy_numbers(&self.symbol_table)?;
-        let shared = copy_shared(self)?;
+        let carried = copy_carried(self)?;
         let parts = copy_parts(self)?;
         Ok(Object {
             endianness: self.endianness,
-            license: shared.license,
-            kernel_version: shared.kernel_version,
-            btf: shared.btf,
-            btf_ext: shared.btf_ext,
+            license: carried.license,
+            kernel_version: carried.kernel_version,
+            btf: carried.btf,
+            btf_ext: carried.btf_ext,
             externs,
             maps: parts.maps,
             programs: parts.programs,

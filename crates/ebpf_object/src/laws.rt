@@ -1,5 +1,6 @@
 //! What holds of each parsed object, and of what passes make of it.
 
+ghost use Rattle.ebpf_object.specs.BothReadings.{ReadingsAgree};
 ghost use Rattle.ebpf_object.specs.Headline.{PassesFinish};
 ghost use Rattle.ebpf_object.specs.Joined.{OneJoining};
 ghost use Rattle.ebpf_object.specs.JoinedMaps.{MapsTellOfJoined};
@@ -14,11 +15,12 @@ pub use ebpf_core_relo::laws::{
     records_have_slots, written_slots_carry,
 };
 pub use ebpf_parsing::laws::{
-    externs_are_unresolved, functions_stand_at_their_keys, functions_tile, later_entries_stand,
-    maps_have_their_symbols, programs_have_functions, relocation_tables_are_of_code,
-    relocations_name_symbols, relocations_stand_at_their_offsets, sections_tile,
-    symbols_stand_at_their_numbers,
+    broad_refuses_no_name, externs_are_unresolved, functions_stand_at_their_keys, functions_tile,
+    later_entries_stand, maps_have_their_symbols, programs_have_functions,
+    relocation_tables_are_of_code, relocations_name_symbols, relocations_stand_at_their_offsets,
+    sections_tile, stated_gives_nothing_broad, symbols_stand_at_their_numbers,
 };
+pub use ebpf_parts::laws::names_are_read;
 pub use ebpf_passes::laws::{passes_keep_shapes, places_add_up};
 pub use ebpf_reloc::laws::{maps_refuse_alike, maps_tell, one_map, one_result, plain_slots_stay};
 
@@ -60,4 +62,10 @@ pub fn linking_has_one_result()
 /// What `Object::sanitize_functions` makes of functions is the same where it is done twice.
 pub fn sanitizing_twice_is_once()
     ensures { TwiceIsOnce }
+{}
+
+/// Of a little-endian file that `Object::parse` takes, `Object::parse_as` gives the same object in both readings, and
+/// refuses it in neither.
+pub fn readings_agree()
+    ensures { ReadingsAgree }
 {}

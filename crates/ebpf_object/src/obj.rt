@@ -8,5 +8,5 @@ pub use ebpf_ext::{
     BtfExt, FuncInfo, FuncSecInfo, LineInfo, LineSecInfo, bpf_func_info, bpf_line_info,
 };
 pub use ebpf_parsing::Program;
-pub use ebpf_parts::{EbpfSectionKind, ParseError, ProgramSection, Relocation, Section};
+pub use ebpf_parts::{EbpfSectionKind, ParseError, ProgramSection, Reading, Relocation, Section};
 pub use ebpf_reloc::{ExternDesc, Function, Symbol};

@@ -2,7 +2,7 @@
 
 ghost use Rattle.std.specs.Prelude.{◌≡◌, IfOk};
 ghost use Rattle.ebpf_base.specs.Faults.{Refuses};
-ghost use Rattle.ebpf_object.specs.Objects.{object_of, parse_fault};
+ghost use Rattle.ebpf_object.specs.Objects.{object_as, object_of, parse_fault, parse_fault_as};
 ghost use Rattle.ebpf_parsing.specs.FileTypes.{has_relocations};
 ghost use Rattle.ebpf_parts.specs.Memory.{is_memory};
 
@@ -12,7 +12,7 @@ use ebpf_elf::SectionIndex;
 use ebpf_ext::BtfExt;
 use ebpf_parsing::{Contents, Program};
 use ebpf_parts::maps::Map;
-use ebpf_parts::{ParseError, Relocation};
+use ebpf_parts::{ParseError, Reading, Relocation};
 use ebpf_reloc::{ExternDesc, Function, Symbol};
 use std::alloc::Global;
 
@@ -71,7 +71,30 @@ impl Object {
         ensures object { IfOk result (λ o. o ≡ object_of bytes.now) }
         ensures fault { Refuses is_memory result (parse_fault bytes.now) }
     {
-        let contents = Contents::read(alloc, bytes)?;
+        Object::parse_as(alloc, bytes, Reading::Stated)
+    }
+
+    /// The object that the bytes of an ELF64 file are in a reading. `Stated` is `parse`. `Broad` reads what libbpf reads,
+    /// and differs from `parse` in this alone:
+    ///
+    /// - a section of code whose name says no kind has programs of the kind `ProgramSection::Other`; a name with `?`
+    ///   before it has the kind of the rest;
+    /// - `values` of a map that point to a FUNC_PROTO are accepted: an array of programs, whose value size is 4, with no
+    ///   inner map;
+    /// - the license is its bytes before the first zero, and empty where its section has none;
+    /// - `map_extra` may be an ENUM or ENUM64 of one value: that value, an ENUM's widened by its sign;
+    /// - a big-endian file with code is refused.
+    ///
+    /// # Errors
+    ///
+    /// Those of `parse` in its order. With `Broad` none is `InvalidProgramSection`, and after `ElfError` comes
+    /// `BigEndianCode` where the file is big-endian and has a Text or Program section with bytes; of the license
+    /// `InvalidLicense` and `MissingLicenseNullTerminator` come only where none of its bytes is zero.
+    pub fn parse_as(alloc: Global, bytes: &[u8], reading: Reading) -> Result<Object, ParseError>
+        ensures object { IfOk result (λ o. o ≡ object_as reading bytes.now) }
+        ensures fault { Refuses is_memory result (parse_fault_as reading bytes.now) }
+    {
+        let contents = Contents::read(alloc, bytes, reading)?;
         let shared = contents.shared;
         let parts = contents.parts;
         Ok(Object {

@@ -6,6 +6,8 @@ ghost use Rattle.ebpf_object.specs.KeptParts.{KeepsOthers};
 ghost use Rattle.ebpf_object.specs.Objects.{object_of};
 ghost use Rattle.ebpf_object.specs.Prepared.{AfterCalls, IsParsed, IsFault, IsFirstFault, Refuses};
 ghost use Rattle.ebpf_object.specs.Steps.{chosen};
+ghost use Rattle.ebpf_parts.specs.declared.reading.Reading.{Reading};
+ghost use Rattle.ebpf_parts.specs.declared.reading.Reading.TheVariants.{Stated};
 
 use crate::clones::{copy_keys, copy_names};
 pub use crate::explained::Explained;
@@ -63,10 +65,10 @@ pub fn prepare_object<K: BufRead + Drop>(
     kallsyms: K,
 ) -> Result<Object, PrepareError>
     ensures stages { IfOk result (AfterCalls (chosen steps.now) (K.remaining kallsyms) object) }
-    ensures headline { (file : List ℕ) → IsParsed file object → IfOk result (Headline (chosen steps.now) (K.remaining kallsyms) file) }
+    ensures headline { (reading : Reading) (file : List ℕ) → IsParsed reading file object → IfOk result (Headline (chosen steps.now) (K.remaining kallsyms) reading file) }
     ensures others_stay { IfOk result (KeepsOthers object) }
     ensures fault { IfErr result (Refuses (IsFault (chosen steps.now) (K.remaining kallsyms) object)) }
-    ensures first_fault { (file : List ℕ) → IsParsed file object → IfErr result (Refuses (IsFirstFault (chosen steps.now) (K.remaining kallsyms) file)) }
+    ensures first_fault { (reading : Reading) (file : List ℕ) → IsParsed reading file object → IfErr result (Refuses (IsFirstFault (chosen steps.now) (K.remaining kallsyms) reading file)) }
 {
     run_all(alloc, object, steps, kallsyms)
 }
@@ -84,10 +86,10 @@ pub fn prepare_copy<K: BufRead + Drop>(
     kallsyms: K,
 ) -> Result<Object, PrepareError>
     ensures stages { IfOk result (AfterCalls (chosen steps.now) (K.remaining kallsyms) object.now) }
-    ensures headline { (file : List ℕ) → IsParsed file object.now → IfOk result (Headline (chosen steps.now) (K.remaining kallsyms) file) }
+    ensures headline { (reading : Reading) (file : List ℕ) → IsParsed reading file object.now → IfOk result (Headline (chosen steps.now) (K.remaining kallsyms) reading file) }
     ensures others_stay { IfOk result (KeepsOthers object.now) }
     ensures fault { IfErr result (Refuses (IsFault (chosen steps.now) (K.remaining kallsyms) object.now)) }
-    ensures first_fault { (file : List ℕ) → IsParsed file object.now → IfErr result (Refuses (IsFirstFault (chosen steps.now) (K.remaining kallsyms) file)) }
+    ensures first_fault { (reading : Reading) (file : List ℕ) → IsParsed reading file object.now → IfErr result (Refuses (IsFirstFault (chosen steps.now) (K.remaining kallsyms) reading file)) }
 {
     let Ok(copy) = object.clone() else {
         return Err(PrepareError::OutOfMemory);
@@ -108,10 +110,10 @@ pub fn prepare_in_place<K: BufRead + Drop>(
     kallsyms: K,
 ) -> Result<(), PrepareError>
     ensures stages { OnOk result (AfterCalls (chosen steps.now) (K.remaining kallsyms) object.old object.new) }
-    ensures headline { (file : List ℕ) → IsParsed file object.old → OnOk result (Headline (chosen steps.now) (K.remaining kallsyms) file object.new) }
+    ensures headline { (reading : Reading) (file : List ℕ) → IsParsed reading file object.old → OnOk result (Headline (chosen steps.now) (K.remaining kallsyms) reading file object.new) }
     ensures others_stay { KeepsOthers object.old object.new }
     ensures fault { IfErr result (Refuses (IsFault (chosen steps.now) (K.remaining kallsyms) object.old)) }
-    ensures first_fault { (file : List ℕ) → IsParsed file object.old → IfErr result (Refuses (IsFirstFault (chosen steps.now) (K.remaining kallsyms) file)) }
+    ensures first_fault { (reading : Reading) (file : List ℕ) → IsParsed reading file object.old → IfErr result (Refuses (IsFirstFault (chosen steps.now) (K.remaining kallsyms) reading file)) }
     ensures unchanged { OnErr result (object.new ≡ object.old) }
 {
     let Ok(functions) = copy_keys(&object.functions) else {
@@ -147,9 +149,9 @@ pub fn prepare<K: BufRead + Drop>(
     steps: &Steps<'_>,
     kallsyms: K,
 ) -> Result<Object, PrepareError>
-    ensures headline { IfOk result (Headline (chosen steps.now) (K.remaining kallsyms) bytes.now) }
+    ensures headline { IfOk result (Headline (chosen steps.now) (K.remaining kallsyms) Stated bytes.now) }
     ensures others_stay { IfOk result (λ o. KeepsOthers (object_of bytes.now) o) }
-    ensures fault { IfErr result (Refuses (IsFirstFault (chosen steps.now) (K.remaining kallsyms) bytes.now)) }
+    ensures fault { IfErr result (Refuses (IsFirstFault (chosen steps.now) (K.remaining kallsyms) Stated bytes.now)) }
 {
     match Object::parse(alloc, bytes) {
         Ok(object) => prepare_object(alloc, object, steps, kallsyms),

@@ -12,6 +12,7 @@ use Rattle.ebpf_parsing.specs.Symbols.{SymbolValue, symbols_of}
 use Rattle.ebpf_parsing.specs.declared.parts.Parts.{Parts}
 use Rattle.ebpf_parsing.specs.declared.shared.Shared.{Shared}
 use Rattle.ebpf_parts.specs.Sections.{SectionValue, section_of, section_with}
+use Rattle.ebpf_parts.specs.declared.reading.Reading.{Reading}
 
 -- those of some sections that don't hold type information
 abbrev pub others : List SectionOf → List SectionOf
@@ -22,8 +23,8 @@ pub all_more : (shared : Shared) (p : Parts) (symbols : List SymbolValue) (s : S
     → all_added shared p symbols (s ∷ rest) ≡ all_added shared (added shared p s (symbols_of symbols s.index.0)) symbols rest
 unfolding added
 all_more shared p symbols s rest = λ i. record {
-  maps = put_all-flat_map (λ t. maps_in shared.btf t (symbols_at symbols t)) p.maps s rest i;
-  programs = put_all-flat_map (λ t. programs_in shared.license shared.kernel_version t (symbols_at symbols t)) p.programs s rest i;
+  maps = put_all-flat_map (λ t. maps_in shared.reading shared.btf t (symbols_at symbols t)) p.maps s rest i;
+  programs = put_all-flat_map (λ t. programs_in shared.reading shared.license shared.kernel_version t (symbols_at symbols t)) p.programs s rest i;
   functions = put_all-flat_map (λ t. functions_in shared.btf_ext t (symbols_at symbols t)) p.functions s rest i;
   relocations = put_all-flat_map relocations_in p.relocations s rest i;
   section_infos = put_all-flat_map name_in p.section_infos s rest i;
@@ -43,9 +44,9 @@ unfolding section_of section_with
 one_more shared p symbols s rest e =
     ap (λ l. all_added shared p symbols (map section_of l)) (kept s rest e) ∙ all_more shared p symbols (section_of s) (map section_of (others rest))
 
-pub fault_more : (types : Option TypeInfo) (bytes : List ℕ) (s : SectionOf) (rest : List SectionOf) → is_type_information s ≡ false
-    → first_some (read_fault types bytes) (others (s ∷ rest)) ≡ or_else (read_fault types bytes s) (first_some (read_fault types bytes) (others rest))
-fault_more types bytes s rest e = ap (first_some (read_fault types bytes)) (kept s rest e)
+pub fault_more : (reading : Reading) (types : Option TypeInfo) (bytes : List ℕ) (s : SectionOf) (rest : List SectionOf) → is_type_information s ≡ false
+    → first_some (read_fault reading types bytes) (others (s ∷ rest)) ≡ or_else (read_fault reading types bytes s) (first_some (read_fault reading types bytes) (others rest))
+fault_more reading types bytes s rest e = ap (first_some (read_fault reading types bytes)) (kept s rest e)
 
 -- the first fault refuses, whatever comes after it
 pub refused_first : {E : Type 0} (memory : E → Bool) (e : E) (x rest : Option E) → MatchBool (memory e) ⊤ (x ≡ Some e) → MatchBool (memory e) ⊤ (or_else x rest ≡ Some e)

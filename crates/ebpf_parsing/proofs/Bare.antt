@@ -23,13 +23,15 @@ use Rattle.ebpf_parsing.specs.Symbols.{SymbolValue}
 use Rattle.ebpf_parsing.specs.Texts.{function_at, fault_at, size_at, symbol_at_offset, text_function, text_function_of, text_fault_of, offsets_from, text_fault, conflict_fault}
 use Rattle.ebpf_parsing.specs.declared.parts.Parts.{Parts}
 use Rattle.ebpf_parsing.specs.declared.shared.Shared.{Shared}
-use Rattle.ebpf_parts.specs.ProgramSections.{program_section}
+use Rattle.ebpf_parts.specs.Readings.{section_as}
 use Rattle.ebpf_parts.specs.declared.program_section.ProgramSection.{ProgramSection}
 use Rattle.ebpf_parts.specs.Sections.{SectionValue, section_of, section_with, name_fault, data_fault, target_fault, section_fault, section_fault_with}
 use Rattle.ebpf_parts.specs.declared.error.ParseError.{ParseError}
 use Rattle.ebpf_parts.specs.declared.maps.either.Map.TheVariants.{Legacy}
 use Rattle.ebpf_parts.specs.declared.section_kind.EbpfSectionKind.{EbpfSectionKind}
 use Rattle.ebpf_parts.specs.declared.section_kind.EbpfSectionKind.TheVariants.{BtfMaps, Data, Rodata, Bss, Text, Program as Programs}
+use Rattle.ebpf_parts.specs.declared.reading.Reading.{Reading}
+use Rattle.ebpf_declarations.specs.Declaring.{Declaring, declaring}
 
 -- a section with its relocations
 pub section_patched : (s : SectionOf) (tables : List SectionOf) → tables ≡ filter (λ r. target_of r == s.index) (relocation_sections s.file)
@@ -52,7 +54,7 @@ module _ (list : List ElfRelocation) (s : SectionValue) where
   abbrev p : SectionValue
   p = patched list s
 
-  declared_same : (types : Option TypeInfo) (ys : List SymbolValue) → declared_maps types p ys ≡ declared_maps types s ys
+  declared_same : (types : Option Declaring) (ys : List SymbolValue) → declared_maps types p ys ≡ declared_maps types s ys
   unfolding declared_maps
   declared_same None ys = refl
   declared_same (Some types) ys = refl
@@ -68,21 +70,21 @@ module _ (list : List ElfRelocation) (s : SectionValue) where
   last_same : (last : FinMap text_cmp ℕ) → last_maps last p ≡ last_maps last s
   last_same last = ap (λ m. if is_number s.index.0 (get last s.name) then (s.name, m) ∷ [] else []) data_same
 
-  maps_same : (last : FinMap text_cmp ℕ) (types : Option TypeInfo) (ys : List SymbolValue) (k : EbpfSectionKind) → put_by k last types p ys ≡ put_by k last types s ys
+  maps_same : (last : FinMap text_cmp ℕ) (reading : Reading) (types : Option TypeInfo) (ys : List SymbolValue) (k : EbpfSectionKind) → put_by k last reading types p ys ≡ put_by k last reading types s ys
   unfolding legacy_map
-  maps_same last types ys Data = last_same last
-  maps_same last types ys Rodata = last_same last
-  maps_same last types ys Bss = last_same last
-  maps_same last types ys BtfMaps = declared_same types ys
-  maps_same last types ys _ = refl
+  maps_same last reading types ys Data = last_same last
+  maps_same last reading types ys Rodata = last_same last
+  maps_same last reading types ys Bss = last_same last
+  maps_same last reading types ys BtfMaps = declared_same (declaring reading types) ys
+  maps_same last reading types ys _ = refl
 
   named_same : (license : List ℕ) (version : Option ℕ) (ys : List SymbolValue) (kind : Option ProgramSection) → programs_of license version p ys kind ≡ programs_of license version s ys kind
   named_same license version ys None = refl
   named_same license version ys (Some kind) = refl
 
-  programs_same : (license : List ℕ) (version : Option ℕ) (ys : List SymbolValue) (k : EbpfSectionKind) → programs_by k license version p ys ≡ programs_by k license version s ys
-  programs_same license version ys Programs = named_same license version ys (program_section s.name)
-  programs_same license version ys _ = refl
+  programs_same : (reading : Reading) (license : List ℕ) (version : Option ℕ) (ys : List SymbolValue) (k : EbpfSectionKind) → programs_by k reading license version p ys ≡ programs_by k reading license version s ys
+  programs_same reading license version ys Programs = named_same license version ys (section_as reading s.name)
+  programs_same reading license version ys _ = refl
 
   -- ---- functions of a Text section
 
@@ -116,28 +118,28 @@ module _ (list : List ElfRelocation) (s : SectionValue) where
   unfolding text_fault fault_at symbol_at_offset
   text_fault_same ys = λ i. or_else (conflict_fault s.index.0 ys) (first_some (λ offset. refused_same offset (symbol_at_offset s ys offset) i) (offsets_same ys (length s.bytes) 0 i))
 
-  declared_fault_same : (types : Option TypeInfo) (ys : List SymbolValue) → declared_maps_fault types p ys ≡ declared_maps_fault types s ys
+  declared_fault_same : (types : Option Declaring) (ys : List SymbolValue) → declared_maps_fault types p ys ≡ declared_maps_fault types s ys
   unfolding declared_maps_fault
   declared_fault_same None ys = refl
   declared_fault_same (Some types) ys = refl
 
-  fault_same : (types : Option TypeInfo) (ys : List SymbolValue) (k : EbpfSectionKind) → fault_by k types p ys ≡ fault_by k types s ys
+  fault_same : (reading : Reading) (types : Option TypeInfo) (ys : List SymbolValue) (k : EbpfSectionKind) → fault_by k reading types p ys ≡ fault_by k reading types s ys
   unfolding program_section_fault program_fault data_map_fault legacy_maps_fault legacy_fault
-  fault_same types ys Programs = refl
-  fault_same types ys Text = text_fault_same ys
-  fault_same types ys BtfMaps = declared_fault_same types ys
-  fault_same types ys _ = refl
+  fault_same reading types ys Programs = refl
+  fault_same reading types ys Text = text_fault_same ys
+  fault_same reading types ys BtfMaps = declared_fault_same (declaring reading types) ys
+  fault_same reading types ys _ = refl
 
-  pub same_fault : (types : Option TypeInfo) (ys : List SymbolValue) → fault_in types p ys ≡ fault_in types s ys
+  pub same_fault : (reading : Reading) (types : Option TypeInfo) (ys : List SymbolValue) → fault_in reading types p ys ≡ fault_in reading types s ys
   unfolding fault_in
-  same_fault types ys = fault_same types ys s.kind
+  same_fault reading types ys = fault_same reading types ys s.kind
 
   pub same_added : (last : FinMap text_cmp ℕ) (shared : Shared) (before : Parts) (ys : List SymbolValue)
       → added_last last shared before p ys ≡ record (added_last last shared before s ys) { relocations = put_all before.relocations (relocations_in p) }
   unfolding added programs_in functions_in
   same_added last shared before ys = λ i. record {
-    maps = put_all before.maps (maps_same last shared.btf ys s.kind i);
-    programs = put_all before.programs (programs_same shared.license shared.kernel_version ys s.kind i);
+    maps = put_all before.maps (maps_same last shared.reading shared.btf ys s.kind i);
+    programs = put_all before.programs (programs_same shared.reading shared.license shared.kernel_version ys s.kind i);
     functions = put_all before.functions (map placed (functions_same (said_of shared.btf_ext s.name) ys s.kind i));
     relocations = put_all before.relocations (relocations_in p);
     section_infos = put_all before.section_infos (name_in s);

@@ -55,8 +55,8 @@ all_named (r ∷ rs) h =
     (not_zero r.symbol_index both.0, all_named rs both.1)
 
 pub relocations_name_symbols : RelocationsNameSymbols
-relocations_name_symbols bytes clear section table e o r at =
+relocations_name_symbols reading bytes clear section table e o r at =
     let code = tables_of_code bytes section table e in
     let rs = code.section.relocations in
-    let named = clear_test (list_any (λ x. x.symbol_index == 0) rs) (targets_clear bytes clear code.place code.section code.here) in
+    let named = clear_test (list_any (λ x. x.symbol_index == 0) rs) (targets_clear reading bytes clear code.place code.section code.here) in
     stands nat_cmp exact_unsigned (λ k x. x.symbol_index ≢ 0) o later_number_stands (map offset_of rs) (all_named rs named) r (ap (λ t. get t o) (sym code.own) ∙ at)

@@ -27,3 +27,6 @@ pub mod ClearSections
 pub mod CodeTables
 pub mod MapSymbols
 pub mod ByAddress
+pub mod PlainFaults
+pub mod Alike
+pub mod Zeros

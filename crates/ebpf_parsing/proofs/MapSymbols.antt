@@ -17,7 +17,7 @@ use Rattle.ebpf_declarations.specs.Maps.{declared, map_at, map_of, type_maps, pl
 use Rattle.ebpf_declarations.specs.declared.definitions.MapDefinitions.{MapDefinitions}
 use Rattle.ebpf_elf.specs.SymbolTable.{symbol_table as table_of}
 use Rattle.ebpf_elf.specs.Symbols.{symbols_in}
-use Rattle.ebpf_parsing.specs.Contents.{maps, map_entries, object_sections, own_symbols}
+use Rattle.ebpf_parsing.specs.Contents.{maps_as, map_entries, object_sections, own_symbols}
 use Rattle.ebpf_parsing.specs.DataMaps.{data_map, data_maps}
 use Rattle.ebpf_parsing.specs.DeclaredMaps.{declared_maps}
 use Rattle.ebpf_parsing.specs.FileExterns.{types_of}
@@ -36,6 +36,8 @@ use Rattle.ebpf_parts.specs.declared.error.ParseError.TheVariants.{SymbolNotFoun
 use Rattle.ebpf_parts.specs.declared.maps.either.Map.{Map}
 use Rattle.ebpf_parts.specs.declared.section_kind.EbpfSectionKind.{EbpfSectionKind}
 use Rattle.ebpf_parts.specs.declared.section_kind.EbpfSectionKind.TheVariants.{Data, Rodata, Bss, Maps, BtfMaps}
+use Rattle.ebpf_parts.specs.declared.reading.Reading.{Reading}
+use Rattle.ebpf_declarations.specs.Declaring.{Declaring, declaring}
 
 -- ---- lists
 
@@ -128,25 +130,25 @@ module _ (bytes : List ℕ) where
     by_declared (Err x) = tt
     by_declared (Ok d) = by_number d (numbers d.0) refl
 
-    by_entries : (info : TypeInfo) (o : Option MetSection) → ArePlaced (maps_of_entries info numbers section o)
+    by_entries : (reading : Reading) (info : TypeInfo) (o : Option MetSection) → ArePlaced (maps_of_entries reading info numbers section o)
     unfolding map_of
-    by_entries info None = tt
-    by_entries info (Some (UnreadableName x)) = tt
-    by_entries info (Some (Named entries)) =
-        all_flat_map (λ e. IsPlaced e.0 e.1) (λ entry. given (map_of info numbers section entry)) entries (λ i entry here. by_declared (declared info entry))
+    by_entries reading info None = tt
+    by_entries reading info (Some (UnreadableName x)) = tt
+    by_entries reading info (Some (Named entries)) =
+        all_flat_map (λ e. IsPlaced e.0 e.1) (λ entry. given (map_of reading info numbers section entry)) entries (λ i entry here. by_declared (declared reading info entry))
 
   numbers_known : (section : ℕ) (ys : List SymbolValue) → AllByRecursion (λ y. IsSymbolIn bytes y.index y.name section) ys → AllByRecursion (λ e. IsSymbolIn bytes e.1 e.0 section) (map numbered ys)
   numbers_known section [] all = tt
   numbers_known section (y ∷ ys) all = (all.0, numbers_known section ys all.1)
 
-  by_types : (types : Option TypeInfo) (s : SectionValue) (ys : List SymbolValue) → AllByRecursion (λ y. IsSymbolIn bytes y.index y.name s.index.0) ys → ArePlaced (declared_maps types s ys)
+  by_types : (types : Option Declaring) (s : SectionValue) (ys : List SymbolValue) → AllByRecursion (λ y. IsSymbolIn bytes y.index y.name s.index.0) ys → ArePlaced (declared_maps types s ys)
   unfolding declared_maps type_maps
   by_types None s ys all = tt
-  by_types (Some info) s ys all =
+  by_types (Some d) s ys all =
       let numbers : List ℕ → Option ℕ = get (numbers_by_name ys) in
       let symbols = λ (name : List ℕ) (i : ℕ) (e : numbers name ≡ Some i). stands text_cmp text_exact (λ n k. IsSymbolIn bytes k n s.index.0) name later_text_stands (map numbered ys) (numbers_known s.index.0 ys all) i e in
-      all_flat_map (λ e. IsPlaced e.0 e.1) (type_maps info numbers s.index.0 s.name) info.types
-      (λ i t here. by_entries s.index.0 numbers symbols info (met_section info s.name t))
+      all_flat_map (λ e. IsPlaced e.0 e.1) (type_maps d.reading d.types numbers s.index.0 s.name) d.types.types
+      (λ i t here. by_entries s.index.0 numbers symbols d.reading d.types (met_section d.types s.name t))
 
   -- of data
   no_symbol : (s : SectionValue) (k : ℕ) → symbol_index_of (data_map s) ≡ Some k → IsSymbolIn bytes k s.name (section_index_of (data_map s))
@@ -156,22 +158,22 @@ module _ (bytes : List ℕ) where
   by_data : (i : ℕ) (s : SectionValue) → slice_get (object_sections bytes) i ≡ Some s → (s.kind ≡ Data) ⊎ ((s.kind ≡ Rodata) ⊎ (s.kind ≡ Bss)) → ArePlaced (data_maps s)
   by_data i s here kind = ((no_symbol s, (λ e. record { place = i; section = s; here = here; kind = kind; named = refl; own = refl })), tt)
 
-  by_kind : (types : Option TypeInfo) (i : ℕ) (s : SectionValue) → slice_get (object_sections bytes) i ≡ Some s → (kind : EbpfSectionKind) → s.kind ≡ kind → ArePlaced (maps_by kind types s (own_symbols bytes s))
-  by_kind types i s here Data e = by_data i s here (inl e)
-  by_kind types i s here Rodata e = by_data i s here (inr (inl e))
-  by_kind types i s here Bss e = by_data i s here (inr (inr e))
-  by_kind types i s here Maps e = by_structs s (own_symbols bytes s) (in_section s.index.0)
-  by_kind types i s here BtfMaps e = by_types types s (own_symbols bytes s) (in_section s.index.0)
-  by_kind types i s here _ e = tt
+  by_kind : (reading : Reading) (types : Option TypeInfo) (i : ℕ) (s : SectionValue) → slice_get (object_sections bytes) i ≡ Some s → (kind : EbpfSectionKind) → s.kind ≡ kind → ArePlaced (maps_by kind reading types s (own_symbols bytes s))
+  by_kind reading types i s here Data e = by_data i s here (inl e)
+  by_kind reading types i s here Rodata e = by_data i s here (inr (inl e))
+  by_kind reading types i s here Bss e = by_data i s here (inr (inr e))
+  by_kind reading types i s here Maps e = by_structs s (own_symbols bytes s) (in_section s.index.0)
+  by_kind reading types i s here BtfMaps e = by_types (declaring reading types) s (own_symbols bytes s) (in_section s.index.0)
+  by_kind reading types i s here _ e = tt
 
-  placed_map : (name : List ℕ) (m : Map) → get (maps bytes) name ≡ Some m → IsPlaced name m
-  unfolding maps map_entries maps_in
-  placed_map name m e =
-      stands text_cmp text_exact IsPlaced name later_text_stands (map_entries (types_of bytes) bytes)
-      (all_flat_map (λ x. IsPlaced x.0 x.1) (λ s. maps_in (types_of bytes) s (own_symbols bytes s)) (object_sections bytes) (λ i s here. by_kind (types_of bytes) i s here s.kind refl)) m e
+  placed_map : (reading : Reading) (name : List ℕ) (m : Map) → get (maps_as reading bytes) name ≡ Some m → IsPlaced name m
+  unfolding maps_as map_entries maps_in
+  placed_map reading name m e =
+      stands text_cmp text_exact IsPlaced name later_text_stands (map_entries reading (types_of bytes) bytes)
+      (all_flat_map (λ x. IsPlaced x.0 x.1) (λ s. maps_in reading (types_of bytes) s (own_symbols bytes s)) (object_sections bytes) (λ i s here. by_kind reading (types_of bytes) i s here s.kind refl)) m e
 
 pub maps_have_symbols : MapsHaveTheirSymbols
-maps_have_symbols bytes name m e = (placed_map bytes name m e).0
+maps_have_symbols reading bytes name m e = (placed_map bytes reading name m e).0
 
 pub others_of_data : OtherMapsAreOfData
-others_of_data bytes name m e = (placed_map bytes name m e).1
+others_of_data reading bytes name m e = (placed_map bytes reading name m e).1

@@ -30,6 +30,7 @@ use Rattle.ebpf_parsing.proofs.OffsetOrder.{one_order}
 use Rattle.ebpf_parsing.proofs.Tiles as tiles
 use Rattle.ebpf_parts.specs.Sections.{SectionValue, section_of, section_with}
 use Rattle.ebpf_reloc.specs.declared.function.Function.{Function}
+use Rattle.ebpf_parts.specs.declared.reading.Reading.{Reading}
 
 first_or_later : {A : Type 0} (x : A) (xs : List A) (j : ℕ) (y : A) → slice_get (x ∷ xs) j ≡ Some y → (x ≡ y) ⊎ ((k : ℕ) × (slice_get xs k ≡ Some y))
 first_or_later x xs zero y e = inl (cc)
@@ -148,7 +149,7 @@ at_key (g ∷ fs) (suc i) f d e =
 
 -- ---- the Text section
 
-module _ (bytes : List ℕ) (n : ℕ) (s : SectionValue) (is : IsTextSection bytes n s) where
+module _ (reading : Reading) (bytes : List ℕ) (n : ℕ) (s : SectionValue) (is : IsTextSection reading bytes n s) where
   abbrev said : Said
   said = said_of (ext_of bytes) s.name
 
@@ -163,8 +164,8 @@ module _ (bytes : List ℕ) (n : ℕ) (s : SectionValue) (is : IsTextSection byt
 
   text_clear : text_fault s symbols ≡ None
   unfolding fault_in
-  text_clear = ap (λ k. fault_by k (types_of bytes) s symbols) (sym is.text)
-      ∙ kind_clear bytes is.clear n s is.here
+  text_clear = ap (λ k. fault_by k reading (types_of bytes) s symbols) (sym is.text)
+      ∙ kind_clear reading bytes is.clear n s is.here
 
   walk_clear : walk_fault s symbols ≡ None
   unfolding text_fault
@@ -213,16 +214,16 @@ by_address number a (f ∷ fs) mine =
     λ i. cond (test i) (Some f) (by_address number a fs mine.1 i)
 
 pub at_each_address : AtEachAddress
-at_each_address bytes n s is a =
-    here bytes n s is (s.index.0, a) refl ∙ by_address s.index.0 a (own_functions bytes s) (numbered bytes n s is)
+at_each_address reading bytes n s is a =
+    here reading bytes n s is (s.index.0, a) refl ∙ by_address s.index.0 a (own_functions bytes s) (numbered reading bytes n s is)
 
 pub in_order : InOrder
-in_order bytes n s is = in_table bytes n s is
+in_order reading bytes n s is = in_table reading bytes n s is
 
 pub sections_tile : SectionsTile
-sections_tile bytes n s is fs order =
-    let own = in_table bytes n s is in
+sections_tile reading bytes n s is fs order =
+    let own = in_table reading bytes n s is in
     let same : fs ≡ own_functions bytes s = one_order fs (own_functions bytes s) order.rise own.rise
     (λ i f e. own.all f.address f (order.stand i f e)) (λ i f e. order.all f.address f (own.stand i f e)) in
     ap (flat_map (λ f. f.instructions)) same
-    ∙ tiles.functions_tile (said_of (ext_of bytes) s.name) s (own_symbols bytes s) (text_clear bytes n s is)
+    ∙ tiles.functions_tile (said_of (ext_of bytes) s.name) s (own_symbols bytes s) (text_clear reading bytes n s is)

@@ -20,7 +20,7 @@ use Rattle.ebpf_declarations.specs.Externs.{extern_of, extern_types, found_entri
 use Rattle.ebpf_elf.specs.SymbolTable.{symbol_table as table_of}
 use Rattle.ebpf_elf.specs.Symbols.{symbols_in}
 use Rattle.ebpf_elf.specs.declared.entries.ElfRelocation.{ElfRelocation}
-use Rattle.ebpf_parsing.specs.Contents.{programs, functions, kept, object_sections, own_symbols, function_entries, program_entries, relocation_entries}
+use Rattle.ebpf_parsing.specs.Contents.{programs_as, functions, kept, object_sections, own_symbols, function_entries, program_entries, relocation_entries}
 use Rattle.ebpf_parsing.specs.FileExterns.{externs_of, externs_beside}
 use Rattle.ebpf_parsing.specs.FileSymbols.{file_symbols, symbol_of, kept_of}
 use Rattle.ebpf_parsing.specs.FileTypes.{ext_of, btf_of}
@@ -31,17 +31,18 @@ use Rattle.ebpf_parsing.specs.Relocations.{offset_of, kept_at}
 use Rattle.ebpf_parsing.specs.Standing.{FunctionsAtTheirKeys, IsFileSymbol, SymbolsAtTheirNumbers, RelocationsAtTheirOffsets, ProgramsHaveFunctions, ExternsAreUnresolved}
 use Rattle.ebpf_parsing.specs.SymbolNames.{weak_named}
 use Rattle.ebpf_parsing.specs.Symbols.{SymbolValue}
-use Rattle.ebpf_parsing.specs.Terms.{license_of, kernel_version_of}
+use Rattle.ebpf_parsing.specs.Terms.{license_as, kernel_version_of}
 use Rattle.ebpf_parsing.specs.declared.program.Program.{Program}
 use Rattle.ebpf_parsing.proofs.EntriesStand.{stands, all_flat_map, Among, in_flat_map, known}
 use Rattle.ebpf_parsing.proofs.TextKeys.{key_exact}
-use Rattle.ebpf_parts.specs.ProgramSections.{program_section}
+use Rattle.ebpf_parts.specs.Readings.{section_as}
 use Rattle.ebpf_parts.specs.Sections.{SectionValue}
 use Rattle.ebpf_parts.specs.declared.program_section.ProgramSection.{ProgramSection}
 use Rattle.ebpf_parts.specs.declared.section_kind.EbpfSectionKind.{EbpfSectionKind}
 use Rattle.ebpf_parts.specs.declared.section_kind.EbpfSectionKind.TheVariants.{Text, Program as Programs}
 use Rattle.ebpf_reloc.specs.declared.extern_desc.ExternDesc.{ExternDesc}
 use Rattle.ebpf_reloc.specs.declared.function.Function.{Function}
+use Rattle.ebpf_parts.specs.declared.reading.Reading.{Reading}
 
 -- ---- functions
 
@@ -123,18 +124,18 @@ module _ (all : List ((ℕ × ℕ) × Function)) (said : Said) (s : SectionValue
   each_of None ys holds = tt
   each_of (Some kind) ys holds = each_program kind (filter is_program_symbol ys) holds
 
-  programs_of_kind : (kind : EbpfSectionKind) (ys : List SymbolValue) → Holds (map placed (functions_by kind said s ys)) → AllByRecursion HasFunction (programs_by kind license version s ys)
-  programs_of_kind Programs ys holds = each_of (program_section s.name) ys holds
-  programs_of_kind _ ys holds = tt
+  programs_of_kind : (reading : Reading) (kind : EbpfSectionKind) (ys : List SymbolValue) → Holds (map placed (functions_by kind said s ys)) → AllByRecursion HasFunction (programs_by kind reading license version s ys)
+  programs_of_kind reading Programs ys holds = each_of (section_as reading s.name) ys holds
+  programs_of_kind reading _ ys holds = tt
 
 pub programs_stand : ProgramsHaveFunctions
-unfolding programs program_entries programs_in functions function_entries functions_in
-programs_stand bytes name p e =
+unfolding programs_as program_entries programs_in functions function_entries functions_in
+programs_stand reading bytes name p e =
     let ext = ext_of bytes in
     let all : List ((ℕ × ℕ) × Function) = function_entries ext bytes in
-    let found = stands text_cmp text_exact (λ n x. (f : Function) × Among ((x.section_index, x.address), f) all) name later_text_stands (program_entries (license_of bytes) (kernel_version_of bytes) bytes)
-    (all_flat_map (λ x. (f : Function) × Among ((x.1.section_index, x.1.address), f) all) (λ s. programs_in (license_of bytes) (kernel_version_of bytes) s (own_symbols bytes s)) (object_sections bytes)
-    (λ i s here. programs_of_kind all (said_of ext s.name) s (license_of bytes) (kernel_version_of bytes) s.kind (own_symbols bytes s)
+    let found = stands text_cmp text_exact (λ n x. (f : Function) × Among ((x.section_index, x.address), f) all) name later_text_stands (program_entries reading (license_as reading bytes) (kernel_version_of bytes) bytes)
+    (all_flat_map (λ x. (f : Function) × Among ((x.1.section_index, x.1.address), f) all) (λ s. programs_in reading (license_as reading bytes) (kernel_version_of bytes) s (own_symbols bytes s)) (object_sections bytes)
+    (λ i s here. programs_of_kind all (said_of ext s.name) s (license_as reading bytes) (kernel_version_of bytes) reading s.kind (own_symbols bytes s)
     (λ j b g. in_flat_map b (λ t. functions_in ext t (own_symbols bytes t)) (object_sections bytes) i s here j g))) p e in
     known key_cmp key_total (p.section_index, p.address) later_key_stands all found.0 found.1
 

@@ -20,7 +20,8 @@ use Rattle.ebpf_parsing.specs.FileSymbols.{file_symbols, symbol_table, symbols_f
 use Rattle.ebpf_parsing.specs.FileTypes.{ext_of, names_met, file_types_fault}
 use Rattle.ebpf_parsing.specs.OfSection.{maps_in, programs_in, functions_in, relocations_in, name_in, fault_in}
 use Rattle.ebpf_parsing.specs.Symbols.{SymbolValue, symbols_of}
-use Rattle.ebpf_parsing.specs.Terms.{license_of, license_fault, kernel_version_of, version_fault}
+use Rattle.ebpf_parsing.specs.CodeOrder.{order_fault_as}
+use Rattle.ebpf_parsing.specs.Terms.{license_as, license_fault_as, kernel_version_of, version_fault}
 use Rattle.ebpf_parsing.specs.declared.contents.Contents.{Contents}
 use Rattle.ebpf_parsing.specs.declared.parts.Parts.{Parts}
 use Rattle.ebpf_parsing.specs.declared.program.Program.{Program}
@@ -30,6 +31,8 @@ use Rattle.ebpf_parts.specs.declared.error.ParseError.{ParseError}
 use Rattle.ebpf_parts.specs.declared.error.ParseError.TheVariants.{ElfError}
 use Rattle.ebpf_parts.specs.declared.maps.either.Map.{Map}
 use Rattle.ebpf_reloc.specs.declared.function.Function.{Function}
+use Rattle.ebpf_parts.specs.declared.reading.Reading.{Reading}
+use Rattle.ebpf_parts.specs.declared.reading.Reading.TheVariants.{Stated}
 
 -- ---- the sections of an object: all but those of type information
 
@@ -51,11 +54,11 @@ own_symbols bytes s = symbols_at (file_symbols bytes) s
 
 -- ---- the entries of each table, in order
 
-unfoldable pub map_entries : Option TypeInfo → List ℕ → List (List ℕ × Map)
-map_entries types bytes = flat_map (λ s. maps_in types s (own_symbols bytes s)) (object_sections bytes)
+unfoldable pub map_entries : Reading → Option TypeInfo → List ℕ → List (List ℕ × Map)
+map_entries reading types bytes = flat_map (λ s. maps_in reading types s (own_symbols bytes s)) (object_sections bytes)
 
-unfoldable pub program_entries : List ℕ → Option ℕ → List ℕ → List (List ℕ × Program)
-program_entries license version bytes = flat_map (λ s. programs_in license version s (own_symbols bytes s)) (object_sections bytes)
+unfoldable pub program_entries : Reading → List ℕ → Option ℕ → List ℕ → List (List ℕ × Program)
+program_entries reading license version bytes = flat_map (λ s. programs_in reading license version s (own_symbols bytes s)) (object_sections bytes)
 
 unfoldable pub function_entries : Option ExtInfo → List ℕ → List ((ℕ × ℕ) × Function)
 function_entries ext bytes = flat_map (λ s. functions_in ext s (own_symbols bytes s)) (object_sections bytes)
@@ -68,11 +71,11 @@ name_entries bytes = flat_map name_in (object_sections bytes)
 
 -- ---- the tables
 
-unfoldable pub maps : List ℕ → FinMap text_cmp Map
-maps bytes = put_all empty (map_entries (types_of bytes) bytes)
+unfoldable pub maps_as : Reading → List ℕ → FinMap text_cmp Map
+maps_as reading bytes = put_all empty (map_entries reading (types_of bytes) bytes)
 
-unfoldable pub programs : List ℕ → FinMap text_cmp Program
-programs bytes = put_all empty (program_entries (license_of bytes) (kernel_version_of bytes) bytes)
+unfoldable pub programs_as : Reading → List ℕ → FinMap text_cmp Program
+programs_as reading bytes = put_all empty (program_entries reading (license_as reading bytes) (kernel_version_of bytes) bytes)
 
 unfoldable pub functions : List ℕ → FinMap key_cmp Function
 functions bytes = put_all empty (function_entries (ext_of bytes) bytes)
@@ -85,53 +88,64 @@ kept bytes = put_all empty (relocation_entries bytes)
 unfoldable pub section_infos : List ℕ → FinMap text_cmp SectionIndex
 section_infos bytes = put_all (names_met bytes) (name_entries bytes)
 
+abbrev pub maps : List ℕ → FinMap text_cmp Map
+maps bytes = maps_as Stated bytes
+
+abbrev pub programs : List ℕ → FinMap text_cmp Program
+programs bytes = programs_as Stated bytes
+
 -- ---- the whole
 
 -- what programs and functions carry of it
-abbrev pub shared_of : List ℕ → Shared
-shared_of bytes = record {
-  license = license_of bytes;
+abbrev pub shared_as : Reading → List ℕ → Shared
+shared_as reading bytes = record {
+  reading = reading;
+  license = license_as reading bytes;
   kernel_version = kernel_version_of bytes;
   btf = types_of bytes;
   btf_ext = ext_of bytes;
 }
 
 -- what its sections give
-abbrev pub tables_of : List ℕ → Parts
-tables_of bytes = record {
-  maps = maps bytes;
-  programs = programs bytes;
+abbrev pub tables_as : Reading → List ℕ → Parts
+tables_as reading bytes = record {
+  maps = maps_as reading bytes;
+  programs = programs_as reading bytes;
   functions = functions bytes;
   relocations = kept bytes;
   section_infos = section_infos bytes;
 }
 
-abbrev pub contents_of : List ℕ → Contents
-contents_of bytes = record {
+abbrev pub contents_as : Reading → List ℕ → Contents
+contents_as reading bytes = record {
   endianness = order_of bytes;
-  shared = shared_of bytes;
+  shared = shared_as reading bytes;
   externs = externs_of bytes;
   symbol_table = symbol_table (file_symbols bytes);
-  parts = tables_of bytes;
+  parts = tables_as reading bytes;
 }
 
 -- ---- the first fault
 
 -- of one section, beside the file's types
-abbrev pub read_fault : Option TypeInfo → List ℕ → SectionOf → Option ParseError
-read_fault types bytes s = or_else (section_fault s) (fault_in types (section_of s) (symbols_of (file_symbols bytes) s.index))
+abbrev pub read_fault : Reading → Option TypeInfo → List ℕ → SectionOf → Option ParseError
+read_fault reading types bytes s = or_else (section_fault s) (fault_in reading types (section_of s) (symbols_of (file_symbols bytes) s.index))
 
-unfoldable pub sections_fault : Option TypeInfo → List ℕ → Option ParseError
-sections_fault types bytes = first_some (read_fault types bytes) (other_sections bytes)
+unfoldable pub sections_fault : Reading → Option TypeInfo → List ℕ → Option ParseError
+sections_fault reading types bytes = first_some (read_fault reading types bytes) (other_sections bytes)
 
--- of a file, in the order of the steps: the file, the license and the version, the symbols, the type information,
--- the externs, the sections
-abbrev pub parse_fault : List ℕ → Option ParseError
-parse_fault bytes =
+-- of a file, in the order of the steps: the file, code in the big-endian order, the license and the version, the
+-- symbols, the type information, the externs, the sections
+abbrev pub parse_fault_as : Reading → List ℕ → Option ParseError
+parse_fault_as reading bytes =
     or_else (option_map ElfError (first_in (faults bytes)))
-    (or_else (license_fault bytes)
+    (or_else (order_fault_as reading bytes)
+    (or_else (license_fault_as reading bytes)
     (or_else (version_fault bytes)
     (or_else (symbols_fault bytes)
     (or_else (file_types_fault bytes)
     (or_else (file_externs_fault bytes)
-    (sections_fault (types_of bytes) bytes))))))
+    (sections_fault reading (types_of bytes) bytes)))))))
+
+abbrev pub parse_fault : List ℕ → Option ParseError
+parse_fault bytes = parse_fault_as Stated bytes

@@ -2,7 +2,7 @@
 use Rattle.std.specs.Prelude.{ℕ, List, [], ◌∷◌, length, Option, Some, None, ◌==◌}
 use Rattle.std.specs.FinMap.{get}
 use Rattle.ebpf_base.specs.Faults.{or_else, first_of}
-use Rattle.ebpf_btf.specs.TypeInfo.{TypeInfo}
+use Rattle.ebpf_declarations.specs.Declaring.{Declaring}
 use Rattle.ebpf_declarations.specs.Maps.{btf_maps, btf_maps_fault}
 use Rattle.ebpf_parsing.specs.Symbols.{SymbolValue}
 use Rattle.ebpf_parsing.specs.SymbolNames.{numbers_by_name}
@@ -12,12 +12,12 @@ use Rattle.ebpf_parts.specs.declared.error.ParseError.TheVariants.{NoBTF, NoSymb
 use Rattle.ebpf_parts.specs.declared.maps.either.Map.{Map}
 
 -- by name; without types there are none
-unfoldable pub declared_maps : Option TypeInfo → SectionValue → List SymbolValue → List (List ℕ × Map)
+unfoldable pub declared_maps : Option Declaring → SectionValue → List SymbolValue → List (List ℕ × Map)
 declared_maps None s symbols = []
-declared_maps (Some types) s symbols = btf_maps types (get (numbers_by_name symbols)) s.index.0 s.name
+declared_maps (Some d) s symbols = btf_maps d.reading d.types (get (numbers_by_name symbols)) s.index.0 s.name
 
 -- no types, no symbol, then the faults of the maps
-unfoldable pub declared_maps_fault : Option TypeInfo → SectionValue → List SymbolValue → Option ParseError
+unfoldable pub declared_maps_fault : Option Declaring → SectionValue → List SymbolValue → Option ParseError
 declared_maps_fault None s symbols = Some NoBTF
-declared_maps_fault (Some types) s symbols =
-    or_else (first_of ((length symbols == 0, NoSymbolsForSection s.name) ∷ [])) (btf_maps_fault types (get (numbers_by_name symbols)) s.index.0 s.name)
+declared_maps_fault (Some d) s symbols =
+    or_else (first_of ((length symbols == 0, NoSymbolsForSection s.name) ∷ [])) (btf_maps_fault d.reading d.types (get (numbers_by_name symbols)) s.index.0 s.name)

@@ -15,6 +15,7 @@ use Rattle.ebpf_parts.specs.Sections.{SectionValue}
 use Rattle.ebpf_parts.specs.declared.maps.either.Map.{Map}
 use Rattle.ebpf_parts.specs.declared.section_kind.EbpfSectionKind.{EbpfSectionKind}
 use Rattle.ebpf_parts.specs.declared.section_kind.EbpfSectionKind.TheVariants.{Maps, BtfMaps, Data, Rodata, Bss}
+use Rattle.ebpf_parts.specs.declared.reading.Reading.{Reading}
 
 abbrev pub is_data : EbpfSectionKind → Bool
 is_data Data = true
@@ -39,14 +40,14 @@ abbrev pub last_maps : FinMap text_cmp ℕ → SectionValue → List (List ℕ �
 last_maps last s = if is_number s.index.0 (get last s.name) then data_maps s else []
 
 -- the maps that a section gives, where it is no section of data before the last of its name
-abbrev pub put_by : EbpfSectionKind → FinMap text_cmp ℕ → Option TypeInfo → SectionValue → List SymbolValue → List (List ℕ × Map)
-put_by Data last types s symbols = last_maps last s
-put_by Rodata last types s symbols = last_maps last s
-put_by Bss last types s symbols = last_maps last s
-put_by Maps last types s symbols = maps_by Maps types s symbols
-put_by BtfMaps last types s symbols = maps_by BtfMaps types s symbols
-put_by _ last types s symbols = []
+abbrev pub put_by : EbpfSectionKind → FinMap text_cmp ℕ → Reading → Option TypeInfo → SectionValue → List SymbolValue → List (List ℕ × Map)
+put_by Data last reading types s symbols = last_maps last s
+put_by Rodata last reading types s symbols = last_maps last s
+put_by Bss last reading types s symbols = last_maps last s
+put_by Maps last reading types s symbols = maps_by Maps reading types s symbols
+put_by BtfMaps last reading types s symbols = maps_by BtfMaps reading types s symbols
+put_by _ last reading types s symbols = []
 
 -- what a section adds, but for maps that others of its name replace
 abbrev pub added_last : FinMap text_cmp ℕ → Shared → Parts → SectionValue → List SymbolValue → Parts
-added_last last shared p s symbols = record (added shared p s symbols) { maps = put_all p.maps (put_by s.kind last shared.btf s symbols) }
+added_last last shared p s symbols = record (added shared p s symbols) { maps = put_all p.maps (put_by s.kind last shared.reading shared.btf s symbols) }

@@ -4,6 +4,7 @@ pub mod Groups
 pub mod Relocations
 pub mod EntryPlaces
 pub mod Programs
+pub mod CodeOrder
 pub mod Terms
 pub mod Records
 pub mod SlotPlaces
@@ -21,3 +22,4 @@ pub mod Contents
 pub mod Parts
 pub mod TiledSections
 pub mod Standing
+pub mod Readings

@@ -5,6 +5,7 @@ use Rattle.std.specs.Ordering.{nat_cmp}
 use Rattle.ebpf_base.specs.Faults.{or_else, first_of}
 use Rattle.ebpf_ext.specs.ExtReading.{ExtInfo}
 use Rattle.ebpf_btf.specs.TypeInfo.{TypeInfo}
+use Rattle.ebpf_declarations.specs.Declaring.{declaring}
 use Rattle.ebpf_elf.specs.declared.entries.ElfRelocation.{ElfRelocation}
 use Rattle.ebpf_elf.specs.declared.entries.SectionIndex.{SectionIndex}
 use Rattle.ebpf_parsing.specs.DeclaredMaps.{declared_maps, declared_maps_fault}
@@ -16,7 +17,7 @@ use Rattle.ebpf_parsing.specs.Relocations.{kept_at}
 use Rattle.ebpf_parsing.specs.Symbols.{SymbolValue}
 use Rattle.ebpf_parsing.specs.Texts.{text_functions, text_fault}
 use Rattle.ebpf_parsing.specs.declared.program.Program.{Program}
-use Rattle.ebpf_parts.specs.ProgramSections.{program_section, program_section_fault as name_fault}
+use Rattle.ebpf_parts.specs.Readings.{section_as, section_fault_as}
 use Rattle.ebpf_parts.specs.Sections.{SectionValue}
 use Rattle.ebpf_parts.specs.declared.error.ParseError.{ParseError}
 use Rattle.ebpf_parts.specs.declared.error.ParseError.TheVariants.{NoSymbolsForSection}
@@ -24,26 +25,27 @@ use Rattle.ebpf_parts.specs.declared.maps.either.Map.{Map}
 use Rattle.ebpf_parts.specs.declared.section_kind.EbpfSectionKind.{EbpfSectionKind}
 use Rattle.ebpf_parts.specs.declared.section_kind.EbpfSectionKind.TheVariants.{Maps, BtfMaps, Data, Rodata, Bss, Text, Program as Programs}
 use Rattle.ebpf_reloc.specs.declared.function.Function.{Function}
+use Rattle.ebpf_parts.specs.declared.reading.Reading.{Reading}
 
 -- the maps, by name
-abbrev pub maps_by : EbpfSectionKind → Option TypeInfo → SectionValue → List SymbolValue → List (List ℕ × Map)
-maps_by Data types s symbols = data_maps s
-maps_by Rodata types s symbols = data_maps s
-maps_by Bss types s symbols = data_maps s
-maps_by Maps types s symbols = legacy_maps s symbols
-maps_by BtfMaps types s symbols = declared_maps types s symbols
-maps_by _ types s symbols = []
+abbrev pub maps_by : EbpfSectionKind → Reading → Option TypeInfo → SectionValue → List SymbolValue → List (List ℕ × Map)
+maps_by Data reading types s symbols = data_maps s
+maps_by Rodata reading types s symbols = data_maps s
+maps_by Bss reading types s symbols = data_maps s
+maps_by Maps reading types s symbols = legacy_maps s symbols
+maps_by BtfMaps reading types s symbols = declared_maps (declaring reading types) s symbols
+maps_by _ reading types s symbols = []
 
-unfoldable pub maps_in : Option TypeInfo → SectionValue → List SymbolValue → List (List ℕ × Map)
-maps_in types s symbols = maps_by s.kind types s symbols
+unfoldable pub maps_in : Reading → Option TypeInfo → SectionValue → List SymbolValue → List (List ℕ × Map)
+maps_in reading types s symbols = maps_by s.kind reading types s symbols
 
 -- the programs, by name, each with the object's license and kernel version
-abbrev pub programs_by : EbpfSectionKind → List ℕ → Option ℕ → SectionValue → List SymbolValue → List (List ℕ × Program)
-programs_by Programs license version s symbols = programs_of license version s symbols (program_section s.name)
-programs_by _ license version s symbols = []
+abbrev pub programs_by : EbpfSectionKind → Reading → List ℕ → Option ℕ → SectionValue → List SymbolValue → List (List ℕ × Program)
+programs_by Programs reading license version s symbols = programs_of license version s symbols (section_as reading s.name)
+programs_by _ reading license version s symbols = []
 
-unfoldable pub programs_in : List ℕ → Option ℕ → SectionValue → List SymbolValue → List (List ℕ × Program)
-programs_in license version s symbols = programs_by s.kind license version s symbols
+unfoldable pub programs_in : Reading → List ℕ → Option ℕ → SectionValue → List SymbolValue → List (List ℕ × Program)
+programs_in reading license version s symbols = programs_by s.kind reading license version s symbols
 
 -- the functions, by section and address, each with what `.BTF.ext` says of it
 abbrev pub functions_by : EbpfSectionKind → Said → SectionValue → List SymbolValue → List Function
@@ -68,19 +70,19 @@ abbrev pub name_in : SectionValue → List (List ℕ × SectionIndex)
 name_in s = (s.name, s.index) ∷ []
 
 -- the faults of a Program section: its name, no symbol, then the programs by symbol
-unfoldable pub program_section_fault : SectionValue → List SymbolValue → Option ParseError
-program_section_fault s symbols =
-    or_else (name_fault s.name) (or_else (first_of ((length symbols == 0, NoSymbolsForSection s.name) ∷ [])) (programs_fault s symbols))
+unfoldable pub program_section_fault : Reading → SectionValue → List SymbolValue → Option ParseError
+program_section_fault reading s symbols =
+    or_else (section_fault_as reading s.name) (or_else (first_of ((length symbols == 0, NoSymbolsForSection s.name) ∷ [])) (programs_fault s symbols))
 
-abbrev pub fault_by : EbpfSectionKind → Option TypeInfo → SectionValue → List SymbolValue → Option ParseError
-fault_by Programs types s symbols = program_section_fault s symbols
-fault_by Text types s symbols = text_fault s symbols
-fault_by Data types s symbols = data_map_fault s
-fault_by Rodata types s symbols = data_map_fault s
-fault_by Bss types s symbols = data_map_fault s
-fault_by Maps types s symbols = legacy_maps_fault s symbols
-fault_by BtfMaps types s symbols = declared_maps_fault types s symbols
-fault_by _ types s symbols = None
+abbrev pub fault_by : EbpfSectionKind → Reading → Option TypeInfo → SectionValue → List SymbolValue → Option ParseError
+fault_by Programs reading types s symbols = program_section_fault reading s symbols
+fault_by Text reading types s symbols = text_fault s symbols
+fault_by Data reading types s symbols = data_map_fault s
+fault_by Rodata reading types s symbols = data_map_fault s
+fault_by Bss reading types s symbols = data_map_fault s
+fault_by Maps reading types s symbols = legacy_maps_fault s symbols
+fault_by BtfMaps reading types s symbols = declared_maps_fault (declaring reading types) s symbols
+fault_by _ reading types s symbols = None
 
-unfoldable pub fault_in : Option TypeInfo → SectionValue → List SymbolValue → Option ParseError
-fault_in types s symbols = fault_by s.kind types s symbols
+unfoldable pub fault_in : Reading → Option TypeInfo → SectionValue → List SymbolValue → Option ParseError
+fault_in reading types s symbols = fault_by s.kind reading types s symbols

@@ -15,8 +15,8 @@ use Rattle.ebpf_parts.specs.Sections.{SectionValue}
 -- what one section adds
 unfoldable pub added : Shared → Parts → SectionValue → List SymbolValue → Parts
 added shared p s symbols = record {
-  maps = put_all p.maps (maps_in shared.btf s symbols);
-  programs = put_all p.programs (programs_in shared.license shared.kernel_version s symbols);
+  maps = put_all p.maps (maps_in shared.reading shared.btf s symbols);
+  programs = put_all p.programs (programs_in shared.reading shared.license shared.kernel_version s symbols);
   functions = put_all p.functions (functions_in shared.btf_ext s symbols);
   relocations = put_all p.relocations (relocations_in s);
   section_infos = put_all p.section_infos (name_in s);
@@ -25,8 +25,8 @@ added shared p s symbols = record {
 -- what sections add, one after the other
 abbrev pub all_added : Shared → Parts → List SymbolValue → List SectionValue → Parts
 all_added shared p symbols rest = record {
-  maps = put_all p.maps (flat_map (λ s. maps_in shared.btf s (symbols_at symbols s)) rest);
-  programs = put_all p.programs (flat_map (λ s. programs_in shared.license shared.kernel_version s (symbols_at symbols s)) rest);
+  maps = put_all p.maps (flat_map (λ s. maps_in shared.reading shared.btf s (symbols_at symbols s)) rest);
+  programs = put_all p.programs (flat_map (λ s. programs_in shared.reading shared.license shared.kernel_version s (symbols_at symbols s)) rest);
   functions = put_all p.functions (flat_map (λ s. functions_in shared.btf_ext s (symbols_at symbols s)) rest);
   relocations = put_all p.relocations (flat_map relocations_in rest);
   section_infos = put_all p.section_infos (flat_map name_in rest);
@@ -39,8 +39,8 @@ parts_from infos = record { maps = empty; programs = empty; functions = empty; r
 -- all of a file
 abbrev pub parts_of : Shared → FinMap text_cmp SectionIndex → List ℕ → Parts
 parts_of shared infos bytes = record {
-  maps = put_all empty (map_entries shared.btf bytes);
-  programs = put_all empty (program_entries shared.license shared.kernel_version bytes);
+  maps = put_all empty (map_entries shared.reading shared.btf bytes);
+  programs = put_all empty (program_entries shared.reading shared.license shared.kernel_version bytes);
   functions = put_all empty (function_entries shared.btf_ext bytes);
   relocations = put_all empty (relocation_entries bytes);
   section_infos = put_all infos (name_entries bytes);

@@ -4,7 +4,7 @@ use Rattle.std.specs.FinMap.{FinMap, get}
 use Rattle.std.specs.Ordering.{nat_cmp}
 use Rattle.ebpf_elf.specs.SymbolTable.{symbol_table as table_of}
 use Rattle.ebpf_elf.specs.declared.entries.ElfRelocation.{ElfRelocation}
-use Rattle.ebpf_parsing.specs.Contents.{maps, programs, functions, kept, object_sections, parse_fault}
+use Rattle.ebpf_parsing.specs.Contents.{maps_as, programs_as, functions, kept, object_sections, parse_fault_as}
 use Rattle.ebpf_parsing.specs.DataMaps.{data_map}
 use Rattle.ebpf_parsing.specs.FileExterns.{externs_of}
 use Rattle.ebpf_parsing.specs.FileSymbols.{file_symbols, symbol_table, symbol_of, kept_of}
@@ -17,6 +17,7 @@ use Rattle.ebpf_parts.specs.declared.section_kind.EbpfSectionKind.TheVariants.{D
 use Rattle.ebpf_reloc.specs.declared.extern_desc.ExternDesc.{ExternDesc}
 use Rattle.ebpf_reloc.specs.declared.function.Function.{Function}
 use Rattle.ebpf_reloc.specs.declared.symbol.Symbol.{Symbol}
+use Rattle.ebpf_parts.specs.declared.reading.Reading.{Reading}
 
 -- at the key (section, address) stands a function of this section, at this address
 abbrev pub FunctionsAtTheirKeys : Type 0
@@ -55,12 +56,12 @@ TablesOfCode = (bytes : List ℕ) (section : ℕ) (table : FinMap nat_cmp ElfRel
 
 -- in a file without a fault no relocation names symbol 0, which is none
 abbrev pub RelocationsNameSymbols : Type 0
-RelocationsNameSymbols = (bytes : List ℕ) → parse_fault bytes ≡ None → (section : ℕ) (table : FinMap nat_cmp ElfRelocation) → get (kept bytes) section ≡ Some table
+RelocationsNameSymbols = (reading : Reading) (bytes : List ℕ) → parse_fault_as reading bytes ≡ None → (section : ℕ) (table : FinMap nat_cmp ElfRelocation) → get (kept bytes) section ≡ Some table
     → (o : ℕ) (r : ElfRelocation) → get table o ≡ Some r → r.symbol_index ≢ 0
 
 -- a program's key is that of a function
 abbrev pub ProgramsHaveFunctions : Type 0
-ProgramsHaveFunctions = (bytes : List ℕ) (name : List ℕ) (p : Program) → get (programs bytes) name ≡ Some p
+ProgramsHaveFunctions = (reading : Reading) (bytes : List ℕ) (name : List ℕ) (p : Program) → get (programs_as reading bytes) name ≡ Some p
     → (f : Function) × (get (functions bytes) (p.section_index, p.address) ≡ Some f)
 
 -- the table has a symbol i, with this name and in this section
@@ -72,7 +73,7 @@ pub record IsSymbolIn (bytes : List ℕ) (i : ℕ) (name : List ℕ) (section : 
 
 -- the symbol of a map, where it has one, has the map's name and is in the map's section
 abbrev pub MapsHaveTheirSymbols : Type 0
-MapsHaveTheirSymbols = (bytes : List ℕ) (name : List ℕ) (m : Map) → get (maps bytes) name ≡ Some m
+MapsHaveTheirSymbols = (reading : Reading) (bytes : List ℕ) (name : List ℕ) (m : Map) → get (maps_as reading bytes) name ≡ Some m
     → (i : ℕ) → symbol_index_of m ≡ Some i → IsSymbolIn bytes i name (section_index_of m)
 
 -- the map of a section of data with this name
@@ -86,7 +87,7 @@ pub record IsDataMap (bytes : List ℕ) (name : List ℕ) (m : Map) : Type 0 whe
 
 -- any other map is that of a section of data
 abbrev pub OtherMapsAreOfData : Type 0
-OtherMapsAreOfData = (bytes : List ℕ) (name : List ℕ) (m : Map) → get (maps bytes) name ≡ Some m → symbol_index_of m ≡ None → IsDataMap bytes name m
+OtherMapsAreOfData = (reading : Reading) (bytes : List ℕ) (name : List ℕ) (m : Map) → get (maps_as reading bytes) name ≡ Some m → symbol_index_of m ≡ None → IsDataMap bytes name m
 
 -- an extern is not resolved: it has no id and no address
 abbrev pub ExternsAreUnresolved : Type 0

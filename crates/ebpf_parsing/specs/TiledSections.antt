@@ -3,7 +3,7 @@ use Rattle.std.specs.Prelude.{◌≡◌, ℕ, ◌<◌, ◌^◌, List, length, So
 use Rattle.std.specs.FinMap.{FinMap, get}
 use Rattle.std.specs.List.{find, flat_map}
 use Rattle.ebpf_base.specs.Keys.{key_cmp}
-use Rattle.ebpf_parsing.specs.Contents.{functions, parse_fault, object_sections, own_symbols}
+use Rattle.ebpf_parsing.specs.Contents.{functions, parse_fault_as, object_sections, own_symbols}
 use Rattle.ebpf_parsing.specs.FileTypes.{ext_of}
 use Rattle.ebpf_parsing.specs.Records.{said_of}
 use Rattle.ebpf_parsing.specs.Texts.{text_functions}
@@ -11,12 +11,13 @@ use Rattle.ebpf_parts.specs.Sections.{SectionValue}
 use Rattle.ebpf_parts.specs.Slots.{slots_of}
 use Rattle.ebpf_parts.specs.declared.section_kind.EbpfSectionKind.TheVariants.{Text}
 use Rattle.ebpf_reloc.specs.declared.function.Function.{Function}
+use Rattle.ebpf_parts.specs.declared.reading.Reading.{Reading}
 
 -- a Text section of a file without a fault, by its place among the sections that are read; as each slice,
 -- the file has fewer than 2 ^ 64 bytes
-pub record IsTextSection (bytes : List ℕ) (n : ℕ) (s : SectionValue) : Type 0 where
+pub record IsTextSection (reading : Reading) (bytes : List ℕ) (n : ℕ) (s : SectionValue) : Type 0 where
   pub short : length bytes < 2 ^ 64
-  pub clear : parse_fault bytes ≡ None
+  pub clear : parse_fault_as reading bytes ≡ None
   pub here : slice_get (object_sections bytes) n ≡ Some s
   pub text : s.kind ≡ Text
 
@@ -36,14 +37,14 @@ pub record AreInOrder (table : FinMap key_cmp Function) (number : ℕ) (fs : Lis
 
 -- the table has at each address of the section the function that begins there,
 abbrev pub AtEachAddress : Type 0
-AtEachAddress = (bytes : List ℕ) (n : ℕ) (s : SectionValue) → IsTextSection bytes n s
+AtEachAddress = (reading : Reading) (bytes : List ℕ) (n : ℕ) (s : SectionValue) → IsTextSection reading bytes n s
     → (address : ℕ) → get (functions bytes) (s.index.0, address) ≡ find (λ f. f.address == address) (own_functions bytes s)
 
 -- and just these, also where the section's addresses begin again at 0 behind 2 ^ 64;
 abbrev pub InOrder : Type 0
-InOrder = (bytes : List ℕ) (n : ℕ) (s : SectionValue) → IsTextSection bytes n s → AreInOrder (functions bytes) s.index.0 (own_functions bytes s)
+InOrder = (reading : Reading) (bytes : List ℕ) (n : ℕ) (s : SectionValue) → IsTextSection reading bytes n s → AreInOrder (functions bytes) s.index.0 (own_functions bytes s)
 
 -- joined in order of their offset they are the slots of the section's data
 abbrev pub SectionsTile : Type 0
-SectionsTile = (bytes : List ℕ) (n : ℕ) (s : SectionValue) → IsTextSection bytes n s → (fs : List Function) → AreInOrder (functions bytes) s.index.0 fs
+SectionsTile = (reading : Reading) (bytes : List ℕ) (n : ℕ) (s : SectionValue) → IsTextSection reading bytes n s → (fs : List Function) → AreInOrder (functions bytes) s.index.0 fs
     → flat_map (λ f. f.instructions) fs ≡ slots_of s.bytes

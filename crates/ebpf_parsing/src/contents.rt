@@ -2,9 +2,10 @@
 
 ghost use Rattle.std.specs.Prelude.{◌≡◌, IfOk};
 ghost use Rattle.ebpf_base.specs.Faults.{Refuses};
-ghost use Rattle.ebpf_parsing.specs.Contents.{contents_of, parse_fault};
+ghost use Rattle.ebpf_parsing.specs.Contents.{contents_as, parse_fault_as};
 ghost use Rattle.ebpf_parts.specs.Memory.{is_memory};
 
+use crate::code_order::check_order;
 use crate::externs::FileExterns;
 use crate::file_types::FileTypes;
 use crate::license::read_license;
@@ -16,7 +17,7 @@ use crate::version::read_version;
 use ebpf_base::{ByIndex, ByName};
 use ebpf_btf::Endianness;
 use ebpf_elf::ElfFile;
-use ebpf_parts::ParseError;
+use ebpf_parts::{ParseError, Reading};
 use ebpf_reloc::{ExternDesc, Symbol};
 use std::alloc::Global;
 
@@ -36,29 +37,31 @@ pub struct Contents {
 }
 
 impl Contents {
-    /// What the bytes of an ELF64 file hold.
+    /// What the bytes of an ELF64 file hold in a reading.
     ///
     /// # Errors
     ///
-    /// The first fault of the file, in this order: of the file itself, its license, its kernel version, its symbols'
-    /// names, its type information, its externs, and its sections by number. `OutOfMemory` only where memory was
-    /// refused.
-    #[tactic(auto, unfolding(crate::specs::Contents::maps, crate::specs::Contents::programs, crate::specs::Contents::functions, crate::specs::Contents::kept, crate::specs::Contents::section_infos, crate::specs::FileExterns::types_of, crate::specs::FileExterns::externs_of, crate::specs::FileExterns::file_externs_fault))]
-    pub fn read(alloc: Global, bytes: &[u8]) -> Result<Contents, ParseError>
-        ensures contents { IfOk result (λ c. c ≡ contents_of bytes.now) }
-        ensures fault { Refuses is_memory result (parse_fault bytes.now) }
+    /// The first fault of the file, in this order: of the file itself, code in the big-endian order where the reading is
+    /// `Broad`, its license, its kernel version, its symbols' names, its type information, its externs, and its sections
+    /// by number. `OutOfMemory` only where memory was refused.
+    #[tactic(auto, unfolding(crate::specs::Contents::maps_as, crate::specs::Contents::programs_as, crate::specs::Contents::functions, crate::specs::Contents::kept, crate::specs::Contents::section_infos, crate::specs::FileExterns::types_of, crate::specs::FileExterns::externs_of, crate::specs::FileExterns::file_externs_fault))]
+    pub fn read(alloc: Global, bytes: &[u8], reading: Reading) -> Result<Contents, ParseError>
+        ensures contents { IfOk result (λ c. c ≡ contents_as reading bytes.now) }
+        ensures fault { Refuses is_memory result (parse_fault_as reading bytes.now) }
     {
         let file = match ElfFile::parse(bytes) {
             Ok(file) => file,
             Err(error) => return Err(ParseError::ElfError(error)),
         };
+        check_order(&file, reading)?;
         let tables = read_relocation_sections(alloc, &file)?;
-        let license = read_license(alloc, &file, &tables)?;
+        let license = read_license(alloc, &file, &tables, reading)?;
         let kernel_version = read_version(alloc, &file, &tables)?;
         let symbols = read_symbols(alloc, &file)?;
         let types = FileTypes::read(alloc, &file, &tables)?;
         let declared = FileExterns::read(alloc, &file, types.btf)?;
         let shared = Shared {
+            reading,
             license,
             kernel_version,
             btf: declared.btf,

@@ -3,6 +3,7 @@
 ghost use Rattle.std.specs.Prelude.{◌≡◌, OnOk, IfOk, IfErr, true};
 ghost use Rattle.ebpf_base.specs.Faults.{Refuses};
 ghost use Rattle.ebpf_base.specs.Keyed.{put_all};
+ghost use Rattle.ebpf_declarations.specs.Declaring.{declaring};
 ghost use Rattle.ebpf_parsing.specs.DeclaredMaps.{declared_maps, declared_maps_fault};
 ghost use Rattle.ebpf_parts.specs.Memory.{is_memory};
 
@@ -16,7 +17,7 @@ use ebpf_btf::Btf;
 use ebpf_declarations::{DeclaredMaps, parse_error};
 use ebpf_elf::{ElfFile, ElfSection};
 use ebpf_parts::maps::Map;
-use ebpf_parts::{EbpfSectionKind, ParseError, Section};
+use ebpf_parts::{EbpfSectionKind, ParseError, Reading, Section};
 use std::alloc::Global;
 
 /// Whether a section has maps that types declare.
@@ -63,10 +64,11 @@ fn map_symbols(
 pub fn find_declared_maps<'b>(
     alloc: Global,
     types: &'b Option<Btf>,
+    reading: Reading,
     file: &ElfFile<'_>,
     symbols: &Groups<NamedSymbol<'_>>,
 ) -> Result<Option<DeclaredMaps<'b>>, ParseError>
-    ensures types { IfOk result (λ declared. declared ≡ types.now) }
+    ensures types { IfOk result (λ declared. declared ≡ declaring reading types.now) }
     ensures memory { IfErr result (λ e. is_memory e ≡ true) }
 {
     let Some(types) = types else {
@@ -74,7 +76,7 @@ pub fn find_declared_maps<'b>(
     };
     let names = names_of_kinds(alloc, file, &[EbpfSectionKind::BtfMaps])?;
     let numbers = map_symbols(alloc, file, symbols)?;
-    match DeclaredMaps::gather(alloc, types, names.as_slice(), &numbers) {
+    match DeclaredMaps::gather(alloc, types, reading, names.as_slice(), &numbers) {
         Ok(declared) => Ok(Some(declared)),
         Err(error) => Err(parse_error(error)),
     }

@@ -5,6 +5,7 @@ ghost use Rattle.ebpf_base.specs.Keyed.{LaterStands};
 ghost use Rattle.ebpf_base.specs.Keys.{text_cmp, key_cmp};
 ghost use Rattle.ebpf_elf.specs.declared.entries.ElfRelocation.{ElfRelocation};
 ghost use Rattle.ebpf_elf.specs.declared.entries.SectionIndex.{SectionIndex};
+ghost use Rattle.ebpf_parsing.specs.Readings.{BroadRefusesNoName, ReadingsAgree, StatedKindsAreNamed, StatedTakesBothOrders};
 ghost use Rattle.ebpf_parsing.specs.Standing.{FunctionsAtTheirKeys, SymbolsAtTheirNumbers, RelocationsAtTheirOffsets, TablesOfCode, RelocationsNameSymbols, ProgramsHaveFunctions, MapsHaveTheirSymbols, OtherMapsAreOfData, ExternsAreUnresolved};
 ghost use Rattle.ebpf_parsing.specs.TiledSections.{AtEachAddress, InOrder, SectionsTile};
 ghost use Rattle.ebpf_parsing.specs.Tiling.{FunctionsTile};
@@ -79,4 +80,21 @@ pub fn maps_have_their_symbols()
 /// No extern has an id or an address of the kernel, or is resolved.
 pub fn externs_are_unresolved()
     ensures { ExternsAreUnresolved }
+{}
+
+/// A little-endian file that `Object::parse` takes has the same license, maps and programs in the broad reading, and no
+/// fault there.
+pub fn readings_agree()
+    ensures { ReadingsAgree }
+{}
+
+/// The broad reading refuses no file for the name of a section.
+pub fn broad_refuses_no_name()
+    ensures { BroadRefusesNoName }
+{}
+
+/// The stated reading gives no program the kind `Other`, and refuses no file for the order of its code.
+pub fn stated_gives_nothing_broad()
+    ensures kinds { StatedKindsAreNamed }
+    ensures orders { StatedTakesBothOrders }
 {}

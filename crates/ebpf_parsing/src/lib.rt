@@ -3,6 +3,7 @@
 
 mod by_places;
 mod by_slot;
+mod code_order;
 mod contents;
 mod data_maps;
 mod declared_maps;

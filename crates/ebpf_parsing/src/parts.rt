@@ -21,7 +21,7 @@ ghost use Rattle.ebpf_parsing.specs.Relocations.{kept_at, patched};
 ghost use Rattle.ebpf_parsing.specs.Symbols.{symbols_of};
 ghost use Rattle.ebpf_parsing.specs.Texts.{text_functions, text_fault};
 ghost use Rattle.ebpf_parts.specs.Memory.{is_memory};
-ghost use Rattle.ebpf_parts.specs.ProgramSections.{program_section};
+ghost use Rattle.ebpf_parts.specs.Readings.{section_as};
 ghost use Rattle.ebpf_parts.specs.Sections.{section_of, section_fault};
 
 use crate::data_maps::put_data_map;
@@ -137,10 +137,10 @@ impl Parts {
         section: &Section<'_>,
         symbols: &[NamedSymbol<'_>],
     ) -> Result<(), ParseError>
-        ensures put { OnOk result (self.new ≡ record self.old { programs = put_all self.old.programs (programs_of context.now.license context.now.kernel_version section.now symbols.now (program_section section.now.name)); functions = put_all self.old.functions (map placed (program_functions (said_of context.now.btf_ext section.now.name) section.now symbols.now)) }) }
-        ensures fault { Refuses is_memory result (program_section_fault section.now symbols.now) }
+        ensures put { OnOk result (self.new ≡ record self.old { programs = put_all self.old.programs (programs_of context.now.license context.now.kernel_version section.now symbols.now (section_as context.now.reading section.now.name)); functions = put_all self.old.functions (map placed (program_functions (said_of context.now.btf_ext section.now.name) section.now symbols.now)) }) }
+        ensures fault { Refuses is_memory result (program_section_fault context.now.reading section.now symbols.now) }
     {
-        let kind = ProgramSection::from_str(alloc, section.name)?;
+        let kind = ProgramSection::read(alloc, section.name, context.shared.reading)?;
         if symbols.len() == 0 {
             return Err(ParseError::NoSymbolsForSection {
                 section_name: Text::from_str(alloc, section.name)?,
@@ -187,7 +187,7 @@ impl Parts {
     ) -> Result<(), ParseError>
         ensures others { OnOk result (self.new.relocations ≡ self.old.relocations) }
         ensures put { OnOk result (record self.new { relocations = put_all self.old.relocations (relocations_in section.now); section_infos = put_all self.new.section_infos ((section.now.name, section.now.index) ∷ []) } ≡ added_last last.now context.now self.old section.now symbols.now) }
-        ensures fault { Refuses is_memory result (fault_in context.now.btf section.now symbols.now) }
+        ensures fault { Refuses is_memory result (fault_in context.now.reading context.now.btf section.now symbols.now) }
     {
         match section.kind {
             EbpfSectionKind::Program => self.add_programs(alloc, context, section, symbols),
@@ -216,7 +216,7 @@ impl Parts {
     ) -> Result<(), ParseError>
         requires { tables.now ≡ filter (λ r. target_of r == section.now.index) (relocation_sections section.now.file) }
         ensures put { OnOk result (self.new ≡ added_last last.now context.now self.old (section_of section.now) symbols.now) }
-        ensures fault { Refuses is_memory result (or_else (section_fault section.now) (fault_in context.now.btf (section_of section.now) symbols.now)) }
+        ensures fault { Refuses is_memory result (or_else (section_fault section.now) (fault_in context.now.reading context.now.btf (section_of section.now) symbols.now)) }
     {
         let section = read_section(alloc, section, tables)?;
         self.add_kind(alloc, context, last, &section, symbols)?;
@@ -240,7 +240,7 @@ fn read_by_last(
     requires grouped { (q : ℕ) → group_at symbols.now.groups q ≡ symbols_of (file_symbols file.now) q }
     requires last { last.now ≡ last_data (object_sections file.now) }
     ensures parts { IfOk result (λ p. p ≡ parts_of shared.now section_infos file.now) }
-    ensures fault { Refuses is_memory result (sections_fault shared.now.btf file.now) }
+    ensures fault { Refuses is_memory result (sections_fault shared.now.reading shared.now.btf file.now) }
 {
     let code = names_of_kinds(
         alloc,
@@ -248,7 +248,7 @@ fn read_by_last(
         &[EbpfSectionKind::Program, EbpfSectionKind::Text],
     )?;
     let records = RecordsByName::gather(alloc, &shared.btf_ext, code.as_slice())?;
-    let declared = find_declared_maps(alloc, &shared.btf, file, symbols)?;
+    let declared = find_declared_maps(alloc, &shared.btf, shared.reading, file, symbols)?;
     let context = Context {
         shared,
         records,
@@ -284,7 +284,7 @@ pub fn read_sections(
     requires tables { AreTablesOf file.now tables.now.groups }
     requires grouped { (q : ℕ) → group_at symbols.now.groups q ≡ symbols_of (file_symbols file.now) q }
     ensures parts { IfOk result (λ p. p ≡ parts_of shared.now section_infos file.now) }
-    ensures fault { Refuses is_memory result (sections_fault shared.now.btf file.now) }
+    ensures fault { Refuses is_memory result (sections_fault shared.now.reading shared.now.btf file.now) }
 {
     let last = last_data_sections(alloc, file)?;
     read_by_last(alloc, shared, section_infos, file, tables, symbols, &last)

@@ -1,6 +1,7 @@
 //! What `.BTF.ext` says of the sections of a file, by their names.
 
 ghost use Rattle.std.specs.Prelude.{◌≡◌, IfOk, IfErr, IfSome, true};
+ghost use Rattle.ebpf_declarations.specs.Declaring.{declaring};
 ghost use Rattle.ebpf_parsing.specs.Records.{AreFuncsOf, AreLinesOf, Said, said_of, funcs_of, lines_of};
 ghost use Rattle.ebpf_parts.specs.Memory.{is_memory};
 
@@ -178,7 +179,7 @@ pub struct Context<'s> {
     pub records: RecordsByName<'s>,
     pub declared: Option<DeclaredMaps<'s>>,
     ghost said: { records ≡ shared.now.btf_ext },
-    ghost declared_are: { declared ≡ shared.now.btf },
+    ghost declared_are: { declared ≡ declaring shared.now.reading shared.now.btf },
 }
 
 impl<'s> Model for Context<'s> {

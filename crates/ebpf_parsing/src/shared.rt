@@ -3,10 +3,12 @@
 use ebpf_base::Items;
 use ebpf_btf::Btf;
 use ebpf_ext::BtfExt;
+use ebpf_parts::Reading;
 
 /// What programs and functions carry of their object.
 #[derive(Drop)]
 pub struct Shared {
+    pub reading: Reading,
     pub license: Items<u8>,
     pub kernel_version: Option<u32>,
     pub btf: Option<Btf>,

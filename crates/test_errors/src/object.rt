@@ -34,6 +34,7 @@ impl Sample for ParseError {
             ParseError::NoSymbolsForSection { .. } => "NoSymbolsForSection",
             ParseError::NoBTF => "NoBTF",
             ParseError::OutOfMemory => "OutOfMemory",
+            ParseError::BigEndianCode => "BigEndianCode",
         }
     }
 }
@@ -123,7 +124,8 @@ fn show_maps(rt: &HostRuntime) -> io::Result<()> {
     let section_name = text(rt, "maps")?;
     show(rt, ParseError::NoSymbolsForSection { section_name })?;
     show(rt, ParseError::NoBTF)?;
-    show(rt, ParseError::OutOfMemory)
+    show(rt, ParseError::OutOfMemory)?;
+    show(rt, ParseError::BigEndianCode)
 }
 
 /// Prints each error of parsing and of changing variables.

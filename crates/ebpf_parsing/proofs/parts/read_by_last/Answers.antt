@@ -33,7 +33,7 @@ loop-section-init c =
       lasts = all_lasts text_total data_row c.args.last.now (map section_of (others c.into_iter-section-iterator.result)) (c.requires.last ∙ ap (λ r. last_data (map section_of (others r))) (sym items));
       parts = ap (λ p. all_added shared p ys (map section_of (others c.into_iter-section-iterator.result))) empty
           ∙ ap (λ r. all_added shared (parts_from c.args.section_infos) ys (map section_of (others r))) items;
-      fault = ap (λ r. first_some (read_fault shared.btf file) (others r)) items;
+      fault = ap (λ r. first_some (read_fault shared.reading shared.btf file) (others r)) items;
     }
 
 pub add_section-requires : goal.add_section-requires
@@ -56,8 +56,8 @@ loop-section-preserved c =
     let put : c.add_section.new.self ≡ added_last c.args.last.now shared c.loop-section.parts (section_of s) c.of-in-loop-section.result.now = search rules in
     let lasts : DataLasts c.args.last.now (section_of s ∷ map section_of (others c.next.new.self)) =
     subst (λ r. DataLasts c.args.last.now (map section_of r)) (ap others front ∙ kept s c.next.new.self other) c.loop-section.invariant.lasts in
-    let clear_there : or_else (section_fault s) (fault_in shared.btf (section_of s) c.of-in-loop-section.result.now) ≡ None = search rules in
-    let clear : read_fault shared.btf file s ≡ None = ap (λ g. or_else (section_fault s) (fault_in shared.btf (section_of s) g)) (sym of_section) ∙ clear_there in
+    let clear_there : or_else (section_fault s) (fault_in shared.reading shared.btf (section_of s) c.of-in-loop-section.result.now) ≡ None = search rules in
+    let clear : read_fault shared.reading shared.btf file s ≡ None = ap (λ g. or_else (section_fault s) (fault_in shared.reading shared.btf (section_of s) g)) (sym of_section) ∙ clear_there in
     record {
       from = (subst (AreOf file) front c.loop-section.invariant.from).1;
       lasts = fewer_lasts text_total data_row c.args.last.now (section_of s) (map section_of (others c.next.new.self)) lasts;
@@ -66,8 +66,8 @@ loop-section-preserved c =
           ∙ ap (λ g. all_added shared (added shared c.loop-section.parts (section_of s) g) ys (map section_of (others c.next.new.self))) of_section
           ∙ sym (ap (λ r. all_added shared c.loop-section.parts ys (map section_of (others r))) front ∙ one_more shared c.loop-section.parts ys s c.next.new.self other)
           ∙ c.loop-section.invariant.parts;
-      fault = sym (ap (λ r. first_some (read_fault shared.btf file) (others r)) front ∙ fault_more shared.btf file s c.next.new.self other
-          ∙ ap (λ x. or_else x (first_some (read_fault shared.btf file) (others c.next.new.self))) clear)
+      fault = sym (ap (λ r. first_some (read_fault shared.reading shared.btf file) (others r)) front ∙ fault_more shared.reading shared.btf file s c.next.new.self other
+          ∙ ap (λ x. or_else x (first_some (read_fault shared.reading shared.btf file) (others c.next.new.self))) clear)
           ∙ c.loop-section.invariant.fault;
     }
 
@@ -77,13 +77,14 @@ returns-in_err-add_section-clause-fault c =
     let ys = file_symbols file in
     let s = c.in-Some.section in
     let types = c.args.shared.now.btf in
+    let reading = c.args.shared.now.reading in
     let front : c.loop-section.section-iterator ≡ s ∷ c.next.new.self = search rules in
     let other : is_type_information s ≡ false = search rules in
     let of_section : c.of-in-loop-section.result.now ≡ symbols_of ys s.index = search rules in
-    let whole : sections_fault types file ≡ or_else (or_else (section_fault s) (fault_in types (section_of s) c.of-in-loop-section.result.now)) (first_some (read_fault types file) (others c.next.new.self))
-    = sym c.loop-section.invariant.fault ∙ ap (λ r. first_some (read_fault types file) (others r)) front ∙ fault_more types file s c.next.new.self other
-    ∙ ap (λ g. or_else (or_else (section_fault s) (fault_in types (section_of s) g)) (first_some (read_fault types file) (others c.next.new.self))) (sym of_section) in
+    let whole : sections_fault reading types file ≡ or_else (or_else (section_fault s) (fault_in reading types (section_of s) c.of-in-loop-section.result.now)) (first_some (read_fault reading types file) (others c.next.new.self))
+    = sym c.loop-section.invariant.fault ∙ ap (λ r. first_some (read_fault reading types file) (others r)) front ∙ fault_more reading types file s c.next.new.self other
+    ∙ ap (λ g. or_else (or_else (section_fault s) (fault_in reading types (section_of s) g)) (first_some (read_fault reading types file) (others c.next.new.self))) (sym of_section) in
     let e : ParseError = c.in_err-add_section.field-0.0 in
     let result : c.from_residual-in_err-add_section.result ≡ Err e = search rules in
-    let there = refused_first is_memory e (or_else (section_fault s) (fault_in types (section_of s) c.of-in-loop-section.result.now)) (first_some (read_fault types file) (others c.next.new.self)) c.in_err-add_section.ensures.fault in
-    subst (λ r. Refuses is_memory r (sections_fault types file)) (sym result) (subst (λ x. MatchBool (is_memory e) ⊤ (x ≡ Some e)) (sym whole) there)
+    let there = refused_first is_memory e (or_else (section_fault s) (fault_in reading types (section_of s) c.of-in-loop-section.result.now)) (first_some (read_fault reading types file) (others c.next.new.self)) c.in_err-add_section.ensures.fault in
+    subst (λ r. Refuses is_memory r (sections_fault reading types file)) (sym result) (subst (λ x. MatchBool (is_memory e) ⊤ (x ≡ Some e)) (sym whole) there)

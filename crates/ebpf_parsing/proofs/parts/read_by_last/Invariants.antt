@@ -15,5 +15,5 @@ invariant-loop-section l = record {
   from : AreOf l.file l.section-iterator;
   lasts : DataLasts l.last (map section_of (others l.section-iterator));
   parts : all_added l.shared l.parts (file_symbols l.file) (map section_of (others l.section-iterator)) ≡ parts_of l.shared l.fn.section_infos l.file;
-  fault : first_some (read_fault l.shared.btf l.file) (others l.section-iterator) ≡ sections_fault l.shared.btf l.file;
+  fault : first_some (read_fault l.shared.reading l.shared.btf l.file) (others l.section-iterator) ≡ sections_fault l.shared.reading l.shared.btf l.file;
 }

@@ -5,5 +5,5 @@ use Rattle.ebpf_object.proofs.StatedLicense.{stated_license}
 use Rattle.ebpf_object.proofs.object.Object.states_license.Goals as goal
 
 pub returns-clause-stated : goal.returns-clause-stated
-returns-clause-stated c file parsed =
+returns-clause-stated c reading file parsed =
     c.contains_key.ensures ∙ ap (λ (o : Object). contains_key o.section_infos (codes "license")) parsed.is ∙ stated_license file
