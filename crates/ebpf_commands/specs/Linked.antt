@@ -38,6 +38,7 @@ asked_of types names = record {
   target = types;
   descriptors = Some (numbered (pos 0) names);
   kernel = Some types;
+  externs = true;
   calls = true;
 }
 
