@@ -3,10 +3,11 @@ use Rattle.std.specs.Prelude.{◌≡◌, ℕ, ◌+◌, List, length, take, drop,
 use Rattle.std.specs.List.{filter_map, list_all}
 use Rattle.std.specs.Str.{is_utf8}
 use Rattle.ebpf_object.specs.Stages.{described, describing_fault}
-use Rattle.ebpf_object.specs.StageFaults.{OfMaps}
+use Rattle.ebpf_object.specs.StageFaults.{Wrapped}
 use Rattle.ebpf_object.specs.Prepared.{Refuses}
 use Rattle.ebpf_object.specs.Steps.{Descriptor}
 use Rattle.ebpf_object.specs.declared.object.Object.{Object}
+use Rattle.ebpf_object.specs.declared.prepare_error.PrepareError.TheVariants.{Maps}
 use Rattle.ebpf_c.specs.Handles.{IsRefusal}
 use Rattle.ebpf_c.specs.Numbers.{prepare_refusal}
 use Rattle.ebpf_c.specs.Refusal.{plain}
@@ -46,4 +47,4 @@ pub record HasDescribed (rows : List ebpf_descriptor) (text : List ℕ) (old new
 -- they can't be written
 abbrev pub CannotDescribe : List ebpf_descriptor → List ℕ → Object → Refusal → Type 0
 CannotDescribe rows text o =
-    NamesFirst rows text (IsRefusal (Refuses (OfMaps (describing_fault (Some (descriptors_in text rows)) o))) prepare_refusal)
+    NamesFirst rows text (IsRefusal (Refuses (Wrapped Maps (λ e. describing_fault (Some (descriptors_in text rows)) o ≡ Some e))) prepare_refusal)

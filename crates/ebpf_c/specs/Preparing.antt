@@ -32,6 +32,7 @@ all_passes given kernel = record {
   target = kernel;
   descriptors = Some (descriptors_in given.text given.rows);
   kernel = Some kernel;
+  externs = true;
   calls = true;
 }
 

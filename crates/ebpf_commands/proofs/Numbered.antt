@@ -32,5 +32,5 @@ one_copied before copy names i name below here same =
 
 -- all passes with these descriptors are those that are asked for, where the descriptors are numbered by the maps' names
 pub all_asked : (types : Option TypeInfo) (maps : FinMap text_cmp Map) (s : Chosen) (ds : List Descriptor)
-    → s ≡ record { target = types; descriptors = Some ds; kernel = Some types; calls = true } → ds ≡ numbered (pos 0) (keys_of (entries maps)) → s ≡ asked types maps
-all_asked types maps s ds is of_names = is ∙ ap (λ (n : List Descriptor). record { target = types; descriptors = Some n; kernel = Some types; calls = true }) of_names
+    → s ≡ record { target = types; descriptors = Some ds; kernel = Some types; externs = true; calls = true } → ds ≡ numbered (pos 0) (keys_of (entries maps)) → s ≡ asked types maps
+all_asked types maps s ds is of_names = is ∙ ap (λ (n : List Descriptor). record { target = types; descriptors = Some n; kernel = Some types; externs = true; calls = true }) of_names

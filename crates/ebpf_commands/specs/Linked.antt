@@ -39,6 +39,7 @@ asked_of types names = record {
   target = types;
   descriptors = Some (numbered (pos 0) names);
   kernel = Some types;
+  externs = true;
   calls = true;
 }
 

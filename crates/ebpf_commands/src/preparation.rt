@@ -65,7 +65,7 @@ pub fn map_names(alloc: Global, object: &Object) -> Result<Items<Text>, AllocErr
 
 /// All passes: types where the kernel's are known, these descriptors of maps, externs, calls.
 pub fn all_passes<'a>(types: Option<&'a Btf>, descriptors: &'a [(&'a str, i32)]) -> Steps<'a>
-    ensures { chosen result ≡ record { target = option_copied types.entry; descriptors = Some (map descriptor_of descriptors.now); kernel = Some (option_copied types.entry); calls = true } }
+    ensures { chosen result ≡ record { target = option_copied types.entry; descriptors = Some (map descriptor_of descriptors.now); kernel = Some (option_copied types.entry); externs = true; calls = true } }
 {
     Steps {
         target_btf: types,

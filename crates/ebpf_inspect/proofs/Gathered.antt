@@ -7,10 +7,10 @@ use Rattle.ebpf_base.specs.Keys.{lent_bytes}
 use Rattle.ebpf_inspect.specs.Named.{IsNamedMap, AreMaps, OneRefused}
 use Rattle.ebpf_inspect.specs.declared.maps.NamedMap.{NamedMap}
 use Rattle.ebpf_object.specs.Prepared.{Refuses, NamesNothing, is_memory}
-use Rattle.ebpf_object.specs.StageFaults.{OfCalls}
+use Rattle.ebpf_object.specs.StageFaults.{Wrapped}
 use Rattle.ebpf_object.specs.declared.object.Object.{Object}
 use Rattle.ebpf_object.specs.declared.prepare_error.PrepareError.{PrepareError}
-use Rattle.ebpf_object.specs.declared.prepare_error.PrepareError.TheVariants.{Parse, Types, Maps, Ksyms, Externs, Calls, OutOfMemory}
+use Rattle.ebpf_object.specs.declared.prepare_error.PrepareError.TheVariants.{Calls}
 use Rattle.ebpf_parts.proofs.Walks.{rest_more}
 use Rattle.ebpf_reloc.specs.Linking.{ProgramValue}
 use Rattle.ebpf_reloc.specs.declared.error.EbpfRelocationError.{EbpfRelocationError}
@@ -23,14 +23,8 @@ other_account false N F G to m = to m
 pub refused_by : (P Q : PrepareError → Type 0) (e : PrepareError) → (P e → Q e) → Refuses P e → Refuses Q e
 refused_by P Q e to refused = other_account (is_memory e) (NamesNothing e) (P e) (Q e) to refused
 
-pub of_calls : (P Q : EbpfRelocationError → Type 0) → ((e : EbpfRelocationError) → P e → Q e) → (e : PrepareError) → OfCalls P e → OfCalls Q e
-of_calls P Q to (Calls e) f = to e f
-of_calls P Q to (Parse e) f = elim f [ ]
-of_calls P Q to (Types e) f = elim f [ ]
-of_calls P Q to (Maps e) f = elim f [ ]
-of_calls P Q to (Ksyms e) f = elim f [ ]
-of_calls P Q to (Externs e) f = elim f [ ]
-of_calls P Q to OutOfMemory f = elim f [ ]
+pub of_calls : (P Q : EbpfRelocationError → Type 0) → ((e : EbpfRelocationError) → P e → Q e) → (e : PrepareError) → Wrapped Calls P e → Wrapped Calls Q e
+of_calls P Q to e f = (f.0, f.1, to f.0 f.2)
 
 module _ (o : Object) where
   -- those of some programs, and those of more
@@ -69,9 +63,9 @@ module _ (o : Object) where
 
     module _ (whole : List ProgramValue) (of_left : (e : EbpfRelocationError) → OneRefused o (flat_map f (lent_bytes (drop i names))) e → OneRefused o whole e) where
       -- a refusal of this name's program
-      pub one_refused : (e : PrepareError) → Refuses (OfCalls (OneRefused o (f here))) e → Refuses (OfCalls (OneRefused o whole)) e
+      pub one_refused : (e : PrepareError) → Refuses (Wrapped Calls (OneRefused o (f here))) e → Refuses (Wrapped Calls (OneRefused o whole)) e
       one_refused e refused =
-          refused_by (OfCalls (OneRefused o (f here))) (OfCalls (OneRefused o whole)) e
+          refused_by (Wrapped Calls (OneRefused o (f here))) (Wrapped Calls (OneRefused o whole)) e
           (of_calls (OneRefused o (f here)) (OneRefused o whole) (λ d r. of_left d (subst (λ ps. OneRefused o ps d) (sym left) (refused_first d (f here) _ r))) e) refused
 
       -- a step from one name to those behind it

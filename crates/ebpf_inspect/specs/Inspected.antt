@@ -2,9 +2,9 @@
 use Rattle.std.specs.Prelude.{◌≡◌, ℕ, true, List, [], ◌∷◌, Option, Some}
 use Rattle.std.specs.FinMap.{get}
 use Rattle.ebpf_inspect.specs.declared.report.ProgramReport.{ProgramReport}
-use Rattle.ebpf_object.specs.Headline.{Headline, linkable, unlinked_object}
+use Rattle.ebpf_object.specs.Headline.{Headline, linkable}
 use Rattle.ebpf_object.specs.Joined.{programs_in_order}
-use Rattle.ebpf_object.specs.Prepared.{AfterCalls}
+use Rattle.ebpf_object.specs.Prepared.{Stages}
 use Rattle.ebpf_object.specs.Steps.{Chosen}
 use Rattle.ebpf_object.specs.declared.object.Object.{Object}
 use Rattle.ebpf_reloc.specs.LinkMaps.{IsMapped}
@@ -43,11 +43,11 @@ AreReports unlinked linked (p ∷ ps) [] = ⊥
 -- the reports of an object's programs, in byte order of their names, after the chosen passes and joined
 pub record AreReportsOf (steps : Chosen) (lines : Option (List ℕ)) (o : Object) (reports : List ProgramReport) : Type 0 where
   pub linked : Object
-  pub stages : AfterCalls (joining steps) lines o linked
-  pub each : AreReports stages.before linked (programs_in_order linked.programs) reports
+  pub stages : Stages (joining steps) lines o linked
+  pub each : AreReports stages.unlinked linked (programs_in_order linked.programs) reports
 
 -- the same of a file in a reading
 pub record IsInspected (steps : Chosen) (lines : Option (List ℕ)) (reading : Reading) (bytes : List ℕ) (reports : List ProgramReport) : Type 0 where
   pub linked : Object
   pub headline : Headline (joining steps) lines reading bytes linked
-  pub each : AreReports (unlinked_object headline.prepared) linked (programs_in_order linked.programs) reports
+  pub each : AreReports headline.prepared.stages.unlinked linked (programs_in_order linked.programs) reports

@@ -5,9 +5,10 @@ ghost use Rattle.ebpf_inspect.specs.Inspected.{joining, AreReports, AreReportsOf
 ghost use Rattle.ebpf_inspect.specs.Named.{report_of, slots_at};
 ghost use Rattle.ebpf_object.specs.Joined.{programs_in_order};
 ghost use Rattle.ebpf_object.specs.Prepared.{IsParsed, IsFault, IsFirstFault, Refuses};
-ghost use Rattle.ebpf_object.specs.StageFaults.{OfCalls};
+ghost use Rattle.ebpf_object.specs.StageFaults.{Wrapped};
 ghost use Rattle.ebpf_object.specs.Stages.{Joins, JoiningFault};
 ghost use Rattle.ebpf_object.specs.Steps.{chosen};
+ghost use Rattle.ebpf_object.specs.declared.prepare_error.PrepareError.TheVariants.{Calls};
 ghost use Rattle.ebpf_parts.specs.declared.reading.Reading.{Reading};
 ghost use Rattle.ebpf_parts.specs.declared.reading.Reading.TheVariants.{Stated};
 
@@ -68,10 +69,11 @@ fn reports_of(
 }
 
 /// Joins the programs of a prepared object, and reports what each is made of.
+#[tactic(auto, using(ebpf_object::proofs::Staging::wrapped))]
 fn report(alloc: Global, object: &mut Object) -> Result<Items<ProgramReport>, PrepareError>
     ensures joined { OnOk result (Joins true object.old object.new) }
     ensures reports { IfOk result (AreReports object.old object.new (programs_in_order object.old.programs)) }
-    ensures fault { IfErr result (Refuses (OfCalls (JoiningFault true object.old))) }
+    ensures fault { IfErr result (Refuses (Wrapped Calls (JoiningFault true object.old))) }
 {
     let text_sections = object.text_sections(alloc)?;
     let maps = link_maps(alloc, object, &text_sections);

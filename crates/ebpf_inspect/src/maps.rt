@@ -7,8 +7,9 @@ ghost use Rattle.ebpf_inspect.specs.Named.{AreMaps, OneRefused};
 ghost use Rattle.ebpf_object.specs.Headline.{linkable};
 ghost use Rattle.ebpf_object.specs.Joined.{program_with, programs_in_order};
 ghost use Rattle.ebpf_object.specs.Prepared.{Refuses};
-ghost use Rattle.ebpf_object.specs.StageFaults.{OfCalls};
+ghost use Rattle.ebpf_object.specs.StageFaults.{Wrapped};
 ghost use Rattle.ebpf_object.specs.TextSections.{has_function_in};
+ghost use Rattle.ebpf_object.specs.declared.prepare_error.PrepareError.TheVariants.{Calls};
 ghost use Rattle.ebpf_reloc.specs.Places.{sections_in, read};
 
 use ebpf_base::Text;
@@ -30,6 +31,7 @@ pub struct NamedMap {
 }
 
 /// Adds the map of the program of a name, if there is one.
+#[tactic(auto, using(ebpf_object::proofs::Staging::wrapped))]
 fn add_map(
     alloc: Global,
     maps: &mut Vec<NamedMap>,
@@ -40,7 +42,7 @@ fn add_map(
     requires object { of.now.object.now ≡ object.now }
     requires parts { read of.now.functions.parts ≡ linkable object.now }
     ensures maps { OnOk result ((added : List NamedMap) × (maps.new.items ≡ maps.old.items ++ added) × AreMaps object.now (program_with object.now.programs name.now) added) }
-    ensures fault { IfErr result (Refuses (OfCalls (OneRefused object.now (program_with object.now.programs name.now)))) }
+    ensures fault { IfErr result (Refuses (Wrapped Calls (OneRefused object.now (program_with object.now.programs name.now)))) }
 {
     let Some(program) = object.programs.get(name) else {
         return Ok(());
@@ -68,7 +70,7 @@ fn maps_named(
     requires object { of.now.object.now ≡ object.now }
     requires parts { read of.now.functions.parts ≡ linkable object.now }
     ensures maps { IfOk result (λ maps. AreMaps object.now (flat_map (program_with object.now.programs) (lent_bytes names.now)) maps.items) }
-    ensures fault { IfErr result (Refuses (OfCalls (OneRefused object.now (flat_map (program_with object.now.programs) (lent_bytes names.now))))) }
+    ensures fault { IfErr result (Refuses (Wrapped Calls (OneRefused object.now (flat_map (program_with object.now.programs) (lent_bytes names.now))))) }
 {
     let mut maps = Vec::with_capacity(alloc, names.len())?;
     for name in names {
@@ -78,6 +80,7 @@ fn maps_named(
 }
 
 /// The maps of all programs, in byte order of their names.
+#[tactic(auto, using(ebpf_object::proofs::Staging::wrapped))]
 pub fn link_maps(
     alloc: Global,
     object: &Object,
@@ -85,7 +88,7 @@ pub fn link_maps(
 ) -> Result<Vec<NamedMap>, PrepareError>
     requires sections { sections_in text_sections.now ≡ has_function_in object.now.functions }
     ensures maps { IfOk result (λ maps. AreMaps object.now (programs_in_order object.now.programs) maps.items) }
-    ensures fault { IfErr result (Refuses (OfCalls (OneRefused object.now (programs_in_order object.now.programs)))) }
+    ensures fault { IfErr result (Refuses (Wrapped Calls (OneRefused object.now (programs_in_order object.now.programs)))) }
 {
     let names = object.programs.names(alloc)?;
     let of = match object.program_maps(text_sections) {

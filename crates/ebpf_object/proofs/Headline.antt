@@ -1,7 +1,7 @@
 -- What the passes make of an object, from what each leaves.
 use Rattle.std.proofs.Common.{◌≡◌, ℕ, Bool, true, false, cond, ◌||◌, List, [], ◌∷◌, map, Option, Some, None, refl, sym, ap, ◌∙◌, subst, inl, inr}
 use Rattle.std.proofs.lemmas.Option.{none-some}
-use Rattle.std.specs.Prelude.{MatchBool, Ok, option_map, is_some, if◌then◌else◌, slice_get, unwrap_or}
+use Rattle.std.specs.Prelude.{MatchBool, Ok, option_map, if◌then◌else◌, slice_get, unwrap_or}
 use Rattle.std.specs.Cmp.{eq_by_cmp_equiv}
 use Rattle.std.specs.FinMap.{FinMap, get, entries, find, get-entries}
 use Rattle.std.specs.List.{list_any}
@@ -15,10 +15,10 @@ use Rattle.ebpf_core_relo.specs.Records.{Written, own_slots, slots_at, slots_wri
 use Rattle.ebpf_linker.specs.Functions.{or_empty}
 use Rattle.ebpf_object.specs.AdaptedSlots.{AreAdapted, adapted_by}
 use Rattle.ebpf_object.specs.Chain.{Chain, Links, with_descriptors}
-use Rattle.ebpf_object.specs.Headline.{key_of, ProgramsAreWhole, slot_in, scene_of, IsCopiedTo, StandsAt, RecordsAreCarried, IsFinished, PassesFinish, relocated_object, unlinked_object, passes_of, Headline}
+use Rattle.ebpf_object.specs.Headline.{key_of, ProgramsAreWhole, slot_in, scene_of, IsCopiedTo, StandsAt, RecordsAreCarried, IsFinished, PassesFinish, passes_of, Headline}
 use Rattle.ebpf_object.specs.Joined.{with_name, linkable_of, programs_in_order, is_program_key}
 use Rattle.ebpf_object.specs.Objects.{object_as}
-use Rattle.ebpf_object.specs.Prepared.{IsPrepared}
+use Rattle.ebpf_object.specs.Prepared.{IsPrepared, Stages}
 use Rattle.ebpf_object.specs.Stages.{Adapts, Joins, Resolves, described, externs_known, own_maps}
 use Rattle.ebpf_object.specs.Steps.{Chosen, Descriptor}
 use Rattle.ebpf_object.specs.TextSections.{has_function_in}
@@ -181,32 +181,29 @@ resolved_by : (kernel : Option (Option TypeInfo)) (lines : Option (List ℕ)) (b
 resolved_by None lines b c is = subst (λ (x : Object). x ≡ record b { externs = x.externs }) (sym is) (same_externs b)
 resolved_by (Some kernel) lines b c resolves = resolves.1
 
-known_by : (kernel : Option (Option TypeInfo)) (c d : Object) → d ≡ externs_known kernel c → d ≡ (if is_some kernel then with_externs c else c)
-known_by None c d is = is
-known_by (Some kernel) c d is = is
+known_by : (written : Bool) (c d : Object) → d ≡ externs_known written c → d ≡ (if written then with_externs c else c)
+known_by false c d is = is
+known_by true c d is = is
 
 linked_by : (calls : Bool) (d o : Object) → Joins calls d o → Links (if calls then Some (has_function_in d.functions) else None) d o
 linked_by true d o joins = joins
 linked_by false d o joins = joins
 
 module _ (steps : Chosen) (lines : Option (List ℕ)) (reading : Reading) (bytes : List ℕ) (o : Object) (p : IsPrepared steps lines reading bytes o) where
-  abbrev a : Object
-  a = relocated_object p
-
-  abbrev d : Object
-  d = unlinked_object p
+  abbrev s : Stages steps lines (object_of bytes) o
+  s = p.stages
 
   chain : Chain (passes_of p) (object_as reading bytes) o
   chain = record {
-    relocated = a;
-    described = p.stages.externs.resolution.before;
-    resolved = p.stages.externs.before;
-    unlinked = d;
-    types = p.stages.externs.resolution.maps.types;
-    maps = described_by steps.descriptors a p.stages.externs.resolution.before p.stages.externs.resolution.maps.is;
-    resolution = resolved_by steps.kernel lines p.stages.externs.resolution.before p.stages.externs.before p.stages.externs.resolution.resolves;
-    externs = known_by steps.kernel p.stages.externs.before d p.stages.externs.is;
-    calls = linked_by steps.calls d o p.stages.joins;
+    relocated = s.relocated;
+    described = s.described;
+    resolved = s.resolved;
+    unlinked = s.unlinked;
+    types = s.types;
+    maps = described_by steps.descriptors s.relocated s.described s.maps;
+    resolution = resolved_by steps.kernel lines s.described s.resolved s.resolution;
+    externs = known_by steps.externs s.resolved s.unlinked s.externs;
+    calls = linked_by steps.calls s.unlinked o s.calls;
   }
 
   pub finished : IsFinished (passes_of p) (object_as reading bytes) o

@@ -12,6 +12,8 @@ pub mod VariablePatches
 pub mod OneJoining
 pub mod MapsOfJoined
 pub mod Staging
+pub mod OneResolution
+pub mod OnePreparation
 pub mod KeptParts
 pub mod Headline
 pub mod OwnMaps

@@ -1,9 +1,9 @@
 -- The stages of preparing an object, put together.
-use Rattle.std.proofs.Common.{◌≡◌, ℕ, Bool, true, false, List, Option, None, subst, sym}
+use Rattle.std.proofs.Common.{◌≡◌, ℕ, Bool, true, false, List, Option, Some, None, refl, subst, sym}
 use Rattle.std.specs.Prelude.{MatchBool, Result, Ok, Err, OnOk, IfOk, IfErr, IsErrAnd}
-use Rattle.ebpf_object.specs.Prepared.{AfterMaps, AfterResolution, AfterExterns, AfterCalls, IsFault, IsFirstFault, IsPrepared, IsParsed, Refuses, NamesNothing, is_memory}
+use Rattle.ebpf_object.specs.Prepared.{Stages, before_calls, before_externs, before_resolution, before_maps, IsFaultAfter, IsFault, IsFirstFault, IsPrepared, IsParsed, Refuses, NamesNothing, is_memory}
 use Rattle.ebpf_object.specs.Objects.{object_as, parse_fault_as}
-use Rattle.ebpf_object.specs.StageFaults.{OfTypes, OfMaps, OfKsyms, OfExterns, OfCalls}
+use Rattle.ebpf_object.specs.StageFaults.{Wrapped}
 use Rattle.ebpf_object.specs.Stages.{Adapts, AdaptingFault, described, describing_fault, Resolves, ResolvingFault, externs_known, knowing_fault, Joins, JoiningFault}
 use Rattle.ebpf_object.specs.Steps.{Chosen}
 use Rattle.ebpf_object.specs.declared.object.Object.{Object}
@@ -30,97 +30,122 @@ module _ {U E : Type 0} where
   passed_on Q (Ok u) e is q = absurd is
   passed_on Q (Err f) e is q = subst Q (sym is) q
 
+-- ---- refusals
+
 -- a refusal by one account is one by another that holds where it does
-other_fault : (b : Bool) (N F G : Type 0) → (F → G) → MatchBool b N F → MatchBool b N G
+pub other_fault : (b : Bool) (N F G : Type 0) → (F → G) → MatchBool b N F → MatchBool b N G
 other_fault true N F G to m = m
 other_fault false N F G to m = to m
 
+module _ {E : Type 0} (variant : E → PrepareError) (Own : E → Type 0) where
+  -- a stage's own refusal
+  pub wrapped : (b : Bool) (N : Type 0) (e : E) → MatchBool b N (Own e) → MatchBool b N (Wrapped variant Own (variant e))
+  wrapped b N e r = other_fault b N (Own e) (Wrapped variant Own (variant e)) (λ fault. (e, refl, fault)) r
+
+  pub refused_as : (Fault : PrepareError → Type 0) → ((own : E) → Own own → Fault (variant own)) → (e : PrepareError) → Refuses (Wrapped variant Own) e → Refuses Fault e
+  refused_as Fault to e r =
+      other_fault (is_memory e) (NamesNothing e) (Wrapped variant Own e) (Fault e) (λ own. subst Fault (sym own.1) (to own.0 own.2)) r
+
+-- ---- the stages one after the other
+
 module _ (steps : Chosen) (lines : Option (List ℕ)) (o : Object) where
-  types_fault : (e : PrepareError) → OfTypes (AdaptingFault steps.target o) e → IsFault steps lines o e
-  types_fault (Types e) f = f
-  types_fault (Parse e) f = elim f [ ]
-  types_fault (Maps e) f = elim f [ ]
-  types_fault (Ksyms e) f = elim f [ ]
-  types_fault (Externs e) f = elim f [ ]
-  types_fault (Calls e) f = elim f [ ]
-  types_fault OutOfMemory f = elim f [ ]
+  pub adapting_refused : (e : PrepareError) → Refuses (Wrapped Types (AdaptingFault steps.target o)) e → Refuses (IsFault steps lines o) e
+  adapting_refused e r = refused_as Types (AdaptingFault steps.target o) (IsFault steps lines o) (λ own fault. fault) e r
 
-  maps_fault : (a : Object) → Adapts steps.target o a → (e : PrepareError) → OfMaps (describing_fault steps.descriptors a) e → IsFault steps lines o e
-  maps_fault a to (Maps e) f = (a, to, f)
-  maps_fault a to (Parse e) f = elim f [ ]
-  maps_fault a to (Types e) f = elim f [ ]
-  maps_fault a to (Ksyms e) f = elim f [ ]
-  maps_fault a to (Externs e) f = elim f [ ]
-  maps_fault a to (Calls e) f = elim f [ ]
-  maps_fault a to OutOfMemory f = elim f [ ]
+  module _ (a : Object) (types : Adapts steps.target o a) where
+    after_types : Stages (before_maps steps) lines o a
+    after_types = record {
+      relocated = a;
+      described = a;
+      resolved = a;
+      unlinked = a;
+      types = types;
+      maps_sound = refl;
+      maps = refl;
+      resolution = refl;
+      externs_sound = refl;
+      externs = refl;
+      calls = refl;
+    }
 
-  ksyms_fault : (b : Object) → AfterMaps steps lines o b → (e : PrepareError) → OfKsyms (ResolvingFault steps.kernel lines b) e → IsFault steps lines o e
-  ksyms_fault b to (Ksyms e) f = (b, to, f)
-  ksyms_fault b to (Parse e) f = elim f [ ]
-  ksyms_fault b to (Types e) f = elim f [ ]
-  ksyms_fault b to (Maps e) f = elim f [ ]
-  ksyms_fault b to (Externs e) f = elim f [ ]
-  ksyms_fault b to (Calls e) f = elim f [ ]
-  ksyms_fault b to OutOfMemory f = elim f [ ]
+    pub describing_refused : (e : PrepareError) → Refuses (Wrapped Maps (λ d. describing_fault steps.descriptors a ≡ Some d)) e → Refuses (IsFault steps lines o) e
+    describing_refused e r =
+        refused_as Maps (λ d. describing_fault steps.descriptors a ≡ Some d) (IsFault steps lines o) (λ own fault. record { before = a; stages = after_types; fault = fault }) e r
 
-  externs_fault : (c : Object) → AfterResolution steps lines o c → (e : PrepareError) → OfExterns (knowing_fault steps.kernel c) e → IsFault steps lines o e
-  externs_fault c to (Externs e) f = (c, to, f)
-  externs_fault c to (Parse e) f = elim f [ ]
-  externs_fault c to (Types e) f = elim f [ ]
-  externs_fault c to (Maps e) f = elim f [ ]
-  externs_fault c to (Ksyms e) f = elim f [ ]
-  externs_fault c to (Calls e) f = elim f [ ]
-  externs_fault c to OutOfMemory f = elim f [ ]
+    module _ (maps_sound : describing_fault steps.descriptors a ≡ None) (b : Object) (maps : b ≡ described steps.descriptors a) where
+      after_maps : Stages (before_resolution steps) lines o b
+      after_maps = record {
+        relocated = a;
+        described = b;
+        resolved = b;
+        unlinked = b;
+        types = types;
+        maps_sound = maps_sound;
+        maps = maps;
+        resolution = refl;
+        externs_sound = refl;
+        externs = refl;
+        calls = refl;
+      }
 
-  calls_fault : (d : Object) → AfterExterns steps lines o d → (e : PrepareError) → OfCalls (JoiningFault steps.calls d) e → IsFault steps lines o e
-  calls_fault d to (Calls e) f = (d, to, f)
-  calls_fault d to (Parse e) f = elim f [ ]
-  calls_fault d to (Types e) f = elim f [ ]
-  calls_fault d to (Maps e) f = elim f [ ]
-  calls_fault d to (Ksyms e) f = elim f [ ]
-  calls_fault d to (Externs e) f = elim f [ ]
-  calls_fault d to OutOfMemory f = elim f [ ]
+      pub resolving_refused : (e : PrepareError) → Refuses (Wrapped Ksyms (ResolvingFault steps.kernel lines b)) e → Refuses (IsFault steps lines o) e
+      resolving_refused e r =
+          refused_as Ksyms (ResolvingFault steps.kernel lines b) (IsFault steps lines o) (λ own fault. record { before = b; stages = after_maps; fault = fault }) e r
 
-  pub adapting_refused : (e : PrepareError) → Refuses (OfTypes (AdaptingFault steps.target o)) e → Refuses (IsFault steps lines o) e
-  adapting_refused e r = other_fault (is_memory e) (NamesNothing e) (OfTypes (AdaptingFault steps.target o) e) (IsFault steps lines o e) (types_fault e) r
+      module _ (c : Object) (resolution : Resolves steps.kernel lines b c) where
+        after_resolution : Stages (before_externs steps) lines o c
+        after_resolution = record {
+          relocated = a;
+          described = b;
+          resolved = c;
+          unlinked = c;
+          types = types;
+          maps_sound = maps_sound;
+          maps = maps;
+          resolution = resolution;
+          externs_sound = refl;
+          externs = refl;
+          calls = refl;
+        }
 
-  pub describing_refused : (a : Object) (e : PrepareError) → Adapts steps.target o a → Refuses (OfMaps (describing_fault steps.descriptors a)) e → Refuses (IsFault steps lines o) e
-  describing_refused a e to r = other_fault (is_memory e) (NamesNothing e) (OfMaps (describing_fault steps.descriptors a) e) (IsFault steps lines o e) (maps_fault a to e) r
+        pub knowing_refused : (e : PrepareError) → Refuses (Wrapped Externs (λ d. knowing_fault steps.externs c ≡ Some d)) e → Refuses (IsFault steps lines o) e
+        knowing_refused e r =
+            refused_as Externs (λ d. knowing_fault steps.externs c ≡ Some d) (IsFault steps lines o) (λ own fault. record { before = c; stages = after_resolution; fault = fault }) e r
 
-  -- the chain of stages, put together
+        module _ (externs_sound : knowing_fault steps.externs c ≡ None) (d : Object) (externs : d ≡ externs_known steps.externs c) where
+          after_externs : Stages (before_calls steps) lines o d
+          after_externs = record {
+            relocated = a;
+            described = b;
+            resolved = c;
+            unlinked = d;
+            types = types;
+            maps_sound = maps_sound;
+            maps = maps;
+            resolution = resolution;
+            externs_sound = externs_sound;
+            externs = externs;
+            calls = refl;
+          }
 
-  after_maps : (a b : Object) → Adapts steps.target o a → describing_fault steps.descriptors a ≡ None → b ≡ described steps.descriptors a → AfterMaps steps lines o b
-  after_maps a b types sound is = record { before = a; types = types; sound = sound; is = is }
+          pub joining_refused : (e : PrepareError) → Refuses (Wrapped Calls (JoiningFault steps.calls d)) e → Refuses (IsFault steps lines o) e
+          joining_refused e r =
+              refused_as Calls (JoiningFault steps.calls d) (IsFault steps lines o) (λ own fault. record { before = d; stages = after_externs; fault = fault }) e r
 
-  after_resolution : (a b c : Object) → Adapts steps.target o a → describing_fault steps.descriptors a ≡ None → b ≡ described steps.descriptors a
-      → Resolves steps.kernel lines b c → AfterResolution steps lines o c
-  after_resolution a b c types sound is resolves = record { before = b; maps = after_maps a b types sound is; resolves = resolves }
-
-  after_externs : (a b c d : Object) → Adapts steps.target o a → describing_fault steps.descriptors a ≡ None → b ≡ described steps.descriptors a
-      → Resolves steps.kernel lines b c → knowing_fault steps.kernel c ≡ None → d ≡ externs_known steps.kernel c → AfterExterns steps lines o d
-  after_externs a b c d types sound is resolves known knows =
-      record { before = c; resolution = after_resolution a b c types sound is resolves; sound = known; is = knows }
-
-  pub after_calls : (a b c d e : Object) → Adapts steps.target o a → describing_fault steps.descriptors a ≡ None → b ≡ described steps.descriptors a
-      → Resolves steps.kernel lines b c → knowing_fault steps.kernel c ≡ None → d ≡ externs_known steps.kernel c → Joins steps.calls d e → AfterCalls steps lines o e
-  after_calls a b c d e types sound is resolves known knows joins =
-      record { before = d; externs = after_externs a b c d types sound is resolves known knows; joins = joins }
-
-  pub resolving_refused : (a b : Object) (e : PrepareError) → Adapts steps.target o a → describing_fault steps.descriptors a ≡ None → b ≡ described steps.descriptors a
-      → Refuses (OfKsyms (ResolvingFault steps.kernel lines b)) e → Refuses (IsFault steps lines o) e
-  resolving_refused a b e types sound is r =
-      other_fault (is_memory e) (NamesNothing e) (OfKsyms (ResolvingFault steps.kernel lines b) e) (IsFault steps lines o e) (ksyms_fault b (after_maps a b types sound is) e) r
-
-  pub knowing_refused : (a b c : Object) (e : PrepareError) → Adapts steps.target o a → describing_fault steps.descriptors a ≡ None → b ≡ described steps.descriptors a
-      → Resolves steps.kernel lines b c → Refuses (OfExterns (knowing_fault steps.kernel c)) e → Refuses (IsFault steps lines o) e
-  knowing_refused a b c e types sound is resolves r =
-      other_fault (is_memory e) (NamesNothing e) (OfExterns (knowing_fault steps.kernel c) e) (IsFault steps lines o e) (externs_fault c (after_resolution a b c types sound is resolves) e) r
-
-  pub joining_refused : (a b c d : Object) (e : PrepareError) → Adapts steps.target o a → describing_fault steps.descriptors a ≡ None → b ≡ described steps.descriptors a
-      → Resolves steps.kernel lines b c → knowing_fault steps.kernel c ≡ None → d ≡ externs_known steps.kernel c
-      → Refuses (OfCalls (JoiningFault steps.calls d)) e → Refuses (IsFault steps lines o) e
-  joining_refused a b c d e types sound is resolves known knows r =
-      other_fault (is_memory e) (NamesNothing e) (OfCalls (JoiningFault steps.calls d) e) (IsFault steps lines o e) (calls_fault d (after_externs a b c d types sound is resolves known knows) e) r
+          pub after_calls : (after : Object) → Joins steps.calls d after → Stages steps lines o after
+          after_calls after calls = record {
+            relocated = a;
+            described = b;
+            resolved = c;
+            unlinked = d;
+            types = types;
+            maps_sound = maps_sound;
+            maps = maps;
+            resolution = resolution;
+            externs_sound = externs_sound;
+            externs = externs;
+            calls = calls;
+          }
 
 -- ---- with parsing before the stages
 
@@ -133,23 +158,16 @@ first_of steps lines reading bytes sound (Externs e) f = (sound, f)
 first_of steps lines reading bytes sound (Calls e) f = (sound, f)
 first_of steps lines reading bytes sound OutOfMemory f = elim f [ ]
 
-pub stage_refused : (steps : Chosen) (lines : Option (List ℕ)) (reading : Reading) (bytes : List ℕ) (o : Object) → o ≡ object_as reading bytes → parse_fault_as reading bytes ≡ None
-    → (e : PrepareError) → Refuses (IsFault steps lines o) e → Refuses (IsFirstFault steps lines reading bytes) e
-stage_refused steps lines reading bytes o is sound e r =
-    other_fault (is_memory e) (NamesNothing e) (IsFault steps lines (object_as reading bytes) e) (IsFirstFault steps lines reading bytes e) (first_of steps lines reading bytes sound e)
-    (subst (λ (x : Object). Refuses (IsFault steps lines x) e) is r)
-
-pub prepared : (steps : Chosen) (lines : Option (List ℕ)) (reading : Reading) (bytes : List ℕ) (o after : Object) → o ≡ object_as reading bytes → parse_fault_as reading bytes ≡ None → AfterCalls steps lines o after → IsPrepared steps lines reading bytes after
-prepared steps lines reading bytes o after is sound stages = record { sound = sound; stages = subst (λ (x : Object). AfterCalls steps lines x after) is stages }
-
--- ---- an object as the bytes of a file are parsed
+-- of an object as the bytes of a file are parsed
 
 pub parsed : (reading : Reading) (bytes : List ℕ) (o : Object) → o ≡ object_as reading bytes → parse_fault_as reading bytes ≡ None → IsParsed reading bytes o
 parsed reading bytes o is sound = record { sound = sound; is = is }
 
 module _ (steps : Chosen) (lines : Option (List ℕ)) (reading : Reading) (bytes : List ℕ) (o : Object) (from : IsParsed reading bytes o) where
-  pub prepared_file : (after : Object) → AfterCalls steps lines o after → IsPrepared steps lines reading bytes after
-  prepared_file after stages = prepared steps lines reading bytes o after from.is from.sound stages
+  pub prepared_file : (after : Object) → Stages steps lines o after → IsPrepared steps lines reading bytes after
+  prepared_file after stages = record { sound = from.sound; stages = subst (λ (x : Object). Stages steps lines x after) from.is stages }
 
   pub file_refused : (e : PrepareError) → Refuses (IsFault steps lines o) e → Refuses (IsFirstFault steps lines reading bytes) e
-  file_refused e r = stage_refused steps lines reading bytes o from.is from.sound e r
+  file_refused e r =
+      other_fault (is_memory e) (NamesNothing e) (IsFault steps lines (object_as reading bytes) e) (IsFirstFault steps lines reading bytes e) (first_of steps lines reading bytes from.sound e)
+      (subst (λ (x : Object). Refuses (IsFault steps lines x) e) from.is r)

@@ -7,7 +7,7 @@
 -- and of the functions that it reaches stands on a pseudo call or on a wide load, as long as the separate run hasn't left
 -- its function, and neither machine enters a function that a helper calls back. A value that doesn't exist is a poisoned
 -- slot. No public field is written by hand between the calls.
-use Rattle.std.specs.Prelude.{◌≡◌, ◌⊎◌, ℕ, ◌+◌, List, ◌∷◌, Option, Some, None, option_map, is_some, Ok, if◌then◌else◌, slice_get, MatchBool}
+use Rattle.std.specs.Prelude.{◌≡◌, ◌⊎◌, ℕ, ◌+◌, List, ◌∷◌, Option, Some, None, option_map, Ok, if◌then◌else◌, slice_get, MatchBool}
 use Rattle.std.specs.FinMap.{get}
 use Rattle.ebpf_ext.specs.ExtReading.{ExtInfo}
 use Rattle.ebpf_btf.specs.TypeInfo.{TypeInfo}
@@ -122,20 +122,13 @@ PassesFinish = (passes : Passes) (parsed o : Object) → Chain passes parsed o �
 -- ---- a prepared file
 
 module _ {steps : Chosen} {lines : Option (List ℕ)} {reading : Reading} {bytes : List ℕ} {o : Object} where
-  -- the object relocated to types, and the object as linking begins, by the stages that a file went through
-  abbrev pub relocated_object : IsPrepared steps lines reading bytes o → Object
-  relocated_object p = p.stages.externs.resolution.maps.before
-
-  abbrev pub unlinked_object : IsPrepared steps lines reading bytes o → Object
-  unlinked_object p = p.stages.before
-
   -- the passes that were made: the sections of code are those of the functions
   abbrev pub passes_of : IsPrepared steps lines reading bytes o → Passes
   passes_of p = record {
     target = steps.target;
-    maps = option_map (λ descriptors. (has_function_in (relocated_object p).functions, own_maps (relocated_object p).maps descriptors)) steps.descriptors;
-    externs = is_some steps.kernel;
-    calls = if steps.calls then Some (has_function_in (unlinked_object p).functions) else None;
+    maps = option_map (λ descriptors. (has_function_in p.stages.relocated.functions, own_maps p.stages.relocated.maps descriptors)) steps.descriptors;
+    externs = steps.externs;
+    calls = if steps.calls then Some (has_function_in p.stages.unlinked.functions) else None;
   }
 
 -- a file, read in a reading and prepared, is finished

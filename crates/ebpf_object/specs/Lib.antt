@@ -15,6 +15,7 @@ pub mod Stages
 pub mod StageFaults
 pub mod Prepared
 pub mod KeptParts
+pub mod OnePreparation
 pub mod Chain
 pub mod BothReadings
 pub mod Headline

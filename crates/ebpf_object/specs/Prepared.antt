@@ -1,9 +1,10 @@
 -- A file, prepared: its object after the chosen stages, one after the other, or the fault of the first that has one.
-use Rattle.std.specs.Prelude.{◌≡◌, ⊤, ℕ, Bool, true, List, [], Option, Some, None, MatchBool}
+use Rattle.std.specs.Prelude.{◌≡◌, ⊤, ℕ, Bool, true, false, List, [], Option, Some, None, MatchBool}
 use Rattle.ebpf_core_relo.specs.Answers as adapting
 use Rattle.ebpf_ksyms.specs.Faults as resolving
 use Rattle.ebpf_object.specs.Objects.{object_as, parse_fault_as}
-use Rattle.ebpf_object.specs.Stages.{Adapts, AdaptingFault, described, describing_fault, Resolves, ResolvingFault, externs_known, knowing_fault, Joins, JoiningFault}
+use Rattle.ebpf_object.specs.Stages as stage
+use Rattle.ebpf_object.specs.Stages.{Adapts, AdaptingFault, describing_fault, Resolves, ResolvingFault, externs_known, knowing_fault, Joins, JoiningFault}
 use Rattle.ebpf_object.specs.Steps.{Chosen}
 use Rattle.ebpf_object.specs.declared.object.Object.{Object}
 use Rattle.ebpf_object.specs.declared.prepare_error.PrepareError.{PrepareError}
@@ -14,42 +15,56 @@ use Rattle.ebpf_reloc.specs.Memory as relocating
 
 -- ---- the stages in order, for what is chosen and the lines of the kernel's symbols
 
+-- From an object to what the stages leave of it: relocated to types, then with descriptors, then with externs resolved,
+-- then as linking begins. All descriptors can be written, and all that is known of externs.
+pub record Stages (steps : Chosen) (lines : Option (List ℕ)) (o after : Object) : Type 0 where
+  pub relocated : Object
+  pub described : Object
+  pub resolved : Object
+  pub unlinked : Object
+  pub types : Adapts steps.target o relocated
+  pub maps_sound : describing_fault steps.descriptors relocated ≡ None
+  pub maps : described ≡ stage.described steps.descriptors relocated
+  pub resolution : Resolves steps.kernel lines described resolved
+  pub externs_sound : knowing_fault steps.externs resolved ≡ None
+  pub externs : unlinked ≡ externs_known steps.externs resolved
+  pub calls : Joins steps.calls unlinked after
+
+-- ---- the fault of a stage
+
+-- the steps before programs are joined, before externs are written, before they are resolved, before maps are described
+abbrev pub before_calls : Chosen → Chosen
+before_calls steps = record steps { calls = false }
+
+abbrev pub before_externs : Chosen → Chosen
+before_externs steps = record (before_calls steps) { externs = false }
+
+abbrev pub before_resolution : Chosen → Chosen
+before_resolution steps = record (before_externs steps) { kernel = None }
+
+abbrev pub before_maps : Chosen → Chosen
+before_maps steps = record (before_resolution steps) { descriptors = None }
+
+-- a fault in what some steps leave of an object
+pub record IsFaultAfter (steps : Chosen) (lines : Option (List ℕ)) (o : Object) (Fault : Object → Type 0) : Type 0 where
+  pub before : Object
+  pub stages : Stages steps lines o before
+  pub fault : Fault before
+
 module _ (steps : Chosen) (lines : Option (List ℕ)) where
-  pub record AfterMaps (o after : Object) : Type 0 where
-    pub before : Object
-    pub types : Adapts steps.target o before
-    pub sound : describing_fault steps.descriptors before ≡ None
-    pub is : after ≡ described steps.descriptors before
-
-  pub record AfterResolution (o after : Object) : Type 0 where
-    pub before : Object
-    pub maps : AfterMaps o before
-    pub resolves : Resolves steps.kernel lines before after
-
-  pub record AfterExterns (o after : Object) : Type 0 where
-    pub before : Object
-    pub resolution : AfterResolution o before
-    pub sound : knowing_fault steps.kernel before ≡ None
-    pub is : after ≡ externs_known steps.kernel before
-
-  pub record AfterCalls (o after : Object) : Type 0 where
-    pub before : Object
-    pub externs : AfterExterns o before
-    pub joins : Joins steps.calls before after
-
-  -- the fault of a stage, over the stages before it
+  -- the fault of a stage, in what the steps before it leave
   abbrev pub IsFault : Object → PrepareError → Type 0
   IsFault o (Types e) = AdaptingFault steps.target o e
-  IsFault o (Maps e) = (before : Object) × Adapts steps.target o before × (describing_fault steps.descriptors before ≡ Some e)
-  IsFault o (Ksyms e) = (before : Object) × AfterMaps o before × ResolvingFault steps.kernel lines before e
-  IsFault o (Externs e) = (before : Object) × AfterResolution o before × (knowing_fault steps.kernel before ≡ Some e)
-  IsFault o (Calls e) = (before : Object) × AfterExterns o before × JoiningFault steps.calls before e
+  IsFault o (Maps e) = IsFaultAfter (before_maps steps) lines o (λ before. describing_fault steps.descriptors before ≡ Some e)
+  IsFault o (Ksyms e) = IsFaultAfter (before_resolution steps) lines o (λ before. ResolvingFault steps.kernel lines before e)
+  IsFault o (Externs e) = IsFaultAfter (before_externs steps) lines o (λ before. knowing_fault steps.externs before ≡ Some e)
+  IsFault o (Calls e) = IsFaultAfter (before_calls steps) lines o (λ before. JoiningFault steps.calls before e)
   IsFault o _ = ⊥
 
   -- the object of a file, prepared
   pub record IsPrepared (reading : Reading) (bytes : List ℕ) (o : Object) : Type 0 where
     pub sound : parse_fault_as reading bytes ≡ None
-    pub stages : AfterCalls (object_as reading bytes) o
+    pub stages : Stages steps lines (object_as reading bytes) o
 
   -- the first fault: the file's own, or that of a stage of its object
   abbrev pub IsFirstFault : Reading → List ℕ → PrepareError → Type 0

@@ -66,14 +66,14 @@ ResolvingFault None lines o e = ⊥
 ResolvingFault (Some kernel) lines o e = IsRefusedIn lines o.btf kernel o.externs e
 
 -- the object with what is known of its externs
-abbrev pub externs_known : Option (Option TypeInfo) → Object → Object
-externs_known None o = o
-externs_known (Some kernel) o = with_externs o
+abbrev pub externs_known : Bool → Object → Object
+externs_known false o = o
+externs_known true o = with_externs o
 
 -- the first relocation whose extern can't be written
-abbrev pub knowing_fault : Option (Option TypeInfo) → Object → Option EbpfRelocationError
-knowing_fault None o = None
-knowing_fault (Some kernel) o = externs_fault o
+abbrev pub knowing_fault : Bool → Object → Option EbpfRelocationError
+knowing_fault false o = None
+knowing_fault true o = externs_fault o
 
 -- ---- calls
 

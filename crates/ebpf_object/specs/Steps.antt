@@ -1,6 +1,6 @@
 -- What is chosen of the passes over an object.
 use denote.Ref.{Bor}
-use Rattle.std.specs.Prelude.{ℕ, ℤ, Bool, List, map, Option, option_map}
+use Rattle.std.specs.Prelude.{ℕ, ℤ, Bool, List, map, Option, option_map, is_some}
 use Rattle.std.specs.Option.{option_copied}
 use Rattle.ebpf_btf.specs.TypeInfo.{TypeInfo}
 use Rattle.ebpf_object.specs.declared.prepare.Steps.{Steps}
@@ -16,11 +16,12 @@ abbrev pub descriptors_of : Option (Bor (List (Bor (List ℕ) × ℤ))) → Opti
 descriptors_of lent = option_map (λ ds. map descriptor_of ds.now) lent
 
 -- The types to adapt to, the descriptors of maps, and the kernel's types to resolve externs with, if it has any: each
--- where its pass is chosen. The last says whether programs are joined.
+-- where its pass is chosen. The last two say whether what is known of externs is written, and whether programs are joined.
 pub record Chosen : Type 0 where
   pub target : Option TypeInfo
   pub descriptors : Option (List Descriptor)
   pub kernel : Option (Option TypeInfo)
+  pub externs : Bool
   pub calls : Bool
 
 abbrev pub chosen : Steps → Chosen
@@ -28,5 +29,6 @@ chosen steps = record {
   target = option_copied steps.target_btf;
   descriptors = descriptors_of steps.map_fds;
   kernel = option_map option_copied steps.externs;
+  externs = is_some steps.externs;
   calls = steps.calls;
 }

@@ -5,6 +5,7 @@ ghost use Rattle.ebpf_object.specs.Headline.{PassesFinish};
 ghost use Rattle.ebpf_object.specs.Joined.{OneJoining};
 ghost use Rattle.ebpf_object.specs.JoinedMaps.{MapsTellOfJoined};
 ghost use Rattle.ebpf_object.specs.OlderHelpers.{TwiceIsOnce};
+ghost use Rattle.ebpf_object.specs.OnePreparation.{OnePreparation, OneStaging};
 ghost use Rattle.ebpf_object.specs.PatchedBytes.{GreatestNameStands, OtherBytesStay, LengthsStay, MapsStay, PatchesAreValues, ValuesArePatches};
 
 pub use ebpf_core::laws::{
@@ -57,6 +58,15 @@ pub fn passes_finish()
 /// symbols, relocations and programs as values, and from which sections are named.
 pub fn linking_has_one_result()
     ensures { OneJoining }
+{}
+
+/// What `prepare` promises leaves one answer, where the bytes of the kernel's symbols are known: from one file and the same
+/// steps it gives one object, or one refusal and no object. Texts for people in the refusal aside, and but for want of
+/// memory and for a line that can't be read, which may come in place of an answer. The same holds of `prepare_object` and
+/// its neighbours, from one object.
+pub fn preparing_has_one_result()
+    ensures object { OneStaging }
+    ensures file { OnePreparation }
 {}
 
 /// What `Object::sanitize_functions` makes of functions is the same where it is done twice.

@@ -2,11 +2,12 @@
 
 ghost use Rattle.std.specs.Prelude.{◌≡◌, map, None, Some, OnOk, OnErr, IfOk, IfErr, MatchBool};
 ghost use Rattle.ebpf_object.specs.Prepared.{Refuses};
-ghost use Rattle.ebpf_object.specs.StageFaults.{OfMaps};
+ghost use Rattle.ebpf_object.specs.StageFaults.{Wrapped};
 ghost use Rattle.ebpf_object.specs.Stages.{own_maps, described, describing_fault};
 ghost use Rattle.ebpf_object.specs.Steps.{descriptor_of};
 ghost use Rattle.ebpf_object.specs.TextSections.{has_function_in};
 ghost use Rattle.ebpf_object.specs.WrittenSlots.{with_maps, maps_fault};
+ghost use Rattle.ebpf_object.specs.declared.prepare_error.PrepareError.TheVariants.{Maps};
 ghost use Rattle.ebpf_passes.specs.Maps.{given_by};
 ghost use Rattle.ebpf_passes.specs.Relocated.{out_of_memory};
 ghost use Rattle.ebpf_reloc.specs.Memory.{is_memory_at};
@@ -58,6 +59,7 @@ fn relocate_listed(
 }
 
 /// Writes the descriptors of some of these maps.
+#[tactic(auto, using(crate::proofs::Staging::wrapped))]
 fn relocate_some(
     alloc: Global,
     object: &mut Object,
@@ -66,7 +68,7 @@ fn relocate_some(
 ) -> Result<(), PrepareError>
     ensures ok { OnOk result (object.new ≡ with_maps object.old (has_function_in object.old.functions) (own_maps maps.now (map descriptor_of descriptors.now))) }
     ensures sound { OnOk result (maps_fault object.old (has_function_in object.old.functions) (own_maps maps.now (map descriptor_of descriptors.now)) ≡ None) }
-    ensures fault { IfErr result (Refuses (OfMaps (maps_fault object.old (has_function_in object.old.functions) (own_maps maps.now (map descriptor_of descriptors.now))))) }
+    ensures fault { IfErr result (Refuses (Wrapped Maps (λ e. maps_fault object.old (has_function_in object.old.functions) (own_maps maps.now (map descriptor_of descriptors.now)) ≡ Some e))) }
     ensures unchanged { OnErr result (object.new ≡ object.old) }
 {
     let own = own_maps(alloc, maps, descriptors)?;
@@ -91,7 +93,7 @@ pub fn relocate_own_maps(
 ) -> Result<(), PrepareError>
     ensures ok { OnOk result (object.new ≡ described (Some (map descriptor_of descriptors.now)) object.old) }
     ensures sound { OnOk result (describing_fault (Some (map descriptor_of descriptors.now)) object.old ≡ None) }
-    ensures fault { IfErr result (Refuses (OfMaps (describing_fault (Some (map descriptor_of descriptors.now)) object.old))) }
+    ensures fault { IfErr result (Refuses (Wrapped Maps (λ e. describing_fault (Some (map descriptor_of descriptors.now)) object.old ≡ Some e))) }
     ensures unchanged { OnErr result (object.new ≡ object.old) }
 {
     let maps = mem::replace(&mut object.maps, ByName::new(alloc));

@@ -4,7 +4,7 @@ ghost use Rattle.std.specs.Prelude.{◌≡◌, ℕ, List, IfOk, IfErr, OnOk, OnE
 ghost use Rattle.ebpf_object.specs.Headline.{Headline};
 ghost use Rattle.ebpf_object.specs.KeptParts.{KeepsOthers};
 ghost use Rattle.ebpf_object.specs.Objects.{object_of};
-ghost use Rattle.ebpf_object.specs.Prepared.{AfterCalls, IsParsed, IsFault, IsFirstFault, Refuses};
+ghost use Rattle.ebpf_object.specs.Prepared.{IsParsed, IsFault, IsFirstFault, Refuses, Stages};
 ghost use Rattle.ebpf_object.specs.Steps.{chosen};
 ghost use Rattle.ebpf_parts.specs.declared.reading.Reading.{Reading};
 ghost use Rattle.ebpf_parts.specs.declared.reading.Reading.TheVariants.{Stated};
@@ -41,7 +41,7 @@ fn run_all<K: BufRead + Drop>(
     steps: &Steps<'_>,
     kallsyms: K,
 ) -> Result<Object, PrepareError>
-    ensures stages { IfOk result (AfterCalls (chosen steps.now) (K.remaining kallsyms) object) }
+    ensures stages { IfOk result (Stages (chosen steps.now) (K.remaining kallsyms) object) }
     ensures others_stay { IfOk result (KeepsOthers object) }
     ensures fault { IfErr result (Refuses (IsFault (chosen steps.now) (K.remaining kallsyms) object)) }
 {
@@ -64,7 +64,7 @@ pub fn prepare_object<K: BufRead + Drop>(
     steps: &Steps<'_>,
     kallsyms: K,
 ) -> Result<Object, PrepareError>
-    ensures stages { IfOk result (AfterCalls (chosen steps.now) (K.remaining kallsyms) object) }
+    ensures stages { IfOk result (Stages (chosen steps.now) (K.remaining kallsyms) object) }
     ensures headline { (reading : Reading) (file : List ℕ) → IsParsed reading file object → IfOk result (Headline (chosen steps.now) (K.remaining kallsyms) reading file) }
     ensures others_stay { IfOk result (KeepsOthers object) }
     ensures fault { IfErr result (Refuses (IsFault (chosen steps.now) (K.remaining kallsyms) object)) }
@@ -85,7 +85,7 @@ pub fn prepare_copy<K: BufRead + Drop>(
     steps: &Steps<'_>,
     kallsyms: K,
 ) -> Result<Object, PrepareError>
-    ensures stages { IfOk result (AfterCalls (chosen steps.now) (K.remaining kallsyms) object.now) }
+    ensures stages { IfOk result (Stages (chosen steps.now) (K.remaining kallsyms) object.now) }
     ensures headline { (reading : Reading) (file : List ℕ) → IsParsed reading file object.now → IfOk result (Headline (chosen steps.now) (K.remaining kallsyms) reading file) }
     ensures others_stay { IfOk result (KeepsOthers object.now) }
     ensures fault { IfErr result (Refuses (IsFault (chosen steps.now) (K.remaining kallsyms) object.now)) }
@@ -109,7 +109,7 @@ pub fn prepare_in_place<K: BufRead + Drop>(
     steps: &Steps<'_>,
     kallsyms: K,
 ) -> Result<(), PrepareError>
-    ensures stages { OnOk result (AfterCalls (chosen steps.now) (K.remaining kallsyms) object.old object.new) }
+    ensures stages { OnOk result (Stages (chosen steps.now) (K.remaining kallsyms) object.old object.new) }
     ensures headline { (reading : Reading) (file : List ℕ) → IsParsed reading file object.old → OnOk result (Headline (chosen steps.now) (K.remaining kallsyms) reading file object.new) }
     ensures others_stay { KeepsOthers object.old object.new }
     ensures fault { IfErr result (Refuses (IsFault (chosen steps.now) (K.remaining kallsyms) object.old)) }

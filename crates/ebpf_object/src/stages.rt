@@ -1,12 +1,13 @@
 //! The stages of preparing an object, each after those before it.
 
-ghost use Rattle.std.specs.Prelude.{◌≡◌, None, option_map, OnOk, IfErr};
+ghost use Rattle.std.specs.Prelude.{◌≡◌, None, Some, option_map, is_some, OnOk, IfErr};
 ghost use Rattle.std.specs.Option.{option_copied};
 ghost use Rattle.ebpf_object.specs.KeptParts.{KeepsOthers};
-ghost use Rattle.ebpf_object.specs.Prepared.{AfterCalls, IsFault, Refuses};
+ghost use Rattle.ebpf_object.specs.Prepared.{Stages, IsFault, Refuses};
 ghost use Rattle.ebpf_object.specs.Stages.{Adapts, AdaptingFault, Resolves, ResolvingFault, externs_known, knowing_fault, Joins, JoiningFault, described, describing_fault};
-ghost use Rattle.ebpf_object.specs.StageFaults.{OfTypes, OfMaps, OfKsyms, OfExterns, OfCalls};
+ghost use Rattle.ebpf_object.specs.StageFaults.{Wrapped};
 ghost use Rattle.ebpf_object.specs.Steps.{chosen, descriptors_of};
+ghost use Rattle.ebpf_object.specs.declared.prepare_error.PrepareError.TheVariants.{Types, Maps, Ksyms, Externs, Calls};
 
 use crate::object::Object;
 use crate::own_maps::relocate_own_maps;
@@ -17,9 +18,10 @@ use std::alloc::Global;
 use std::io::BufRead;
 
 /// Adapts the functions to a kernel's types.
+#[tactic(auto, using(crate::proofs::Staging::wrapped))]
 fn adapt(object: &mut Object, target: Option<&Btf>) -> Result<(), PrepareError>
     ensures ok { OnOk result (Adapts (option_copied target.entry) object.old object.new) }
-    ensures fault { IfErr result (Refuses (OfTypes (AdaptingFault (option_copied target.entry) object.old))) }
+    ensures fault { IfErr result (Refuses (Wrapped Types (AdaptingFault (option_copied target.entry) object.old))) }
     ensures others_stay { KeepsOthers object.old object.new }
 {
     let Some(target) = target else {
@@ -39,7 +41,7 @@ fn describe(
 ) -> Result<(), PrepareError>
     ensures ok { OnOk result (object.new ≡ described (descriptors_of descriptors.entry) object.old) }
     ensures sound { OnOk result (describing_fault (descriptors_of descriptors.entry) object.old ≡ None) }
-    ensures fault { IfErr result (Refuses (OfMaps (describing_fault (descriptors_of descriptors.entry) object.old))) }
+    ensures fault { IfErr result (Refuses (Wrapped Maps (λ e. describing_fault (descriptors_of descriptors.entry) object.old ≡ Some e))) }
     ensures others_stay { KeepsOthers object.old object.new }
 {
     let Some(descriptors) = descriptors else {
@@ -49,13 +51,14 @@ fn describe(
 }
 
 /// Resolves the externs.
+#[tactic(auto, using(crate::proofs::Staging::wrapped))]
 fn resolve<K: BufRead + Drop>(
     object: &mut Object,
     kernel: Option<Option<&Btf>>,
     kallsyms: K,
 ) -> Result<(), PrepareError>
     ensures ok { OnOk result (Resolves (option_map option_copied kernel.entry) (K.remaining kallsyms) object.old object.new) }
-    ensures fault { IfErr result (Refuses (OfKsyms (ResolvingFault (option_map option_copied kernel.entry) (K.remaining kallsyms) object.old))) }
+    ensures fault { IfErr result (Refuses (Wrapped Ksyms (ResolvingFault (option_map option_copied kernel.entry) (K.remaining kallsyms) object.old))) }
     ensures others_stay { KeepsOthers object.old object.new }
 {
     let Some(kernel) = kernel else {
@@ -68,10 +71,11 @@ fn resolve<K: BufRead + Drop>(
 }
 
 /// Writes what is known of the externs.
+#[tactic(auto, using(crate::proofs::Staging::wrapped))]
 fn write_externs(object: &mut Object, kernel: Option<Option<&Btf>>) -> Result<(), PrepareError>
-    ensures ok { OnOk result (object.new ≡ externs_known (option_map option_copied kernel.entry) object.old) }
-    ensures sound { OnOk result (knowing_fault (option_map option_copied kernel.entry) object.old ≡ None) }
-    ensures fault { IfErr result (Refuses (OfExterns (knowing_fault (option_map option_copied kernel.entry) object.old))) }
+    ensures ok { OnOk result (object.new ≡ externs_known (is_some kernel.entry) object.old) }
+    ensures sound { OnOk result (knowing_fault (is_some kernel.entry) object.old ≡ None) }
+    ensures fault { IfErr result (Refuses (Wrapped Externs (λ e. knowing_fault (is_some kernel.entry) object.old ≡ Some e))) }
     ensures others_stay { KeepsOthers object.old object.new }
 {
     if kernel.is_none() {
@@ -84,9 +88,10 @@ fn write_externs(object: &mut Object, kernel: Option<Option<&Btf>>) -> Result<()
 }
 
 /// Joins the programs with the functions that they reach.
+#[tactic(auto, using(crate::proofs::Staging::wrapped))]
 fn join(alloc: Global, object: &mut Object, calls: bool) -> Result<(), PrepareError>
     ensures ok { OnOk result (Joins calls object.old object.new) }
-    ensures fault { IfErr result (Refuses (OfCalls (JoiningFault calls object.old))) }
+    ensures fault { IfErr result (Refuses (Wrapped Calls (JoiningFault calls object.old))) }
     ensures others_stay { KeepsOthers object.old object.new }
 {
     if !calls {
@@ -106,7 +111,7 @@ pub fn run_stages<K: BufRead + Drop>(
     steps: &Steps<'_>,
     kallsyms: K,
 ) -> Result<(), PrepareError>
-    ensures ok { OnOk result (AfterCalls (chosen steps.now) (K.remaining kallsyms) object.old object.new) }
+    ensures ok { OnOk result (Stages (chosen steps.now) (K.remaining kallsyms) object.old object.new) }
     ensures others_stay { KeepsOthers object.old object.new }
     ensures fault { IfErr result (Refuses (IsFault (chosen steps.now) (K.remaining kallsyms) object.old)) }
 {

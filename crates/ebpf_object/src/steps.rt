@@ -9,7 +9,7 @@ use ebpf_btf::Btf;
 impl<'a> Steps<'a> {
     /// No pass: the object stays as it was parsed.
     pub fn none() -> Steps<'a>
-        ensures { chosen result ≡ record { target = None; descriptors = None; kernel = None; calls = false } }
+        ensures { chosen result ≡ record { target = None; descriptors = None; kernel = None; externs = false; calls = false } }
     {
         Steps {
             target_btf: None,
@@ -23,7 +23,7 @@ impl<'a> Steps<'a> {
     /// that a slot refers to needs one, also `.bss`, `.data` and `.rodata` with the variables: without it the maps pass
     /// refuses. A name that the object lacks is passed over.
     pub fn all(kernel: &'a Btf, descriptors: &'a [(&'a str, i32)]) -> Steps<'a>
-        ensures { chosen result ≡ record { target = Some kernel.now; descriptors = Some (map descriptor_of descriptors.now); kernel = Some (Some kernel.now); calls = true } }
+        ensures { chosen result ≡ record { target = Some kernel.now; descriptors = Some (map descriptor_of descriptors.now); kernel = Some (Some kernel.now); externs = true; calls = true } }
     {
         let kernels = Steps::none().with_types(kernel).with_externs(kernel);
         kernels.with_descriptors(descriptors).with_calls()
@@ -32,7 +32,7 @@ impl<'a> Steps<'a> {
     /// The passes that need nothing of a kernel but descriptors: these are written as `all` says, and programs are joined.
     /// Functions are not adapted to types, and externs are left alone.
     pub fn without_kernel(descriptors: &'a [(&'a str, i32)]) -> Steps<'a>
-        ensures { chosen result ≡ record { target = None; descriptors = Some (map descriptor_of descriptors.now); kernel = None; calls = true } }
+        ensures { chosen result ≡ record { target = None; descriptors = Some (map descriptor_of descriptors.now); kernel = None; externs = false; calls = true } }
     {
         let described = Steps::none().with_descriptors(descriptors);
         described.with_calls()
@@ -60,7 +60,7 @@ impl<'a> Steps<'a> {
 
     /// These steps, with externs resolved by a kernel's types and symbols, and written.
     pub fn with_externs(self, kernel: &'a Btf) -> Steps<'a>
-        ensures { chosen result ≡ record (chosen self.entry) { kernel = Some (Some kernel.now) } }
+        ensures { chosen result ≡ record (chosen self.entry) { kernel = Some (Some kernel.now); externs = true } }
     {
         Steps {
             externs: Some(Some(kernel)),
@@ -71,7 +71,7 @@ impl<'a> Steps<'a> {
     /// These steps, with externs resolved by a kernel's symbols alone, and written: for a kernel whose types aren't known.
     /// A strong extern whose type is to be compared is then refused.
     pub fn with_externs_by_symbols(self) -> Steps<'a>
-        ensures { chosen result ≡ record (chosen self.entry) { kernel = Some None } }
+        ensures { chosen result ≡ record (chosen self.entry) { kernel = Some None; externs = true } }
     {
         Steps {
             externs: Some(None),
@@ -81,7 +81,7 @@ impl<'a> Steps<'a> {
 
     /// These steps, with externs left alone: none is resolved, and none is written.
     pub fn leaving_externs(self) -> Steps<'a>
-        ensures { chosen result ≡ record (chosen self.entry) { kernel = None } }
+        ensures { chosen result ≡ record (chosen self.entry) { kernel = None; externs = false } }
     {
         let externs = None;
         Steps { externs, ..self }

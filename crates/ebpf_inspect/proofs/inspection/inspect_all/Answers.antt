@@ -4,8 +4,9 @@ use Rattle.ebpf_inspect.proofs.Gathered.{refused_by}
 use Rattle.ebpf_inspect.proofs.Joining.{alone, reported, same_fault, unlinked}
 use Rattle.ebpf_inspect.specs.Inspected.{joining}
 use Rattle.ebpf_object.proofs.Staging.{of_error}
-use Rattle.ebpf_object.specs.Prepared.{AfterCalls, IsFault, Refuses}
-use Rattle.ebpf_object.specs.StageFaults.{OfCalls}
+use Rattle.ebpf_object.specs.Prepared.{IsFault, Refuses, Stages}
+use Rattle.ebpf_object.specs.StageFaults.{Wrapped}
+use Rattle.ebpf_object.specs.declared.prepare_error.PrepareError.TheVariants.{Calls}
 use Rattle.ebpf_object.specs.Stages.{JoiningFault}
 use Rattle.ebpf_object.specs.Steps.{chosen}
 use Rattle.ebpf_inspect.proofs.inspection.inspect_all.Goals as goal
@@ -24,7 +25,7 @@ returns-clause-reports g c =
     let lines = g.K.Read.remaining c.args.kallsyms in
     let o = c.args.object in
     let d = c.in-Ok.prepared in
-    let stages = subst (λ steps. AfterCalls steps lines o d) c.without_calls.ensures c.in-Ok.ensures.stages in
+    let stages = subst (λ steps. Stages steps lines o d) c.without_calls.ensures c.in-Ok.ensures.stages in
     both_ok c.report.result (λ joins rs each. reported s lines o d stages c.report.new.object joins rs each) c.report.ensures.joined c.report.ensures.reports
 
 pub returns-clause-fault : goal.returns-clause-fault
@@ -33,5 +34,5 @@ returns-clause-fault g c =
     let lines = g.K.Read.remaining c.args.kallsyms in
     let o = c.args.object in
     let d = c.in-Ok.prepared in
-    let stages = subst (λ steps. AfterCalls steps lines o d) c.without_calls.ensures c.in-Ok.ensures.stages in
-    of_error c.report.result (λ e r. refused_by (OfCalls (JoiningFault true d)) (IsFault (joining s) lines o) e (unlinked s lines o d stages e) r) c.report.ensures.fault
+    let stages = subst (λ steps. Stages steps lines o d) c.without_calls.ensures c.in-Ok.ensures.stages in
+    of_error c.report.result (λ e r. refused_by (Wrapped Calls (JoiningFault true d)) (IsFault (joining s) lines o) e (unlinked s lines o d stages e) r) c.report.ensures.fault

@@ -4,7 +4,8 @@ use Rattle.ebpf_inspect.proofs.Reports.{each_linked, none_refused, reports}
 use Rattle.ebpf_inspect.specs.Inspected.{AreReports}
 use Rattle.ebpf_inspect.specs.Named.{OneRefused}
 use Rattle.ebpf_object.specs.Joined.{linkable_of, programs_in_order, AreJoined}
-use Rattle.ebpf_object.specs.StageFaults.{OfCalls}
+use Rattle.ebpf_object.specs.StageFaults.{Wrapped}
+use Rattle.ebpf_object.specs.declared.prepare_error.PrepareError.TheVariants.{Calls}
 use Rattle.ebpf_object.specs.Stages.{Joins, JoiningFault}
 use Rattle.ebpf_inspect.proofs.inspection.report.Goals as goal
 
@@ -16,7 +17,7 @@ returns-in-Err-maps-clause-fault c =
     let joins : Joins true o linked =
     (subst (λ sections. AreJoined (linkable_of o sections) ps linked.functions) c.in_ok-text_sections.ensures c.in-Ok.ensures.functions, c.in-Ok.ensures.others_stay)
     in
-    refused_by (OfCalls (OneRefused o ps)) (OfCalls (JoiningFault true o)) c.in-Err-maps.error
+    refused_by (Wrapped Calls (OneRefused o ps)) (Wrapped Calls (JoiningFault true o)) c.in-Err-maps.error
     (of_calls (OneRefused o ps) (JoiningFault true o) (λ e r. absurd (none_refused o linked e ps (each_linked o linked joins) r)) c.in-Err-maps.error)
     c.in-Err-maps.ensures.fault
 

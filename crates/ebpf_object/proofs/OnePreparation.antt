@@ -1,0 +1,321 @@
+-- Preparing has one result, where the bytes of the kernel's symbols are known.
+use Rattle.std.proofs.Common.{◌≡◌, ◌⊎◌, inl, inr, ℕ, Bool, true, false, List, Option, Some, None, Result, Ok, Err, refl, sym, ap, subst, ◌∙◌}
+use Rattle.std.specs.Prelude.{MatchBool, ◌||◌}
+use Rattle.std.specs.Cmp.{eq_by_cmp_equiv}
+use Rattle.std.specs.FinMap.{FinMap, get, same_map}
+use Rattle.std.specs.Ordering.{eq_by_cmp}
+use Rattle.ebpf_base.proofs.Maps.{key_exact}
+use Rattle.ebpf_base.specs.Keys.{key_cmp, key_total}
+use Rattle.ebpf_btf.specs.TypeInfo.{TypeInfo}
+use Rattle.ebpf_core_relo.specs.Answers.{told_at}
+use Rattle.ebpf_core_relo.specs.Records.{Written, with_slots}
+use Rattle.ebpf_core_relo.specs.declared.error.BtfRelocationError.{BtfRelocationError}
+use Rattle.ebpf_ksyms.specs.Externs as resolution
+use Rattle.ebpf_ksyms.specs.Readers.{IsRefusedIn, IsResolvedIn}
+use Rattle.ebpf_ksyms.specs.declared.error.KsymsError.{KsymsError}
+use Rattle.ebpf_object.proofs.OneJoining.{one_joining}
+use Rattle.ebpf_object.proofs.OneResolution.{not_resolved, one_refusal, one_resolved}
+use Rattle.ebpf_object.specs.AdaptedSlots.{AreAdapted, adapted_slots}
+use Rattle.ebpf_object.specs.Joined.{AreJoined, is_program_key, linkable_of, programs_in_order}
+use Rattle.ebpf_object.specs.Objects.{object_of, parse_fault}
+use Rattle.ebpf_object.specs.OnePreparation.{MayPrepare, MayStage, OnePreparation, OneStaging, is_access, is_access_error, is_open, told, told_in}
+use Rattle.ebpf_object.specs.Prepared.{IsFault, IsFaultAfter, IsFirstFault, IsPrepared, NamesNothing, Refuses, Stages, before_calls, before_externs, before_maps, before_resolution, is_memory}
+use Rattle.ebpf_object.specs.Stages.{Adapts, AdaptingFault, Joins, JoiningFault, Resolves, ResolvingFault, described, describing_fault, externs_known, knowing_fault}
+use Rattle.ebpf_object.specs.Steps.{Chosen}
+use Rattle.ebpf_object.specs.TextSections.{has_function_in}
+use Rattle.ebpf_object.specs.declared.object.Object.{Object}
+use Rattle.ebpf_object.specs.declared.prepare_error.PrepareError.{PrepareError}
+use Rattle.ebpf_object.specs.declared.prepare_error.PrepareError.TheVariants.{Parse, Types, Maps, Ksyms, Externs, Calls, OutOfMemory}
+use Rattle.ebpf_parts.specs.declared.error.ParseError.{ParseError}
+use Rattle.ebpf_reloc.proofs.OneResult.{any_at, not_refused, one_result}
+use Rattle.ebpf_reloc.specs.Linking.{IsFirstFault as IsFirstProgram, ProgramValue, key_of}
+use Rattle.ebpf_reloc.specs.Places.{LinkableValue}
+use Rattle.ebpf_reloc.specs.declared.error.EbpfRelocationError.{EbpfRelocationError}
+use Rattle.ebpf_reloc.specs.declared.function.Function.{Function}
+
+-- ---- answers
+
+same_ok : {X E : Type 0} (r : Result X E) (x y : X) → r ≡ Ok x → r ≡ Ok y → x ≡ y
+same_ok r x y a b = cc
+
+same_err : {X E : Type 0} (r : Result X E) (d e : E) → r ≡ Err d → r ≡ Err e → d ≡ e
+same_err r d e a b = cc
+
+ok_or_err : {X E : Type 0} (r : Result X E) (x : X) (e : E) → r ≡ Ok x → r ≡ Err e → ⊥
+ok_or_err r x e a b = cc
+
+none_or_some : {X : Type 0} (o : Option X) (x : X) → o ≡ None → o ≡ Some x → ⊥
+none_or_some o x a b = cc
+
+same_some : {X : Type 0} (o : Option X) (x y : X) → o ≡ Some x → o ≡ Some y → x ≡ y
+same_some o x y a b = cc
+
+-- ---- types
+
+with_functions : (o a b : Object) → a ≡ record o { functions = a.functions } → b ≡ record o { functions = b.functions } → a.functions ≡ b.functions → a ≡ b
+with_functions o a b is_a is_b same = is_a ∙ ap (λ (fs : FinMap key_cmp Function). record o { functions = fs }) same ∙ sym is_b
+
+one_adapted : (target : Option TypeInfo) (o a b : Object) → Adapts target o a → Adapts target o b → a ≡ b
+one_adapted None o a b h g = h ∙ sym g
+one_adapted (Some target) o a b h g =
+    let slots : h.0.slots ≡ g.0.slots = same_ok (adapted_slots o target) h.0.slots g.0.slots h.0.written g.0.written in
+    with_functions o a b h.1 g.1
+    (same_map key_total key_exact a.functions b.functions
+    (λ key. h.0.each key ∙ ap (λ (w : Written). with_slots (get w key) (get o.functions key)) slots ∙ sym (g.0.each key)))
+
+not_adapted : (target : Option TypeInfo) (o a : Object) (e : BtfRelocationError) → Adapts target o a → AdaptingFault target o e → ⊥
+not_adapted None o a e h f = f
+not_adapted (Some target) o a e h f = ok_or_err (adapted_slots o target) h.0.slots (told_at e) h.0.written f
+
+one_adapting : (target : Option TypeInfo) (o : Object) (d e : BtfRelocationError) → AdaptingFault target o d → AdaptingFault target o e → told_at d ≡ told_at e
+one_adapting None o d e f g = absurd f
+one_adapting (Some target) o d e f g = same_err (adapted_slots o target) (told_at d) (told_at e) f g
+
+-- ---- resolution
+
+module _ (lines : List ℕ) where
+  one_resolution : (kernel : Option (Option TypeInfo)) (o a b : Object) → Resolves kernel (Some lines) o a → Resolves kernel (Some lines) o b → a ≡ b
+  one_resolution None o a b h g = h ∙ sym g
+  one_resolution (Some kernel) o a b h g =
+      h.1 ∙ ap (λ (x : resolution.Externs). record o { externs = x }) (one_resolved lines o.btf kernel o.externs a.externs b.externs h.0 g.0) ∙ sym g.1
+
+  not_resolving : (kernel : Option (Option TypeInfo)) (o a : Object) (e : KsymsError) → is_access_error e ≡ false → Resolves kernel (Some lines) o a → ResolvingFault kernel (Some lines) o e → ⊥
+  not_resolving None o a e other h f = f
+  not_resolving (Some kernel) o a e other h f = not_resolved lines o.btf kernel o.externs a.externs e other h.0 f
+
+  one_resolving : (kernel : Option (Option TypeInfo)) (o : Object) (d e : KsymsError) → is_access_error d ≡ false → is_access_error e ≡ false
+      → ResolvingFault kernel (Some lines) o d → ResolvingFault kernel (Some lines) o e → d ≡ e
+  one_resolving None o d e od oe f g = absurd f
+  one_resolving (Some kernel) o d e od oe f g = one_refusal lines o.btf kernel o.externs d e od oe f g
+
+-- ---- calls
+
+one_joined : (calls : Bool) (o a b : Object) → Joins calls o a → Joins calls o b → a ≡ b
+one_joined false o a b h g = h ∙ sym g
+one_joined true o a b h g =
+    with_functions o a b h.1 g.1 (one_joining (linkable_of o (has_function_in o.functions)) (programs_in_order o.programs) a.functions b.functions h.0 g.0)
+
+joined_at : (b : Bool) (A B : Type 0) → b ≡ true → MatchBool b A B → A
+joined_at true A B is h = h
+joined_at false A B is h = cc
+
+-- programs that are joined have no first fault
+no_fault_joined : (parts : LinkableValue) (programs : List ProgramValue) (after : FinMap key_cmp Function) (e : EbpfRelocationError) → AreJoined parts programs after → IsFirstProgram parts programs e → ⊥
+no_fault_joined parts programs after e joined f =
+    let key = key_of f.program in
+    let among : is_program_key programs key ≡ true =
+    any_at (λ (p : ProgramValue). eq_by_cmp key_cmp key (key_of p)) programs f.place f.program f.at ((eq_by_cmp_equiv key_total).refl key)
+    in
+    let linked = joined_at (is_program_key programs key) _ _ among (joined key) in
+    not_refused parts key linked.0 e.error linked.2 f.refused.1
+
+not_joined : (calls : Bool) (o a : Object) (e : EbpfRelocationError) → Joins calls o a → JoiningFault calls o e → ⊥
+not_joined false o a e h f = f
+not_joined true o a e h f = no_fault_joined (linkable_of o (has_function_in o.functions)) (programs_in_order o.programs) a.functions e h.0 f
+
+one_refused : (calls : Bool) (o : Object) (d e : EbpfRelocationError) → JoiningFault calls o d → JoiningFault calls o e → d ≡ e
+one_refused false o d e f g = absurd f
+one_refused true o d e f g =
+    let same : Err d ≡ Err e = one_result (linkable_of o (has_function_in o.functions)) (programs_in_order o.programs) (Err d) (Err e) f g in
+    cc
+
+-- ---- all stages
+
+module _ (lines : List ℕ) (o : Object) where
+  abbrev Leads : Chosen → Object → Type 0
+  Leads steps after = Stages steps (Some lines) o after
+
+  one_staged : (steps : Chosen) (a b : Object) → Leads steps a → Leads steps b → a ≡ b
+  one_staged steps a b h g =
+      let relocated : h.relocated ≡ g.relocated = one_adapted steps.target o h.relocated g.relocated h.types g.types in
+      let with_maps : h.described ≡ g.described = h.maps ∙ ap (described steps.descriptors) relocated ∙ sym g.maps in
+      let resolved : h.resolved ≡ g.resolved =
+      one_resolution lines steps.kernel g.described h.resolved g.resolved (subst (λ (x : Object). Resolves steps.kernel (Some lines) x h.resolved) with_maps h.resolution) g.resolution
+      in
+      let unlinked : h.unlinked ≡ g.unlinked = h.externs ∙ ap (externs_known steps.externs) resolved ∙ sym g.externs in
+      one_joined steps.calls g.unlinked a b (subst (λ (x : Object). Joins steps.calls x a) unlinked h.calls) g.calls
+
+  -- the stages up to one
+
+  up_to_types : (steps : Chosen) (after : Object) (s : Leads steps after) → Leads (before_maps steps) s.relocated
+  up_to_types steps after s = record {
+    relocated = s.relocated;
+    described = s.relocated;
+    resolved = s.relocated;
+    unlinked = s.relocated;
+    types = s.types;
+    maps_sound = refl;
+    maps = refl;
+    resolution = refl;
+    externs_sound = refl;
+    externs = refl;
+    calls = refl;
+  }
+
+  up_to_maps : (steps : Chosen) (after : Object) (s : Leads steps after) → Leads (before_resolution steps) s.described
+  up_to_maps steps after s = record {
+    relocated = s.relocated;
+    described = s.described;
+    resolved = s.described;
+    unlinked = s.described;
+    types = s.types;
+    maps_sound = s.maps_sound;
+    maps = s.maps;
+    resolution = refl;
+    externs_sound = refl;
+    externs = refl;
+    calls = refl;
+  }
+
+  up_to_resolution : (steps : Chosen) (after : Object) (s : Leads steps after) → Leads (before_externs steps) s.resolved
+  up_to_resolution steps after s = record {
+    relocated = s.relocated;
+    described = s.described;
+    resolved = s.resolved;
+    unlinked = s.resolved;
+    types = s.types;
+    maps_sound = s.maps_sound;
+    maps = s.maps;
+    resolution = s.resolution;
+    externs_sound = refl;
+    externs = refl;
+    calls = refl;
+  }
+
+  up_to_externs : (steps : Chosen) (after : Object) (s : Leads steps after) → Leads (before_calls steps) s.unlinked
+  up_to_externs steps after s = record {
+    relocated = s.relocated;
+    described = s.described;
+    resolved = s.resolved;
+    unlinked = s.unlinked;
+    types = s.types;
+    maps_sound = s.maps_sound;
+    maps = s.maps;
+    resolution = s.resolution;
+    externs_sound = s.externs_sound;
+    externs = s.externs;
+    calls = refl;
+  }
+
+  -- a fault in what some steps leave is one in each object that they leave
+  fault_in : (steps : Chosen) (Fault : Object → Type 0) (x : Object) → Leads steps x → IsFaultAfter steps (Some lines) o Fault → Fault x
+  fault_in steps Fault x s f = subst Fault (one_staged steps f.before x f.stages s) f.fault
+
+  -- stages that lead on have no fault
+  led_on : (steps : Chosen) (after : Object) → Leads steps after → (e : PrepareError) → is_access e ≡ false → IsFault steps (Some lines) o e → ⊥
+  led_on steps after s (Types e) other f = not_adapted steps.target o s.relocated e s.types f
+  led_on steps after s (Maps e) other f =
+      none_or_some (describing_fault steps.descriptors s.relocated) e s.maps_sound (fault_in (before_maps steps) _ s.relocated (up_to_types steps after s) f)
+  led_on steps after s (Ksyms e) other f =
+      not_resolving lines steps.kernel s.described s.resolved e other s.resolution (fault_in (before_resolution steps) _ s.described (up_to_maps steps after s) f)
+  led_on steps after s (Externs e) other f =
+      none_or_some (knowing_fault steps.externs s.resolved) e s.externs_sound (fault_in (before_externs steps) _ s.resolved (up_to_resolution steps after s) f)
+  led_on steps after s (Calls e) other f =
+      not_joined steps.calls s.unlinked after e s.calls (fault_in (before_calls steps) _ s.unlinked (up_to_externs steps after s) f)
+  led_on steps after s (Parse e) other f = f
+  led_on steps after s OutOfMemory other f = f
+
+  one_fault : (steps : Chosen) (d e : PrepareError) → is_access d ≡ false → is_access e ≡ false → IsFault steps (Some lines) o d → IsFault steps (Some lines) o e → told d ≡ told e
+  one_fault steps (Types d) (Types e) od oe f g = ap Types (one_adapting steps.target o d e f g)
+  one_fault steps (Types d) (Maps e) od oe f g = absurd (led_on (before_maps steps) g.before g.stages (Types d) od f)
+  one_fault steps (Types d) (Ksyms e) od oe f g = absurd (led_on (before_resolution steps) g.before g.stages (Types d) od f)
+  one_fault steps (Types d) (Externs e) od oe f g = absurd (led_on (before_externs steps) g.before g.stages (Types d) od f)
+  one_fault steps (Types d) (Calls e) od oe f g = absurd (led_on (before_calls steps) g.before g.stages (Types d) od f)
+  one_fault steps (Maps d) (Types e) od oe f g = absurd (led_on (before_maps steps) f.before f.stages (Types e) oe g)
+  one_fault steps (Maps d) (Maps e) od oe f g = ap Maps (same_some (describing_fault steps.descriptors g.before) d e (fault_in (before_maps steps) _ g.before g.stages f) g.fault)
+  one_fault steps (Maps d) (Ksyms e) od oe f g = absurd (led_on (before_resolution steps) g.before g.stages (Maps d) od f)
+  one_fault steps (Maps d) (Externs e) od oe f g = absurd (led_on (before_externs steps) g.before g.stages (Maps d) od f)
+  one_fault steps (Maps d) (Calls e) od oe f g = absurd (led_on (before_calls steps) g.before g.stages (Maps d) od f)
+  one_fault steps (Ksyms d) (Types e) od oe f g = absurd (led_on (before_resolution steps) f.before f.stages (Types e) oe g)
+  one_fault steps (Ksyms d) (Maps e) od oe f g = absurd (led_on (before_resolution steps) f.before f.stages (Maps e) oe g)
+  one_fault steps (Ksyms d) (Ksyms e) od oe f g = ap Ksyms (one_resolving lines steps.kernel g.before d e od oe (fault_in (before_resolution steps) _ g.before g.stages f) g.fault)
+  one_fault steps (Ksyms d) (Externs e) od oe f g = absurd (led_on (before_externs steps) g.before g.stages (Ksyms d) od f)
+  one_fault steps (Ksyms d) (Calls e) od oe f g = absurd (led_on (before_calls steps) g.before g.stages (Ksyms d) od f)
+  one_fault steps (Externs d) (Types e) od oe f g = absurd (led_on (before_externs steps) f.before f.stages (Types e) oe g)
+  one_fault steps (Externs d) (Maps e) od oe f g = absurd (led_on (before_externs steps) f.before f.stages (Maps e) oe g)
+  one_fault steps (Externs d) (Ksyms e) od oe f g = absurd (led_on (before_externs steps) f.before f.stages (Ksyms e) oe g)
+  one_fault steps (Externs d) (Externs e) od oe f g = ap Externs (same_some (knowing_fault steps.externs g.before) d e (fault_in (before_externs steps) _ g.before g.stages f) g.fault)
+  one_fault steps (Externs d) (Calls e) od oe f g = absurd (led_on (before_calls steps) g.before g.stages (Externs d) od f)
+  one_fault steps (Calls d) (Types e) od oe f g = absurd (led_on (before_calls steps) f.before f.stages (Types e) oe g)
+  one_fault steps (Calls d) (Maps e) od oe f g = absurd (led_on (before_calls steps) f.before f.stages (Maps e) oe g)
+  one_fault steps (Calls d) (Ksyms e) od oe f g = absurd (led_on (before_calls steps) f.before f.stages (Ksyms e) oe g)
+  one_fault steps (Calls d) (Externs e) od oe f g = absurd (led_on (before_calls steps) f.before f.stages (Externs e) oe g)
+  one_fault steps (Calls d) (Calls e) od oe f g = ap Calls (one_refused steps.calls g.before d e (fault_in (before_calls steps) _ g.before g.stages f) g.fault)
+  one_fault steps (Parse d) e od oe f g = absurd f
+  one_fault steps OutOfMemory e od oe f g = absurd f
+  one_fault steps d (Parse e) od oe f g = absurd g
+  one_fault steps d OutOfMemory od oe f g = absurd g
+
+-- ---- answers that exclude others
+
+settled : (memory access : Bool) → (memory || access) ≡ false → (memory ≡ false) × (access ≡ false)
+settled true access is = cc
+settled false access is = (refl, is)
+
+stated : (b : Bool) (N F : Type 0) → b ≡ false → MatchBool b N F → F
+stated true N F is m = cc
+stated false N F is m = m
+
+module _ (Fault : PrepareError → Type 0) (e : PrepareError) (is : (is_memory e || is_access e) ≡ false) where
+  refusal_stated : Refuses Fault e → Fault e
+  refusal_stated r = stated (is_memory e) (NamesNothing e) (Fault e) (settled (is_memory e) (is_access e) is).0 r
+
+  no_access : is_access e ≡ false
+  no_access = (settled (is_memory e) (is_access e) is).1
+
+pub one_staging : OneStaging
+one_staging steps lines o (Ok a) (Ok b) h g hs gs = ap Ok (one_staged lines o steps a b h g)
+one_staging steps lines o (Ok a) (Err e) h g hs gs =
+    absurd (led_on lines o steps a h e (no_access (IsFault steps (Some lines) o) e gs) (refusal_stated (IsFault steps (Some lines) o) e gs g))
+one_staging steps lines o (Err d) (Ok b) h g hs gs =
+    absurd (led_on lines o steps b g d (no_access (IsFault steps (Some lines) o) d hs) (refusal_stated (IsFault steps (Some lines) o) d hs h))
+one_staging steps lines o (Err d) (Err e) h g hs gs =
+    let Fault = IsFault steps (Some lines) o in
+    ap Err (one_fault lines o steps d e (no_access Fault d hs) (no_access Fault e gs) (refusal_stated Fault d hs h) (refusal_stated Fault e gs g))
+
+-- ---- of a file
+
+module _ (steps : Chosen) (lines bytes : List ℕ) where
+  abbrev First : PrepareError → Type 0
+  First e = IsFirstFault steps (Some lines) bytes e
+
+  -- the file's own fault, or that of a stage
+  abbrev OfFile : PrepareError → Type 0
+  OfFile e = (p : ParseError) × (parse_fault bytes ≡ Some p) × (e ≡ Parse p)
+
+  abbrev OfStage : PrepareError → Type 0
+  OfStage e = (parse_fault bytes ≡ None) × IsFault steps (Some lines) (object_of bytes) e
+
+  either : (e : PrepareError) → First e → OfFile e ⊎ OfStage e
+  either (Parse e) f = inl (e, f, refl)
+  either (Types e) f = inr f
+  either (Maps e) f = inr f
+  either (Ksyms e) f = inr f
+  either (Externs e) f = inr f
+  either (Calls e) f = inr f
+  either OutOfMemory f = inr f
+
+  one_first : (d e : PrepareError) → is_access d ≡ false → is_access e ≡ false → OfFile d ⊎ OfStage d → OfFile e ⊎ OfStage e → told d ≡ told e
+  one_first d e od oe (inl f) (inl g) =
+      let same : f.0 ≡ g.0 = same_some (parse_fault bytes) f.0 g.0 f.1 g.1 in
+      ap told (f.2 ∙ ap Parse same ∙ sym g.2)
+  one_first d e od oe (inl f) (inr g) = absurd (none_or_some (parse_fault bytes) f.0 g.0 f.1)
+  one_first d e od oe (inr f) (inl g) = absurd (none_or_some (parse_fault bytes) g.0 f.0 g.1)
+  one_first d e od oe (inr f) (inr g) = one_fault lines (object_of bytes) steps d e od oe f.1 g.1
+
+  no_first : (o : Object) (e : PrepareError) → is_access e ≡ false → IsPrepared steps (Some lines) bytes o → OfFile e ⊎ OfStage e → ⊥
+  no_first o e other p (inl f) = none_or_some (parse_fault bytes) f.0 p.sound f.1
+  no_first o e other p (inr f) = led_on lines (object_of bytes) steps o p.stages e other f.1
+
+pub one_preparation : OnePreparation
+one_preparation steps lines bytes (Ok a) (Ok b) h g hs gs = ap Ok (one_staged lines (object_of bytes) steps a b h.stages g.stages)
+one_preparation steps lines bytes (Ok a) (Err e) h g hs gs =
+    let Fault = IsFirstFault steps (Some lines) bytes in
+    absurd (no_first steps lines bytes a e (no_access Fault e gs) h (either steps lines bytes e (refusal_stated Fault e gs g)))
+one_preparation steps lines bytes (Err d) (Ok b) h g hs gs =
+    let Fault = IsFirstFault steps (Some lines) bytes in
+    absurd (no_first steps lines bytes b d (no_access Fault d hs) g (either steps lines bytes d (refusal_stated Fault d hs h)))
+one_preparation steps lines bytes (Err d) (Err e) h g hs gs =
+    let Fault = IsFirstFault steps (Some lines) bytes in
+    ap Err (one_first steps lines bytes d e (no_access Fault d hs) (no_access Fault e gs)
+    (either steps lines bytes d (refusal_stated Fault d hs h)) (either steps lines bytes e (refusal_stated Fault e gs g)))

@@ -1,0 +1,58 @@
+-- Preparing has one result, where the bytes of the kernel's symbols are known: texts for people aside, want of memory, and
+-- a line that can't be read.
+use Rattle.std.specs.Prelude.{◌≡◌, ℕ, Bool, true, false, ◌||◌, List, Some, Option, Result, Ok, Err}
+use Rattle.ebpf_core_relo.specs.Answers.{told_at}
+use Rattle.ebpf_ksyms.specs.declared.error.KsymsError.{KsymsError}
+use Rattle.ebpf_ksyms.specs.declared.error.KsymsError.TheVariants.{KallsymsAccessError}
+use Rattle.ebpf_object.specs.Prepared.{IsFault, IsFirstFault, IsPrepared, Refuses, Stages, is_memory}
+use Rattle.ebpf_object.specs.Steps.{Chosen}
+use Rattle.ebpf_object.specs.declared.object.Object.{Object}
+use Rattle.ebpf_object.specs.declared.prepare_error.PrepareError.{PrepareError}
+use Rattle.ebpf_object.specs.declared.prepare_error.PrepareError.TheVariants.{Ksyms, Types}
+
+abbrev pub Answer : Type 0
+Answer = Result Object PrepareError
+
+-- a line that can't be read
+abbrev pub is_access_error : KsymsError → Bool
+is_access_error (KallsymsAccessError error) = true
+is_access_error _ = false
+
+abbrev pub is_access : PrepareError → Bool
+is_access (Ksyms e) = is_access_error e
+is_access _ = false
+
+-- what may come in place of an answer: want of memory, and a line that can't be read
+abbrev pub is_open : Answer → Bool
+is_open (Ok o) = false
+is_open (Err e) = is_memory e || is_access e
+
+-- a refusal without the texts in it that are for people to read
+abbrev pub told : PrepareError → PrepareError
+told (Types e) = Types (told_at e)
+told e = e
+
+abbrev pub told_in : Answer → Answer
+told_in (Ok o) = Ok o
+told_in (Err e) = Err (told e)
+
+-- what the stages may answer of an object
+abbrev pub MayStage : Chosen → Option (List ℕ) → Object → Answer → Type 0
+MayStage steps lines o (Ok after) = Stages steps lines o after
+MayStage steps lines o (Err e) = Refuses (IsFault steps lines o) e
+
+-- what preparing may answer of a file
+abbrev pub MayPrepare : Chosen → Option (List ℕ) → List ℕ → Answer → Type 0
+MayPrepare steps lines bytes (Ok o) = IsPrepared steps lines bytes o
+MayPrepare steps lines bytes (Err e) = Refuses (IsFirstFault steps lines bytes) e
+
+-- any two of these answers are the same
+abbrev pub IsOne : (Answer → Type 0) → Type 0
+IsOne May = (r s : Answer) → May r → May s → is_open r ≡ false → is_open s ≡ false → told_in r ≡ told_in s
+
+-- of an object, and of a file
+abbrev pub OneStaging : Type 0
+OneStaging = (steps : Chosen) (lines : List ℕ) (o : Object) → IsOne (MayStage steps (Some lines) o)
+
+abbrev pub OnePreparation : Type 0
+OnePreparation = (steps : Chosen) (lines bytes : List ℕ) → IsOne (MayPrepare steps (Some lines) bytes)
