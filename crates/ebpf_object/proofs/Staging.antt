@@ -1,6 +1,7 @@
 -- The stages of preparing an object, put together.
 use Rattle.std.proofs.Common.{◌≡◌, ℕ, Bool, true, false, List, Option, None, subst, sym}
 use Rattle.std.specs.Prelude.{MatchBool, Result, Ok, Err, OnOk, IfOk, IfErr, IsErrAnd}
+use Rattle.ebpf_ksyms.specs.Sources.{Source}
 use Rattle.ebpf_object.specs.Prepared.{AfterMaps, AfterResolution, AfterExterns, AfterCalls, IsFault, IsFirstFault, IsPrepared, IsParsed, Refuses, NamesNothing, is_memory}
 use Rattle.ebpf_object.specs.Objects.{object_of, parse_fault}
 use Rattle.ebpf_object.specs.StageFaults.{OfTypes, OfMaps, OfKsyms, OfExterns, OfCalls}
@@ -34,7 +35,7 @@ other_fault : (b : Bool) (N F G : Type 0) → (F → G) → MatchBool b N F → 
 other_fault true N F G to m = m
 other_fault false N F G to m = to m
 
-module _ (steps : Chosen) (lines : Option (List ℕ)) (o : Object) where
+module _ (steps : Chosen) (lines : Source) (o : Object) where
   types_fault : (e : PrepareError) → OfTypes (AdaptingFault steps.target o) e → IsFault steps lines o e
   types_fault (Types e) f = f
   types_fault (Parse e) f = elim f [ ]
@@ -123,7 +124,7 @@ module _ (steps : Chosen) (lines : Option (List ℕ)) (o : Object) where
 
 -- ---- with parsing before the stages
 
-first_of : (steps : Chosen) (lines : Option (List ℕ)) (bytes : List ℕ) → parse_fault bytes ≡ None → (e : PrepareError) → IsFault steps lines (object_of bytes) e → IsFirstFault steps lines bytes e
+first_of : (steps : Chosen) (lines : Source) (bytes : List ℕ) → parse_fault bytes ≡ None → (e : PrepareError) → IsFault steps lines (object_of bytes) e → IsFirstFault steps lines bytes e
 first_of steps lines bytes sound (Parse e) f = elim f [ ]
 first_of steps lines bytes sound (Types e) f = (sound, f)
 first_of steps lines bytes sound (Maps e) f = (sound, f)
@@ -132,13 +133,13 @@ first_of steps lines bytes sound (Externs e) f = (sound, f)
 first_of steps lines bytes sound (Calls e) f = (sound, f)
 first_of steps lines bytes sound OutOfMemory f = elim f [ ]
 
-pub stage_refused : (steps : Chosen) (lines : Option (List ℕ)) (bytes : List ℕ) (o : Object) → o ≡ object_of bytes → parse_fault bytes ≡ None
+pub stage_refused : (steps : Chosen) (lines : Source) (bytes : List ℕ) (o : Object) → o ≡ object_of bytes → parse_fault bytes ≡ None
     → (e : PrepareError) → Refuses (IsFault steps lines o) e → Refuses (IsFirstFault steps lines bytes) e
 stage_refused steps lines bytes o is sound e r =
     other_fault (is_memory e) (NamesNothing e) (IsFault steps lines (object_of bytes) e) (IsFirstFault steps lines bytes e) (first_of steps lines bytes sound e)
     (subst (λ (x : Object). Refuses (IsFault steps lines x) e) is r)
 
-pub prepared : (steps : Chosen) (lines : Option (List ℕ)) (bytes : List ℕ) (o after : Object) → o ≡ object_of bytes → parse_fault bytes ≡ None → AfterCalls steps lines o after → IsPrepared steps lines bytes after
+pub prepared : (steps : Chosen) (lines : Source) (bytes : List ℕ) (o after : Object) → o ≡ object_of bytes → parse_fault bytes ≡ None → AfterCalls steps lines o after → IsPrepared steps lines bytes after
 prepared steps lines bytes o after is sound stages = record { sound = sound; stages = subst (λ (x : Object). AfterCalls steps lines x after) is stages }
 
 -- ---- an object as the bytes of a file are parsed
@@ -146,7 +147,7 @@ prepared steps lines bytes o after is sound stages = record { sound = sound; sta
 pub parsed : (bytes : List ℕ) (o : Object) → o ≡ object_of bytes → parse_fault bytes ≡ None → IsParsed bytes o
 parsed bytes o is sound = record { sound = sound; is = is }
 
-module _ (steps : Chosen) (lines : Option (List ℕ)) (bytes : List ℕ) (o : Object) (from : IsParsed bytes o) where
+module _ (steps : Chosen) (lines : Source) (bytes : List ℕ) (o : Object) (from : IsParsed bytes o) where
   pub prepared_file : (after : Object) → AfterCalls steps lines o after → IsPrepared steps lines bytes after
   prepared_file after stages = prepared steps lines bytes o after from.is from.sound stages
 

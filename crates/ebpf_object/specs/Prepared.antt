@@ -2,6 +2,7 @@
 use Rattle.std.specs.Prelude.{◌≡◌, ⊤, ℕ, Bool, true, List, [], Option, Some, None, MatchBool}
 use Rattle.ebpf_core_relo.specs.Answers as adapting
 use Rattle.ebpf_ksyms.specs.Faults as resolving
+use Rattle.ebpf_ksyms.specs.Sources.{Source}
 use Rattle.ebpf_object.specs.Objects.{object_of, parse_fault}
 use Rattle.ebpf_object.specs.Stages.{Adapts, AdaptingFault, described, describing_fault, Resolves, ResolvingFault, externs_known, knowing_fault, Joins, JoiningFault}
 use Rattle.ebpf_object.specs.Steps.{Chosen}
@@ -13,7 +14,7 @@ use Rattle.ebpf_reloc.specs.Memory as relocating
 
 -- ---- the stages in order, for what is chosen and the lines of the kernel's symbols
 
-module _ (steps : Chosen) (lines : Option (List ℕ)) where
+module _ (steps : Chosen) (lines : Source) where
   pub record AfterMaps (o after : Object) : Type 0 where
     pub before : Object
     pub types : Adapts steps.target o before
