@@ -445,7 +445,7 @@ uint32_t ebpf_relocate_maps(struct ebpf_handle *handle, const struct ebpf_descri
 
 /*
  * Finds the externs in a kernel's types and in its symbols, which are given as the text of /proc/kallsyms. Types of
- * length 0 are none. Numbers: 2, 3, 200 to 219, 400 to 499.
+ * length 0 are none. A line that is no UTF-8 is refused where lines are wanted. Numbers: 2, 3, 200 to 219, 400 to 499.
  */
 uint32_t ebpf_resolve_externs(struct ebpf_handle *handle, const uint8_t *types, size_t types_len,
 			      const uint8_t *symbols, size_t symbols_len, char *about, size_t about_room,

@@ -30,6 +30,7 @@ ANSWERS = {
     "object relocate_maps": [err(CALLS)],
     "object resolve_externs": [err(NO_MEMORY)],
     "object resolve_lines": [err(NO_MEMORY)],
+    "object resolve_text": [err(NO_MEMORY)],
     "object relocate_externs": [err(CALLS)],
     "object relocate_calls": [err(CALLS)],
     "object patch_map_data": [err(NO_MEMORY)],

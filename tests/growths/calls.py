@@ -46,6 +46,7 @@ def passing():
         CallRow("relocate_calls, two calls with records", (inputs.two_calls(), b"", b""), "object", "relocate_calls"),
         CallRow("relocate_calls, the small object", (SMALL, b"", b""), "object", "relocate_calls"),
         CallRow("resolve_lines", ALL, "object", "resolve_lines"),
+        CallRow("resolve_text", ALL, "object", "resolve_text"),
     ]
     for count, call in enumerate(PASSES, 1):
         rows.append(CallRow(f"{call}, all kinds of references", ALL, "object", *PASSES[:count]))
@@ -166,6 +167,7 @@ def refused_externs():
         no_answer("resolve_externs, no line", [wanted, b"", b"1 D w\n"], "object", "resolve_externs"),
         no_answer("resolve_externs, two addresses", [wanted, b"", twice], "object", "resolve_externs"),
         no_answer("resolve_lines, no address", [wanted, b"", none], "object", "resolve_lines"),
+        no_answer("resolve_text, a line that is no text", [wanted, b"", b"\xff\n"], "object", "resolve_text"),
         no_answer("relocate_externs, a call of an address", [called, b"", line], "object", *both),
         no_answer("prepare, no line", [wanted], "prepare", "e", starts="Err(Ksyms"),
         no_answer("prepare, a call of an address", [called, b"", line], "prepare", "e", starts="Err(Externs"),

@@ -35,7 +35,7 @@ def answers(answer, *externs):
 
 
 def resolved(name, files, gives):
-    return Case(name, files, {"resolved externs": gives})
+    return Case(name, files, {"resolved externs": gives, "resolved_text externs": gives})
 
 
 def addresses():

@@ -3,7 +3,7 @@ use Rattle.std.specs.Prelude.{◌≡◌, ◌⊎◌, ⊤, ℕ, List, [], Option, 
 use Rattle.ebpf_btf.specs.TypeInfo.{TypeInfo}
 use Rattle.ebpf_core_relo.specs.Answers as adapting
 use Rattle.ebpf_ksyms.specs.Faults as resolving
-use Rattle.ebpf_ksyms.specs.Readers.{IsRefusedIn, IsResolvedIn}
+use Rattle.ebpf_ksyms.specs.Texts.{IsRefusedBy, IsResolvedBy}
 use Rattle.ebpf_object.specs.AdaptedSlots.{adapted_slots, AreAdapted}
 use Rattle.ebpf_object.specs.Joined.{linkable_of, programs_in_order, AreJoined}
 use Rattle.ebpf_object.specs.TextSections.{has_function_in}
@@ -40,14 +40,14 @@ CannotAdapt bytes o r = CannotRead bytes r ⊎ HasBadRecord bytes o r
 pub record HasResolved (bytes symbols : List ℕ) (old new : Object) : Type 0 where
   pub kernel : Option TypeInfo
   pub spelled : types_if bytes ≡ Ok kernel
-  pub resolved : IsResolvedIn (Some symbols) old.btf kernel old.externs new.externs
+  pub resolved : IsResolvedBy symbols old.btf kernel old.externs new.externs
   pub others_stay : new ≡ record old { externs = new.externs }
 
 -- an extern can't be found
 pub record HasLostExtern (bytes symbols : List ℕ) (o : Object) (r : Refusal) : Type 0 where
   pub kernel : Option TypeInfo
   pub spelled : types_if bytes ≡ Ok kernel
-  pub refusal : IsRefusal (λ e. MatchBool (resolving.is_memory e) ⊤ (IsRefusedIn (Some symbols) o.btf kernel o.externs e)) ksyms_refusal r
+  pub refusal : IsRefusal (λ e. MatchBool (resolving.is_memory e) ⊤ (IsRefusedBy symbols o.btf kernel o.externs e)) ksyms_refusal r
 
 abbrev pub CannotResolve : List ℕ → List ℕ → Object → Refusal → Type 0
 CannotResolve bytes symbols o r = CannotReadIf bytes r ⊎ HasLostExtern bytes symbols o r

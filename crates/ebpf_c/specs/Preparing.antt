@@ -1,6 +1,7 @@
 -- A file that is prepared in one call: types if there are any, descriptors, externs, calls.
 use Rattle.std.specs.Prelude.{◌≡◌, ◌⊎◌, ℕ, true, List, Option, Some, None, Ok}
 use Rattle.ebpf_btf.specs.TypeInfo.{TypeInfo}
+use Rattle.ebpf_ksyms.specs.Sources.{Text}
 use Rattle.ebpf_object.specs.Headline.{Headline}
 use Rattle.ebpf_object.specs.KeptParts.{KeepsOthers}
 use Rattle.ebpf_object.specs.Objects.{object_of}
@@ -41,14 +42,14 @@ pub record HasPrepared (given : Given) (o : Object) : Type 0 where
   pub kernel : Option TypeInfo
   pub spelled : types_if given.types ≡ Ok kernel
   pub named : have_names given.text given.rows ≡ true
-  pub headline : Headline (all_passes given kernel) (Some given.symbols) Stated given.file o
+  pub headline : Headline (all_passes given kernel) (Text given.symbols) Stated given.file o
   pub others_stay : KeepsOthers (object_of given.file) o
 
 -- a stage has the first fault
 pub record HasFault (given : Given) (r : Refusal) : Type 0 where
   pub kernel : Option TypeInfo
   pub spelled : types_if given.types ≡ Ok kernel
-  pub refusal : IsRefusal (Refuses (IsFirstFault (all_passes given kernel) (Some given.symbols) Stated given.file)) prepare_refusal r
+  pub refusal : IsRefusal (Refuses (IsFirstFault (all_passes given kernel) (Text given.symbols) Stated given.file)) prepare_refusal r
 
 -- the names are looked at first, then the types are read, then come the stages
 abbrev pub CannotPrepare : Given → Refusal → Type 0

@@ -14,7 +14,7 @@ use crate::refusal::{Refusal, tell};
 use crate::target_types::read_types_if;
 use ebpf_btf::Btf;
 use ebpf_object::Object;
-use ebpf_object::prepare::{Steps, prepare};
+use ebpf_object::prepare::{Steps, SymbolText, prepare};
 use std::alloc::Global;
 
 /// All passes, types where a kernel's are known.
@@ -53,7 +53,7 @@ fn prepare_object(
         return Err(Refusal::plain(MEMORY));
     };
     let steps = all_passes(kernel.as_ref(), &descriptors);
-    match prepare(alloc, file, &steps, symbols) {
+    match prepare(alloc, file, &steps, SymbolText(symbols)) {
         Ok(object) => Ok(object),
         Err(error) => Err(prepare_refusal(error)),
     }

@@ -33,7 +33,7 @@ fn resolve_externs(
         Ok(kernel) => kernel,
         Err(refusal) => return Err(refusal),
     };
-    match object.resolve_externs(kernel.as_ref(), symbols) {
+    match object.resolve_text(kernel.as_ref(), symbols) {
         Ok(()) => Ok(()),
         Err(error) => Err(ksyms_refusal(error)),
     }
@@ -45,7 +45,8 @@ fn resolve_externs(
 /// # Answers
 ///
 /// 0; 2; 3 where the handle is closed; 200 to 214 where the types can't be read; 400 to 434 for the first extern that
-/// can't be found, about it, or the first line that can't be read. What the handle holds is then as it was.
+/// can't be found, about it, or the first line that can't be read: 406 is of a line that is not UTF-8, where lines are
+/// wanted. What the handle holds is then as it was.
 #[unsafe(no_mangle)]
 pub extern "C" fn ebpf_resolve_externs(
     alloc: Global,

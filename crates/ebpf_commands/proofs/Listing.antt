@@ -16,6 +16,7 @@ use Rattle.ebpf_commands.specs.declared.failure.Failure.{Failure}
 use Rattle.ebpf_commands.specs.declared.failure.Failure.TheVariants.{CannotRead, Btf, Preparing, NoProgram, CannotWrite, Memory}
 use Rattle.ebpf_inspect.specs.Inspected.{AreReports}
 use Rattle.ebpf_inspect.specs.declared.report.ProgramReport.{ProgramReport}
+use Rattle.ebpf_ksyms.specs.Sources.{Source}
 use Rattle.ebpf_object.specs.Joined.{with_name, programs_in_order}
 use Rattle.ebpf_object.specs.declared.object.Object.{Object}
 use Rattle.ebpf_parsing.proofs.LastEntries.{equal}
@@ -70,7 +71,7 @@ module _ (d o : Object) (rs : List ProgramReport) (each : AreReports d o (progra
 
 -- ---- refusals
 
-module _ (file : List ℕ) (btf lines : Option (List ℕ)) (rs : List ProgramReport) (inspected : HasInspected file btf lines rs) where
+module _ (file : List ℕ) (btf : Option (List ℕ)) (lines : Source) (rs : List ProgramReport) (inspected : HasInspected file btf lines rs) where
   abbrev o : Object
   o = inspected.inspected.linked
 

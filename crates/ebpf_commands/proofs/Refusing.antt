@@ -9,6 +9,7 @@ use Rattle.ebpf_commands.specs.Linked.{IsLinked}
 use Rattle.ebpf_commands.specs.Printed.{function_of, function_named}
 use Rattle.ebpf_commands.specs.declared.failure.Failure.{Failure}
 use Rattle.ebpf_commands.specs.declared.failure.Failure.TheVariants.{CannotRead, Btf, Preparing, NoProgram, CannotWrite, Memory}
+use Rattle.ebpf_ksyms.specs.Sources.{Source}
 use Rattle.ebpf_object.specs.Headline.{ProgramsAreWhole}
 use Rattle.ebpf_object.specs.declared.object.Object.{Object}
 use Rattle.ebpf_parsing.specs.declared.program.Program.{Program}
@@ -41,7 +42,7 @@ pub there : (o : Object) (asked : Option (List ℕ)) → MatchOption asked ⊤ (
 there o None h = h
 there o (Some name) h = some_of o (get o.programs name) h
 
-module _ (file : List ℕ) (btf lines : Option (List ℕ)) (o : Object) (linked : IsLinked file btf lines o) where
+module _ (file : List ℕ) (btf : Option (List ℕ)) (lines : Source) (o : Object) (linked : IsLinked file btf lines o) where
   named : (name : List ℕ) (f : Failure) → MatchBool (is_outside f) ⊤ (LacksAsked o (Some name) f) → MatchBool (is_outside f) ⊤ (Stands file btf lines (Some name) f)
   named name (NoProgram absent) h =
       (o, linked, ap Some (sym h.0), subst (λ (n : List ℕ). get o.programs n ≡ None) (sym h.0) (no_program _ o (linked.headline.finished.programs _ refl) name h.1))

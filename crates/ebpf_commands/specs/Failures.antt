@@ -7,6 +7,7 @@ use Rattle.ebpf_commands.specs.Linked.{kernel_types, asked, IsLinked}
 use Rattle.ebpf_commands.specs.Printed.{function_named}
 use Rattle.ebpf_commands.specs.declared.failure.Failure.{Failure}
 use Rattle.ebpf_commands.specs.declared.failure.Failure.TheVariants.{CannotRead, Btf, Preparing, NoProgram, CannotWrite, Memory}
+use Rattle.ebpf_ksyms.specs.Sources.{Source}
 use Rattle.ebpf_object.specs.Objects.{object_of}
 use Rattle.ebpf_object.specs.Prepared.{IsFirstFault}
 use Rattle.ebpf_object.specs.Prepared as preparing
@@ -38,13 +39,13 @@ LacksAsked o None f = ⊥
 LacksAsked o (Some name) f = Lacks o name f
 
 -- preparing a file with these passes has this first fault
-abbrev pub CannotPrepare : Chosen → Option (List ℕ) → List ℕ → Failure → Type 0
+abbrev pub CannotPrepare : Chosen → Source → List ℕ → Failure → Type 0
 CannotPrepare steps lines file (Preparing e) = IsFirstFault steps lines Stated file e
 CannotPrepare steps lines file _ = ⊥
 
 -- What a refusal says of the files is so: the kernel's types can't be read, or, where they can, preparing the file has
 -- this first fault, or, where it has none, no program has the name.
-abbrev pub Stands : List ℕ → Option (List ℕ) → Option (List ℕ) → Option (List ℕ) → Failure → Type 0
+abbrev pub Stands : List ℕ → Option (List ℕ) → Source → Option (List ℕ) → Failure → Type 0
 Stands file btf lines program (Btf e) = kernel_types btf ≡ Err e
 Stands file btf lines program (Preparing e) =
     (kernel : Option TypeInfo) × (kernel_types btf ≡ Ok kernel) × IsFirstFault (asked kernel (object_of file).maps) lines Stated file e

@@ -8,6 +8,7 @@ use Rattle.ebpf_btf.specs.Reading.{type_info_of}
 use Rattle.ebpf_btf.specs.TypeInfo.{TypeInfo}
 use Rattle.ebpf_btf.specs.declared.endianness.Endianness.TheVariants.{Little}
 use Rattle.ebpf_btf.specs.declared.error.BtfError.{BtfError}
+use Rattle.ebpf_ksyms.specs.Sources.{Source}
 use Rattle.ebpf_object.specs.Objects.{object_of}
 use Rattle.ebpf_object.specs.Headline.{Headline}
 use Rattle.ebpf_object.specs.Steps.{Chosen, Descriptor}
@@ -48,7 +49,7 @@ abbrev pub asked : Option TypeInfo → FinMap text_cmp Map → Chosen
 asked types maps = asked_of types (keys_of (entries maps))
 
 -- the object of a file after all passes
-pub record IsLinked (file : List ℕ) (btf : Option (List ℕ)) (lines : Option (List ℕ)) (o : Object) : Type 0 where
+pub record IsLinked (file : List ℕ) (btf : Option (List ℕ)) (lines : Source) (o : Object) : Type 0 where
   pub types : Option TypeInfo
   pub kernel : kernel_types btf ≡ Ok types
   pub headline : Headline (asked types (object_of file).maps) lines Stated file o

@@ -11,6 +11,7 @@ use Rattle.ebpf_commands.specs.declared.failure.Failure.{Failure}
 use Rattle.ebpf_commands.specs.declared.failure.Failure.TheVariants.{NoProgram}
 use Rattle.ebpf_inspect.specs.Inspected.{IsInspected}
 use Rattle.ebpf_inspect.specs.declared.report.ProgramReport.{ProgramReport}
+use Rattle.ebpf_ksyms.specs.Sources.{Source}
 use Rattle.ebpf_object.specs.Objects.{object_of}
 use Rattle.ebpf_reloc.specs.declared.link_map.CodeCopy.{CodeCopy}
 use Rattle.ebpf_linker.specs.declared.link_map.Reference.{Reference}
@@ -54,14 +55,14 @@ listed reports None = flat_map report_text reports
 -- ---- a run
 
 -- what the programs of a file are made of, after all passes
-pub record HasInspected (file : List ℕ) (btf : Option (List ℕ)) (lines : Option (List ℕ)) (reports : List ProgramReport) : Type 0 where
+pub record HasInspected (file : List ℕ) (btf : Option (List ℕ)) (lines : Source) (reports : List ProgramReport) : Type 0 where
   pub types : Option TypeInfo
   pub kernel : kernel_types btf ≡ Ok types
   pub inspected : IsInspected (asked types (object_of file).maps) lines Stated file reports
 
 -- The file is inspected, it has the program that is asked for, and the writer, whose bytes were these before and are
 -- these now, has got the lines of that program or of all.
-pub record HasListed (file : List ℕ) (btf : Option (List ℕ)) (lines : Option (List ℕ)) (program : Option (List ℕ)) (before now : Option (List ℕ)) : Type 0 where
+pub record HasListed (file : List ℕ) (btf : Option (List ℕ)) (lines : Source) (program : Option (List ℕ)) (before now : Option (List ℕ)) : Type 0 where
   pub reports : List ProgramReport
   pub inspected : HasInspected file btf lines reports
   pub named : MatchOption program ⊤ (λ name. IsSome (report_named reports name))

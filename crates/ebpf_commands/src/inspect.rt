@@ -19,9 +19,9 @@ use ebpf_base::Items;
 use ebpf_btf::Btf;
 use ebpf_inspect::{ProgramReport, inspect_object};
 use ebpf_object::Object;
-use ebpf_object::prepare::PrepareError;
+use ebpf_object::prepare::{PrepareError, SymbolSource};
 use std::alloc::Global;
-use std::io::{BufRead, Write};
+use std::io::Write;
 
 /// The report of the program of a name.
 fn report_named<'a>(reports: &'a [ProgramReport], name: &str) -> Option<&'a ProgramReport>
@@ -106,14 +106,14 @@ fn print_listed<'a, W: Write>(
 
 /// What the programs of an object are made of after all passes: types where the kernel's are known, descriptors of its
 /// own maps, externs, calls.
-fn inspect_all<K: BufRead + Drop>(
+fn inspect_all<K: SymbolSource>(
     alloc: Global,
     object: Object,
     types: Option<&Btf>,
     kallsyms: K,
 ) -> Result<Items<ProgramReport>, Failure<'static>>
-    ensures inspected { (file : List ℕ) → IsParsed Stated file object → IfOk result (IsInspected (asked (option_copied types.entry) object.maps) (K.remaining kallsyms) Stated file) }
-    ensures refused { (file : List ℕ) → IsParsed Stated file object → IfErr result (λ f. MatchBool (is_outside f) ⊤ (CannotPrepare (asked (option_copied types.entry) object.maps) (K.remaining kallsyms) file f)) }
+    ensures inspected { (file : List ℕ) → IsParsed Stated file object → IfOk result (IsInspected (asked (option_copied types.entry) object.maps) (K.source kallsyms) Stated file) }
+    ensures refused { (file : List ℕ) → IsParsed Stated file object → IfErr result (λ f. MatchBool (is_outside f) ⊤ (CannotPrepare (asked (option_copied types.entry) object.maps) (K.source kallsyms) file f)) }
 {
     let Ok(names) = map_names(alloc, &object) else {
         return Err(Failure::Memory);
@@ -128,14 +128,14 @@ fn inspect_all<K: BufRead + Drop>(
 }
 
 /// What the programs of a file are made of after all passes.
-fn inspected<K: BufRead + Drop>(
+fn inspected<K: SymbolSource>(
     alloc: Global,
     file: &[u8],
     btf: Option<&[u8]>,
     kallsyms: K,
 ) -> Result<Items<ProgramReport>, Failure<'static>>
-    ensures inspected { IfOk result (HasInspected file.now (option_copied btf.entry) (K.remaining kallsyms)) }
-    ensures refused { IfErr result (λ f. MatchBool (is_outside f) ⊤ (Stands file.now (option_copied btf.entry) (K.remaining kallsyms) None f)) }
+    ensures inspected { IfOk result (HasInspected file.now (option_copied btf.entry) (K.source kallsyms)) }
+    ensures refused { IfErr result (λ f. MatchBool (is_outside f) ⊤ (Stands file.now (option_copied btf.entry) (K.source kallsyms) None f)) }
 {
     let types = match read_types(alloc, btf) {
         Ok(types) => types,
@@ -156,7 +156,7 @@ fn inspected<K: BufRead + Drop>(
 /// `NoProgram` where no program has the name. `CannotWrite` where the writer fails, `Memory` where memory was refused
 /// between the stages. But for `CannotWrite` nothing was written.
 #[tactic(auto, using(crate::proofs::Refusing::untouched))]
-pub fn print_reports<'a, K: BufRead + Drop, W: Write>(
+pub fn print_reports<'a, K: SymbolSource, W: Write>(
     alloc: Global,
     program: Option<&'a str>,
     file: &[u8],
@@ -164,8 +164,8 @@ pub fn print_reports<'a, K: BufRead + Drop, W: Write>(
     kallsyms: K,
     out: &mut W,
 ) -> Result<(), Failure<'a>>
-    ensures done { OnOk result (HasListed file.now (option_copied btf.entry) (K.remaining kallsyms) (option_copied program.entry) (W.contents out.old) (W.contents out.new)) }
-    ensures refused { IfErr result (λ f. MatchBool (is_outside f) ⊤ (Stands file.now (option_copied btf.entry) (K.remaining kallsyms) (option_copied program.entry) f)) }
+    ensures done { OnOk result (HasListed file.now (option_copied btf.entry) (K.source kallsyms) (option_copied program.entry) (W.contents out.old) (W.contents out.new)) }
+    ensures refused { IfErr result (λ f. MatchBool (is_outside f) ⊤ (Stands file.now (option_copied btf.entry) (K.source kallsyms) (option_copied program.entry) f)) }
     ensures untouched { IfErr result (λ f. MatchBool (is_writers f) ⊤ (out.new ≡ out.old)) }
 {
     let reports = match inspected(alloc, file, btf, kallsyms) {
@@ -180,7 +180,7 @@ pub fn print_reports<'a, K: BufRead + Drop, W: Write>(
 
 /// Inspects a file and prints what its programs are made of, all in byte order of their names or the one that `words`
 /// names. What it is given, the passes and the status are those of `run_link`.
-pub fn run_inspect<K: BufRead + Drop, O: Write, E: Write>(
+pub fn run_inspect<K: SymbolSource, O: Write, E: Write>(
     alloc: Global,
     words: &Words,
     file: &[u8],
@@ -190,7 +190,7 @@ pub fn run_inspect<K: BufRead + Drop, O: Write, E: Write>(
     err: &mut E,
 ) -> u8
     ensures status { result ≤ 1 }
-    ensures done { result ≡ 0 → HasListed file.now (option_copied btf.entry) (K.remaining kallsyms) words.now.program (O.contents out.old) (O.contents out.new) }
+    ensures done { result ≡ 0 → HasListed file.now (option_copied btf.entry) (K.source kallsyms) words.now.program (O.contents out.old) (O.contents out.new) }
 {
     match print_reports(alloc, words.program(), file, btf, kallsyms, out) {
         Ok(()) => 0,

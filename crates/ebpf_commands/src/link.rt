@@ -19,10 +19,10 @@ use crate::preparation::{all_passes, map_names, numbered, read_types};
 use crate::program_text::write_program;
 use ebpf_btf::Btf;
 use ebpf_object::Object;
-use ebpf_object::prepare::{PrepareError, prepare_object};
+use ebpf_object::prepare::{PrepareError, SymbolSource, prepare_object};
 use ebpf_reloc::Function;
 use std::alloc::Global;
-use std::io::{BufRead, Write};
+use std::io::Write;
 
 /// The function of the program of a name.
 fn function_named<'a>(object: &'a Object, name: &str) -> Option<&'a Function>
@@ -133,14 +133,14 @@ fn print_object<'a, W: Write>(
 }
 
 /// An object after all passes: types where the kernel's are known, descriptors of its own maps, externs, calls.
-pub fn prepare_all<K: BufRead + Drop>(
+pub fn prepare_all<K: SymbolSource>(
     alloc: Global,
     object: Object,
     types: Option<&Btf>,
     kallsyms: K,
 ) -> Result<Object, Failure<'static>>
-    ensures headline { (file : List ℕ) → IsParsed Stated file object → IfOk result (Headline (asked (option_copied types.entry) object.maps) (K.remaining kallsyms) Stated file) }
-    ensures refused { (file : List ℕ) → IsParsed Stated file object → IfErr result (λ f. MatchBool (is_outside f) ⊤ (CannotPrepare (asked (option_copied types.entry) object.maps) (K.remaining kallsyms) file f)) }
+    ensures headline { (file : List ℕ) → IsParsed Stated file object → IfOk result (Headline (asked (option_copied types.entry) object.maps) (K.source kallsyms) Stated file) }
+    ensures refused { (file : List ℕ) → IsParsed Stated file object → IfErr result (λ f. MatchBool (is_outside f) ⊤ (CannotPrepare (asked (option_copied types.entry) object.maps) (K.source kallsyms) file f)) }
 {
     let Ok(names) = map_names(alloc, &object) else {
         return Err(Failure::Memory);
@@ -155,14 +155,14 @@ pub fn prepare_all<K: BufRead + Drop>(
 }
 
 /// The object of a file after all passes.
-fn prepared<K: BufRead + Drop>(
+fn prepared<K: SymbolSource>(
     alloc: Global,
     file: &[u8],
     btf: Option<&[u8]>,
     kallsyms: K,
 ) -> Result<Object, Failure<'static>>
-    ensures linked { IfOk result (IsLinked file.now (option_copied btf.entry) (K.remaining kallsyms)) }
-    ensures refused { IfErr result (λ f. MatchBool (is_outside f) ⊤ (Stands file.now (option_copied btf.entry) (K.remaining kallsyms) None f)) }
+    ensures linked { IfOk result (IsLinked file.now (option_copied btf.entry) (K.source kallsyms)) }
+    ensures refused { IfErr result (λ f. MatchBool (is_outside f) ⊤ (Stands file.now (option_copied btf.entry) (K.source kallsyms) None f)) }
 {
     let types = match read_types(alloc, btf) {
         Ok(types) => types,
@@ -183,7 +183,7 @@ fn prepared<K: BufRead + Drop>(
 /// `NoProgram` where no program has the name. `CannotWrite` where the writer fails, `Memory` where memory was refused
 /// between the stages. But for `CannotWrite` nothing was written.
 #[tactic(auto, using(crate::proofs::Refusing::untouched))]
-pub fn print_programs<'a, K: BufRead + Drop, W: Write>(
+pub fn print_programs<'a, K: SymbolSource, W: Write>(
     alloc: Global,
     program: Option<&'a str>,
     file: &[u8],
@@ -191,8 +191,8 @@ pub fn print_programs<'a, K: BufRead + Drop, W: Write>(
     kallsyms: K,
     out: &mut W,
 ) -> Result<(), Failure<'a>>
-    ensures done { OnOk result (HasPrinted file.now (option_copied btf.entry) (K.remaining kallsyms) (option_copied program.entry) (W.contents out.old) (W.contents out.new)) }
-    ensures refused { IfErr result (λ f. MatchBool (is_outside f) ⊤ (Stands file.now (option_copied btf.entry) (K.remaining kallsyms) (option_copied program.entry) f)) }
+    ensures done { OnOk result (HasPrinted file.now (option_copied btf.entry) (K.source kallsyms) (option_copied program.entry) (W.contents out.old) (W.contents out.new)) }
+    ensures refused { IfErr result (λ f. MatchBool (is_outside f) ⊤ (Stands file.now (option_copied btf.entry) (K.source kallsyms) (option_copied program.entry) f)) }
     ensures untouched { IfErr result (λ f. MatchBool (is_writers f) ⊤ (out.new ≡ out.old)) }
 {
     let object = match prepared(alloc, file, btf, kallsyms) {
@@ -210,7 +210,7 @@ pub fn print_programs<'a, K: BufRead + Drop, W: Write>(
 /// symbols. Functions are adapted to the types where they are known, the object's own maps have the descriptors 1 and
 /// on in byte order of their names, externs are resolved and written, and programs are joined with the functions that
 /// they reach. It gives the status: 0, or 1 with one line on `err`, the failure that `print_programs` gives.
-pub fn run_link<K: BufRead + Drop, O: Write, E: Write>(
+pub fn run_link<K: SymbolSource, O: Write, E: Write>(
     alloc: Global,
     words: &Words,
     file: &[u8],
@@ -220,7 +220,7 @@ pub fn run_link<K: BufRead + Drop, O: Write, E: Write>(
     err: &mut E,
 ) -> u8
     ensures status { result ≤ 1 }
-    ensures done { result ≡ 0 → HasPrinted file.now (option_copied btf.entry) (K.remaining kallsyms) words.now.program (O.contents out.old) (O.contents out.new) }
+    ensures done { result ≡ 0 → HasPrinted file.now (option_copied btf.entry) (K.source kallsyms) words.now.program (O.contents out.old) (O.contents out.new) }
 {
     match print_programs(alloc, words.program(), file, btf, kallsyms, out) {
         Ok(()) => 0,

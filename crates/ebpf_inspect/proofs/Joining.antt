@@ -2,6 +2,7 @@
 use Rattle.std.proofs.Common.{◌≡◌, ◌∙◌, ℕ, true, false, List, Option, None, sym, subst}
 use Rattle.ebpf_inspect.specs.Inspected.{joining, AreReports, AreReportsOf, IsInspected}
 use Rattle.ebpf_inspect.specs.declared.report.ProgramReport.{ProgramReport}
+use Rattle.ebpf_ksyms.specs.Sources.{Source}
 use Rattle.ebpf_object.proofs.Headline.{finished}
 use Rattle.ebpf_object.specs.Joined.{programs_in_order}
 use Rattle.ebpf_object.specs.Objects.{object_as, parse_fault_as}
@@ -14,7 +15,7 @@ use Rattle.ebpf_object.specs.declared.prepare_error.PrepareError.{PrepareError}
 use Rattle.ebpf_object.specs.declared.prepare_error.PrepareError.TheVariants.{Parse, Types, Maps, Ksyms, Externs, Calls, OutOfMemory}
 use Rattle.ebpf_parts.specs.declared.reading.Reading.{Reading}
 
-module _ (s : Chosen) (lines : Option (List ℕ)) where
+module _ (s : Chosen) (lines : Source) where
   abbrev pub alone : Chosen
   alone = record s { calls = false }
 

@@ -2,6 +2,7 @@
 use Rattle.std.specs.Prelude.{◌≡◌, ℕ, true, List, [], ◌∷◌, Option, Some}
 use Rattle.std.specs.FinMap.{get}
 use Rattle.ebpf_inspect.specs.declared.report.ProgramReport.{ProgramReport}
+use Rattle.ebpf_ksyms.specs.Sources.{Source}
 use Rattle.ebpf_object.specs.Headline.{Headline, linkable}
 use Rattle.ebpf_object.specs.Joined.{programs_in_order}
 use Rattle.ebpf_object.specs.Prepared.{Stages}
@@ -41,13 +42,13 @@ AreReports unlinked linked [] (r ∷ rs) = ⊥
 AreReports unlinked linked (p ∷ ps) [] = ⊥
 
 -- the reports of an object's programs, in byte order of their names, after the chosen passes and joined
-pub record AreReportsOf (steps : Chosen) (lines : Option (List ℕ)) (o : Object) (reports : List ProgramReport) : Type 0 where
+pub record AreReportsOf (steps : Chosen) (lines : Source) (o : Object) (reports : List ProgramReport) : Type 0 where
   pub linked : Object
   pub stages : Stages (joining steps) lines o linked
   pub each : AreReports stages.unlinked linked (programs_in_order linked.programs) reports
 
 -- the same of a file in a reading
-pub record IsInspected (steps : Chosen) (lines : Option (List ℕ)) (reading : Reading) (bytes : List ℕ) (reports : List ProgramReport) : Type 0 where
+pub record IsInspected (steps : Chosen) (lines : Source) (reading : Reading) (bytes : List ℕ) (reports : List ProgramReport) : Type 0 where
   pub linked : Object
   pub headline : Headline (joining steps) lines reading bytes linked
   pub each : AreReports headline.prepared.stages.unlinked linked (programs_in_order linked.programs) reports

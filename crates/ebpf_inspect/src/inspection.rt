@@ -17,9 +17,8 @@ use crate::report::ProgramReport;
 use ebpf_base::Items;
 use ebpf_object::Object;
 use ebpf_object::insn::bpf_insn;
-use ebpf_object::prepare::{PrepareError, Steps, prepare_object};
+use ebpf_object::prepare::{PrepareError, Steps, SymbolSource, prepare_object};
 use std::alloc::{AllocError, Global};
-use std::io::BufRead;
 
 /// The chosen passes, but for the joining of programs.
 fn without_calls<'a>(steps: &Steps<'a>) -> Steps<'a>
@@ -89,14 +88,14 @@ fn report(alloc: Global, object: &mut Object) -> Result<Items<ProgramReport>, Pr
 }
 
 /// Prepares an object with the chosen passes, joins its programs, and reports what each is made of.
-fn inspect_all<K: BufRead + Drop>(
+fn inspect_all<K: SymbolSource>(
     alloc: Global,
     object: Object,
     steps: &Steps<'_>,
     kallsyms: K,
 ) -> Result<Items<ProgramReport>, PrepareError>
-    ensures reports { IfOk result (AreReportsOf (chosen steps.now) (K.remaining kallsyms) object) }
-    ensures fault { IfErr result (Refuses (IsFault (joining (chosen steps.now)) (K.remaining kallsyms) object)) }
+    ensures reports { IfOk result (AreReportsOf (chosen steps.now) (K.source kallsyms) object) }
+    ensures fault { IfErr result (Refuses (IsFault (joining (chosen steps.now)) (K.source kallsyms) object)) }
 {
     let mut prepared = match prepare_object(alloc, object, &without_calls(steps), kallsyms) {
         Ok(prepared) => prepared,
@@ -111,16 +110,16 @@ fn inspect_all<K: BufRead + Drop>(
 /// # Errors
 ///
 /// Those of `inspect`, but `Parse`.
-pub fn inspect_object<K: BufRead + Drop>(
+pub fn inspect_object<K: SymbolSource>(
     alloc: Global,
     object: Object,
     steps: &Steps<'_>,
     kallsyms: K,
 ) -> Result<Items<ProgramReport>, PrepareError>
-    ensures reports { IfOk result (AreReportsOf (chosen steps.now) (K.remaining kallsyms) object) }
-    ensures inspected { (reading : Reading) (file : List ℕ) → IsParsed reading file object → IfOk result (IsInspected (chosen steps.now) (K.remaining kallsyms) reading file) }
-    ensures fault { IfErr result (Refuses (IsFault (joining (chosen steps.now)) (K.remaining kallsyms) object)) }
-    ensures first_fault { (reading : Reading) (file : List ℕ) → IsParsed reading file object → IfErr result (Refuses (IsFirstFault (joining (chosen steps.now)) (K.remaining kallsyms) reading file)) }
+    ensures reports { IfOk result (AreReportsOf (chosen steps.now) (K.source kallsyms) object) }
+    ensures inspected { (reading : Reading) (file : List ℕ) → IsParsed reading file object → IfOk result (IsInspected (chosen steps.now) (K.source kallsyms) reading file) }
+    ensures fault { IfErr result (Refuses (IsFault (joining (chosen steps.now)) (K.source kallsyms) object)) }
+    ensures first_fault { (reading : Reading) (file : List ℕ) → IsParsed reading file object → IfErr result (Refuses (IsFirstFault (joining (chosen steps.now)) (K.source kallsyms) reading file)) }
 {
     inspect_all(alloc, object, steps, kallsyms)
 }
@@ -133,14 +132,14 @@ pub fn inspect_object<K: BufRead + Drop>(
 ///
 /// Those of `prepare` with the same steps where it joins programs: the fault of the first pass that has one, in that
 /// pass's own error. `OutOfMemory`, and the passes' own, only where memory was refused.
-pub fn inspect<K: BufRead + Drop>(
+pub fn inspect<K: SymbolSource>(
     alloc: Global,
     bytes: &[u8],
     steps: &Steps<'_>,
     kallsyms: K,
 ) -> Result<Items<ProgramReport>, PrepareError>
-    ensures reports { IfOk result (IsInspected (chosen steps.now) (K.remaining kallsyms) Stated bytes.now) }
-    ensures fault { IfErr result (Refuses (IsFirstFault (joining (chosen steps.now)) (K.remaining kallsyms) Stated bytes.now)) }
+    ensures reports { IfOk result (IsInspected (chosen steps.now) (K.source kallsyms) Stated bytes.now) }
+    ensures fault { IfErr result (Refuses (IsFirstFault (joining (chosen steps.now)) (K.source kallsyms) Stated bytes.now)) }
 {
     match Object::parse(alloc, bytes) {
         Ok(object) => inspect_object(alloc, object, steps, kallsyms),

@@ -12,6 +12,7 @@ use Rattle.ebpf_btf.specs.TypeInfo.{TypeInfo}
 use Rattle.ebpf_core_relo.proofs.RecordRuns.{put_slots_stand, records_alone_are_carried}
 use Rattle.ebpf_core_relo.specs.Alone.{Touches, Carries}
 use Rattle.ebpf_core_relo.specs.Records.{Written, own_slots, slots_at, slots_written, with_slots}
+use Rattle.ebpf_ksyms.specs.Sources.{Source}
 use Rattle.ebpf_linker.specs.Functions.{or_empty}
 use Rattle.ebpf_object.specs.AdaptedSlots.{AreAdapted, adapted_by}
 use Rattle.ebpf_object.specs.Chain.{Chain, Links, with_descriptors}
@@ -177,7 +178,7 @@ described_by (Some descriptors) a b is = is
 same_externs : (b : Object) → b ≡ record b { externs = b.externs }
 same_externs b = refl
 
-resolved_by : (kernel : Option (Option TypeInfo)) (lines : Option (List ℕ)) (b c : Object) → Resolves kernel lines b c → c ≡ record b { externs = c.externs }
+resolved_by : (kernel : Option (Option TypeInfo)) (lines : Source) (b c : Object) → Resolves kernel lines b c → c ≡ record b { externs = c.externs }
 resolved_by None lines b c is = subst (λ (x : Object). x ≡ record b { externs = x.externs }) (sym is) (same_externs b)
 resolved_by (Some kernel) lines b c resolves = resolves.1
 
@@ -189,7 +190,7 @@ linked_by : (calls : Bool) (d o : Object) → Joins calls d o → Links (if call
 linked_by true d o joins = joins
 linked_by false d o joins = joins
 
-module _ (steps : Chosen) (lines : Option (List ℕ)) (reading : Reading) (bytes : List ℕ) (o : Object) (p : IsPrepared steps lines reading bytes o) where
+module _ (steps : Chosen) (lines : Source) (reading : Reading) (bytes : List ℕ) (o : Object) (p : IsPrepared steps lines reading bytes o) where
   abbrev s : Stages steps lines (object_of bytes) o
   s = p.stages
 
@@ -209,5 +210,5 @@ module _ (steps : Chosen) (lines : Option (List ℕ)) (reading : Reading) (bytes
   pub finished : IsFinished (passes_of p) (object_as reading bytes) o
   finished = passes_finish (passes_of p) (object_as reading bytes) o chain
 
-pub headline : (steps : Chosen) (lines : Option (List ℕ)) (reading : Reading) (bytes : List ℕ) (o : Object) → IsPrepared steps lines reading bytes o → Headline steps lines reading bytes o
+pub headline : (steps : Chosen) (lines : Source) (reading : Reading) (bytes : List ℕ) (o : Object) → IsPrepared steps lines reading bytes o → Headline steps lines reading bytes o
 headline steps lines reading bytes o p = record { prepared = p; finished = finished steps lines reading bytes o p }

@@ -12,12 +12,13 @@ use Rattle.ebpf_core_relo.specs.Records.{Written, with_slots}
 use Rattle.ebpf_core_relo.specs.declared.error.BtfRelocationError.{BtfRelocationError}
 use Rattle.ebpf_ksyms.specs.Externs as resolution
 use Rattle.ebpf_ksyms.specs.Readers.{IsRefusedIn, IsResolvedIn}
+use Rattle.ebpf_ksyms.specs.Sources.{Reader}
 use Rattle.ebpf_ksyms.specs.declared.error.KsymsError.{KsymsError}
 use Rattle.ebpf_object.proofs.OneJoining.{one_joining}
 use Rattle.ebpf_object.proofs.OneResolution.{not_resolved, one_refusal, one_resolved}
 use Rattle.ebpf_object.specs.AdaptedSlots.{AreAdapted, adapted_slots}
 use Rattle.ebpf_object.specs.Joined.{AreJoined, is_program_key, linkable_of, programs_in_order}
-use Rattle.ebpf_object.specs.Objects.{object_of, parse_fault}
+use Rattle.ebpf_object.specs.Objects.{object_as, parse_fault_as}
 use Rattle.ebpf_object.specs.OnePreparation.{MayPrepare, MayStage, OnePreparation, OneStaging, is_access, is_access_error, is_open, told, told_in}
 use Rattle.ebpf_object.specs.Prepared.{IsFault, IsFaultAfter, IsFirstFault, IsPrepared, NamesNothing, Refuses, Stages, before_calls, before_externs, before_maps, before_resolution, is_memory}
 use Rattle.ebpf_object.specs.Stages.{Adapts, AdaptingFault, Joins, JoiningFault, Resolves, ResolvingFault, described, describing_fault, externs_known, knowing_fault}
@@ -27,6 +28,7 @@ use Rattle.ebpf_object.specs.declared.object.Object.{Object}
 use Rattle.ebpf_object.specs.declared.prepare_error.PrepareError.{PrepareError}
 use Rattle.ebpf_object.specs.declared.prepare_error.PrepareError.TheVariants.{Parse, Types, Maps, Ksyms, Externs, Calls, OutOfMemory}
 use Rattle.ebpf_parts.specs.declared.error.ParseError.{ParseError}
+use Rattle.ebpf_parts.specs.declared.reading.Reading.{Reading}
 use Rattle.ebpf_reloc.proofs.OneResult.{any_at, not_refused, one_result}
 use Rattle.ebpf_reloc.specs.Linking.{IsFirstFault as IsFirstProgram, ProgramValue, key_of}
 use Rattle.ebpf_reloc.specs.Places.{LinkableValue}
@@ -74,17 +76,17 @@ one_adapting (Some target) o d e f g = same_err (adapted_slots o target) (told_a
 -- ---- resolution
 
 module _ (lines : List ℕ) where
-  one_resolution : (kernel : Option (Option TypeInfo)) (o a b : Object) → Resolves kernel (Some lines) o a → Resolves kernel (Some lines) o b → a ≡ b
+  one_resolution : (kernel : Option (Option TypeInfo)) (o a b : Object) → Resolves kernel (Reader (Some lines)) o a → Resolves kernel (Reader (Some lines)) o b → a ≡ b
   one_resolution None o a b h g = h ∙ sym g
   one_resolution (Some kernel) o a b h g =
       h.1 ∙ ap (λ (x : resolution.Externs). record o { externs = x }) (one_resolved lines o.btf kernel o.externs a.externs b.externs h.0 g.0) ∙ sym g.1
 
-  not_resolving : (kernel : Option (Option TypeInfo)) (o a : Object) (e : KsymsError) → is_access_error e ≡ false → Resolves kernel (Some lines) o a → ResolvingFault kernel (Some lines) o e → ⊥
+  not_resolving : (kernel : Option (Option TypeInfo)) (o a : Object) (e : KsymsError) → is_access_error e ≡ false → Resolves kernel (Reader (Some lines)) o a → ResolvingFault kernel (Reader (Some lines)) o e → ⊥
   not_resolving None o a e other h f = f
   not_resolving (Some kernel) o a e other h f = not_resolved lines o.btf kernel o.externs a.externs e other h.0 f
 
   one_resolving : (kernel : Option (Option TypeInfo)) (o : Object) (d e : KsymsError) → is_access_error d ≡ false → is_access_error e ≡ false
-      → ResolvingFault kernel (Some lines) o d → ResolvingFault kernel (Some lines) o e → d ≡ e
+      → ResolvingFault kernel (Reader (Some lines)) o d → ResolvingFault kernel (Reader (Some lines)) o e → d ≡ e
   one_resolving None o d e od oe f g = absurd f
   one_resolving (Some kernel) o d e od oe f g = one_refusal lines o.btf kernel o.externs d e od oe f g
 
@@ -123,14 +125,14 @@ one_refused true o d e f g =
 
 module _ (lines : List ℕ) (o : Object) where
   abbrev Leads : Chosen → Object → Type 0
-  Leads steps after = Stages steps (Some lines) o after
+  Leads steps after = Stages steps (Reader (Some lines)) o after
 
   one_staged : (steps : Chosen) (a b : Object) → Leads steps a → Leads steps b → a ≡ b
   one_staged steps a b h g =
       let relocated : h.relocated ≡ g.relocated = one_adapted steps.target o h.relocated g.relocated h.types g.types in
       let with_maps : h.described ≡ g.described = h.maps ∙ ap (described steps.descriptors) relocated ∙ sym g.maps in
       let resolved : h.resolved ≡ g.resolved =
-      one_resolution lines steps.kernel g.described h.resolved g.resolved (subst (λ (x : Object). Resolves steps.kernel (Some lines) x h.resolved) with_maps h.resolution) g.resolution
+      one_resolution lines steps.kernel g.described h.resolved g.resolved (subst (λ (x : Object). Resolves steps.kernel (Reader (Some lines)) x h.resolved) with_maps h.resolution) g.resolution
       in
       let unlinked : h.unlinked ≡ g.unlinked = h.externs ∙ ap (externs_known steps.externs) resolved ∙ sym g.externs in
       one_joined steps.calls g.unlinked a b (subst (λ (x : Object). Joins steps.calls x a) unlinked h.calls) g.calls
@@ -198,11 +200,11 @@ module _ (lines : List ℕ) (o : Object) where
   }
 
   -- a fault in what some steps leave is one in each object that they leave
-  fault_in : (steps : Chosen) (Fault : Object → Type 0) (x : Object) → Leads steps x → IsFaultAfter steps (Some lines) o Fault → Fault x
+  fault_in : (steps : Chosen) (Fault : Object → Type 0) (x : Object) → Leads steps x → IsFaultAfter steps (Reader (Some lines)) o Fault → Fault x
   fault_in steps Fault x s f = subst Fault (one_staged steps f.before x f.stages s) f.fault
 
   -- stages that lead on have no fault
-  led_on : (steps : Chosen) (after : Object) → Leads steps after → (e : PrepareError) → is_access e ≡ false → IsFault steps (Some lines) o e → ⊥
+  led_on : (steps : Chosen) (after : Object) → Leads steps after → (e : PrepareError) → is_access e ≡ false → IsFault steps (Reader (Some lines)) o e → ⊥
   led_on steps after s (Types e) other f = not_adapted steps.target o s.relocated e s.types f
   led_on steps after s (Maps e) other f =
       none_or_some (describing_fault steps.descriptors s.relocated) e s.maps_sound (fault_in (before_maps steps) _ s.relocated (up_to_types steps after s) f)
@@ -215,7 +217,7 @@ module _ (lines : List ℕ) (o : Object) where
   led_on steps after s (Parse e) other f = f
   led_on steps after s OutOfMemory other f = f
 
-  one_fault : (steps : Chosen) (d e : PrepareError) → is_access d ≡ false → is_access e ≡ false → IsFault steps (Some lines) o d → IsFault steps (Some lines) o e → told d ≡ told e
+  one_fault : (steps : Chosen) (d e : PrepareError) → is_access d ≡ false → is_access e ≡ false → IsFault steps (Reader (Some lines)) o d → IsFault steps (Reader (Some lines)) o e → told d ≡ told e
   one_fault steps (Types d) (Types e) od oe f g = ap Types (one_adapting steps.target o d e f g)
   one_fault steps (Types d) (Maps e) od oe f g = absurd (led_on (before_maps steps) g.before g.stages (Types d) od f)
   one_fault steps (Types d) (Ksyms e) od oe f g = absurd (led_on (before_resolution steps) g.before g.stages (Types d) od f)
@@ -266,25 +268,25 @@ module _ (Fault : PrepareError → Type 0) (e : PrepareError) (is : (is_memory e
 pub one_staging : OneStaging
 one_staging steps lines o (Ok a) (Ok b) h g hs gs = ap Ok (one_staged lines o steps a b h g)
 one_staging steps lines o (Ok a) (Err e) h g hs gs =
-    absurd (led_on lines o steps a h e (no_access (IsFault steps (Some lines) o) e gs) (refusal_stated (IsFault steps (Some lines) o) e gs g))
+    absurd (led_on lines o steps a h e (no_access (IsFault steps (Reader (Some lines)) o) e gs) (refusal_stated (IsFault steps (Reader (Some lines)) o) e gs g))
 one_staging steps lines o (Err d) (Ok b) h g hs gs =
-    absurd (led_on lines o steps b g d (no_access (IsFault steps (Some lines) o) d hs) (refusal_stated (IsFault steps (Some lines) o) d hs h))
+    absurd (led_on lines o steps b g d (no_access (IsFault steps (Reader (Some lines)) o) d hs) (refusal_stated (IsFault steps (Reader (Some lines)) o) d hs h))
 one_staging steps lines o (Err d) (Err e) h g hs gs =
-    let Fault = IsFault steps (Some lines) o in
+    let Fault = IsFault steps (Reader (Some lines)) o in
     ap Err (one_fault lines o steps d e (no_access Fault d hs) (no_access Fault e gs) (refusal_stated Fault d hs h) (refusal_stated Fault e gs g))
 
 -- ---- of a file
 
-module _ (steps : Chosen) (lines bytes : List ℕ) where
+module _ (steps : Chosen) (lines : List ℕ) (reading : Reading) (bytes : List ℕ) where
   abbrev First : PrepareError → Type 0
-  First e = IsFirstFault steps (Some lines) bytes e
+  First e = IsFirstFault steps (Reader (Some lines)) reading bytes e
 
   -- the file's own fault, or that of a stage
   abbrev OfFile : PrepareError → Type 0
-  OfFile e = (p : ParseError) × (parse_fault bytes ≡ Some p) × (e ≡ Parse p)
+  OfFile e = (p : ParseError) × (parse_fault_as reading bytes ≡ Some p) × (e ≡ Parse p)
 
   abbrev OfStage : PrepareError → Type 0
-  OfStage e = (parse_fault bytes ≡ None) × IsFault steps (Some lines) (object_of bytes) e
+  OfStage e = (parse_fault_as reading bytes ≡ None) × IsFault steps (Reader (Some lines)) (object_as reading bytes) e
 
   either : (e : PrepareError) → First e → OfFile e ⊎ OfStage e
   either (Parse e) f = inl (e, f, refl)
@@ -297,25 +299,25 @@ module _ (steps : Chosen) (lines bytes : List ℕ) where
 
   one_first : (d e : PrepareError) → is_access d ≡ false → is_access e ≡ false → OfFile d ⊎ OfStage d → OfFile e ⊎ OfStage e → told d ≡ told e
   one_first d e od oe (inl f) (inl g) =
-      let same : f.0 ≡ g.0 = same_some (parse_fault bytes) f.0 g.0 f.1 g.1 in
+      let same : f.0 ≡ g.0 = same_some (parse_fault_as reading bytes) f.0 g.0 f.1 g.1 in
       ap told (f.2 ∙ ap Parse same ∙ sym g.2)
-  one_first d e od oe (inl f) (inr g) = absurd (none_or_some (parse_fault bytes) f.0 g.0 f.1)
-  one_first d e od oe (inr f) (inl g) = absurd (none_or_some (parse_fault bytes) g.0 f.0 g.1)
-  one_first d e od oe (inr f) (inr g) = one_fault lines (object_of bytes) steps d e od oe f.1 g.1
+  one_first d e od oe (inl f) (inr g) = absurd (none_or_some (parse_fault_as reading bytes) f.0 g.0 f.1)
+  one_first d e od oe (inr f) (inl g) = absurd (none_or_some (parse_fault_as reading bytes) g.0 f.0 g.1)
+  one_first d e od oe (inr f) (inr g) = one_fault lines (object_as reading bytes) steps d e od oe f.1 g.1
 
-  no_first : (o : Object) (e : PrepareError) → is_access e ≡ false → IsPrepared steps (Some lines) bytes o → OfFile e ⊎ OfStage e → ⊥
-  no_first o e other p (inl f) = none_or_some (parse_fault bytes) f.0 p.sound f.1
-  no_first o e other p (inr f) = led_on lines (object_of bytes) steps o p.stages e other f.1
+  no_first : (o : Object) (e : PrepareError) → is_access e ≡ false → IsPrepared steps (Reader (Some lines)) reading bytes o → OfFile e ⊎ OfStage e → ⊥
+  no_first o e other p (inl f) = none_or_some (parse_fault_as reading bytes) f.0 p.sound f.1
+  no_first o e other p (inr f) = led_on lines (object_as reading bytes) steps o p.stages e other f.1
 
 pub one_preparation : OnePreparation
-one_preparation steps lines bytes (Ok a) (Ok b) h g hs gs = ap Ok (one_staged lines (object_of bytes) steps a b h.stages g.stages)
-one_preparation steps lines bytes (Ok a) (Err e) h g hs gs =
-    let Fault = IsFirstFault steps (Some lines) bytes in
-    absurd (no_first steps lines bytes a e (no_access Fault e gs) h (either steps lines bytes e (refusal_stated Fault e gs g)))
-one_preparation steps lines bytes (Err d) (Ok b) h g hs gs =
-    let Fault = IsFirstFault steps (Some lines) bytes in
-    absurd (no_first steps lines bytes b d (no_access Fault d hs) g (either steps lines bytes d (refusal_stated Fault d hs h)))
-one_preparation steps lines bytes (Err d) (Err e) h g hs gs =
-    let Fault = IsFirstFault steps (Some lines) bytes in
-    ap Err (one_first steps lines bytes d e (no_access Fault d hs) (no_access Fault e gs)
-    (either steps lines bytes d (refusal_stated Fault d hs h)) (either steps lines bytes e (refusal_stated Fault e gs g)))
+one_preparation steps lines reading bytes (Ok a) (Ok b) h g hs gs = ap Ok (one_staged lines (object_as reading bytes) steps a b h.stages g.stages)
+one_preparation steps lines reading bytes (Ok a) (Err e) h g hs gs =
+    let Fault = IsFirstFault steps (Reader (Some lines)) reading bytes in
+    absurd (no_first steps lines reading bytes a e (no_access Fault e gs) h (either steps lines reading bytes e (refusal_stated Fault e gs g)))
+one_preparation steps lines reading bytes (Err d) (Ok b) h g hs gs =
+    let Fault = IsFirstFault steps (Reader (Some lines)) reading bytes in
+    absurd (no_first steps lines reading bytes b d (no_access Fault d hs) g (either steps lines reading bytes d (refusal_stated Fault d hs h)))
+one_preparation steps lines reading bytes (Err d) (Err e) h g hs gs =
+    let Fault = IsFirstFault steps (Reader (Some lines)) reading bytes in
+    ap Err (one_first steps lines reading bytes d e (no_access Fault d hs) (no_access Fault e gs)
+    (either steps lines reading bytes d (refusal_stated Fault d hs h)) (either steps lines reading bytes e (refusal_stated Fault e gs g)))

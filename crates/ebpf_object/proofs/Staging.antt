@@ -2,6 +2,7 @@
 use Rattle.std.proofs.Common.{◌≡◌, ℕ, Bool, true, false, List, Option, Some, None, refl, subst, sym}
 use Rattle.std.specs.Prelude.{MatchBool, Result, Ok, Err, OnOk, IfOk, IfErr, IsErrAnd}
 use Rattle.ebpf_object.specs.Prepared.{Stages, before_calls, before_externs, before_resolution, before_maps, IsFaultAfter, IsFault, IsFirstFault, IsPrepared, IsParsed, Refuses, NamesNothing, is_memory}
+use Rattle.ebpf_ksyms.specs.Sources.{Source}
 use Rattle.ebpf_object.specs.Objects.{object_as, parse_fault_as}
 use Rattle.ebpf_object.specs.StageFaults.{Wrapped}
 use Rattle.ebpf_object.specs.Stages.{Adapts, AdaptingFault, described, describing_fault, Resolves, ResolvingFault, externs_known, knowing_fault, Joins, JoiningFault}
@@ -48,7 +49,7 @@ module _ {E : Type 0} (variant : E → PrepareError) (Own : E → Type 0) where
 
 -- ---- the stages one after the other
 
-module _ (steps : Chosen) (lines : Option (List ℕ)) (o : Object) where
+module _ (steps : Chosen) (lines : Source) (o : Object) where
   pub adapting_refused : (e : PrepareError) → Refuses (Wrapped Types (AdaptingFault steps.target o)) e → Refuses (IsFault steps lines o) e
   adapting_refused e r = refused_as Types (AdaptingFault steps.target o) (IsFault steps lines o) (λ own fault. fault) e r
 
@@ -149,7 +150,7 @@ module _ (steps : Chosen) (lines : Option (List ℕ)) (o : Object) where
 
 -- ---- with parsing before the stages
 
-first_of : (steps : Chosen) (lines : Option (List ℕ)) (reading : Reading) (bytes : List ℕ) → parse_fault_as reading bytes ≡ None → (e : PrepareError) → IsFault steps lines (object_as reading bytes) e → IsFirstFault steps lines reading bytes e
+first_of : (steps : Chosen) (lines : Source) (reading : Reading) (bytes : List ℕ) → parse_fault_as reading bytes ≡ None → (e : PrepareError) → IsFault steps lines (object_as reading bytes) e → IsFirstFault steps lines reading bytes e
 first_of steps lines reading bytes sound (Parse e) f = elim f [ ]
 first_of steps lines reading bytes sound (Types e) f = (sound, f)
 first_of steps lines reading bytes sound (Maps e) f = (sound, f)
@@ -163,7 +164,7 @@ first_of steps lines reading bytes sound OutOfMemory f = elim f [ ]
 pub parsed : (reading : Reading) (bytes : List ℕ) (o : Object) → o ≡ object_as reading bytes → parse_fault_as reading bytes ≡ None → IsParsed reading bytes o
 parsed reading bytes o is sound = record { sound = sound; is = is }
 
-module _ (steps : Chosen) (lines : Option (List ℕ)) (reading : Reading) (bytes : List ℕ) (o : Object) (from : IsParsed reading bytes o) where
+module _ (steps : Chosen) (lines : Source) (reading : Reading) (bytes : List ℕ) (o : Object) (from : IsParsed reading bytes o) where
   pub prepared_file : (after : Object) → Stages steps lines o after → IsPrepared steps lines reading bytes after
   prepared_file after stages = record { sound = from.sound; stages = subst (λ (x : Object). Stages steps lines x after) from.is stages }
 

@@ -14,6 +14,7 @@ use Rattle.ebpf_btf.specs.TypeInfo.{TypeInfo}
 use Rattle.ebpf_ext.specs.declared.relocation.Relocation.{Relocation}
 use Rattle.ebpf_core_relo.specs.Alone.{placed_records, Touches, WritesAlone, Carries}
 use Rattle.ebpf_core_relo.specs.Records.{Scene, Written, own_slots, scene_between, slots_written}
+use Rattle.ebpf_ksyms.specs.Sources.{Source}
 use Rattle.ebpf_linker.specs.Functions.{Functions, Nothing, BeginsAt}
 use Rattle.ebpf_object.specs.Chain.{Passes, Chain}
 use Rattle.ebpf_object.specs.Joined.{linkable_of, programs_in_order, is_program_key}
@@ -121,7 +122,7 @@ PassesFinish = (passes : Passes) (parsed o : Object) → Chain passes parsed o �
 
 -- ---- a prepared file
 
-module _ {steps : Chosen} {lines : Option (List ℕ)} {reading : Reading} {bytes : List ℕ} {o : Object} where
+module _ {steps : Chosen} {lines : Source} {reading : Reading} {bytes : List ℕ} {o : Object} where
   -- the passes that were made: the sections of code are those of the functions
   abbrev pub passes_of : IsPrepared steps lines reading bytes o → Passes
   passes_of p = record {
@@ -132,6 +133,6 @@ module _ {steps : Chosen} {lines : Option (List ℕ)} {reading : Reading} {bytes
   }
 
 -- a file, read in a reading and prepared, is finished
-pub record Headline (steps : Chosen) (lines : Option (List ℕ)) (reading : Reading) (bytes : List ℕ) (o : Object) : Type 0 where
+pub record Headline (steps : Chosen) (lines : Source) (reading : Reading) (bytes : List ℕ) (o : Object) : Type 0 where
   pub prepared : IsPrepared steps lines reading bytes o
   pub finished : IsFinished (passes_of prepared) (object_as reading bytes) o

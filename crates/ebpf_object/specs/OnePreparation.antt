@@ -1,7 +1,8 @@
 -- Preparing has one result, where the bytes of the kernel's symbols are known: texts for people aside, want of memory, and
 -- a line that can't be read.
-use Rattle.std.specs.Prelude.{◌≡◌, ℕ, Bool, true, false, ◌||◌, List, Some, Option, Result, Ok, Err}
+use Rattle.std.specs.Prelude.{◌≡◌, ℕ, Bool, true, false, ◌||◌, List, Some, Result, Ok, Err}
 use Rattle.ebpf_core_relo.specs.Answers.{told_at}
+use Rattle.ebpf_ksyms.specs.Sources.{Source, Reader}
 use Rattle.ebpf_ksyms.specs.declared.error.KsymsError.{KsymsError}
 use Rattle.ebpf_ksyms.specs.declared.error.KsymsError.TheVariants.{KallsymsAccessError}
 use Rattle.ebpf_object.specs.Prepared.{IsFault, IsFirstFault, IsPrepared, Refuses, Stages, is_memory}
@@ -9,6 +10,7 @@ use Rattle.ebpf_object.specs.Steps.{Chosen}
 use Rattle.ebpf_object.specs.declared.object.Object.{Object}
 use Rattle.ebpf_object.specs.declared.prepare_error.PrepareError.{PrepareError}
 use Rattle.ebpf_object.specs.declared.prepare_error.PrepareError.TheVariants.{Ksyms, Types}
+use Rattle.ebpf_parts.specs.declared.reading.Reading.{Reading}
 
 abbrev pub Answer : Type 0
 Answer = Result Object PrepareError
@@ -37,14 +39,14 @@ told_in (Ok o) = Ok o
 told_in (Err e) = Err (told e)
 
 -- what the stages may answer of an object
-abbrev pub MayStage : Chosen → Option (List ℕ) → Object → Answer → Type 0
+abbrev pub MayStage : Chosen → Source → Object → Answer → Type 0
 MayStage steps lines o (Ok after) = Stages steps lines o after
 MayStage steps lines o (Err e) = Refuses (IsFault steps lines o) e
 
--- what preparing may answer of a file
-abbrev pub MayPrepare : Chosen → Option (List ℕ) → List ℕ → Answer → Type 0
-MayPrepare steps lines bytes (Ok o) = IsPrepared steps lines bytes o
-MayPrepare steps lines bytes (Err e) = Refuses (IsFirstFault steps lines bytes) e
+-- what preparing may answer of a file in a reading
+abbrev pub MayPrepare : Chosen → Source → Reading → List ℕ → Answer → Type 0
+MayPrepare steps lines reading bytes (Ok o) = IsPrepared steps lines reading bytes o
+MayPrepare steps lines reading bytes (Err e) = Refuses (IsFirstFault steps lines reading bytes) e
 
 -- any two of these answers are the same
 abbrev pub IsOne : (Answer → Type 0) → Type 0
@@ -52,7 +54,7 @@ IsOne May = (r s : Answer) → May r → May s → is_open r ≡ false → is_op
 
 -- of an object, and of a file
 abbrev pub OneStaging : Type 0
-OneStaging = (steps : Chosen) (lines : List ℕ) (o : Object) → IsOne (MayStage steps (Some lines) o)
+OneStaging = (steps : Chosen) (lines : List ℕ) (o : Object) → IsOne (MayStage steps (Reader (Some lines)) o)
 
 abbrev pub OnePreparation : Type 0
-OnePreparation = (steps : Chosen) (lines bytes : List ℕ) → IsOne (MayPrepare steps (Some lines) bytes)
+OnePreparation = (steps : Chosen) (lines : List ℕ) (reading : Reading) (bytes : List ℕ) → IsOne (MayPrepare steps (Reader (Some lines)) reading bytes)

@@ -2,6 +2,7 @@
 use Rattle.std.specs.Prelude.{◌≡◌, ⊤, ℕ, Bool, true, false, List, [], Option, Some, None, MatchBool}
 use Rattle.ebpf_core_relo.specs.Answers as adapting
 use Rattle.ebpf_ksyms.specs.Faults as resolving
+use Rattle.ebpf_ksyms.specs.Sources.{Source}
 use Rattle.ebpf_object.specs.Objects.{object_as, parse_fault_as}
 use Rattle.ebpf_object.specs.Stages as stage
 use Rattle.ebpf_object.specs.Stages.{Adapts, AdaptingFault, describing_fault, Resolves, ResolvingFault, externs_known, knowing_fault, Joins, JoiningFault}
@@ -17,7 +18,7 @@ use Rattle.ebpf_reloc.specs.Memory as relocating
 
 -- From an object to what the stages leave of it: relocated to types, then with descriptors, then with externs resolved,
 -- then as linking begins. All descriptors can be written, and all that is known of externs.
-pub record Stages (steps : Chosen) (lines : Option (List ℕ)) (o after : Object) : Type 0 where
+pub record Stages (steps : Chosen) (lines : Source) (o after : Object) : Type 0 where
   pub relocated : Object
   pub described : Object
   pub resolved : Object
@@ -46,12 +47,12 @@ abbrev pub before_maps : Chosen → Chosen
 before_maps steps = record (before_resolution steps) { descriptors = None }
 
 -- a fault in what some steps leave of an object
-pub record IsFaultAfter (steps : Chosen) (lines : Option (List ℕ)) (o : Object) (Fault : Object → Type 0) : Type 0 where
+pub record IsFaultAfter (steps : Chosen) (lines : Source) (o : Object) (Fault : Object → Type 0) : Type 0 where
   pub before : Object
   pub stages : Stages steps lines o before
   pub fault : Fault before
 
-module _ (steps : Chosen) (lines : Option (List ℕ)) where
+module _ (steps : Chosen) (lines : Source) where
   -- the fault of a stage, in what the steps before it leave
   abbrev pub IsFault : Object → PrepareError → Type 0
   IsFault o (Types e) = AdaptingFault steps.target o e

@@ -7,7 +7,7 @@ use Rattle.ebpf_base.specs.Keys.{text_cmp}
 use Rattle.ebpf_btf.specs.TypeInfo.{TypeInfo}
 use Rattle.ebpf_core_relo.specs.Answers.{told_at}
 use Rattle.ebpf_core_relo.specs.declared.error.BtfRelocationError.{BtfRelocationError}
-use Rattle.ebpf_ksyms.specs.Readers.{IsResolvedIn, IsRefusedIn}
+use Rattle.ebpf_ksyms.specs.Sources.{IsRefusedFrom, IsResolvedFrom, Source}
 use Rattle.ebpf_ksyms.specs.declared.error.KsymsError.{KsymsError}
 use Rattle.ebpf_object.specs.AdaptedSlots.{adapted_slots, AreAdapted}
 use Rattle.ebpf_object.specs.Joined.{linkable_of, programs_in_order, AreJoined}
@@ -54,16 +54,16 @@ describing_fault (Some descriptors) o = maps_fault o (has_function_in o.function
 
 -- ---- externs
 
--- the object with its externs resolved by the lines of a reader, whose bytes are given where they are known
-abbrev pub Resolves : Option (Option TypeInfo) → Option (List ℕ) → Object → Object → Type 0
+-- the object with its externs resolved by the lines of a reader or of a text
+abbrev pub Resolves : Option (Option TypeInfo) → Source → Object → Object → Type 0
 Resolves None lines o after = after ≡ o
 Resolves (Some kernel) lines o after =
-    IsResolvedIn lines o.btf kernel o.externs after.externs × (after ≡ record o { externs = after.externs })
+    IsResolvedFrom lines o.btf kernel o.externs after.externs × (after ≡ record o { externs = after.externs })
 
 -- the least fault of resolving
-abbrev pub ResolvingFault : Option (Option TypeInfo) → Option (List ℕ) → Object → KsymsError → Type 0
+abbrev pub ResolvingFault : Option (Option TypeInfo) → Source → Object → KsymsError → Type 0
 ResolvingFault None lines o e = ⊥
-ResolvingFault (Some kernel) lines o e = IsRefusedIn lines o.btf kernel o.externs e
+ResolvingFault (Some kernel) lines o e = IsRefusedFrom lines o.btf kernel o.externs e
 
 -- the object with what is known of its externs
 abbrev pub externs_known : Bool → Object → Object

@@ -16,8 +16,8 @@ pub use crate::own_maps::relocate_own_maps;
 pub use crate::prepare_error::PrepareError;
 use crate::stages::run_stages;
 use ebpf_btf::Btf;
+pub use ebpf_ksyms::{SymbolSource, SymbolText};
 use std::alloc::Global;
-use std::io::BufRead;
 
 /// What is chosen of the passes over an object.
 #[derive(Clone, Copy)]
@@ -35,15 +35,15 @@ pub struct Steps<'a> {
 }
 
 /// Runs the chosen passes over an object, which comes back.
-fn run_all<K: BufRead + Drop>(
+fn run_all<K: SymbolSource>(
     alloc: Global,
     object: Object,
     steps: &Steps<'_>,
     kallsyms: K,
 ) -> Result<Object, PrepareError>
-    ensures stages { IfOk result (Stages (chosen steps.now) (K.remaining kallsyms) object) }
+    ensures stages { IfOk result (Stages (chosen steps.now) (K.source kallsyms) object) }
     ensures others_stay { IfOk result (KeepsOthers object) }
-    ensures fault { IfErr result (Refuses (IsFault (chosen steps.now) (K.remaining kallsyms) object)) }
+    ensures fault { IfErr result (Refuses (IsFault (chosen steps.now) (K.source kallsyms) object)) }
 {
     let mut prepared = object;
     match run_stages(alloc, &mut prepared, steps, kallsyms) {
@@ -58,17 +58,17 @@ fn run_all<K: BufRead + Drop>(
 /// # Errors
 ///
 /// Those of `prepare`, but `Parse`.
-pub fn prepare_object<K: BufRead + Drop>(
+pub fn prepare_object<K: SymbolSource>(
     alloc: Global,
     object: Object,
     steps: &Steps<'_>,
     kallsyms: K,
 ) -> Result<Object, PrepareError>
-    ensures stages { IfOk result (Stages (chosen steps.now) (K.remaining kallsyms) object) }
-    ensures headline { (reading : Reading) (file : List ℕ) → IsParsed reading file object → IfOk result (Headline (chosen steps.now) (K.remaining kallsyms) reading file) }
+    ensures stages { IfOk result (Stages (chosen steps.now) (K.source kallsyms) object) }
+    ensures headline { (reading : Reading) (file : List ℕ) → IsParsed reading file object → IfOk result (Headline (chosen steps.now) (K.source kallsyms) reading file) }
     ensures others_stay { IfOk result (KeepsOthers object) }
-    ensures fault { IfErr result (Refuses (IsFault (chosen steps.now) (K.remaining kallsyms) object)) }
-    ensures first_fault { (reading : Reading) (file : List ℕ) → IsParsed reading file object → IfErr result (Refuses (IsFirstFault (chosen steps.now) (K.remaining kallsyms) reading file)) }
+    ensures fault { IfErr result (Refuses (IsFault (chosen steps.now) (K.source kallsyms) object)) }
+    ensures first_fault { (reading : Reading) (file : List ℕ) → IsParsed reading file object → IfErr result (Refuses (IsFirstFault (chosen steps.now) (K.source kallsyms) reading file)) }
 {
     run_all(alloc, object, steps, kallsyms)
 }
@@ -79,17 +79,17 @@ pub fn prepare_object<K: BufRead + Drop>(
 /// # Errors
 ///
 /// Those of `prepare`, but `Parse`.
-pub fn prepare_copy<K: BufRead + Drop>(
+pub fn prepare_copy<K: SymbolSource>(
     alloc: Global,
     object: &Object,
     steps: &Steps<'_>,
     kallsyms: K,
 ) -> Result<Object, PrepareError>
-    ensures stages { IfOk result (Stages (chosen steps.now) (K.remaining kallsyms) object.now) }
-    ensures headline { (reading : Reading) (file : List ℕ) → IsParsed reading file object.now → IfOk result (Headline (chosen steps.now) (K.remaining kallsyms) reading file) }
+    ensures stages { IfOk result (Stages (chosen steps.now) (K.source kallsyms) object.now) }
+    ensures headline { (reading : Reading) (file : List ℕ) → IsParsed reading file object.now → IfOk result (Headline (chosen steps.now) (K.source kallsyms) reading file) }
     ensures others_stay { IfOk result (KeepsOthers object.now) }
-    ensures fault { IfErr result (Refuses (IsFault (chosen steps.now) (K.remaining kallsyms) object.now)) }
-    ensures first_fault { (reading : Reading) (file : List ℕ) → IsParsed reading file object.now → IfErr result (Refuses (IsFirstFault (chosen steps.now) (K.remaining kallsyms) reading file)) }
+    ensures fault { IfErr result (Refuses (IsFault (chosen steps.now) (K.source kallsyms) object.now)) }
+    ensures first_fault { (reading : Reading) (file : List ℕ) → IsParsed reading file object.now → IfErr result (Refuses (IsFirstFault (chosen steps.now) (K.source kallsyms) reading file)) }
 {
     let Ok(copy) = object.clone() else {
         return Err(PrepareError::OutOfMemory);
@@ -103,17 +103,17 @@ pub fn prepare_copy<K: BufRead + Drop>(
 /// # Errors
 ///
 /// Those of `prepare`, but `Parse`.
-pub fn prepare_in_place<K: BufRead + Drop>(
+pub fn prepare_in_place<K: SymbolSource>(
     alloc: Global,
     object: &mut Object,
     steps: &Steps<'_>,
     kallsyms: K,
 ) -> Result<(), PrepareError>
-    ensures stages { OnOk result (Stages (chosen steps.now) (K.remaining kallsyms) object.old object.new) }
-    ensures headline { (reading : Reading) (file : List ℕ) → IsParsed reading file object.old → OnOk result (Headline (chosen steps.now) (K.remaining kallsyms) reading file object.new) }
+    ensures stages { OnOk result (Stages (chosen steps.now) (K.source kallsyms) object.old object.new) }
+    ensures headline { (reading : Reading) (file : List ℕ) → IsParsed reading file object.old → OnOk result (Headline (chosen steps.now) (K.source kallsyms) reading file object.new) }
     ensures others_stay { KeepsOthers object.old object.new }
-    ensures fault { IfErr result (Refuses (IsFault (chosen steps.now) (K.remaining kallsyms) object.old)) }
-    ensures first_fault { (reading : Reading) (file : List ℕ) → IsParsed reading file object.old → IfErr result (Refuses (IsFirstFault (chosen steps.now) (K.remaining kallsyms) reading file)) }
+    ensures fault { IfErr result (Refuses (IsFault (chosen steps.now) (K.source kallsyms) object.old)) }
+    ensures first_fault { (reading : Reading) (file : List ℕ) → IsParsed reading file object.old → IfErr result (Refuses (IsFirstFault (chosen steps.now) (K.source kallsyms) reading file)) }
     ensures unchanged { OnErr result (object.new ≡ object.old) }
 {
     let Ok(functions) = copy_keys(&object.functions) else {
@@ -134,8 +134,8 @@ pub fn prepare_in_place<K: BufRead + Drop>(
 
 /// The object that the bytes of an ELF64 file are, after the chosen passes in this order: functions adapted to a
 /// kernel's types, descriptors of the object's own maps, externs resolved and then written, programs joined with the
-/// functions that they reach. `kallsyms` has the lines of the kernel's symbols. The text sections are those of the
-/// functions' keys.
+/// functions that they reach. `kallsyms` has the lines of the kernel's symbols: a reader, or a `SymbolText` with a text in
+/// memory. The text sections are those of the functions' keys.
 ///
 /// # Errors
 ///
@@ -143,15 +143,15 @@ pub fn prepare_in_place<K: BufRead + Drop>(
 /// `Object::relocate_btf`, `Maps` with that of `Object::relocate_maps`, `Ksyms` with that of
 /// `Object::resolve_externs`, `Externs` with that of `Object::relocate_externs`, `Calls` with that of
 /// `Object::relocate_calls`. `OutOfMemory`, and the stages' own, only where memory was refused.
-pub fn prepare<K: BufRead + Drop>(
+pub fn prepare<K: SymbolSource>(
     alloc: Global,
     bytes: &[u8],
     steps: &Steps<'_>,
     kallsyms: K,
 ) -> Result<Object, PrepareError>
-    ensures headline { IfOk result (Headline (chosen steps.now) (K.remaining kallsyms) Stated bytes.now) }
+    ensures headline { IfOk result (Headline (chosen steps.now) (K.source kallsyms) Stated bytes.now) }
     ensures others_stay { IfOk result (λ o. KeepsOthers (object_of bytes.now) o) }
-    ensures fault { IfErr result (Refuses (IsFirstFault (chosen steps.now) (K.remaining kallsyms) Stated bytes.now)) }
+    ensures fault { IfErr result (Refuses (IsFirstFault (chosen steps.now) (K.source kallsyms) Stated bytes.now)) }
 {
     match Object::parse(alloc, bytes) {
         Ok(object) => prepare_object(alloc, object, steps, kallsyms),

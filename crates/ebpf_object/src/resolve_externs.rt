@@ -6,10 +6,12 @@ ghost use Rattle.std.specs.Option.{option_copied};
 ghost use Rattle.ebpf_ksyms.specs.Externs.{IsRefused, IsResolved};
 ghost use Rattle.ebpf_ksyms.specs.Faults.{is_memory};
 ghost use Rattle.ebpf_ksyms.specs.Readers.{IsRefusedIn, IsResolvedIn};
+ghost use Rattle.ebpf_ksyms.specs.Sources.{IsRefusedFrom, IsResolvedFrom};
+ghost use Rattle.ebpf_ksyms.specs.Texts.{IsRefusedBy, IsResolvedBy};
 
 use crate::object::Object;
 use ebpf_btf::Btf;
-use ebpf_ksyms::{KsymsError, resolve_externs, resolve_lines};
+use ebpf_ksyms::{KsymsError, SymbolSource, SymbolText, resolve_lines};
 use std::io::{self, BufRead};
 
 impl Object {
@@ -51,6 +53,27 @@ impl Object {
         }
     }
 
+    /// Resolves the externs with a kernel's types and the lines of a reader or of a text.
+    pub(crate) fn resolve_from<S: SymbolSource>(
+        &mut self,
+        kernel_btf: Option<&Btf>,
+        symbols: S,
+    ) -> Result<(), KsymsError>
+        ensures ok { OnOk result (IsResolvedFrom (S.source symbols) self.old.btf (option_copied kernel_btf.entry) self.old.externs self.new.externs) }
+        ensures fault { IfErr result (λ e. MatchBool (is_memory e) ⊤ (IsRefusedFrom (S.source symbols) self.old.btf (option_copied kernel_btf.entry) self.old.externs e)) }
+        ensures others_stay { self.new ≡ record self.old { externs = self.new.externs } }
+        ensures unchanged { OnErr result (self.new ≡ self.old) }
+    {
+        let alloc = *self.license.as_vec().allocator();
+        match symbols.resolve(alloc, self.btf.as_ref(), &self.externs, kernel_btf) {
+            Ok(externs) => {
+                self.externs = externs;
+                Ok(())
+            }
+            Err(error) => Err(error),
+        }
+    }
+
     /// Resolves the externs with a kernel's types and the lines of a reader, as `resolve_lines` does: the reader's
     /// bytes up to each byte 0x0a. A read that fails, and a line that is not UTF-8, is `KallsymsAccessError`. Where
     /// no line is wanted nothing is read.
@@ -64,19 +87,18 @@ impl Object {
         ensures others_stay { self.new ≡ record self.old { externs = self.new.externs } }
         ensures unchanged { OnErr result (self.new ≡ self.old) }
     {
-        let alloc = *self.license.as_vec().allocator();
-        match resolve_externs(
-            alloc,
-            self.btf.as_ref(),
-            &self.externs,
-            kernel_btf,
-            kallsyms,
-        ) {
-            Ok(externs) => {
-                self.externs = externs;
-                Ok(())
-            }
-            Err(error) => Err(error),
-        }
+        self.resolve_from(kernel_btf, kallsyms)
+    }
+
+    /// Resolves the externs with a kernel's types and the lines of a text in memory, split as `resolve_externs` splits
+    /// those of a reader. It is refused exactly where there is a fault: `KallsymsAccessError` is that of the first line
+    /// that is not UTF-8, where lines are wanted, of kind `InvalidData`.
+    pub fn resolve_text(&mut self, kernel_btf: Option<&Btf>, text: &[u8]) -> Result<(), KsymsError>
+        ensures ok { OnOk result (IsResolvedBy text.now self.old.btf (option_copied kernel_btf.entry) self.old.externs self.new.externs) }
+        ensures fault { IfErr result (λ e. MatchBool (is_memory e) ⊤ (IsRefusedBy text.now self.old.btf (option_copied kernel_btf.entry) self.old.externs e)) }
+        ensures others_stay { self.new ≡ record self.old { externs = self.new.externs } }
+        ensures unchanged { OnErr result (self.new ≡ self.old) }
+    {
+        self.resolve_from(kernel_btf, SymbolText(text))
     }
 }

@@ -14,8 +14,8 @@ use crate::own_maps::relocate_own_maps;
 use crate::prepare::Steps;
 use crate::prepare_error::PrepareError;
 use ebpf_btf::Btf;
+use ebpf_ksyms::SymbolSource;
 use std::alloc::Global;
-use std::io::BufRead;
 
 /// Adapts the functions to a kernel's types.
 #[tactic(auto, using(crate::proofs::Staging::wrapped))]
@@ -52,19 +52,19 @@ fn describe(
 
 /// Resolves the externs.
 #[tactic(auto, using(crate::proofs::Staging::wrapped))]
-fn resolve<K: BufRead + Drop>(
+fn resolve<K: SymbolSource>(
     object: &mut Object,
     kernel: Option<Option<&Btf>>,
     kallsyms: K,
 ) -> Result<(), PrepareError>
-    ensures ok { OnOk result (Resolves (option_map option_copied kernel.entry) (K.remaining kallsyms) object.old object.new) }
-    ensures fault { IfErr result (Refuses (Wrapped Ksyms (ResolvingFault (option_map option_copied kernel.entry) (K.remaining kallsyms) object.old))) }
+    ensures ok { OnOk result (Resolves (option_map option_copied kernel.entry) (K.source kallsyms) object.old object.new) }
+    ensures fault { IfErr result (Refuses (Wrapped Ksyms (ResolvingFault (option_map option_copied kernel.entry) (K.source kallsyms) object.old))) }
     ensures others_stay { KeepsOthers object.old object.new }
 {
     let Some(kernel) = kernel else {
         return Ok(());
     };
-    match object.resolve_externs(kernel, kallsyms) {
+    match object.resolve_from(kernel, kallsyms) {
         Ok(()) => Ok(()),
         Err(error) => Err(PrepareError::Ksyms(error)),
     }
@@ -105,15 +105,15 @@ fn join(alloc: Global, object: &mut Object, calls: bool) -> Result<(), PrepareEr
 }
 
 /// The stages in order.
-pub fn run_stages<K: BufRead + Drop>(
+pub fn run_stages<K: SymbolSource>(
     alloc: Global,
     object: &mut Object,
     steps: &Steps<'_>,
     kallsyms: K,
 ) -> Result<(), PrepareError>
-    ensures ok { OnOk result (Stages (chosen steps.now) (K.remaining kallsyms) object.old object.new) }
+    ensures ok { OnOk result (Stages (chosen steps.now) (K.source kallsyms) object.old object.new) }
     ensures others_stay { KeepsOthers object.old object.new }
-    ensures fault { IfErr result (Refuses (IsFault (chosen steps.now) (K.remaining kallsyms) object.old)) }
+    ensures fault { IfErr result (Refuses (IsFault (chosen steps.now) (K.source kallsyms) object.old)) }
 {
     adapt(object, steps.target_btf)?;
     describe(alloc, object, steps.map_fds)?;

@@ -2,7 +2,7 @@
 
 use crate::call::Call;
 use crate::given::Kernel;
-use crate::resolving::{resolve_externs, resolve_lines};
+use crate::resolving::{resolve_externs, resolve_lines, resolve_text};
 use ebpf_base::ByName;
 use ebpf_btf::Btf;
 use ebpf_object::Object;
@@ -154,6 +154,7 @@ pub fn pass(
         ("relocate_maps" | "relocate_calls", _) => pass_over_sections(rt, object, call),
         ("resolve_externs", _) => resolve_externs(rt, object, kernel, call),
         ("resolve_lines", _) => resolve_lines(rt, object, kernel, call),
+        ("resolve_text", _) => resolve_text(rt, object, kernel, call),
         ("relocate_externs", _) => relocate_externs(rt, object, call),
         ("patch_map_data", _) => patch_map_data(rt, object, kernel, call),
         ("sanitize_functions", _) => sanitize_functions(rt, object, call),

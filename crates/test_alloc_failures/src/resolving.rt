@@ -29,3 +29,15 @@ pub fn resolve_lines(
     let answer = object.resolve_lines(kernel.types, lines.into_iter());
     call.tell(rt, &answer)
 }
+
+/// Resolves the externs with the kernel's lines, as those of a text.
+pub fn resolve_text(
+    rt: &HostRuntime,
+    object: &mut Object,
+    kernel: Kernel<'_>,
+    call: Call<'_>,
+) -> io::Result<()> {
+    call.begin(rt);
+    let answer = object.resolve_text(kernel.types, kernel.lines);
+    call.tell(rt, &answer)
+}

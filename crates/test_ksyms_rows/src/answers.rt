@@ -1,16 +1,19 @@
-//! What is asked of the lines that a reader gives, and what seeking the addresses of externs answers.
+//! What is asked of the lines that a reader or a text gives, and what seeking the addresses of externs answers.
 
 use ebpf_base::ByName;
 use ebpf_btf::Btf;
-use ebpf_ksyms::resolve_externs;
+use ebpf_ksyms::{KsymsError, resolve_externs, resolve_text};
 use ebpf_reloc::ExternDesc;
 use std::alloc::{AllocError, Global};
 use test_cases::{FailingReader, shown};
 
-/// What is asked of the lines that a reader gives.
+/// What is asked of lines.
 pub trait Question {
-    /// The answer, line by line.
+    /// The answer where a reader gives them, line by line.
     fn answer(&self, alloc: Global, reader: &mut FailingReader<'_>) -> Result<String, AllocError>;
+
+    /// The answer where they are those of a text in memory.
+    fn answer_text(&self, alloc: Global, text: &[u8]) -> Result<String, AllocError>;
 }
 
 /// The externs of an object, and its types.
@@ -55,12 +58,28 @@ pub fn found(alloc: Global, externs: &ByName<ExternDesc>) -> Result<String, Allo
     with_externs(alloc, String::from_str(alloc, "Ok")?, externs)
 }
 
-impl Question for Sought {
+impl Sought {
     /// The answer, and the externs then: those before, where it is a refusal.
-    fn answer(&self, alloc: Global, reader: &mut FailingReader<'_>) -> Result<String, AllocError> {
-        match resolve_externs(alloc, Some(&self.types), &self.externs, None, reader) {
+    fn answer_of(
+        &self,
+        alloc: Global,
+        answer: Result<ByName<ExternDesc>, KsymsError>,
+    ) -> Result<String, AllocError> {
+        match answer {
             Ok(externs) => found(alloc, &externs),
             Err(error) => with_externs(alloc, shown(alloc, error)?, &self.externs),
         }
+    }
+}
+
+impl Question for Sought {
+    fn answer(&self, alloc: Global, reader: &mut FailingReader<'_>) -> Result<String, AllocError> {
+        let answer = resolve_externs(alloc, Some(&self.types), &self.externs, None, reader);
+        self.answer_of(alloc, answer)
+    }
+
+    fn answer_text(&self, alloc: Global, text: &[u8]) -> Result<String, AllocError> {
+        let answer = resolve_text(alloc, Some(&self.types), &self.externs, None, text);
+        self.answer_of(alloc, answer)
     }
 }

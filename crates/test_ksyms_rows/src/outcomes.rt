@@ -6,6 +6,7 @@ use crate::given::externs_by;
 use crate::prepared::File;
 use ebpf_base::ByName;
 use ebpf_btf::Btf;
+use ebpf_ksyms::TextLines;
 use ebpf_reloc::ExternDesc;
 use std::alloc::{AllocError, Global};
 use std::io::ErrorKind;
@@ -49,6 +50,7 @@ fn of_question<Q: Question>(
 ) -> Result<String, AllocError> {
     match action {
         "found" => answer_behind(alloc, question, bytes, None),
+        "text" => question.answer_text(alloc, bytes),
         "failing" => answer_behind(alloc, question, bytes, Some(ErrorKind::Other)),
         "without_memory" => answer_behind(alloc, question, bytes, Some(ErrorKind::OutOfMemory)),
         "failing_at_each" => answers_at_each(alloc, question, bytes),
@@ -69,6 +71,15 @@ fn of_externs(
     }
 }
 
+/// The lines of a text, or what stands in their place.
+fn lines_of(alloc: Global, bytes: &[u8]) -> Result<String, AllocError> {
+    let mut text = String::new(alloc);
+    for line in TextLines::new(alloc, bytes) {
+        writeln!(text, "{line:?}")?;
+    }
+    Ok(text)
+}
+
 impl Outcomes for LineOutcomes {
     fn outcome(
         &self,
@@ -77,6 +88,9 @@ impl Outcomes for LineOutcomes {
         action: &Action<'_>,
     ) -> Result<String, AllocError> {
         let lines = files.get("kallsyms");
+        if action.name == "lines" {
+            return lines_of(alloc, lines);
+        }
         if let Some(name) = action.name.strip_prefix("prepared_") {
             let bytes = files.get("object");
             return of_question(alloc, &File { bytes }, lines, name);

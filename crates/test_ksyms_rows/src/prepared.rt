@@ -1,7 +1,8 @@
-//! What preparing a whole file answers, whose externs are sought in the lines that a reader gives.
+//! What preparing a whole file answers, whose externs are sought in the lines that a reader or a text gives.
 
 use crate::answers::{Question, found};
-use ebpf_object::prepare::{Steps, prepare};
+use ebpf_object::Object;
+use ebpf_object::prepare::{PrepareError, Steps, SymbolText, prepare};
 use std::alloc::{AllocError, Global};
 use test_cases::{FailingReader, shown};
 
@@ -19,11 +20,20 @@ pub struct File<'a> {
     pub bytes: &'a [u8],
 }
 
+/// The externs of the prepared object, or why there is none.
+fn externs_of(alloc: Global, prepared: Result<Object, PrepareError>) -> Result<String, AllocError> {
+    match prepared {
+        Ok(object) => found(alloc, &object.externs),
+        Err(error) => shown(alloc, error),
+    }
+}
+
 impl<'a> Question for File<'a> {
     fn answer(&self, alloc: Global, reader: &mut FailingReader<'_>) -> Result<String, AllocError> {
-        match prepare(alloc, self.bytes, &STEPS, reader) {
-            Ok(object) => found(alloc, &object.externs),
-            Err(error) => shown(alloc, error),
-        }
+        externs_of(alloc, prepare(alloc, self.bytes, &STEPS, reader))
+    }
+
+    fn answer_text(&self, alloc: Global, text: &[u8]) -> Result<String, AllocError> {
+        externs_of(alloc, prepare(alloc, self.bytes, &STEPS, SymbolText(text)))
     }
 }

@@ -46,7 +46,7 @@ fn of_object(
         "adapted" => adapted(alloc, files, object, action),
         "mapped" => mapped(alloc, object, action),
         "known_externs" => known_externs(alloc, object, action),
-        "resolved" => resolved(alloc, files, object, action),
+        "resolved" | "resolved_text" => resolved(alloc, files, object, action),
         "patched" => patched(alloc, files, object, action),
         "sanitized" => sanitized(alloc, object, action),
         _ => no_action(alloc),

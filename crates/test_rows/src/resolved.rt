@@ -17,20 +17,32 @@ fn kernel_types(alloc: Global, object: &Object, bytes: &[u8]) -> Option<Btf> {
     Btf::parse(alloc, bytes, object.endianness).ok()
 }
 
-/// Resolves the externs: what that answers, in a line.
+/// Resolves the externs with the addresses as a reader's or as a text: what that answers, in a line.
 fn resolve(
     alloc: Global,
     object: &mut Object,
     kernel: Option<&Btf>,
     kallsyms: &[u8],
+    as_text: bool,
 ) -> Result<String, AllocError> {
-    shown_line(alloc, object.resolve_externs(kernel, kallsyms))
+    let answer = if as_text {
+        object.resolve_text(kernel, kallsyms)
+    } else {
+        object.resolve_externs(kernel, kallsyms)
+    };
+    shown_line(alloc, answer)
 }
 
 /// Looks the externs up in the kernel of the files: what that answers, in a line.
-fn looked_up(alloc: Global, files: &Files, object: &mut Object) -> Result<String, AllocError> {
+fn looked_up(
+    alloc: Global,
+    files: &Files,
+    object: &mut Object,
+    as_text: bool,
+) -> Result<String, AllocError> {
     let kernel = kernel_types(alloc, object, files.get("kernel"));
-    resolve(alloc, object, kernel.as_ref(), files.get("kallsyms"))
+    let kallsyms = files.get("kallsyms");
+    resolve(alloc, object, kernel.as_ref(), kallsyms, as_text)
 }
 
 /// Adds the externs by name, or what writing them gives.
@@ -50,8 +62,8 @@ fn put_found(
     }
 }
 
-/// What resolving the externs answers, and then the externs by name, or what writing them gives. Further words say what
-/// is known before.
+/// What resolving the externs answers, as the action `resolved` by a reader's lines or as `resolved_text` by a text's, and
+/// then the externs by name, or what writing them gives. Further words say what is known before.
 pub fn resolved(
     alloc: Global,
     files: &Files,
@@ -62,7 +74,7 @@ pub fn resolved(
     if !set_externs(alloc, &mut object.externs, words)? {
         return no_action(alloc);
     }
-    let mut text = looked_up(alloc, files, object)?;
+    let mut text = looked_up(alloc, files, object, action.name == "resolved_text")?;
     put_found(alloc, &mut text, object, action.word(0))?;
     Ok(text)
 }

@@ -10,5 +10,5 @@ pub returns-clause-refused : goal.returns-clause-refused
 returns-clause-refused g c =
     let f = c.in-Err-print_listed.failure in
     let asked = option_copied c.args.program in
-    lacking c.args.file.now (option_copied c.args.btf) (g.K.Read.remaining c.args.kallsyms) c.in-Ok.reports c.in-Ok.ensures.inspected asked f
+    lacking c.args.file.now (option_copied c.args.btf) (g.K.SymbolSource.source c.args.kallsyms) c.in-Ok.reports c.in-Ok.ensures.inspected asked f
     (subst (λ rs. MatchBool (is_outside f) ⊤ (LacksAskedReport rs asked f)) c.as_slice.ensures c.in-Err-print_listed.ensures.refused)

@@ -13,4 +13,4 @@ returns-in-Ok-prepare_object-clause-headline g c file parsed =
     let all = all_asked (option_copied c.args.types) c.args.object.maps (chosen c.all_passes.result) (map descriptor_of c.deref.result.now) c.all_passes.ensures
     (ap (map descriptor_of) c.deref.ensures.value ∙ c.in-Ok-numbered.ensures ∙ ap (numbered (pos 0)) (c.as_slice.ensures ∙ c.in-Ok.ensures))
     in
-    subst (λ steps. Headline steps (g.K.Read.remaining c.args.kallsyms) Stated file c.in-Ok-prepare_object.object) all (c.in-Ok-prepare_object.ensures.headline Stated file parsed)
+    subst (λ steps. Headline steps (g.K.SymbolSource.source c.args.kallsyms) Stated file c.in-Ok-prepare_object.object) all (c.in-Ok-prepare_object.ensures.headline Stated file parsed)

@@ -14,7 +14,7 @@ use Rattle.ebpf_inspect.proofs.inspection.inspect_all.Goals as goal
 pub returns-in-Err-clause-fault : goal.returns-in-Err-clause-fault
 returns-in-Err-clause-fault g c =
     let s = chosen c.args.steps.now in
-    let lines = g.K.Read.remaining c.args.kallsyms in
+    let lines = g.K.SymbolSource.source c.args.kallsyms in
     let o = c.args.object in
     refused_by (IsFault (alone s lines) lines o) (IsFault (joining s) lines o) c.in-Err.error (same_fault s lines o c.in-Err.error)
     (subst (λ steps. Refuses (IsFault steps lines o) c.in-Err.error) c.without_calls.ensures c.in-Err.ensures.fault)
@@ -22,7 +22,7 @@ returns-in-Err-clause-fault g c =
 pub returns-clause-reports : goal.returns-clause-reports
 returns-clause-reports g c =
     let s = chosen c.args.steps.now in
-    let lines = g.K.Read.remaining c.args.kallsyms in
+    let lines = g.K.SymbolSource.source c.args.kallsyms in
     let o = c.args.object in
     let d = c.in-Ok.prepared in
     let stages = subst (λ steps. Stages steps lines o d) c.without_calls.ensures c.in-Ok.ensures.stages in
@@ -31,7 +31,7 @@ returns-clause-reports g c =
 pub returns-clause-fault : goal.returns-clause-fault
 returns-clause-fault g c =
     let s = chosen c.args.steps.now in
-    let lines = g.K.Read.remaining c.args.kallsyms in
+    let lines = g.K.SymbolSource.source c.args.kallsyms in
     let o = c.args.object in
     let d = c.in-Ok.prepared in
     let stages = subst (λ steps. Stages steps lines o d) c.without_calls.ensures c.in-Ok.ensures.stages in

@@ -6,8 +6,8 @@ use Rattle.ebpf_inspect.proofs.inspection.inspect_object.Goals as goal
 
 pub returns-clause-inspected : goal.returns-clause-inspected
 returns-clause-inspected g c reading file parsed =
-    of_prepared c.inspect_all.result (λ rs of. inspected (chosen c.args.steps.now) (g.K.Read.remaining c.args.kallsyms) reading file rs c.args.object parsed of) c.inspect_all.ensures.reports
+    of_prepared c.inspect_all.result (λ rs of. inspected (chosen c.args.steps.now) (g.K.SymbolSource.source c.args.kallsyms) reading file rs c.args.object parsed of) c.inspect_all.ensures.reports
 
 pub returns-clause-first_fault : goal.returns-clause-first_fault
 returns-clause-first_fault g c reading file parsed =
-    of_error c.inspect_all.result (file_refused (joining (chosen c.args.steps.now)) (g.K.Read.remaining c.args.kallsyms) reading file c.args.object parsed) c.inspect_all.ensures.fault
+    of_error c.inspect_all.result (file_refused (joining (chosen c.args.steps.now)) (g.K.SymbolSource.source c.args.kallsyms) reading file c.args.object parsed) c.inspect_all.ensures.fault

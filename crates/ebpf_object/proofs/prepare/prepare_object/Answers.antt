@@ -6,9 +6,9 @@ use Rattle.ebpf_object.proofs.prepare.prepare_object.Goals as goal
 pub returns-clause-headline : goal.returns-clause-headline
 returns-clause-headline g c reading file parsed =
     let s = chosen c.args.steps.now in
-    let lines = g.K.Read.remaining c.args.kallsyms in
+    let lines = g.K.SymbolSource.source c.args.kallsyms in
     of_prepared c.run_all.result (λ after stages. headline s lines reading file after (prepared_file s lines reading file c.args.object parsed after stages)) c.run_all.ensures.stages
 
 pub returns-clause-first_fault : goal.returns-clause-first_fault
 returns-clause-first_fault g c reading file parsed =
-    of_error c.run_all.result (file_refused (chosen c.args.steps.now) (g.K.Read.remaining c.args.kallsyms) reading file c.args.object parsed) c.run_all.ensures.fault
+    of_error c.run_all.result (file_refused (chosen c.args.steps.now) (g.K.SymbolSource.source c.args.kallsyms) reading file c.args.object parsed) c.run_all.ensures.fault

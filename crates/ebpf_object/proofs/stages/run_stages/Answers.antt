@@ -6,29 +6,29 @@ use Rattle.ebpf_object.proofs.stages.run_stages.Goals as goal
 pub returns-in_err-adapt-clause-fault : goal.returns-in_err-adapt-clause-fault
 returns-in_err-adapt-clause-fault g c =
     passed_on _ c.from_residual.result c.in_err-adapt.field-0.0 c.from_residual.ensures.1
-    (adapting_refused (chosen c.args.steps.now) (g.K.Read.remaining c.args.kallsyms) c.args.object.now c.in_err-adapt.field-0.0 c.in_err-adapt.ensures.fault)
+    (adapting_refused (chosen c.args.steps.now) (g.K.SymbolSource.source c.args.kallsyms) c.args.object.now c.in_err-adapt.field-0.0 c.in_err-adapt.ensures.fault)
 
 pub returns-in_err-describe-clause-fault : goal.returns-in_err-describe-clause-fault
 returns-in_err-describe-clause-fault g c =
     passed_on _ c.from_residual-in_err-describe.result c.in_err-describe.field-0.0 c.from_residual-in_err-describe.ensures.1
-    (describing_refused (chosen c.args.steps.now) (g.K.Read.remaining c.args.kallsyms) c.args.object.now c.adapt.new.object c.in_ok-adapt.ensures.ok c.in_err-describe.field-0.0 c.in_err-describe.ensures.fault)
+    (describing_refused (chosen c.args.steps.now) (g.K.SymbolSource.source c.args.kallsyms) c.args.object.now c.adapt.new.object c.in_ok-adapt.ensures.ok c.in_err-describe.field-0.0 c.in_err-describe.ensures.fault)
 
 pub returns-in_err-resolve-clause-fault : goal.returns-in_err-resolve-clause-fault
 returns-in_err-resolve-clause-fault g c =
     passed_on _ c.from_residual-in_err-resolve.result c.in_err-resolve.field-0.0 c.from_residual-in_err-resolve.ensures.1
-    (resolving_refused (chosen c.args.steps.now) (g.K.Read.remaining c.args.kallsyms) c.args.object.now c.adapt.new.object c.in_ok-adapt.ensures.ok
+    (resolving_refused (chosen c.args.steps.now) (g.K.SymbolSource.source c.args.kallsyms) c.args.object.now c.adapt.new.object c.in_ok-adapt.ensures.ok
     c.in_ok-describe.ensures.sound c.describe.new.object c.in_ok-describe.ensures.ok c.in_err-resolve.field-0.0 c.in_err-resolve.ensures.fault)
 
 pub returns-in_err-write_externs-clause-fault : goal.returns-in_err-write_externs-clause-fault
 returns-in_err-write_externs-clause-fault g c =
     passed_on _ c.from_residual-in_err-write_externs.result c.in_err-write_externs.field-0.0 c.from_residual-in_err-write_externs.ensures.1
-    (knowing_refused (chosen c.args.steps.now) (g.K.Read.remaining c.args.kallsyms) c.args.object.now c.adapt.new.object c.in_ok-adapt.ensures.ok
+    (knowing_refused (chosen c.args.steps.now) (g.K.SymbolSource.source c.args.kallsyms) c.args.object.now c.adapt.new.object c.in_ok-adapt.ensures.ok
     c.in_ok-describe.ensures.sound c.describe.new.object c.in_ok-describe.ensures.ok c.resolve.new.object c.in_ok-resolve.ensures.ok c.in_err-write_externs.field-0.0 c.in_err-write_externs.ensures.fault)
 
 pub returns-clause-ok : goal.returns-clause-ok
 returns-clause-ok g c =
     of_ok c.join.result
-    (after_calls (chosen c.args.steps.now) (g.K.Read.remaining c.args.kallsyms) c.args.object.now c.adapt.new.object c.in_ok-adapt.ensures.ok
+    (after_calls (chosen c.args.steps.now) (g.K.SymbolSource.source c.args.kallsyms) c.args.object.now c.adapt.new.object c.in_ok-adapt.ensures.ok
     c.in_ok-describe.ensures.sound c.describe.new.object c.in_ok-describe.ensures.ok c.resolve.new.object c.in_ok-resolve.ensures.ok
     c.in_ok-write_externs.ensures.sound c.write_externs.new.object c.in_ok-write_externs.ensures.ok c.join.new.object)
     c.join.ensures.ok
@@ -57,7 +57,7 @@ returns-clause-others_stay g c =
 pub returns-clause-fault : goal.returns-clause-fault
 returns-clause-fault g c =
     of_error c.join.result
-    (joining_refused (chosen c.args.steps.now) (g.K.Read.remaining c.args.kallsyms) c.args.object.now c.adapt.new.object c.in_ok-adapt.ensures.ok
+    (joining_refused (chosen c.args.steps.now) (g.K.SymbolSource.source c.args.kallsyms) c.args.object.now c.adapt.new.object c.in_ok-adapt.ensures.ok
     c.in_ok-describe.ensures.sound c.describe.new.object c.in_ok-describe.ensures.ok c.resolve.new.object c.in_ok-resolve.ensures.ok
     c.in_ok-write_externs.ensures.sound c.write_externs.new.object c.in_ok-write_externs.ensures.ok)
     c.join.ensures.fault
