@@ -28,7 +28,7 @@ def functions(version, path):
     """The slots of each function as the disassembler has them, by name: the place of the first and the bytes of each."""
     found, name = {}, None
     for line in output(f"llvm-objdump{version}", "-d", path).splitlines():
-        if head := re.fullmatch(r"[0-9a-f]{16} <(.*)>:", line):
+        if head := re.fullmatch(r"[0-9a-f]{16} <(?!LBB)(.*)>:", line):
             name = head[1]
         elif row := re.match(r"\s+(\d+):\t((?:[0-9a-f]{2} )+)", line):
             data = bytes.fromhex(row[2])
