@@ -299,6 +299,18 @@ static void print_map(const struct loading *of, const char *name)
 	free(value);
 }
 
+/* Each pass over the object, in the library's order. */
+static void prepare(const char *path, struct loading *of, struct bytes types, struct bytes symbols)
+{
+	check(path, ebpf_relocate_types(&of->object, types.at, types.len, about, sizeof(about), &about_len));
+	check(path, ebpf_relocate_maps(&of->object, of->made, of->counts.rows, of->names, of->counts.text, about,
+				       sizeof(about), &about_len));
+	check(path, ebpf_resolve_externs(&of->object, types.at, types.len, symbols.at, symbols.len, about, sizeof(about),
+					 &about_len));
+	check(path, ebpf_relocate_externs(&of->object, about, sizeof(about), &about_len));
+	check(path, ebpf_relocate_calls(&of->object, about, sizeof(about), &about_len));
+}
+
 int main(int words, char **word)
 {
 	struct loading of = { .object = EBPF_CLOSED_HANDLE };
@@ -313,11 +325,10 @@ int main(int words, char **word)
 	file = read_file(word[1]);
 	types = read_file("/sys/kernel/btf/vmlinux");
 	symbols = read_file("/proc/kallsyms");
-	check(word[1], ebpf_open(file.at, file.len, &of.object, about, sizeof(about), &about_len));
+	check(word[1], ebpf_open_broad(file.at, file.len, &of.object, about, sizeof(about), &about_len));
 	list_maps(&of);
 	make_maps(&of);
-	check(word[1], ebpf_prepare(file.at, file.len, types.at, types.len, of.made, of.counts.rows, of.names,
-				    of.counts.text, symbols.at, symbols.len, &of.object, about, sizeof(about), &about_len));
+	prepare(word[1], &of, types, symbols);
 	program = find_program(&of.object, word[2]);
 	run_program(load_program(&of.object, word[2], &program), &program, given);
 	if (words > 3)

@@ -182,6 +182,16 @@ struct ebpf_handle {
 uint32_t ebpf_open(const uint8_t *file, size_t file_len, struct ebpf_handle *handle, char *about, size_t about_room,
 		   size_t *about_len);
 
+/*
+ * The same, where the file is read broadly: each section of code is a program's, whatever its name (those of names that the
+ * library's list lacks have the kind EBPF_KIND_OTHER, and one with `?` before it has the kind of the rest); an array of
+ * programs may be declared with its programs; a license ends at its first zero; map_extra may be a 64-bit number. Of a
+ * little-endian file that ebpf_open takes both give the same. A big-endian file with code is refused (156).
+ * Numbers: 2, 100 to 199.
+ */
+uint32_t ebpf_open_broad(const uint8_t *file, size_t file_len, struct ebpf_handle *handle, char *about,
+			 size_t about_room, size_t *about_len);
+
 /* Makes `copy` hold a copy of what `handle` holds; what `copy` held before is closed. Numbers: 2, 3. */
 uint32_t ebpf_clone(struct ebpf_handle *handle, struct ebpf_handle *copy);
 

@@ -14,6 +14,7 @@ from pathlib import Path
 
 from rows import (
     big_endian,
+    broad,
     btf_added,
     btf_candidates,
     btf_ext,
@@ -61,7 +62,7 @@ from rows.case import write_cases
 CRATES = Path(__file__).parents[1] / "crates"
 
 OBJECTS = [small_object, programs, texts, terms, order, maps, declared_maps, externs, type_faults, records, joined]
-OBJECTS += [mapped, known_externs, resolved, prepared, printed, values, names, loaded_names, compiled, references, big_endian]
+OBJECTS += [mapped, known_externs, resolved, prepared, printed, values, names, loaded_names, compiled, references, big_endian, broad]
 
 TYPES = [btf_one_int, btf_kinds, btf_added, btf_candidates, btf_fits, btf_ext, btf_ext_faults]
 

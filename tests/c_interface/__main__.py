@@ -5,7 +5,7 @@ import sys
 from pathlib import Path
 
 import make_rows
-from c_interface import builds, examples, growth_rows, more_rows, rows_of_objects
+from c_interface import builds, compiled, examples, growth_rows, more_rows, rows_of_objects
 from c_interface.runs import Files, run
 from growths.inputs import COUNTER, KERNEL, LINES, REFERENCES, SMALL
 from growths.run import Runner
@@ -113,6 +113,8 @@ def main(folder, library, words):
         passed, fault = said_of_bounds(made[name].path, folder)
         count.add("bounds", name, fault, passed)
     of_calls(folder, count, made)
+    for what, fault in compiled.compared(made[f"calls-{builds.compilers()[0]}"].path, Path(folder)):
+        count.add("compiled", what, fault)
     for what, fault in [*examples.rust(folder, library), *examples.python(folder, library)]:
         count.add("examples", what, fault)
     if "--no-kernel" not in words:

@@ -108,6 +108,8 @@ static uint32_t change(const char *name, char *rest)
 
 	if (!strcmp(name, "open"))
 		return ebpf_open(file.at, file.len, &object, about, sizeof(about), &about_len);
+	if (!strcmp(name, "open_broad"))
+		return ebpf_open_broad(file.at, file.len, &object, about, sizeof(about), &about_len);
 	if (!strcmp(name, "prepare"))
 		return ebpf_prepare(file.at, file.len, types.at, types.len, given.rows, given.count, given.text,
 				    given.text_len, symbols.at, symbols.len, &object, about, sizeof(about), &about_len);

@@ -67,11 +67,11 @@ def python(folder, library):
     ]
 
 
-def counter(folder):
-    """The loader's object, of its source; None where no clang makes objects for the kernel."""
-    path = folder / "counter.bpf.o"
+def compiled(folder, name):
+    """An object for the loader, of its source; None where no clang makes objects for the kernel."""
+    path = folder / f"{name}.bpf.o"
     done = subprocess.run(
-        ["clang", "-target", "bpf", "-O2", "-g", "-c", str(EXAMPLES / "counter.bpf.c"), "-o", str(path)],
+        ["clang", "-target", "bpf", "-O2", "-g", "-c", str(EXAMPLES / f"{name}.bpf.c"), "-o", str(path)],
         capture_output=True,
     )
     return path if done.returncode == 0 else None
@@ -87,13 +87,16 @@ def number(value):
 
 def loads(loader, folder):
     """Loads the object, runs it on 64 bytes and on 100, and sees what is said where the kernel refuses."""
-    path, packet, short = counter(folder), folder / "packet", folder / "short"
+    path, packet, short = compiled(folder, "counter"), folder / "packet", folder / "short"
     packet.write_bytes(bytes(100))
     short.write_bytes(bytes(13))
     for size, words in [(64, []), (100, [packet])]:
         done = run([loader, path, "count_packet", "totals", *words])
         wanted = RAN.format(packets=number(1), bytes=number(size), same=number(1))
         yield f"{loader.name}, {size} bytes", None if re.fullmatch(wanted, done.stdout) else said(done)
+    done = run([loader, compiled(folder, "classifier"), "classify", "sums"])
+    wanted = rf"program classify slots \d+\nreturned 0\n00000000 {number(64)}{number(1)}\n"
+    yield f"{loader.name}, a section whose name says no kind", None if re.fullmatch(wanted, done.stdout) else said(done)
     done = run([loader, path, "count_packet", ".bss"])
     ends = done.stdout.endswith(f"00000000 {number(1)}\n")
     yield f"{loader.name}, a variable", None if ends else said(done)
@@ -116,7 +119,7 @@ def is_allowed(loader, folder):
     """Why nothing can be loaded here, or None."""
     if not os.path.exists("/sys/kernel/btf/vmlinux"):
         return "the kernel's types are not at /sys/kernel/btf/vmlinux"
-    path = counter(folder)
+    path = compiled(folder, "counter")
     if path is None:
         return "no clang makes objects for the kernel"
     done = run([loader, path, "count_packet", "totals"])

@@ -44,6 +44,8 @@ def rows(program):
     opened = [("the small object", SMALL), ("two calls", two), ("counter.o", COUNTER), ("references.o", REFERENCES)]
     value = "value=wanted:must:2a000000"
     found = [GrowthRow(program, f"ebpf_open, {name}", (data, b"", b""), "open") for name, data in opened]
+    broad = [*opened, ("no kind", no_kind)]
+    found += [GrowthRow(program, f"ebpf_open_broad, {name}", (data, b"", b""), "open_broad") for name, data in broad]
     found += [GrowthRow(program, f"ebpf_clone, {name}", (data, b"", b""), "open", "clone") for name, data in opened]
     found += [
         GrowthRow(program, "ebpf_open, no kind", (no_kind, b"", b""), "open", answer="144 nothing/p"),

@@ -84,10 +84,29 @@ FLAGS = {"sleepable": 1, "multi": 2, "frags": 4}
 TARGET = {"Lsm", "LsmCgroup", "BtfTracePoint", "FEntry", "FExit", "Extension", "Iter"}
 
 
+# The number of the kind of programs in sections whose names say none.
+OTHER = len(KINDS)
+
+
 def numbers_of(text):
     """Of a kind as it is printed: `kind K flags F type T attach A`; no attach type is -1."""
     kind = re.match(r"\w+", text)[0]
+    if kind == "Other":
+        return f"kind {OTHER} flags 0 type 0 attach -1"
     flags = sum(value for name, value in FLAGS.items() if f"{name}: true" in text) + 8 * (kind in TARGET)
     said = [value for name, value in ATTACH.get(kind, {}).items() if re.search(rf"\b{name}\b", text)]
     attach = ATTACHED.get(kind, said[0] if said else -1)
     return f"kind {list(KINDS).index(kind)} flags {flags} type {KINDS[kind]} attach {attach}"
+
+
+# Flags of names that loaders know; those of kinds by what the name says.
+LOADED = {"sleepable": 1, "frags": 4, "target": 8, "optional": 16}
+
+
+def numbers_loaded(kind, loaded):
+    """Of a kind as it is printed whose section has a name that loaders know, by what these know of it."""
+    number, _, attach, *words = loaded.removeprefix("type ").split()
+    flags = sum(LOADED[word] for word in words) + 2 * ("multi: true" in kind)
+    attach = "-1" if attach == "None" else attach[len("Some(") : -1]
+    at = OTHER if kind == "Other" else list(KINDS).index(re.match(r"\w+", kind)[0])
+    return f"kind {at} flags {flags} type {number} attach {attach}"

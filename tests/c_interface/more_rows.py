@@ -1,13 +1,13 @@
 """Rows of the C interface that the other test programs don't have as they are asked here."""
 from growths.inputs import COUNTER, KERNEL, LINES, REFERENCES, SMALL, TASKS
-from rows import values
+from rows import broad, loaded_names, values
 from rows.btf import btf, datasec, function, integer, prototype, struct_of, variable
 from rows.elf import CALL, CALL32, EXIT, FUNCTION, File, changed
 from rows.names import cases as cases_of_names
 from rows.resolved import GLOBAL, function_of, variable_of_void, with_extern
 
 from c_interface import builds
-from c_interface.kinds import numbers_of
+from c_interface.kinds import numbers_loaded, numbers_of
 from c_interface.runs import CallsRow
 
 
@@ -29,6 +29,30 @@ def kinds():
             else:
                 wanted = ["open 0", f"program p {numbers_of(text)} section 3 address 0"]
             yield CallsRow(f"the section {name}", files, ["open", "programs"][: len(wanted)], wanted)
+
+
+def broad_kinds():
+    """A program in a section of each name that loaders know, and of others, as it is read broadly."""
+    for name in [*loaded_names.ROWS, *broad.OTHERS]:
+        kind, known = broad.broad(name), loaded_names.loaded(name)
+        wanted = numbers_of(kind) if known == "none" else numbers_loaded(kind, known)
+        lines = ["open_broad 0", f"program foo {wanted} section 3 address 0"]
+        yield CallsRow(f"the section {name}, broadly", (broad.program_of(name), b"", b""), ["open_broad", "programs"], lines)
+
+
+def broad_files():
+    """Files that both readings take, and what one alone refuses."""
+    shows = ["info", "programs", "listed", "declared", "sections", "slots", "records"]
+
+    def is_same(lines):
+        half = len(lines) // 2
+        return None if lines[1:half] == lines[half + 1 :] and half > 1 else f"{lines[half]}: another object by another reading"
+
+    for name, data in [("counter", COUNTER), ("references", REFERENCES), ("the small object", SMALL)]:
+        yield CallsRow(f"both readings: {name}", (data, b"", b""), ["open", *shows, "open_broad", *shows], is_same)
+    for case in broad.orders():
+        answer = "open_broad 156" if case.gives[list(case.gives)[1]] == "BigEndianCode" else "open_broad 0"
+        yield CallsRow(case.name, (case.files["object"], b"", b""), ["open", "open_broad"], ["open 0", answer])
 
 
 def small_object():
@@ -144,4 +168,4 @@ def sections_of_programs():
 
 
 def rows():
-    return [*names(), *kinds(), *sections_of_programs(), *small_object(), *numbers(), *unchanged(), *changes()]
+    return [*names(), *kinds(), *broad_kinds(), *broad_files(), *sections_of_programs(), *small_object(), *numbers(), *unchanged(), *changes()]

@@ -125,6 +125,15 @@ def with_target(name, target):
     return longer, kind_of(name) if ROWS[name][0] == "longer" else "none"
 
 
+def loaded(name):
+    """The kind of any name: that of its own row, or of the longest one that takes a target behind a slash."""
+    rest = name.removeprefix("?")
+    own = [rest] if rest in ROWS else [row for row in ROWS if ROWS[row][0] == "longer" and rest.startswith(f"{row}/")]
+    if not own:
+        return "none"
+    return kind_of(max(own, key=len)) + (" optional" if rest != name else "")
+
+
 def neighbours(name):
     """Names that differ by one byte or by a target."""
     yield name, kind_of(name)

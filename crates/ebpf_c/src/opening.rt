@@ -3,23 +3,25 @@
 ghost use Rattle.std.specs.Prelude.{◌≡◌, ◌⊎◌, ◌<◌, IfOk, IfErr, None, Some, MatchOption};
 ghost use Rattle.ebpf_c.specs.Handles.{IsRefused};
 ghost use Rattle.ebpf_c.specs.Opened.{CannotOpen};
-ghost use Rattle.ebpf_object.specs.Objects.{object_of, parse_fault};
+ghost use Rattle.ebpf_object.specs.Objects.{object_as, object_of, parse_fault, parse_fault_as};
+ghost use Rattle.ebpf_parts.specs.declared.reading.Reading.TheVariants.{Broad, Stated};
 
 use crate::codes::{CLOSED, DONE, MEMORY};
 use crate::handle::ebpf_handle;
 use crate::parse_refusal::parse_refusal;
 use crate::refusal::{Refusal, tell};
 use ebpf_object::Object;
+use ebpf_object::obj::Reading;
 use std::alloc::{AllocError, Global};
 
-/// The object of a file, in a box.
-fn open_object(alloc: Global, file: &[u8]) -> Result<Box<Object>, Refusal>
-    ensures object { IfOk result (λ b. b.value ≡ object_of file.now) }
-    ensures sound { IfOk result (λ _. parse_fault file.now ≡ None) }
-    ensures why { IfErr result (CannotOpen file.now) }
+/// The object of a file by a reading, in a box.
+fn open_object(alloc: Global, file: &[u8], reading: Reading) -> Result<Box<Object>, Refusal>
+    ensures object { IfOk result (λ b. b.value ≡ object_as reading file.now) }
+    ensures sound { IfOk result (λ _. parse_fault_as reading file.now ≡ None) }
+    ensures why { IfErr result (CannotOpen reading file.now) }
     ensures refuses { IfErr result (λ r. 0 < r.number) }
 {
-    let object = match Object::parse(alloc, file) {
+    let object = match Object::parse_as(alloc, file, reading) {
         Ok(object) => object,
         Err(error) => return Err(parse_refusal(error)),
     };
@@ -44,9 +46,36 @@ pub extern "C" fn ebpf_open(
 ) -> u32
     ensures opened { result ≡ DONE → (handle.new.object ≡ Some (object_of file.now)) × (parse_fault file.now ≡ None) }
     ensures quiet { result ≡ DONE → (about.new ≡ about.old) × (about_len.new ≡ about_len.old) }
-    ensures refused { ¬ (result ≡ DONE) → IsRefused (CannotOpen file.now) result handle.old.object handle.new.object about.old about.new about_len.new }
+    ensures refused { ¬ (result ≡ DONE) → IsRefused (CannotOpen Stated file.now) result handle.old.object handle.new.object about.old about.new about_len.new }
 {
-    match open_object(alloc, file) {
+    match open_object(alloc, file, Reading::Stated) {
+        Ok(object) => {
+            handle.put(alloc, object);
+            DONE
+        }
+        Err(refusal) => tell(&refusal, about, about_len),
+    }
+}
+
+/// Opens the object of a file that is read broadly, where every section of code is a program's, whatever its name. What the
+/// handle held before is closed.
+///
+/// # Answers
+///
+/// 0; 2, and 100 to 199 for the fault of the file. The handle is then as it was.
+#[unsafe(no_mangle)]
+pub extern "C" fn ebpf_open_broad(
+    alloc: Global,
+    file: &[u8],
+    handle: &mut ebpf_handle,
+    about: &mut [u8],
+    about_len: &mut usize,
+) -> u32
+    ensures opened { result ≡ DONE → (handle.new.object ≡ Some (object_as Broad file.now)) × (parse_fault_as Broad file.now ≡ None) }
+    ensures quiet { result ≡ DONE → (about.new ≡ about.old) × (about_len.new ≡ about_len.old) }
+    ensures refused { ¬ (result ≡ DONE) → IsRefused (CannotOpen Broad file.now) result handle.old.object handle.new.object about.old about.new about_len.new }
+{
+    match open_object(alloc, file, Reading::Broad) {
         Ok(object) => {
             handle.put(alloc, object);
             DONE

@@ -3,25 +3,31 @@
 use std::alloc::{AllocError, Global};
 use std::ops::Range;
 
-/// An action: its name, and the words behind it.
+/// An action: whether its file is read broadly, its name, and the words behind it.
 #[derive(Debug, Drop)]
 pub struct Action<'a> {
+    pub is_broad: bool,
     pub name: &'a str,
     pub words: Vec<&'a str>,
 }
 
 impl<'a> Action<'a> {
-    /// The action of a text; between words stands one space.
+    /// The action of a text; between words stands one space. `broadly` before it says how its file is read.
     pub fn read(alloc: Global, text: &'a str) -> Result<Action<'a>, AllocError> {
-        let mut name = text;
+        let broad = text.strip_prefix("broadly ");
+        let mut name = broad.unwrap_or(text);
         let mut words = Vec::new(alloc);
-        if let Some((first, rest)) = text.split_once(' ') {
+        if let Some((first, rest)) = name.split_once(' ') {
             name = first;
             for word in rest.split(' ') {
                 words.push(word)?;
             }
         }
-        Ok(Action { name, words })
+        Ok(Action {
+            is_broad: broad.is_some(),
+            name,
+            words,
+        })
     }
 
     /// The word of a number, from 0 on; the empty one where there are not so many.

@@ -8,6 +8,7 @@ use test_cases::{Action, Files, changed, front, no_action, tally_each};
 /// Whether the bytes are an object, or the error.
 fn outcome(alloc: Global, files: &Files, bytes: &[u8]) -> Result<String, AllocError> {
     let action = Action {
+        is_broad: false,
         name: "is_object",
         words: Vec::new(alloc),
     };

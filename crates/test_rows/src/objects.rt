@@ -10,6 +10,7 @@ use crate::resolved::resolved;
 use crate::sanitized::sanitized;
 use crate::tables::put_table;
 use ebpf_object::Object;
+use ebpf_object::obj::Reading;
 use std::alloc::{AllocError, Global};
 use test_cases::{Action, Files, no_action, shown};
 
@@ -53,6 +54,14 @@ fn of_object(
     }
 }
 
+/// How the file of an action is read.
+fn reading_of(action: &Action<'_>) -> Reading {
+    if action.is_broad {
+        return Reading::Broad;
+    }
+    Reading::Stated
+}
+
 /// What an action gives of the object that the bytes are, or the error. It alone holds an object, and does nothing
 /// else: each way out of a function is proved to let go of what the function holds.
 pub fn on_object(
@@ -61,7 +70,7 @@ pub fn on_object(
     bytes: &[u8],
     action: &Action<'_>,
 ) -> Result<String, AllocError> {
-    match Object::parse(alloc, bytes) {
+    match Object::parse_as(alloc, bytes, reading_of(action)) {
         Ok(mut object) => of_object(alloc, files, &mut object, action),
         Err(error) => shown(alloc, error),
     }
