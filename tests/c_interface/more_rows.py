@@ -33,7 +33,7 @@ def kinds():
 
 def broad_kinds():
     """A program in a section of each name that loaders know, and of others, as it is read broadly."""
-    for name in [*loaded_names.ROWS, *broad.OTHERS]:
+    for name in broad.NAMES:
         kind, known = broad.broad(name), loaded_names.loaded(name)
         wanted = numbers_of(kind) if known == "none" else numbers_loaded(kind, known)
         lines = ["open_broad 0", f"program foo {wanted} section 3 address 0"]

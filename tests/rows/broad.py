@@ -21,6 +21,9 @@ OTHERS = (
 )
 
 
+NAMES = list(dict.fromkeys([*ROWS, *OTHERS]))
+
+
 def stated(name):
     """The kind of a section's name, by its first piece or its first two; None where it says none."""
     pieces = name.split("/")
@@ -49,7 +52,7 @@ def program_of(name):
 
 
 def named_programs():
-    for name in [*ROWS, *OTHERS]:
+    for name in NAMES:
         kind = stated(name)
         given = f"program foo {kind} at 3 0" if kind else refused(name)
         yield both(f'both readings of "{name}"', program_of(name), "programs", given, f"program foo {broad(name)} at 3 0")

@@ -31,6 +31,28 @@ fn open_object(alloc: Global, file: &[u8], reading: Reading) -> Result<Box<Objec
     }
 }
 
+/// Puts the object of a file by a reading into a handle. What this held before is closed.
+fn open(
+    alloc: Global,
+    file: &[u8],
+    reading: Reading,
+    handle: &mut ebpf_handle,
+    about: &mut [u8],
+    about_len: &mut usize,
+) -> u32
+    ensures opened { result ≡ DONE → (handle.new.object ≡ Some (object_as reading file.now)) × (parse_fault_as reading file.now ≡ None) }
+    ensures quiet { result ≡ DONE → (about.new ≡ about.old) × (about_len.new ≡ about_len.old) }
+    ensures refused { ¬ (result ≡ DONE) → IsRefused (CannotOpen reading file.now) result handle.old.object handle.new.object about.old about.new about_len.new }
+{
+    match open_object(alloc, file, reading) {
+        Ok(object) => {
+            handle.put(alloc, object);
+            DONE
+        }
+        Err(refusal) => tell(&refusal, about, about_len),
+    }
+}
+
 /// Opens the object of a file. What the handle held before is closed.
 ///
 /// # Answers
@@ -48,13 +70,7 @@ pub extern "C" fn ebpf_open(
     ensures quiet { result ≡ DONE → (about.new ≡ about.old) × (about_len.new ≡ about_len.old) }
     ensures refused { ¬ (result ≡ DONE) → IsRefused (CannotOpen Stated file.now) result handle.old.object handle.new.object about.old about.new about_len.new }
 {
-    match open_object(alloc, file, Reading::Stated) {
-        Ok(object) => {
-            handle.put(alloc, object);
-            DONE
-        }
-        Err(refusal) => tell(&refusal, about, about_len),
-    }
+    open(alloc, file, Reading::Stated, handle, about, about_len)
 }
 
 /// Opens the object of a file that is read broadly, where every section of code is a program's, whatever its name. What the
@@ -75,13 +91,7 @@ pub extern "C" fn ebpf_open_broad(
     ensures quiet { result ≡ DONE → (about.new ≡ about.old) × (about_len.new ≡ about_len.old) }
     ensures refused { ¬ (result ≡ DONE) → IsRefused (CannotOpen Broad file.now) result handle.old.object handle.new.object about.old about.new about_len.new }
 {
-    match open_object(alloc, file, Reading::Broad) {
-        Ok(object) => {
-            handle.put(alloc, object);
-            DONE
-        }
-        Err(refusal) => tell(&refusal, about, about_len),
-    }
+    open(alloc, file, Reading::Broad, handle, about, about_len)
 }
 
 /// A copy of an object, in a box of its own.
