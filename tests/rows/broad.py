@@ -153,8 +153,8 @@ def extras():
     ]
     good = [
         ("an extra of 32 bits", [enum(7)], 7, 7),
-        ("an extra of 32 bits without a sign", [enum(2**32 - 2)], 7, 2**32 - 2),
-        ("an extra of 32 bits with a sign", [enum(2**32 - 2, flag=1)], 7, 2**64 - 2),
+        ("an extra of 32 bits below zero", [enum(2**32 - 2)], 7, 2**64 - 2),
+        ("an extra of 32 bits below zero with a sign", [enum(2**32 - 2, flag=1)], 7, 2**64 - 2),
         ("an extra of 64 bits", [wide(5, 0x12345678)], 7, 0x12345678 << 32 | 5),
         ("an extra of 64 bits with a sign", [wide(2**32 - 1, 2**32 - 1, flag=1)], 7, 2**64 - 1),
     ]

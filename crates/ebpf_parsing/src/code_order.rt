@@ -34,7 +34,12 @@ fn is_big(order: Endianness) -> bool
 fn has_any_code(file: &ElfFile<'_>) -> bool
     ensures { result ≡ list_any has_code (sections file.now) }
 {
-    file.sections().any(|section| has_code(&section))
+    for section in file.sections() {
+        if has_code(&section) {
+            return true;
+        }
+    }
+    false
 }
 
 /// Whether a file has code in the big-endian order.
