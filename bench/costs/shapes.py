@@ -399,7 +399,6 @@ def asking(types, rows):
     return file.types(types, said).bytes()
 
 
-@told
 @beside_types
 @shape
 def core_records_of_one_long_name(size):
@@ -410,7 +409,6 @@ def core_records_of_one_long_name(size):
     return asking(types, [(asked, string)] * many(size // 2, 16)), Types().bytes()
 
 
-@told
 @beside_types
 @shape
 def core_records_of_one_long_string(size):
@@ -419,6 +417,29 @@ def core_records_of_one_long_string(size):
     asked = types.add(FWD, "x", 0)
     string = types.strings.long(size // 2, "0")
     return asking(types, [(asked, string)] * many(size // 2, 16)), Types().bytes()
+
+
+@told
+@beside_types
+@shape
+def core_records_of_types_of_one_long_name(size):
+    """CO-RE records each on a type of its own, all of one long name."""
+    types = Types()
+    string = types.strings.add("0")
+    name = types.strings.long(size // 2)
+    asked = [types.add(FWD, name, 0) for _ in range(many(size // 2, 28))]
+    return asking(types, [(each, string) for each in asked]), Types().bytes()
+
+
+@told
+@beside_types
+@shape
+def core_records_of_ends_of_one_long_string(size):
+    """CO-RE records on one type, whose access strings are the ends of one long string."""
+    types = Types()
+    asked = types.add(FWD, "x", 0)
+    string = types.strings.long(size // 2, "0")
+    return asking(types, [(asked, string + number) for number in range(many(size // 2, 16))]), Types().bytes()
 
 
 def pointers(count):
@@ -436,7 +457,6 @@ def asking_pointers(count, candidates):
     return asking(types, [(number + 1, string) for number in range(count)]), pointers(candidates).bytes()
 
 
-@told
 @beside_types
 @shape
 def core_records_of_nameless_types(size):

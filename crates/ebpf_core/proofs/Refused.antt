@@ -1,15 +1,16 @@
 -- Why a record has no outcome, as an equation and step by step.
 use Rattle.std.proofs.Common.{◌≡◌, ℕ, zero, suc, ◌<◌, Bool, true, false, List, [], ◌∷◌, Option, Some, Result, Ok, Err, refl, sym, ap, ◌∙◌, subst, arith, slice_get}
-use Rattle.std.specs.Prelude.{filter, is_ok, not, option_map, if◌then◌else◌}
+use Rattle.std.specs.Prelude.{IfErr, MatchBool, filter, is_ok, not, option_map, if◌then◌else◌, ⊤}
 use Rattle.std.specs.List.{filter_map}
 use Rattle.std.proofs.lemmas.Option.{same_Some}
 use Rattle.ebpf_btf.specs.TypeInfo.{TypeInfo}
 use Rattle.ebpf_btf.specs.declared.error.BtfError.{BtfError as TypeError}
 use Rattle.ebpf_ext.specs.declared.relocation.Relocation.{Relocation}
-use Rattle.ebpf_core.specs.Answers.{FirstFails, each, if_ok, of_types}
+use Rattle.ebpf_core.specs.Answers.{FirstFails, Tells, each, if_ok, of_types, told}
 use Rattle.ebpf_core.specs.LocalPaths.{local_path}
 use Rattle.ebpf_core.specs.LocalSides.{LocalSideIs}
 use Rattle.ebpf_core.specs.Matches.{found_in, match_in, match_of, matches, name_at}
+use Rattle.ebpf_core.specs.Memory.{is_memory}
 use Rattle.ebpf_core.specs.Outcomes.{agree, concluded, differing_names, local_loaded, match_value, outcome_among, settled}
 use Rattle.ebpf_core.specs.Refused.{AreInConflict, Nameless, Differing, AmongIsRefused, Matching, LocalField, Values, Conflict, OutcomeIsRefused, LocalSide, Candidates, Among}
 use Rattle.ebpf_core.specs.Searches.{candidates_for, is_local, itself, outcome_of}
@@ -253,3 +254,13 @@ module _ (local target : TypeInfo) (r : Relocation) where
   outcome_refuses _ (LocalSide fault side) = by_side (Err fault) (side_given (Err fault) side)
   outcome_refuses _ (Candidates path e side other given) = by_ids path (Err e) side other given
   outcome_refuses _ (Among path ids fault side other given h) = by_ids path (Ok ids) side other given ∙ among_refuses local target r path ids fault h
+
+-- what a stated fault is, the one that is told is too
+module _ {Y : Type 0} (P : RelocationError → Type 0) (stated : Result Y RelocationError) (to : (fault : RelocationError) → stated ≡ Err fault → P fault) where
+  told_by : (b : Bool) (e : RelocationError) → MatchBool b ⊤ (stated ≡ Err (told e)) → MatchBool b ⊤ (P (told e))
+  told_by true e is = tt
+  told_by false e is = to (told e) is
+
+  pub refused_so : (r : Result Y RelocationError) → Tells r stated → IfErr r (λ e. MatchBool (is_memory e) ⊤ (P (told e)))
+  refused_so (Ok x) h = tt
+  refused_so (Err e) h = told_by (is_memory e) e h

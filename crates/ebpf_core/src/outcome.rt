@@ -1,8 +1,10 @@
 //! What a record comes to.
 
-ghost use Rattle.std.specs.Prelude.{◌≡◌, not, filter, IfOk};
-ghost use Rattle.ebpf_core.specs.Answers.{Tells, each, of_types};
+ghost use Rattle.std.specs.Prelude.{◌≡◌, not, filter, IfErr, IfOk, MatchBool, ⊤};
+ghost use Rattle.ebpf_core.specs.Answers.{Tells, each, of_types, told};
 ghost use Rattle.ebpf_core.specs.Fields.{field_value};
+ghost use Rattle.ebpf_core.specs.Memory.{is_memory};
+ghost use Rattle.ebpf_core.specs.Refused.{AmongIsRefused};
 ghost use Rattle.ebpf_core.specs.Outcomes.{agree, concluded, differing_names, loaded_by, local_loaded, outcome_among, settled, without_match};
 
 use crate::error::RelocationError;
@@ -150,17 +152,9 @@ fn conclude(
     })
 }
 
-/// What a record comes to over its candidates, the target types that its local type may stand for, in the order of
-/// their ids.
-///
-/// Faults in this order: of matching, candidate by candidate: `BtfError` of a type, name or size that is needed, and
-/// `MaximumNestingLevelReached` with the candidate's name; of the local field, also where nothing matches:
-/// `InvalidRelocationKindForType` where the kind can't be asked of it, `BtfError` where its size or container is
-/// missing or a shift is negative; `BtfError` of a match without a size where that is asked; `ConflictingCandidates`
-/// where a later match lies at other bits than the first or has another value. `OutOfMemory` only where memory was
-/// refused.
+/// What a record comes to over its candidates.
 #[tactic(auto, unfolding(crate::specs::Outcomes::outcome_among))]
-pub fn outcome_among(
+fn outcome_by_matches(
     alloc: Global,
     local: &Btf,
     target: &Btf,
@@ -189,4 +183,27 @@ pub fn outcome_among(
         loaded,
         values.as_slice(),
     )
+}
+
+/// What a record comes to over its candidates, the target types that its local type may stand for, in the order of
+/// their ids.
+///
+/// Faults in this order: of matching, candidate by candidate: `BtfError` of a type, name or size that is needed, and
+/// `MaximumNestingLevelReached` with the candidate's name; of the local field, also where nothing matches:
+/// `InvalidRelocationKindForType` where the kind can't be asked of it, `BtfError` where its size or container is
+/// missing or a shift is negative; `BtfError` of a match without a size where that is asked; `ConflictingCandidates`
+/// where a later match lies at other bits than the first or has another value. `OutOfMemory` only where memory was
+/// refused.
+pub fn outcome_among(
+    alloc: Global,
+    local: &Btf,
+    target: &Btf,
+    relocation: &Relocation,
+    path: &LocalPath,
+    candidates: &[u32],
+) -> Result<Outcome, RelocationError>
+    ensures outcome { Tells result (outcome_among local.now target.now relocation.now path.now candidates.now) }
+    ensures refused { IfErr result (λ e. MatchBool (is_memory e) ⊤ (AmongIsRefused local.now target.now relocation.now path.now candidates.now (told e))) }
+{
+    outcome_by_matches(alloc, local, target, relocation, path, candidates)
 }

@@ -1,9 +1,11 @@
 //! Records over the types of a kernel, one after the other.
 
-ghost use Rattle.std.specs.Prelude.{◌≡◌, Ok};
-ghost use Rattle.ebpf_core.specs.Answers.{Tells, if_ok, of_types};
+ghost use Rattle.std.specs.Prelude.{◌≡◌, IfErr, MatchBool, Ok, ⊤};
+ghost use Rattle.ebpf_core.specs.Answers.{Tells, if_ok, of_types, told};
 ghost use Rattle.ebpf_core.specs.Asked.{asked};
+ghost use Rattle.ebpf_core.specs.Memory.{is_memory};
 ghost use Rattle.ebpf_core.specs.Outcomes.{outcome_among};
+ghost use Rattle.ebpf_core.specs.Refused.{OutcomeIsRefused};
 ghost use Rattle.ebpf_core.specs.Searches.{candidates_for, candidates_named, is_local, outcome_of, was_enum64};
 
 use crate::error::RelocationError;
@@ -163,12 +165,8 @@ impl<'a> CoreSearch<'a> {
         Ok(())
     }
 
-    /// What a record comes to.
-    pub fn outcome(
-        &mut self,
-        alloc: Global,
-        relocation: &Relocation,
-    ) -> Result<Outcome, RelocationError>
+    /// What a record comes to: the outcome that is kept, or what a search finds.
+    fn known(&mut self, alloc: Global, relocation: &Relocation) -> Result<Outcome, RelocationError>
         ensures outcome { Tells result (outcome_of self.old.local self.old.target relocation.now) }
         ensures stays { self.new ≡ self.old }
     {
@@ -178,5 +176,18 @@ impl<'a> CoreSearch<'a> {
         let outcome = self.find(alloc, relocation)?;
         self.keep(relocation, outcome)?;
         Ok(outcome)
+    }
+
+    /// What a record comes to.
+    pub fn outcome(
+        &mut self,
+        alloc: Global,
+        relocation: &Relocation,
+    ) -> Result<Outcome, RelocationError>
+        ensures outcome { Tells result (outcome_of self.old.local self.old.target relocation.now) }
+        ensures refused { IfErr result (λ e. MatchBool (is_memory e) ⊤ (OutcomeIsRefused self.old.local self.old.target relocation.now (told e))) }
+        ensures stays { self.new ≡ self.old }
+    {
+        self.known(alloc, relocation)
     }
 }

@@ -1,5 +1,6 @@
 -- Why the records of an object are refused, as an equation and by the place of the first fault.
-use Rattle.std.proofs.Common.{◌≡◌, ℕ, zero, suc, ◌-◌, ◌/◌, List, [], ◌∷◌, ◌++◌, take, Option, Some, None, Result, Ok, Err, refl, sym, ap, ◌∙◌, subst, slice_get}
+use Rattle.std.proofs.Common.{◌≡◌, ℕ, zero, suc, Bool, true, false, ◌-◌, ◌/◌, List, [], ◌∷◌, ◌++◌, take, Option, Some, None, Result, Ok, Err, refl, sym, ap, ◌∙◌, subst, slice_get}
+use Rattle.std.specs.Prelude.{IfErr, MatchBool}
 use Rattle.std.specs.FinMap.{empty, get, insert}
 use Rattle.std.proofs.lemmas.Option.{same_Some}
 use Rattle.ebpf_btf.specs.Next.{if_some}
@@ -14,7 +15,7 @@ use Rattle.ebpf_core.specs.declared.error.RelocationError.TheVariants as errors
 use Rattle.ebpf_core.specs.declared.outcome.Outcome.{Outcome}
 use Rattle.ebpf_core_relo.proofs.OneRecord.{ok_parts}
 use Rattle.ebpf_core_relo.proofs.OutcomeSlots.{same_ok}
-use Rattle.ebpf_core_relo.specs.Answers.{fault_in}
+use Rattle.ebpf_core_relo.specs.Answers.{fault_in, is_memory_at, told_at}
 use Rattle.ebpf_core_relo.specs.Carried.{written}
 use Rattle.ebpf_core_relo.specs.Places.{spans_of}
 use Rattle.ebpf_core_relo.specs.Records.{Scene, Written, all_applied, in_section, named_applied, put_outcome, record_applied, records_applied, section_applied, slots_at, slots_written, unnamed_section}
@@ -247,3 +248,14 @@ module _ (scene : Scene) where
         is_refused (one section.0) (records_applied scene section.0) (λ s. refl) (λ x xs s. refl) part.1 so_far fault
         (record { n = m; x = r; at = there; so_far = left; taken = some; fails = record_refuses scene section.0 left r fault h }) in
         part_refuses n part so_far _ at taken (placed_by part so_far name (Some section) is placed ∙ ap (in_section name) all)
+
+-- what a stated fault is, the one that is given is too
+module _ {Y : Type 0} (P : BtfRelocationError → Type 0) (stated : Result Y BtfRelocationError) (to : (fault : BtfRelocationError) → stated ≡ Err fault → P fault) where
+  told_by : (b : Bool) (e : BtfRelocationError) → MatchBool b (e.section ≡ []) (stated ≡ Err (told_at e)) → MatchBool b (e.section ≡ []) (P (told_at e))
+  told_by true e is = is
+  told_by false e is = to (told_at e) is
+
+  pub refused_so : {X : Type 0} (r : Result X BtfRelocationError) → IfErr r (λ e. MatchBool (is_memory_at e) (e.section ≡ []) (stated ≡ Err (told_at e)))
+      → IfErr r (λ e. MatchBool (is_memory_at e) (e.section ≡ []) (P (told_at e)))
+  refused_so (Ok x) h = h
+  refused_so (Err e) h = told_by (is_memory_at e) e h

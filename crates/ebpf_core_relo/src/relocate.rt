@@ -4,6 +4,7 @@ ghost use Rattle.std.specs.Prelude.{◌≡◌, ℕ, Ok, Err, IfOk, IfErr, MatchB
 ghost use Rattle.std.specs.FinMap as map;
 ghost use Rattle.ebpf_base.specs.Keys.{key_cmp};
 ghost use Rattle.ebpf_core_relo.specs.Answers.{is_memory_at, told_at};
+ghost use Rattle.ebpf_core_relo.specs.Refused.{RecordsAreRefused};
 ghost use Rattle.ebpf_core_relo.specs.Records.{scene_between, slots_written, with_slots, with_slots_at};
 
 use crate::error::BtfRelocationError;
@@ -18,18 +19,8 @@ use ebpf_parts::insn::bpf_insn;
 use ebpf_reloc::Function;
 use std::alloc::Global;
 
-/// The slots of the functions that the CO-RE relocations of an object write, by the functions' keys: each relocation's
-/// instruction carries what it asks of the target types. Sections come in order, and in a section the relocations, each
-/// over those before it. The others of a function's slots are as they were.
-///
-/// # Errors
-///
-/// The first fault, with the name of its section: `BtfError` in `section@OFFSET` where the section's name can't be
-/// read, `SectionNotFound` where the object has no section of the name, `FunctionNotFound` where no function of the
-/// section has the slot, then what the search for the type, field or variant answers, then `InvalidInstruction` and
-/// `InvalidInstructionIndex` where the slot can't carry what was found. `OutOfMemory`, with an empty name, only where
-/// memory was refused.
-pub fn relocate_slots(
+/// The slots that all relocations write, or the first fault.
+fn written_slots(
     alloc: Global,
     functions: &ByKey<Function>,
     section_infos: &ByName<SectionIndex>,
@@ -54,6 +45,32 @@ pub fn relocate_slots(
         relocations.relocations(),
     )?;
     Ok(written)
+}
+
+/// The slots of the functions that the CO-RE relocations of an object write, by the functions' keys: each relocation's
+/// instruction carries what it asks of the target types. Sections come in order, and in a section the relocations, each
+/// over those before it. The others of a function's slots are as they were.
+///
+/// # Errors
+///
+/// The first fault, with the name of its section: `BtfError` in `section@OFFSET` where the section's name can't be
+/// read, `SectionNotFound` where the object has no section of the name, `FunctionNotFound` where no function of the
+/// section has the slot, then what the search for the type, field or variant answers, then `InvalidInstruction` and
+/// `InvalidInstructionIndex` where the slot can't carry what was found. `OutOfMemory`, with an empty name, only where
+/// memory was refused.
+pub fn relocate_slots(
+    alloc: Global,
+    functions: &ByKey<Function>,
+    section_infos: &ByName<SectionIndex>,
+    local: &Btf,
+    relocations: &BtfExt,
+    target: &Btf,
+) -> Result<ByKey<Items<bpf_insn>>, BtfRelocationError>
+    ensures slots { IfOk result (λ slots. slots_written (scene_between local.now target.now functions.now section_infos.now) relocations.now.relocations ≡ Ok slots) }
+    ensures fault { IfErr result (λ e. MatchBool (is_memory_at e) (e.section ≡ []) (slots_written (scene_between local.now target.now functions.now section_infos.now) relocations.now.relocations ≡ Err (told_at e))) }
+    ensures refused { IfErr result (λ e. MatchBool (is_memory_at e) (e.section ≡ []) (RecordsAreRefused (scene_between local.now target.now functions.now section_infos.now) relocations.now.relocations (told_at e))) }
+{
+    written_slots(alloc, functions, section_infos, local, relocations, target)
 }
 
 /// Puts slots in the place of a function's.
