@@ -1,9 +1,15 @@
 #!/bin/sh
-# Makes counter.o and references.o of crates/test_rows/data of the sources beside them, with clang and llvm-strip of
-# LLVM 14. make_rows.py reads them.
+# Makes counter.o and references.o of crates/test_rows/data, which make_rows.py reads, and watch.o and kernel.btf of
+# crates/example_library/data, of the sources beside them, with clang and the tools of LLVM 14.
 set -e
-cd "$(dirname "$0")/../crates/test_rows/data"
-for name in counter references; do
-    clang -target bpf -O2 -g -fdebug-compilation-dir=. -c $name.c -o $name.o
+cd "$(dirname "$0")/../crates"
+made() {
+    (cd "$1" && clang -target bpf -O2 -g -fdebug-compilation-dir=. -c "$2.c" -o "$2.o")
+}
+for name in test_rows/data/counter test_rows/data/references example_library/data/watch; do
+    made "$(dirname $name)" "$(basename $name)"
     llvm-strip -g $name.o
 done
+made example_library/data kernel
+llvm-objcopy --dump-section .BTF=example_library/data/kernel.btf example_library/data/kernel.o
+rm example_library/data/kernel.o

@@ -1,0 +1,222 @@
+//! From a file to finished slots, step by step, as docs/LIBRARY.md goes through it. The words are an object file, a kernel's
+//! types, the lines of its symbols, and the lines with the descriptors of the maps.
+#![tactic(auto)]
+
+mod listing;
+mod making;
+mod passes;
+mod preparing;
+mod refusals;
+mod slots;
+
+use ebpf_object::Object;
+use ebpf_object::obj::Btf;
+use ebpf_object::prepare::{PrepareError, Steps};
+use std::{env, fs, io};
+
+/// Prints what came of a copy of an object, or of the object itself.
+fn print_outcome(rt: &HostRuntime, outcome: &Result<Object, PrepareError>) -> io::Result<()> {
+    match outcome {
+        Ok(object) => slots::print_programs(rt, object),
+        Err(error) => refusals::print_gone(rt, error),
+    }
+}
+
+/// Prints what came of an object that is still there.
+fn print_in_place(
+    rt: &HostRuntime,
+    object: &Object,
+    answer: &Result<(), PrepareError>,
+) -> io::Result<()> {
+    match answer {
+        Ok(()) => slots::print_programs(rt, object),
+        Err(error) => refusals::print_refused(rt, object, error),
+    }
+}
+
+/// Prepares a copy of the object for a kernel.
+fn go_copied(
+    rt: &HostRuntime,
+    object: &Object,
+    kernel: &Btf,
+    descriptors: &[(&str, i32)],
+    symbols: &[u8],
+) -> io::Result<()> {
+    println!(rt; "a copy, all passes in one call")?;
+    let steps = Steps::all(kernel, descriptors);
+    let outcome = preparing::copied(rt.alloc(), object, &steps, symbols);
+    print_outcome(rt, &outcome)
+}
+
+/// Prepares the object for a kernel pass by pass.
+fn go_one_by_one(
+    rt: &HostRuntime,
+    object: &Object,
+    kernel: &Btf,
+    descriptors: &[(&str, i32)],
+    symbols: &[u8],
+) -> io::Result<()> {
+    println!(rt; "the passes one by one")?;
+    let copy = object.clone()?;
+    let outcome = passes::one_by_one(rt.alloc(), copy, kernel, descriptors, symbols);
+    print_outcome(rt, &outcome)
+}
+
+/// Prepares the object itself for a kernel, with names of maps that are written out, and joins nothing.
+fn go_taken(rt: &HostRuntime, object: &Object, kernel: &Btf, symbols: &[u8]) -> io::Result<()> {
+    println!(rt; "the object itself, not joined")?;
+    let descriptors = [("counts", 3), (".bss", 4), (".rodata", 5)];
+    let steps = Steps::none()
+        .with_types(kernel)
+        .with_descriptors(&descriptors)
+        .with_externs(kernel);
+    let copy = object.clone()?;
+    let outcome = preparing::taken(rt.alloc(), copy, &steps, symbols);
+    print_outcome(rt, &outcome)
+}
+
+/// Prepares the object where it stands.
+fn go_in_place(
+    rt: &HostRuntime,
+    object: &Object,
+    steps: &Steps<'_>,
+    symbols: &[u8],
+) -> io::Result<()> {
+    let copy = object.clone()?;
+    let (object, answer) = preparing::in_place(rt.alloc(), copy, steps, symbols);
+    print_in_place(rt, &object, &answer)
+}
+
+/// Prepares the object without descriptors, which is refused.
+fn go_undescribed(rt: &HostRuntime, object: &Object) -> io::Result<()> {
+    println!(rt; "in place, without descriptors")?;
+    go_in_place(rt, object, &Steps::without_kernel(&[]), &[])
+}
+
+/// Looks for externs by symbols alone, which is refused where one has a type.
+fn go_by_symbols(rt: &HostRuntime, object: &Object, symbols: &[u8]) -> io::Result<()> {
+    println!(rt; "in place, externs by symbols alone")?;
+    let steps = Steps::none().with_externs_by_symbols();
+    go_in_place(rt, object, &steps, symbols)
+}
+
+/// Joins programs whose externs are left alone, which is refused where one is called.
+fn go_unresolved(rt: &HostRuntime, object: &Object) -> io::Result<()> {
+    println!(rt; "in place, externs left alone")?;
+    let descriptors = [("counts", 3), (".bss", 4), (".rodata", 5)];
+    go_in_place(rt, object, &Steps::without_kernel(&descriptors), &[])
+}
+
+/// Parses a file that is cut, which is refused.
+fn go_cut(rt: &HostRuntime, file: &[u8]) -> io::Result<()> {
+    println!(rt; "a file without its end")?;
+    let cut = file.get(..file.len() / 2).unwrap_or(file);
+    match preparing::parsed(rt.alloc(), cut) {
+        Ok(object) => slots::print_programs(rt, &object),
+        Err(error) => refusals::print_unparsed(rt, cut, &error),
+    }
+}
+
+/// Prepares the object in each way for a kernel whose types are known.
+fn go_for_kernel(
+    rt: &HostRuntime,
+    object: &Object,
+    kernel: &Btf,
+    symbols: &[u8],
+    lines: &str,
+) -> io::Result<()> {
+    let descriptors = making::descriptors(rt.alloc(), object, lines)?;
+    go_copied(rt, object, kernel, &descriptors, symbols)?;
+    go_one_by_one(rt, object, kernel, &descriptors, symbols)?;
+    go_taken(rt, object, kernel, symbols)
+}
+
+/// Reads a kernel's types, and prepares the object for it.
+fn go_with_types(
+    rt: &HostRuntime,
+    object: &Object,
+    types: &[u8],
+    symbols: &[u8],
+    lines: &str,
+) -> io::Result<()> {
+    match preparing::kernel_types(rt.alloc(), types) {
+        Ok(kernel) => go_for_kernel(rt, object, &kernel, symbols, lines),
+        Err(error) => println!(rt; "refused: {error}"),
+    }
+}
+
+/// Prepares the object in ways that are refused.
+fn go_refused(rt: &HostRuntime, object: &Object, symbols: &[u8]) -> io::Result<()> {
+    go_undescribed(rt, object)?;
+    go_by_symbols(rt, object, symbols)?;
+    go_unresolved(rt, object)
+}
+
+/// Prints what a file has.
+fn print_file(rt: &HostRuntime, file: &[u8], object: &Object) -> io::Result<()> {
+    listing::print_parts(rt, object)?;
+    listing::print_sections(rt, file, object)?;
+    listing::print_license(rt, object)
+}
+
+/// Prepares an object in each way.
+fn go_on(
+    rt: &HostRuntime,
+    object: &Object,
+    types: &[u8],
+    symbols: &[u8],
+    lines: &str,
+) -> io::Result<()> {
+    go_with_types(rt, object, types, symbols, lines)?;
+    go_refused(rt, object, symbols)
+}
+
+/// Sets a variable of the object, prints what the file has, and prepares the object in each way.
+fn go_with(
+    rt: &HostRuntime,
+    file: &[u8],
+    object: Object,
+    types: &[u8],
+    symbols: &[u8],
+    lines: &str,
+) -> io::Result<()> {
+    match making::with_step(rt.alloc(), object, 2) {
+        Ok(object) => {
+            print_file(rt, file, &object)?;
+            go_on(rt, &object, types, symbols, lines)
+        }
+        Err(error) => refusals::print_unparsed(rt, file, &error),
+    }
+}
+
+/// Parses the file, and goes through the steps with its object.
+fn go_through(
+    rt: &HostRuntime,
+    file: &[u8],
+    types: &[u8],
+    symbols: &[u8],
+    lines: &str,
+) -> io::Result<()> {
+    match preparing::parsed(rt.alloc(), file) {
+        Ok(object) => go_with(rt, file, object, types, symbols, lines),
+        Err(error) => refusals::print_unparsed(rt, file, &error),
+    }
+}
+
+fn main(rt: HostRuntime) -> io::Result<()> {
+    let mut words = env::args(&rt)?.skip(1);
+    let (Some(file), Some(types), Some(symbols), Some(lines)) = (
+        words.next(),
+        words.next(),
+        words.next(),
+        words.next(),
+    ) else {
+        return println!(rt; "usage: example_library FILE TYPES SYMBOLS DESCRIPTORS");
+    };
+    let file = fs::read(&rt, file.as_str())?;
+    let types = fs::read(&rt, types.as_str())?;
+    let symbols = fs::read(&rt, symbols.as_str())?;
+    let lines = fs::read_to_string(&rt, lines.as_str())?;
+    go_through(&rt, &file, &types, &symbols, lines.as_str())?;
+    go_cut(&rt, &file)
+}
