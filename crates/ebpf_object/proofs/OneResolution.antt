@@ -1,7 +1,7 @@
 -- Resolving externs has one result, where the bytes of the kernel's symbols are known.
 use Rattle.std.proofs.Common.{◌≡◌, ◌⊎◌, inl, inr, ℕ, ◌<◌, Bool, true, false, List, [], ◌∷◌, ◌++◌, map, length, Option, Some, None, Ok, refl, sym, ap, subst, ◌∙◌, append-nil, append_assoc, arith}
 use Rattle.std.proofs.lemmas.List.{map-append}
-use Rattle.std.specs.Io.BufRead.{drop_through, first_line}
+use Rattle.std.specs.Io.BufRead.{drop_through}
 use Rattle.ebpf_base.proofs.Faults.{both_None}
 use Rattle.ebpf_btf.specs.TypeInfo.{TypeInfo}
 use Rattle.ebpf_ksyms.proofs.Reading.{lines_fault-push}

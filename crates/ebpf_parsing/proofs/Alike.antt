@@ -1,5 +1,5 @@
 -- A little-endian file that the stated reading takes, the broad one reads alike.
-use Rattle.std.proofs.Common.{◌≡◌, ◌≢◌, ◌<◌, ℕ, suc, ◌+◌, ◌-◌, Bool, true, false, List, [], ◌∷◌, ◌++◌, length, map, filter, take, Option, Some, None, option_map, refl, sym, ap, ◌∙◌, arith}
+use Rattle.std.proofs.Common.{◌≡◌, ◌≢◌, ℕ, suc, ◌+◌, ◌-◌, Bool, true, false, List, [], ◌∷◌, ◌++◌, length, map, filter, take, Option, Some, None, option_map, refl, sym, ap, ◌∙◌, arith}
 use Rattle.std.specs.Prelude.{◌==◌, ◌&&◌, ◌||◌, not, nat_lt, if◌then◌else◌}
 use Rattle.std.specs.List.{before_first, flat_map, list_any, position_or_len, AllByRecursion}
 use Rattle.std.proofs.lemmas.Bool.{or_parts}
@@ -20,25 +20,24 @@ use Rattle.ebpf_elf.specs.File.{order_of}
 use Rattle.ebpf_elf.specs.Sections.{SectionOf, sections}
 use Rattle.ebpf_parsing.proofs.EntriesStand.{stands, all_flat_map}
 use Rattle.ebpf_parsing.specs.CodeOrder.{is_big, has_code, has_big_endian_code, order_fault_as}
-use Rattle.ebpf_parsing.specs.Contents.{map_entries, program_entries, maps_as, programs_as, read_fault, sections_fault, parse_fault, parse_fault_as, other_sections, object_sections, own_symbols}
+use Rattle.ebpf_parsing.specs.Contents.{map_entries, program_entries, maps_as, programs_as, read_fault, sections_fault, other_sections, object_sections, own_symbols}
 use Rattle.ebpf_parsing.specs.DeclaredMaps.{declared_maps, declared_maps_fault}
 use Rattle.ebpf_parsing.specs.FileExterns.{types_of, file_externs_fault}
 use Rattle.ebpf_parsing.specs.FileSymbols.{file_symbols, symbols_fault}
 use Rattle.ebpf_parsing.specs.FileTypes.{file_types_fault}
 use Rattle.ebpf_parsing.specs.OfSection.{maps_by, maps_in, programs_by, programs_in, fault_by, fault_in, program_section_fault}
 use Rattle.ebpf_parsing.specs.Programs.{program_of, programs_of, programs_fault, is_program_symbol}
-use Rattle.ebpf_parsing.specs.Readings.{IsReadAlike, ReadingsAgree, StatedKindsAreNamed}
+use Rattle.ebpf_parsing.specs.Readings.{ReadingsAgree, StatedKindsAreNamed}
 use Rattle.ebpf_parsing.specs.SymbolNames.{numbers_by_name}
 use Rattle.ebpf_parsing.specs.Symbols.{SymbolValue, symbols_of}
-use Rattle.ebpf_parsing.specs.Terms.{has_zero, front_of, stated_text_fault, license_text, license_text_fault, license_in, license_fault_in, license_as, license_of, license_fault_as, kernel_version_of, version_fault}
+use Rattle.ebpf_parsing.specs.Terms.{has_zero, front_of, stated_text_fault, license_text, license_text_fault, license_in, license_fault_in, license_as, license_fault_as, kernel_version_of, version_fault}
 use Rattle.ebpf_parsing.specs.declared.program.Program.{Program}
 use Rattle.ebpf_parts.proofs.NamesRead.{broad_keeps_kinds, no_name_says_other}
-use Rattle.ebpf_parts.specs.ProgramSections.{program_section, no_section}
+use Rattle.ebpf_parts.specs.ProgramSections.{no_section}
 use Rattle.ebpf_parts.specs.Readings.{section_as, section_fault_as}
 use Rattle.ebpf_parts.specs.Sections.{SectionValue, section_of, section_with, section_fault}
 use Rattle.ebpf_parts.specs.declared.error.ParseError.{ParseError}
 use Rattle.ebpf_parts.specs.declared.error.ParseError.TheVariants.{BigEndianCode, ElfError, NoSymbolsForSection}
-use Rattle.ebpf_parts.specs.declared.maps.either.Map.{Map}
 use Rattle.ebpf_parts.specs.declared.program_section.ProgramSection.{ProgramSection}
 use Rattle.ebpf_parts.specs.declared.program_section.ProgramSection.TheVariants.{Other}
 use Rattle.ebpf_parts.specs.declared.reading.Reading.TheVariants.{Stated, Broad}

@@ -18,7 +18,7 @@ use Rattle.ebpf_elf.specs.Relocations.{relocations}
 use Rattle.ebpf_elf.specs.declared.error.ElfReadError.TheVariants.{BadStringTable}
 use Rattle.ebpf_elf.specs.Sections.{SectionOf, section_name, data_faults}
 use Rattle.ebpf_elf.specs.Symbols.{SymbolOf, symbol_name, symbols}
-use Rattle.ebpf_parsing.specs.CodeOrder.{has_big_endian_code, order_fault_as}
+use Rattle.ebpf_parsing.specs.CodeOrder.{has_big_endian_code}
 use Rattle.ebpf_parsing.specs.Contents.{read_fault, sections_fault, parse_fault_as, other_sections}
 use Rattle.ebpf_parsing.specs.DataMaps.{data_map_fault}
 use Rattle.ebpf_parsing.specs.DeclaredMaps.{declared_maps_fault}
@@ -30,11 +30,11 @@ use Rattle.ebpf_parsing.specs.OfSection.{fault_by, fault_in, program_section_fau
 use Rattle.ebpf_parsing.specs.Programs.{is_program_symbol, program_bytes, range_faults, program_fault, programs_fault}
 use Rattle.ebpf_parsing.specs.Readings.{BroadRefusesNoName, StatedTakesBothOrders}
 use Rattle.ebpf_parsing.specs.Symbols.{SymbolValue, symbols_of}
-use Rattle.ebpf_parsing.specs.Terms.{stated_text_fault, license_text_fault, license_fault_in, license_fault_as, version_number_fault, version_fault_in, version_fault, has_zero, front_of, section_named}
+use Rattle.ebpf_parsing.specs.Terms.{stated_text_fault, license_text_fault, license_fault_in, license_fault_as, version_number_fault, version_fault_in, version_fault, has_zero, front_of}
 use Rattle.ebpf_parsing.specs.Texts.{text_bytes, conflict_fault_at, conflict_fault, repeated, text_fault_of, fault_at, symbol_at_offset, offsets, text_fault}
-use Rattle.ebpf_parts.specs.Readings.{section_as, section_fault_as}
-use Rattle.ebpf_parts.specs.ProgramSections.{program_section, no_section}
-use Rattle.ebpf_parts.specs.Sections.{SectionValue, section_of, name_fault, data_fault, target_fault, section_fault, section_fault_with}
+use Rattle.ebpf_parts.specs.Readings.{section_as}
+use Rattle.ebpf_parts.specs.ProgramSections.{no_section}
+use Rattle.ebpf_parts.specs.Sections.{SectionValue, section_of, name_fault, data_fault, section_fault, section_fault_with}
 use Rattle.ebpf_parts.specs.Slots.{code_faults}
 use Rattle.ebpf_parts.specs.declared.error.ParseError.{ParseError}
 use Rattle.ebpf_parts.specs.declared.error.ParseError.TheVariants.{ElfError, BtfError, MissingLicenseNullTerminator, InvalidLicense, InvalidKernelVersion, SectionError, UnsupportedRelocationTarget, InvalidProgramSection, InvalidMapDefinition, InvalidSymbol, SymbolNotFound, NoSymbolsForSection, BigEndianCode}
