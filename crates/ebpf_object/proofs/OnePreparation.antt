@@ -11,14 +11,13 @@ use Rattle.ebpf_core_relo.specs.Answers.{told_at}
 use Rattle.ebpf_core_relo.specs.Records.{Written, with_slots}
 use Rattle.ebpf_core_relo.specs.declared.error.BtfRelocationError.{BtfRelocationError}
 use Rattle.ebpf_ksyms.specs.Externs as resolution
-
 use Rattle.ebpf_ksyms.specs.Sources.{Reader}
 use Rattle.ebpf_ksyms.specs.declared.error.KsymsError.{KsymsError}
 use Rattle.ebpf_object.proofs.OneJoining.{one_joining}
 use Rattle.ebpf_object.proofs.OneResolution.{not_resolved, one_refusal, one_resolved}
 use Rattle.ebpf_object.specs.AdaptedSlots.{adapted_slots}
 use Rattle.ebpf_object.specs.Joined.{AreJoined, is_program_key, linkable_of, programs_in_order}
-use Rattle.ebpf_object.specs.Objects.{object_of, parse_fault}
+use Rattle.ebpf_object.specs.Objects.{object_as, parse_fault_as}
 use Rattle.ebpf_object.specs.OnePreparation.{OnePreparation, OneStaging, is_access, is_access_error, told}
 use Rattle.ebpf_object.specs.Prepared.{IsFault, IsFaultAfter, IsFirstFault, IsPrepared, NamesNothing, Refuses, Stages, before_calls, before_externs, before_maps, before_resolution, is_memory}
 use Rattle.ebpf_object.specs.Stages.{Adapts, AdaptingFault, Joins, JoiningFault, Resolves, ResolvingFault, described, describing_fault, externs_known, knowing_fault}
