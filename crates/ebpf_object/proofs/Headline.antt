@@ -191,7 +191,7 @@ linked_by true d o joins = joins
 linked_by false d o joins = joins
 
 module _ (steps : Chosen) (lines : Source) (reading : Reading) (bytes : List ℕ) (o : Object) (p : IsPrepared steps lines reading bytes o) where
-  abbrev s : Stages steps lines (object_of bytes) o
+  abbrev s : Stages steps lines (object_as reading bytes) o
   s = p.stages
 
   chain : Chain (passes_of p) (object_as reading bytes) o
