@@ -34,7 +34,7 @@ module _ (s : Chosen) (lines : Source) where
     pub unlinked : (e : PrepareError) → Wrapped Calls (JoiningFault true d) e → IsFault (joining s) lines o e
     unlinked e f = subst (λ (x : PrepareError). IsFault (joining s) lines o x) (sym f.1) (record { before = d; stages = stages; fault = f.2 })
 
-    joined : (linked : Object) → Joins true d linked → Stages (joining s) lines o linked
+    abbrev joined : (linked : Object) → Joins true d linked → Stages (joining s) lines o linked
     joined linked joins = record {
       relocated = stages.relocated;
       described = stages.described;
