@@ -30,7 +30,7 @@ def functions(version, path):
     for line in output(f"llvm-objdump{version}", "-d", path).splitlines():
         if head := re.fullmatch(r"[0-9a-f]{16} <(?!LBB)(.*)>:", line):
             name = head[1]
-        elif row := re.match(r"\s+(\d+):\t((?:[0-9a-f]{2} )+)", line):
+        elif row := re.match(r"\s+(\d+):\t((?:[0-9a-f]{2}\s)+)", line):
             data = bytes.fromhex(row[2])
             first, slots = found.setdefault(name, (int(row[1]), []))
             slots += [data[at : at + 8].hex() for at in range(0, len(data), 8)]
@@ -124,7 +124,7 @@ def compared(calls, folder):
         path = folder / f"broad{version}.o"
         output(tools[0], "-target", "bpf", "-O2", "-g", "-c", SOURCE, "-o", path)
         words = [str(calls), str(path), "/dev/null", "/dev/null"]
-        yield f"broad.c of {tools[0]}, as stated", None if run([*words, "open"])[1][0].startswith("open 144 ") else "it is taken"
+        yield f"broad.c of {tools[0]}, as stated", None if run([*words, "open"])[1] == ["open 141"] else "its license is taken"
         status, lines, err = run([*words, "open_broad", "named", "slots", "listed", "records", "info"])
         wrong = [err] if status else [*wrong_maps(lines, path), *wrong_programs(lines, version, path)]
         wrong += [] if lines and lines[-1].endswith(" license 47504c") else ["another license"]

@@ -16,7 +16,7 @@ class GrowthRow(Row):
     def __init__(self, program, name, files, *actions, answer="0"):
         super().__init__(f"growths: {name}", program, "-m", *files, *actions)
         self.answer = answer
-        self.may_do_without = actions[-1] in ("open", "prepare")
+        self.may_do_without = actions[-1] in ("open", "open_broad", "prepare")
 
     def ample_fault(self, ample):
         parts = Parts(ample.out)
