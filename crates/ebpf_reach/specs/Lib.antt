@@ -5,3 +5,4 @@ pub mod Counted
 pub mod Effects
 pub mod Steps
 pub mod Reached
+pub mod Searched
