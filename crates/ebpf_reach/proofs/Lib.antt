@@ -6,3 +6,5 @@ pub mod Upward
 pub mod Intake
 pub mod Searching
 pub mod Sameness
+pub mod Lawful
+pub mod Visiting

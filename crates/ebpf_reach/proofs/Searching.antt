@@ -47,24 +47,25 @@ searched_less slots A B rest new i s t =
     let longer = length-append rest (i ∷ []) in
     omega arith
 
-length_unreached : (n : ℕ) → length {A = Option Registers} (replicate n None) ≡ n
-length_unreached n = length-replicate n None
+length_nothing : (X : Type 0) (n : ℕ) → length {A = Option X} (replicate n None) ≡ n
+length_nothing X n = length-replicate n None
 
-none_reached : (n i : ℕ) → state_at (replicate n None) i ≡ None
-none_reached n i =
+-- nothing is anywhere in a list of nothing
+pub nothing_there : (X : Type 0) (n i : ℕ) → get_or {A = Option X} (replicate n None) i None ≡ None
+nothing_there X n i =
     elim (leb_tells n i) [
-      | inl past ↦ get_or_past (replicate n None) i None (let as_many = length_unreached n in let above = past.1 in omega arith)
+      | inl past ↦ get_or_past (replicate n None) i None (let as_many = length_nothing X n in let above = past.1 in omega arith)
       | inr within ↦ get_or-replicate n i None None within.1
     ]
 
 -- before the first step no slot is reached
 pub searched_first : (slots : List bpf_insn) (B : Assignment) (new : List ℕ) → TakesIn (leads slots (pos 0) unknown) (replicate (length slots) None) B [] new → Searched slots B new
 searched_first slots B new t = record {
-  as_many = t.as_many ∙ length_unreached (length slots);
+  as_many = t.as_many ∙ length_nothing Registers (length slots);
   first = t.holds;
-  least = λ C closed. t.least C (λ i. let P : Option Registers → Type 0 = λ x. IsStateBelow x (state_at C i) in subst P (sym (none_reached (length slots) i)) tt) closed.first;
+  least = λ C closed. t.least C (λ i. let P : Option Registers → Type 0 = λ x. IsStateBelow x (state_at C i) in subst P (sym (nothing_there Registers (length slots) i)) tt) closed.first;
   held = λ i. elim (t.changed i) [
-    | inl same ↦ inr (let P : Option Registers → Type 0 = λ x. Holds B (followed slots i x) in subst P (sym (same ∙ none_reached (length slots) i)) tt)
+    | inl same ↦ inr (let P : Option Registers → Type 0 = λ x. Holds B (followed slots i x) in subst P (sym (same ∙ nothing_there Registers (length slots) i)) tt)
     | inr m ↦ inl m
   ];
 }

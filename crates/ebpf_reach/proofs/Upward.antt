@@ -1,6 +1,7 @@
 -- What holds the steps of what is known holds those of what more is known.
 use Rattle.std.proofs.Common.{◌≡◌, ℕ, ◌+◌, ◌<◌, Bool, true, false, cond, List, [], ◌∷◌, ◌++◌, length, Option, Some, None, refl, sym, ap, ◌∙◌, subst, arith, ℤ, pos, negsuc, ◌+ℤ◌, nat_lt}
 use Rattle.std.specs.Prelude.{slice_get}
+use Rattle.std.proofs.lemmas.Bool.Decides.{nat_tests}
 use Rattle.ebpf_parts.specs.declared.insn.bpf_insn.{bpf_insn}
 use Rattle.ebpf_parts.specs.Slots.{dst_of}
 use Rattle.ebpf_linker.specs.Slots.{Flow, Return, Enter, Wide, Jump, Branch, Next, flow}
@@ -80,3 +81,14 @@ steps_at_below slots A i (Some slot) a b p h = follow_below slots A i slot a b (
 
 pub steps_below : (slots : List bpf_insn) (A : Assignment) (i : ℕ) (a b : Registers) → IsBelow a b → Holds A (steps slots i b) → Holds A (steps slots i a)
 steps_below slots A i a b p h = steps_at_below slots A i (slice_get slots i) a b p h
+
+within_true : (n m : ℕ) → n < m → nat_lt n m ≡ true
+within_true n m h = grind (arith, nat_tests)
+
+one_held : (A : Assignment) (t : Bool) (n : ℕ) (a : Registers) → t ≡ true → Holds A (cond t (record { place = n; registers = a } ∷ []) []) → IsStateBelow (Some a) (state_at A n)
+one_held A true n a e h = h.0
+one_held A false n a e h = cc
+
+-- a step to a place of the program that is held
+pub leads_held : (slots : List bpf_insn) (A : Assignment) (n : ℕ) (a : Registers) → n < length slots → Holds A (leads slots (pos n) a) → IsStateBelow (Some a) (state_at A n)
+leads_held slots A n a within h = one_held A (nat_lt n (length slots)) n a (within_true n (length slots) within) h

@@ -6,3 +6,4 @@ pub mod Effects
 pub mod Steps
 pub mod Reached
 pub mod Searched
+pub mod Visits
