@@ -1,0 +1,9 @@
+pub mod Registers
+pub mod Arithmetic
+pub mod Comparisons
+pub mod Counted
+pub mod Effects
+pub mod Steps
+pub mod Reached
+pub mod Searched
+pub mod Visits

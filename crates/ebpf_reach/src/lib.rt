@@ -1,0 +1,14 @@
+//! Which slots of a finished program can be reached, where registers that hold known numbers decide jumps.
+#![tactic(auto)]
+
+mod arithmetic;
+mod comparisons;
+mod effects;
+pub mod laws;
+mod registers;
+mod search;
+mod steps;
+#[cfg(test)]
+mod tests;
+
+pub use search::reached_slots;
