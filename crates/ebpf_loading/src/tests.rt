@@ -1,0 +1,5 @@
+// Rows over small types.
+
+mod attach;
+mod kernel_numbers;
+mod map_type_ids;
