@@ -4,6 +4,7 @@ pub mod Grouped
 pub mod JoinedRuns
 pub mod KeptAbsences
 pub mod MatchAbsences
+pub mod MisfitNames
 pub mod NamedMembers
 pub mod OneRecord
 pub mod OutcomeRows

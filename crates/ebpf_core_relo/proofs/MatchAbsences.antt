@@ -198,13 +198,13 @@ no_value_is_of_matches local target local_id steps place ids found is =
     let f = matched local target local_id steps place in
     let (all, each_is, are) = ok_parts (each f ids) (λ all. Ok (kept_ones all)) found is in (
       λ e none.
-      not_led local target local_id steps place ids
-      (λ k id at. whole local target local_id steps place id false
-      (nowhere_then local target local_id steps place id _ (sym (matched_by local target local_id steps place id) ∙ all_none f ids all each_is (same_ok _ _ are ∙ none) k id at)))
-      (furthest local target steps ids).candidate refl e,
+          not_led local target local_id steps place ids
+          (λ k id at. whole local target local_id steps place id false
+          (nowhere_then local target local_id steps place id _ (sym (matched_by local target local_id steps place id) ∙ all_none f ids all each_is (same_ok _ _ are ∙ none) k id at)))
+          (furthest local target steps ids).candidate refl e,
       λ some.
-      let (k, id, m, at, one) = some_one f ids all each_is (λ none. some (sym (same_ok _ _ are) ∙ none)) in
-      led local target local_id steps place ids k id at
-      (whole local target local_id steps place id true (somewhere_then local target local_id steps place id m _ (sym (matched_by local target local_id steps place id) ∙ one)))
-      (furthest local target steps ids).candidate refl,
+          let (k, id, m, at, one) = some_one f ids all each_is (λ none. some (sym (same_ok _ _ are) ∙ none)) in
+          led local target local_id steps place ids k id at
+          (whole local target local_id steps place id true (somewhere_then local target local_id steps place id m _ (sym (matched_by local target local_id steps place id) ∙ one)))
+          (furthest local target steps ids).candidate refl,
     )

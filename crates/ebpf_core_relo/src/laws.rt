@@ -1,6 +1,6 @@
 //! What holds of the slots that records write.
 
-ghost use Rattle.ebpf_core_relo.specs.AbsenceLaws.{AbsencesAreTold, FurthestComesFurthest, NoValueIsOfMatches, NoneLeads};
+ghost use Rattle.ebpf_core_relo.specs.AbsenceLaws.{AbsencesAreTold, FurthestComesFurthest, NamesAreMisfits, NoValueIsOfMatches, NoneLeads};
 ghost use Rattle.ebpf_core_relo.specs.Alone.{OtherSlotsStay, PutSlotsStand, RecordsAloneAreCarried, RecordsArePlaced, RecordsHaveSlots, RecordsKeepShapes, SlotsStayAsMany};
 ghost use Rattle.ebpf_core_relo.specs.OutcomeLaws.{FirstRefusalIsTheFault, OutcomesAreInOrder, SlotsAreTheSame};
 ghost use Rattle.ebpf_core_relo.specs.Refused.{FaultsAreRefusals, RefusalIsOne};
@@ -74,4 +74,10 @@ pub fn furthest_leads_furthest()
 /// A field's reason is `NoValue` exactly where a candidate matches.
 pub fn no_value_is_of_matches()
     ensures { NoValueIsOfMatches }
+{}
+
+/// Where a search for a name comes to no member that fits, the name stands in the type exactly where the search met one
+/// that doesn't.
+pub fn names_are_misfits()
+    ensures { NamesAreMisfits }
 {}
