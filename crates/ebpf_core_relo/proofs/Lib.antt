@@ -1,7 +1,10 @@
 pub mod FirstRefusal
+pub mod FurthestOnes
 pub mod Grouped
 pub mod JoinedRuns
 pub mod KeptAbsences
+pub mod MatchAbsences
+pub mod MisfitNames
 pub mod NamedMembers
 pub mod OneRecord
 pub mod OutcomeRows

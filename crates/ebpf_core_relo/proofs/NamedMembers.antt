@@ -12,11 +12,11 @@ use Rattle.ebpf_core_relo.specs.Absences.{has_member, is_or_has, members_at}
 
 module _ (target : TypeInfo) (name : List ℕ) where
   -- what an unnamed member is told by, so many levels above the last
-  abbrev below : ℕ → ℕ → Bool
+  abbrev pub below : ℕ → ℕ → Bool
   below zero id = false
   below (suc levels) id = has_member target name levels (members_at target id)
 
-  has_any : (levels : ℕ) (ms : List BtfMember) → has_member target name levels ms ≡ list_any (is_or_has target name (below levels)) ms
+  pub has_any : (levels : ℕ) (ms : List BtfMember) → has_member target name levels ms ≡ list_any (is_or_has target name (below levels)) ms
   unfolding has_member
   has_any zero ms = refl
   has_any (suc levels) ms = refl

@@ -35,6 +35,22 @@ module _ (test : ℕ → Bool) where
       by_test true is less = small
       by_test false is less = by_place is less (cases_eq s (suc n))
 
+  pub passes : (n : ℕ) → 0 < greatest test n → test (greatest test n) ≡ true
+  passes zero some = absurd (omega arith)
+  passes (suc n) some = by_test (test (suc n)) refl (passes n) some
+    where
+      by_test : (b : Bool) → test (suc n) ≡ b → (0 < greatest test n → test (greatest test n) ≡ true) → 0 < (if b then suc n else greatest test n)
+          → test (if b then suc n else greatest test n) ≡ true
+      by_test true is less some = is
+      by_test false is less some = less some
+
+  pub fails_past : (n m : ℕ) → greatest test n < m → m ≤ n → test m ≡ false
+  fails_past n m past small = by_test (test m) refl
+    where
+      by_test : (b : Bool) → test m ≡ b → b ≡ false
+      by_test false is = refl
+      by_test true is = let h : m ≤ greatest test n = at_least n m small is in absurd (omega arith)
+
   -- Where a test that passes at a number passes at each below, but for 0, it is passed up to the greatest.
   module _ (falls : (k : ℕ) → test (suc (suc k)) ≡ true → test (suc k) ≡ true) where
     down : (n s : ℕ) → s ≤ n → test (suc n) ≡ true → test (suc s) ≡ true

@@ -1,3 +1,4 @@
+pub mod AbsenceLaws
 pub mod Absences
 pub mod Alone
 pub mod Answers

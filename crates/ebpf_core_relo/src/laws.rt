@@ -1,5 +1,6 @@
 //! What holds of the slots that records write.
 
+ghost use Rattle.ebpf_core_relo.specs.AbsenceLaws.{AbsencesAreTold, FurthestComesFurthest, NamesAreMisfits, NoValueIsOfMatches, NoneLeads};
 ghost use Rattle.ebpf_core_relo.specs.Alone.{OtherSlotsStay, PutSlotsStand, RecordsAloneAreCarried, RecordsArePlaced, RecordsHaveSlots, RecordsKeepShapes, SlotsStayAsMany};
 ghost use Rattle.ebpf_core_relo.specs.OutcomeLaws.{FirstRefusalIsTheFault, OutcomesAreInOrder, SlotsAreTheSame};
 ghost use Rattle.ebpf_core_relo.specs.Refused.{FaultsAreRefusals, RefusalIsOne};
@@ -56,4 +57,27 @@ pub fn outcomes_are_in_order()
 pub fn first_refusal_is_the_fault()
     ensures fault { FirstRefusalIsTheFault }
     ensures slots { SlotsAreTheSame }
+{}
+
+/// Where a record has no value, both of its sides could be read: the reason is that of its path among its candidates.
+pub fn absences_are_told()
+    ensures { AbsencesAreTold }
+{}
+
+/// The candidate that comes furthest along a field's path is one in which so many steps lead somewhere as in none more,
+/// the first of these. Where there is none, no step leads anywhere.
+pub fn furthest_leads_furthest()
+    ensures furthest { FurthestComesFurthest }
+    ensures nowhere { NoneLeads }
+{}
+
+/// A field's reason is `NoValue` exactly where a candidate matches.
+pub fn no_value_is_of_matches()
+    ensures { NoValueIsOfMatches }
+{}
+
+/// Where a search for a name comes to no member that fits, the name stands in the type exactly where the search met one
+/// that doesn't.
+pub fn names_are_misfits()
+    ensures { NamesAreMisfits }
 {}
