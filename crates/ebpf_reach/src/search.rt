@@ -69,7 +69,7 @@ impl Search {
     }
 
     // Takes the steps from a slot, of which so much is known.
-    fn go(
+    fn take_steps(
         &mut self,
         slots: &[bpf_insn],
         place: usize,
@@ -93,7 +93,7 @@ impl Search {
             return Ok(());
         };
         let registers = *registers;
-        self.go(slots, place, registers)
+        self.take_steps(slots, place, registers)
     }
 }
 
