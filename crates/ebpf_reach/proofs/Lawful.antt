@@ -1,13 +1,12 @@
 -- What holds of each closed assignment, and of the least one.
-use Rattle.std.proofs.Common.{◌≡◌, ℕ, zero, suc, ◌<◌, Bool, true, false, List, [], ◌∷◌, length, get_or, map, Option, Some, None, refl, sym, ap, ◌∙◌, subst, inl, inr, arith, pos, negsuc, ℤ, ◌+ℤ◌, ◌⊎◌}
-use Rattle.std.specs.Prelude.{slice_get, IsSome, is_some}
-use Rattle.ebpf_parts.specs.declared.insn.bpf_insn.{bpf_insn}
+use Rattle.std.proofs.Common.{◌≡◌, ℕ, suc, List, [], ◌∷◌, length, Option, Some, None, refl, sym, ◌∙◌, subst, inl, inr, arith}
+use Rattle.std.specs.Prelude.{is_some}
 use Rattle.ebpf_reach.specs.declared.registers.Registers.{Registers}
 use Rattle.ebpf_reach.specs.declared.steps.Step.{Step}
-use Rattle.ebpf_reach.specs.Registers.{IsBelow, known, unknown}
-use Rattle.ebpf_reach.specs.Steps.{leads, steps}
-use Rattle.ebpf_reach.specs.Reached.{AreBelow, AreReached, Assignment, Holds, IsClosed, IsLeast, IsStateBelow, reached, state_at}
-use Rattle.ebpf_reach.specs.Visits.{AnswerIsOne, AreNumbers, Begins, ComesTo, GoesOn, IsStep, MachinesAreReached}
+use Rattle.ebpf_reach.specs.Registers.{IsBelow, unknown}
+use Rattle.ebpf_reach.specs.Steps.{steps}
+use Rattle.ebpf_reach.specs.Reached.{AreBelow, Assignment, Holds, IsStateBelow, reached, state_at}
+use Rattle.ebpf_reach.specs.Visits.{AnswerIsOne, AreNumbers, Begins, GoesOn, IsStep, MachinesAreReached}
 use Rattle.ebpf_reach.proofs.Order.{below_through}
 use Rattle.ebpf_reach.proofs.Upward.{leads_held, steps_below}
 use Rattle.ebpf_reach.proofs.Searching.{nothing_there}

@@ -1,20 +1,18 @@
 -- What the machine of the flat program visits.
-use Rattle.std.proofs.Common.{◌≡◌, ℕ, zero, suc, ◌<◌, Bool, true, false, cond, List, [], ◌∷◌, ◌++◌, length, Option, Some, None, refl, sym, ap, ◌∙◌, subst, arith, pos, negsuc, ℤ, ◌+ℤ◌, nat_lt}
-use Rattle.std.specs.Prelude.{slice_get, IsSome, is_some}
+use Rattle.std.proofs.Common.{◌≡◌, ℕ, zero, suc, ◌<◌, Bool, true, false, cond, List, [], ◌∷◌, length, Option, Some, None, refl, sym, subst, pos, negsuc, ℤ, ◌+ℤ◌}
+use Rattle.std.specs.Prelude.{slice_get, IsSome}
 use Rattle.std.specs.Option.{option_and_then}
 use Rattle.std.proofs.lemmas.Option.{slice_get_within}
-use Rattle.std.proofs.lemmas.Bool.Decides.{nat_tests}
 use Rattle.ebpf_parts.specs.declared.insn.bpf_insn.{bpf_insn}
 use Rattle.ebpf_parts.specs.Slots.{dst_of}
 use Rattle.ebpf_linker.specs.Slots.{Flow, Return, Enter, Wide, Jump, Branch, Next, flow, slot_at}
-use Rattle.ebpf_linker.specs.Machine.{State, Turn, Goes, Ends, Waits, Leaves, Run, run, begin, flat, turn_at, follow, after, pops, enters, decides}
+use Rattle.ebpf_linker.specs.Machine.{State, Turn, Goes, Ends, Waits, Leaves, run, begin, flat, turn_at, follow, after}
 use Rattle.ebpf_reach.specs.declared.registers.Registers.{Registers}
-use Rattle.ebpf_reach.specs.declared.steps.Step.{Step}
 use Rattle.ebpf_reach.specs.Registers.{known, unknown, learned, called}
 use Rattle.ebpf_reach.specs.Effects as effects
 use Rattle.ebpf_reach.specs.Steps as ours
 use Rattle.ebpf_reach.specs.Reached.{Assignment, Holds, IsClosed, IsStateBelow, state_at}
-use Rattle.ebpf_reach.specs.Visits.{AllReached, AllVisitsAreReached, Heeds, HeedsAt, HeedsOne, HeedsTurn, IsReached, KnowsNothing, VisitsAreReached, known_way}
+use Rattle.ebpf_reach.specs.Visits.{AllReached, AllVisitsAreReached, Heeds, HeedsAt, HeedsOne, HeedsTurn, KnowsNothing, VisitsAreReached, known_way}
 use Rattle.ebpf_reach.proofs.Upward.{holds_first, holds_second, leads_held}
 
 -- a place is reached, if the program has it
