@@ -1,5 +1,5 @@
 -- What each closed assignment reaches: all that a program can come to.
-use Rattle.std.specs.Prelude.{◌≡◌, ℕ, zero, suc, ◌<◌, ℤ, pos, negsuc, Bool, IsSome, Option, Some, None, List, [], ◌∷◌, length, ⊤, ◌⊎◌}
+use Rattle.std.specs.Prelude.{◌≡◌, ℕ, zero, suc, ◌<◌, ℤ, pos, negsuc, Bool, IsSome, Option, Some, None, List, [], ◌∷◌, length, ⊤, ◌⊎◌, true, slice_get}
 use Rattle.std.specs.Option.{option_and_then}
 use Rattle.ebpf_parts.specs.declared.insn.bpf_insn.{bpf_insn}
 use Rattle.ebpf_linker.specs.Slots.{Flow, Branch, flow, slot_at}
@@ -80,3 +80,7 @@ pub data ComesTo (slots : List bpf_insn) : ℕ → Registers → Type 0 where
 -- Each slot to which a machine comes is reached, and no register holds another number than the one that is known.
 abbrev pub MachinesAreReached : Type 0
 MachinesAreReached = (slots : List bpf_insn) (A : Assignment) → IsClosed slots A → (i : ℕ) (a : Registers) → ComesTo slots i a → (b : Registers) × (state_at A i ≡ Some b) × IsBelow a b
+
+-- So the answer tells of each slot to which a machine comes that it is reached.
+abbrev pub MachinesAreTold : Type 0
+MachinesAreTold = (slots : List bpf_insn) (answer : List Bool) → AreReached slots answer → (i : ℕ) (a : Registers) → ComesTo slots i a → slice_get answer i ≡ Some true
