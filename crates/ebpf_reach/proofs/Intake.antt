@@ -1,14 +1,13 @@
 -- Steps that the search takes in.
-use Rattle.std.proofs.Common.{◌≡◌, ◌≢◌, ℕ, zero, suc, ◌+◌, ◌*◌, ◌<◌, ◌≤◌, ◌⊎◌, List, [], ◌∷◌, ◌++◌, length, Option, Some, None, refl, sym, ap, ◌∙◌, subst, inl, inr, arith, set, get_or, length-set, length-append, get_or-set_same, get_or-set_other}
-use Rattle.std.specs.List.{sum_by}
+use Rattle.std.proofs.Common.{◌≡◌, ◌≢◌, ℕ, ◌<◌, ◌≤◌, ◌⊎◌, List, [], ◌∷◌, ◌++◌, length, Option, Some, None, refl, sym, ap, ◌∙◌, subst, inl, inr, arith, set, length-set, length-append, get_or-set_same, get_or-set_other}
 use Rattle.std.proofs.lemmas.List.Sums.{sum_by-set}
 use Rattle.std.proofs.lemmas.Bool.Decides.{eqb_tells}
 use Rattle.ebpf_linker.specs.Functions.{Among}
 use Rattle.ebpf_reach.specs.declared.registers.Registers.{Registers}
 use Rattle.ebpf_reach.specs.declared.steps.Step.{Step}
-use Rattle.ebpf_reach.specs.Registers.{IsBelow, commons, met}
-use Rattle.ebpf_reach.specs.Counted.{changes_left, numbers_known}
-use Rattle.ebpf_reach.specs.Reached.{AreBelow, Assignment, Holds, IsStateBelow, state_at}
+use Rattle.ebpf_reach.specs.Registers.{IsBelow, met}
+use Rattle.ebpf_reach.specs.Counted.{changes_left}
+use Rattle.ebpf_reach.specs.Reached.{Assignment, IsStateBelow, state_at}
 use Rattle.ebpf_reach.specs.Searched.{TakesIn, work_left}
 use Rattle.ebpf_reach.proofs.Order.{above_first, above_second, below_itself, fewer_known, known_within, met_below}
 use Rattle.ebpf_reach.proofs.Upward.{holds_above, holds_both, holds_first, holds_second, state_below_itself, state_below_through}

@@ -1,13 +1,12 @@
 -- What holds of each closed assignment, and of the least one.
-use Rattle.std.proofs.Common.{◌≡◌, ℕ, zero, suc, ◌<◌, Bool, true, false, List, [], ◌∷◌, length, get_or, map, Option, Some, None, refl, sym, ap, ◌∙◌, subst, inl, inr, arith, pos, negsuc, ℤ, ◌+ℤ◌, ◌⊎◌}
-use Rattle.std.specs.Prelude.{slice_get, IsSome, is_some}
-use Rattle.ebpf_parts.specs.declared.insn.bpf_insn.{bpf_insn}
+use Rattle.std.proofs.Common.{◌≡◌, ℕ, zero, suc, Bool, true, List, [], ◌∷◌, length, Option, Some, None, refl, sym, ◌∙◌, subst, inl, inr, arith}
+use Rattle.std.specs.Prelude.{is_some, slice_get}
 use Rattle.ebpf_reach.specs.declared.registers.Registers.{Registers}
 use Rattle.ebpf_reach.specs.declared.steps.Step.{Step}
-use Rattle.ebpf_reach.specs.Registers.{IsBelow, known, unknown}
-use Rattle.ebpf_reach.specs.Steps.{leads, steps}
-use Rattle.ebpf_reach.specs.Reached.{AreBelow, AreReached, Assignment, Holds, IsClosed, IsLeast, IsStateBelow, reached, state_at}
-use Rattle.ebpf_reach.specs.Visits.{AnswerIsOne, AreNumbers, Begins, ComesTo, GoesOn, IsStep, MachinesAreReached}
+use Rattle.ebpf_reach.specs.Registers.{IsBelow, unknown}
+use Rattle.ebpf_reach.specs.Steps.{steps}
+use Rattle.ebpf_reach.specs.Reached.{AreBelow, Assignment, Holds, IsStateBelow, reached, state_at}
+use Rattle.ebpf_reach.specs.Visits.{AnswerIsOne, AreNumbers, Begins, GoesOn, IsStep, MachinesAreReached, MachinesAreTold}
 use Rattle.ebpf_reach.proofs.Order.{below_through}
 use Rattle.ebpf_reach.proofs.Upward.{leads_held, steps_below}
 use Rattle.ebpf_reach.proofs.Searching.{nothing_there}
@@ -52,3 +51,17 @@ machines_are_reached slots A closed _ _ (GoesOn j a b step before is_step number
     let (c, is, under) = machines_are_reached slots A closed j a before in
     let holds = steps_below slots A j a c under (closed.steps j c is) in
     comes_below A step.place b step.registers (state_at A step.place) refl below (holds_step A (steps slots j a) step holds is_step)
+
+flag_some : (x : Option Registers) (b : Registers) → x ≡ Some b → Some (is_some x) ≡ Some true
+flag_some None b h = cc
+flag_some (Some a) b h = refl
+
+told_at : (A : Assignment) (i : ℕ) (b : Registers) → state_at A i ≡ Some b → slice_get (reached A) i ≡ Some true
+told_at [] i b h = cc
+told_at (x ∷ A) zero b h = flag_some x b h
+told_at (x ∷ A) (suc i) b h = told_at A i b h
+
+pub machines_are_told : MachinesAreTold
+machines_are_told slots answer p i a comes =
+    let (b, is, below) = machines_are_reached slots p.assignment p.least.closed i a comes in
+    subst (λ (u : List Bool). slice_get u i ≡ Some true) (sym p.told) (told_at p.assignment i b is)

@@ -1,5 +1,5 @@
 -- What is known where two paths meet.
-use Rattle.std.proofs.Common.{◌≡◌, ℕ, zero, suc, ◌<◌, List, [], ◌∷◌, length, Option, Some, None, refl, sym, ap, arith}
+use Rattle.std.proofs.Common.{◌≡◌, ℕ, suc, ◌<◌, List, [], ◌∷◌, length, Option, None, refl, arith}
 use Rattle.std.specs.Prelude.{slice_index_or}
 use Rattle.ebpf_reach.specs.Registers.{common, commons}
 

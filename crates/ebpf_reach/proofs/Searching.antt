@@ -1,14 +1,14 @@
 -- What the search keeps from slot to slot.
-use Rattle.std.proofs.Common.{◌≡◌, ◌≢◌, ℕ, ◌+◌, ◌*◌, ◌<◌, ◌≤◌, ◌⊎◌, List, [], ◌∷◌, ◌++◌, length, Option, Some, None, refl, sym, ap, ◌∙◌, subst, inl, inr, arith, get_or, length-append, pos, replicate}
+use Rattle.std.proofs.Common.{◌≡◌, ℕ, ◌<◌, ◌⊎◌, List, [], ◌∷◌, ◌++◌, length, Option, Some, None, refl, sym, ◌∙◌, subst, inl, inr, arith, get_or, length-append, pos, replicate}
 use Rattle.std.proofs.lemmas.List.{get_or-replicate, get_or_past, length-replicate}
 use Rattle.std.proofs.lemmas.Bool.Decides.{leb_tells}
 use Rattle.ebpf_linker.specs.Functions.{Among}
 use Rattle.ebpf_parts.specs.declared.insn.bpf_insn.{bpf_insn}
 use Rattle.ebpf_reach.specs.declared.registers.Registers.{Registers}
 use Rattle.ebpf_reach.specs.declared.steps.Step.{Step}
-use Rattle.ebpf_reach.specs.Registers.{IsBelow, unknown}
+use Rattle.ebpf_reach.specs.Registers.{unknown}
 use Rattle.ebpf_reach.specs.Steps.{leads, steps}
-use Rattle.ebpf_reach.specs.Reached.{AreBelow, Assignment, Holds, IsClosed, IsLeast, IsStateBelow, state_at}
+use Rattle.ebpf_reach.specs.Reached.{Assignment, Holds, IsClosed, IsLeast, IsStateBelow, state_at}
 use Rattle.ebpf_reach.specs.Searched.{Searched, TakesIn, followed, work_left}
 use Rattle.ebpf_reach.proofs.Upward.{holds_above, steps_below}
 use Rattle.ebpf_reach.proofs.Intake.{among_split}

@@ -1,14 +1,12 @@
 -- More that is known of the operands tells no less of what a slot does.
-use Rattle.std.proofs.Common.{◌≡◌, ℕ, ◌%◌, ◌^◌, Bool, true, false, cond, Option, Some, None, refl, sym, ap, ◌∙◌, subst, arith}
+use Rattle.std.proofs.Common.{◌≡◌, ℕ, Bool, true, false, cond, Option, Some, None, refl, sym, subst}
 use Rattle.std.specs.Option.{option_and_then}
-use Rattle.std.specs.Int.{w32, w64, cast_unsigned}
 use Rattle.std.specs.Prelude.{◌==◌}
 use Rattle.ebpf_parts.specs.declared.insn.bpf_insn.{bpf_insn}
 use Rattle.ebpf_parts.specs.Slots.{dst_of, src_of}
 use Rattle.ebpf_reach.specs.declared.registers.Registers.{Registers}
-use Rattle.ebpf_reach.specs.Registers.{IsBelow, known, unknown, learned, forgotten, called}
-use Rattle.ebpf_reach.specs.Effects.{after, arithmetic, calculated, class, decided, destination, ended, is_atomic, is_poisoned, joined, moved, operation, source, stored, takes_register, turned}
-use Rattle.ebpf_reach.specs.Comparisons.{compared}
+use Rattle.ebpf_reach.specs.Registers.{IsBelow, unknown, learned}
+use Rattle.ebpf_reach.specs.Effects.{after, arithmetic, calculated, class, decided, destination, ended, is_atomic, is_poisoned, moved, operation, source, stored, takes_register, turned}
 use Rattle.ebpf_reach.proofs.Order.{Tells, below_itself, learned_below, forgotten_below, called_below}
 
 and_then_tells : {A B : Type 0} (f : A → Option B) (x y : Option A) → Tells x y → Tells (option_and_then f x) (option_and_then f y)

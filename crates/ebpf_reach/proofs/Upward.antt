@@ -1,5 +1,5 @@
 -- What holds the steps of what is known holds those of what more is known.
-use Rattle.std.proofs.Common.{◌≡◌, ℕ, ◌+◌, ◌<◌, Bool, true, false, cond, List, [], ◌∷◌, ◌++◌, length, Option, Some, None, refl, sym, ap, ◌∙◌, subst, arith, ℤ, pos, negsuc, ◌+ℤ◌, nat_lt}
+use Rattle.std.proofs.Common.{◌≡◌, ℕ, ◌<◌, Bool, true, false, cond, List, [], ◌∷◌, ◌++◌, length, Option, Some, None, refl, arith, ℤ, pos, negsuc, ◌+ℤ◌, nat_lt}
 use Rattle.std.specs.Prelude.{slice_get}
 use Rattle.std.proofs.lemmas.Bool.Decides.{nat_tests}
 use Rattle.ebpf_parts.specs.declared.insn.bpf_insn.{bpf_insn}
@@ -8,7 +8,7 @@ use Rattle.ebpf_linker.specs.Slots.{Flow, Return, Enter, Wide, Jump, Branch, Nex
 use Rattle.ebpf_reach.specs.declared.registers.Registers.{Registers}
 use Rattle.ebpf_reach.specs.declared.steps.Step.{Step}
 use Rattle.ebpf_reach.specs.Registers.{IsBelow, unknown, learned, called}
-use Rattle.ebpf_reach.specs.Effects.{after, decided, loaded}
+use Rattle.ebpf_reach.specs.Effects.{decided, loaded}
 use Rattle.ebpf_reach.specs.Steps.{behind, callback, follow, further, leads, steps, steps_at, ways}
 use Rattle.ebpf_reach.specs.Reached.{AreBelow, Assignment, Holds, IsStateBelow, state_at}
 use Rattle.ebpf_reach.proofs.Order.{Tells, below_itself, below_through, learned_below, called_below}

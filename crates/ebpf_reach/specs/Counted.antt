@@ -1,5 +1,5 @@
 -- How much more may be forgotten: what bounds the search.
-use Rattle.std.specs.Prelude.{ℕ, ◌+◌, ◌*◌, Option, Some, None, List, [], ◌∷◌, length}
+use Rattle.std.specs.Prelude.{ℕ, ◌+◌, Option, Some, None, List, [], ◌∷◌}
 use Rattle.ebpf_reach.specs.declared.registers.Registers.{Registers}
 
 -- how many numbers are known

@@ -1,5 +1,5 @@
 -- The search under way: what private functions cite.
-use Rattle.std.specs.Prelude.{◌≡◌, ℕ, ◌+◌, ◌*◌, ◌≤◌, ◌⊎◌, List, [], ◌∷◌, length, pos, Option, Some, None}
+use Rattle.std.specs.Prelude.{◌≡◌, ℕ, ◌+◌, ◌*◌, ◌≤◌, ◌⊎◌, List, [], length, pos, Option, Some, None}
 use Rattle.std.specs.List.{sum_by}
 use Rattle.ebpf_linker.specs.Functions.{Among}
 use Rattle.ebpf_reach.specs.declared.registers.Registers.{Registers}

@@ -1,6 +1,6 @@
 //! What the answer says of runs.
 
-ghost use Rattle.ebpf_reach.specs.Visits.{AnswerIsOne, MachinesAreReached, VisitsAreReached};
+ghost use Rattle.ebpf_reach.specs.Visits.{AllVisitsAreReached, AnswerIsOne, MachinesAreReached, MachinesAreTold, VisitsAreReached};
 
 /// A program has one answer: the least assignment is one.
 pub fn answer_is_one()
@@ -8,13 +8,15 @@ pub fn answer_is_one()
 {}
 
 /// Whatever numbers its registers hold, a machine comes only to slots that are reached, and its registers hold the numbers
-/// that are known there.
+/// that are known there; so the answer tells of each slot to which it comes.
 pub fn machines_are_reached()
-    ensures { MachinesAreReached }
+    ensures reached { MachinesAreReached }
+    ensures told { MachinesAreTold }
 {}
 
-/// Where no number is known, each place that the machine of the flat program visits is reached, whatever is decided at
-/// its jumps.
+/// Each place that the machine of the flat program visits is reached, where its decisions heed the numbers that are known;
+/// where none is known, whatever it decides.
 pub fn visits_are_reached()
-    ensures { VisitsAreReached }
+    ensures heeding { VisitsAreReached }
+    ensures all { AllVisitsAreReached }
 {}

@@ -69,7 +69,7 @@ impl Search {
     }
 
     // Takes the steps from a slot, of which so much is known.
-    fn go(
+    fn take_steps(
         &mut self,
         slots: &[bpf_insn],
         place: usize,
@@ -93,7 +93,7 @@ impl Search {
             return Ok(());
         };
         let registers = *registers;
-        self.go(slots, place, registers)
+        self.take_steps(slots, place, registers)
     }
 }
 
@@ -138,9 +138,10 @@ fn flags(alloc: Global, states: &[Option<Registers>]) -> Result<Vec<bool>, Alloc
     states.iter().map(|state| state.is_some()).collect(alloc)
 }
 
-/// Which slots of a finished program can be reached from its first one: for each slot whether it is. A jump whose test is
-/// decided by numbers that registers are known to hold goes one way; a slot that a CO-RE relocation poisoned is walked
-/// past.
+/// Which slots of a finished program, linked and relocated, can be reached from its first one: for each slot whether it
+/// is. A jump whose test is decided by numbers that registers are known to hold goes one way, any other both; a slot that
+/// a CO-RE relocation poisoned is walked past. Each slot is followed at most twelve times: once it is reached, and
+/// whenever one of its eleven registers is forgotten.
 ///
 /// # Errors
 ///

@@ -162,19 +162,30 @@ fn shifts_and_bytes(rt: HostRuntime) -> Result<(), Fail> {
     Ok(())
 }
 
+/// Moves of fewer bits extend their sign; one of another offset is no instruction, nor is NEG of a register.
+#[test]
+fn moves(rt: HostRuntime) -> Result<(), Fail> {
+    let alloc = rt.alloc();
+    assert!(rt; gives(alloc, 0x1ff, slot(0xbf, 0x11, 8, 0), -1)?, "movsx");
+    assert!(rt;
+        gives(alloc, 0x17f, slot(0xbc, 0x11, 8, 0), 0x7f)?,
+        "movsx to 32"
+    );
+    assert!(rt; !gives(alloc, 3, slot(0xbf, 0x11, 24, 0), 3)?, "no movsx");
+    assert!(rt; !gives(alloc, 3, slot(0x8f, 0x11, 0, 0), -3)?, "no neg");
+    Ok(())
+}
+
 /// Arithmetic of 32 bits leaves the upper half zero.
 #[test]
 fn arithmetic_32(rt: HostRuntime) -> Result<(), Fail> {
     let alloc = rt.alloc();
     assert!(rt; gives(alloc, -1, slot(0x04, 1, 0, 1), 0)?, "add");
     assert!(rt; gives(alloc, -1, slot(0x74, 1, 0, 28), 15)?, "rsh");
-    assert!(rt;
-        gives(alloc, -1, slot(0x64, 1, 0, 33), 2)? == false,
-        "lsh by 33"
-    );
+    assert!(rt; !gives(alloc, -1, slot(0x64, 1, 0, 33), 2)?, "lsh by 33");
     assert!(rt; gives(alloc, 1, slot(0x64, 1, 0, 33), 2)?, "lsh by 33");
     assert!(rt;
-        gives(alloc, -7, slot(0x3c, 0x21, 1, 0), -2)? == false,
+        !gives(alloc, -7, slot(0x3c, 0x21, 1, 0), -2)?,
         "sdiv has no upper half"
     );
     Ok(())
@@ -306,18 +317,12 @@ fn leaves(rt: HostRuntime) -> Result<(), Fail> {
 #[test]
 fn memory(rt: HostRuntime) -> Result<(), Fail> {
     let alloc = rt.alloc();
-    assert!(rt;
-        gives(alloc, 5, slot(0x79, 0xa1, -8, 0), 5)? == false,
-        "a load"
-    );
+    assert!(rt; !gives(alloc, 5, slot(0x79, 0xa1, -8, 0), 5)?, "a load");
     assert!(rt; gives(alloc, 5, slot(0x7b, 0x1a, -8, 0), 5)?, "a store");
     assert!(rt;
-        gives(alloc, 5, slot(0xdb, 0x1a, -8, 1), 5)? == false,
+        !gives(alloc, 5, slot(0xdb, 0x1a, -8, 1), 5)?,
         "an atomic operation"
     );
-    assert!(rt;
-        gives(alloc, 5, slot(0x20, 0, 0, 0), 5)? == false,
-        "packet access"
-    );
+    assert!(rt; !gives(alloc, 5, slot(0x20, 0, 0, 0), 5)?, "packet access");
     Ok(())
 }

@@ -1,4 +1,4 @@
-use Rattle.std.proofs.Common.{◌≡◌, ℕ, ◌+◌, List, ◌++◌, sym, ap, ◌∙◌, refl, pos, ◌+ℤ◌, rules, arith, ℤ}
+use Rattle.std.proofs.Common.{◌≡◌, List, ◌++◌, sym, ap, ◌∙◌, refl, pos, ◌+ℤ◌, rules, ℤ}
 use Rattle.std.specs.Option.{option_to_list}
 use Rattle.std.specs.Prelude.{FitsSigned}
 use Rattle.std.specs.Int.{w16, w32, cast_signed, cast_unsigned}
@@ -8,7 +8,7 @@ use Rattle.ebpf_reach.specs.declared.registers.Registers.{Registers}
 use Rattle.ebpf_reach.specs.declared.steps.Step.{Step}
 use Rattle.ebpf_reach.specs.Registers.{unknown, learned, called}
 use Rattle.ebpf_reach.specs.Effects.{after, loaded}
-use Rattle.ebpf_reach.specs.Steps.{behind, callback, follow, further, leads, listed}
+use Rattle.ebpf_reach.specs.Steps.{behind, follow, further, leads}
 use Rattle.ebpf_reach.proofs.Flows as flows
 use Rattle.ebpf_reach.proofs.steps.steps_of.Goals as goal
 

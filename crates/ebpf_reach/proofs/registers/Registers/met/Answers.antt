@@ -1,7 +1,6 @@
-use Rattle.std.proofs.Common.{◌≡◌, ℕ, ◌<◌, List, length, Option, None, ap, arith}
-use Rattle.std.specs.Prelude.{slice_index_or}
+use Rattle.std.proofs.Common.{◌≡◌, ℕ, List, length, Option, ap, arith}
 use Rattle.ebpf_reach.specs.declared.registers.Registers.{Registers}
-use Rattle.ebpf_reach.specs.Registers.{common, commons}
+use Rattle.ebpf_reach.specs.Registers.{commons}
 use Rattle.ebpf_reach.proofs.Meeting.{commons_filled}
 use Rattle.ebpf_reach.proofs.registers.Registers.met.Goals as goal
 

@@ -1,7 +1,6 @@
-use Rattle.std.proofs.Common.{◌≡◌, ◌≢◌, ◌<◌, List, [], ◌∷◌, ◌++◌, length, Option, Some, rules, arith, subst, sym, ◌∙◌, ap}
+use Rattle.std.proofs.Common.{◌≡◌, ◌≢◌, ◌<◌, length, Some, arith, sym, ◌∙◌, ap}
 use Rattle.ebpf_reach.specs.declared.registers.Registers.{Registers}
 use Rattle.ebpf_reach.specs.Registers.{met}
-use Rattle.ebpf_reach.specs.Searched.{TakesIn}
 use Rattle.std.proofs.Common.{set}
 use Rattle.ebpf_reach.proofs.Sameness.{registers_same, registers_apart, on_ok_both}
 use Rattle.ebpf_reach.proofs.Intake.{met_taken, same_taken, taken_as}

@@ -3,7 +3,7 @@ use Rattle.std.proofs.lemmas.Result.{on_ok_weaker}
 use Rattle.ebpf_reach.specs.declared.steps.Step.{Step}
 use Rattle.ebpf_reach.specs.Searched.{TakesIn}
 use Rattle.ebpf_reach.proofs.Intake.{taken_then}
-use Rattle.ebpf_reach.proofs.search.Search.go.Goals as goal
+use Rattle.ebpf_reach.proofs.search.Search.take_steps.Goals as goal
 
 pub returns : goal.returns
 returns c =
