@@ -3,7 +3,7 @@ use Rattle.std.proofs.Common.{◌⊎◌, inl, inr, arith, ◌+◌, ◌≡◌, �
 use Rattle.std.specs.Prelude.{◌==◌, nat_eq, slice_index}
 use Rattle.std.specs.List.{list_any, position_or_len, starts_with}
 use Rattle.std.specs.Str.{bytes_eq}
-use Rattle.std.proofs.lemmas.Bool.{and_parts, both_ways, cases_Bool, eqb-true, not-true, or_cases, or_parts}
+use Rattle.std.proofs.lemmas.Bool.{and_parts, cases_Bool, eqb-true, not-true, or_cases, or_parts}
 use Rattle.std.proofs.lemmas.Slice.Eq.{bytes_eq-Decides}
 use Rattle.ebpf_parts.specs.ProgramKinds.{fits, has_target, name_of}
 use Rattle.ebpf_parts.specs.ProgramSections.{first_piece}

@@ -1,10 +1,10 @@
 -- The sections whose programs have targets are those of the rows of program kinds that say so.
-use Rattle.std.proofs.Common.{◌⊎◌, inl, inr, ◌≡◌, ℕ, Bool, true, false, not, ◌&&◌, List, [], ◌∷◌, refl, ap, ◌∙◌, sym}
+use Rattle.std.proofs.Common.{inl, inr, ◌≡◌, ℕ, Bool, true, false, not, ◌&&◌, List, [], ◌∷◌, refl, sym}
 use Rattle.std.specs.Prelude.{Option, Some, None, IfSome, filter, if◌then◌else◌, is_some, length, nat_le, option_map}
 use Rattle.std.specs.List.{AllByRecursion, fold, list_all, list_any}
 use Rattle.std.specs.Option.{option_map_or}
 use Rattle.std.specs.Str.{bytes_eq}
-use Rattle.std.proofs.lemmas.Bool.{and_parts, both_ways, cases_Bool, or_parts}
+use Rattle.std.proofs.lemmas.Bool.{and_parts, cases_Bool}
 use Rattle.std.proofs.lemmas.Slice.Eq.{bytes_eq-Decides}
 use Rattle.ebpf_parts.proofs.KindRows.{of_longest}
 use Rattle.ebpf_parts.specs.ProgramKinds.{fits, is_marked, longer, longest_fit, name_of, program_kind, unmarked}
@@ -12,8 +12,8 @@ use Rattle.ebpf_parts.specs.ProgramSections.{first_piece, said}
 use Rattle.ebpf_parts.specs.declared.programs.kind.NamedKind.{NamedKind}
 use Rattle.ebpf_parts.specs.declared.programs.kind.ProgramKind.{ProgramKind}
 use Rattle.ebpf_parts.specs.declared.programs.named_kinds.TheConstants.{NAMED_KINDS}
-use Rattle.ebpf_loading.specs.AttachTargets.{targets, wanted}
-use Rattle.ebpf_loading.specs.TargetLaws.{WantedAsKinds, wants_type}
+use Rattle.ebpf_loading.specs.AttachTargets.{targets}
+use Rattle.ebpf_loading.specs.TargetLaws.{WantedAsKinds}
 use Rattle.ebpf_loading.specs.declared.target.Target.{Target}
 use Rattle.ebpf_loading.proofs.TargetPieces.{fit_of_piece, has_slash, piece_of_fit}
 

@@ -107,8 +107,8 @@ fn target_in(
     Ok(type_named(name, target.kind(), types))
 }
 
-/// What the programs of a section of this name are attached to, as a type: of the kernel, whose types are handed in, or
-/// for `freplace` of the program that is replaced, with whose types the call is then made.
+/// What the programs of a section of this name are attached to, as a type of these types: those of the kernel, or for
+/// `freplace` those of the program that is replaced.
 ///
 /// The name of the target follows the first slash; `vmlinux:` before it is skipped, as is a `?` before the section's
 /// name. The type of `tp_btf/NAME` is the TYPEDEF `btf_trace_NAME`, of `lsm`, `lsm.s` and `lsm_cgroup` the FUNC
@@ -116,7 +116,9 @@ fn target_in(
 /// behind it too, and of `freplace` the FUNC `NAME`. Of several types the one with the lowest id is found. A type whose
 /// name can't be read is passed over; names are compared in place, and none of the types' is copied.
 ///
-/// A target in a module, as `fentry/module:NAME`, is looked for by all that follows the slash.
+/// Unlike libbpf, which refuses the name of a type of 128 bytes or more, this looks for names of any length; and a
+/// target in a module, as `fentry/MODULE:NAME`, for which libbpf reads the module's types, is looked for here by all
+/// that follows the slash.
 ///
 /// An error only where memory for the name of the type is refused.
 #[tactic(auto, unfolding(crate::specs::AttachTargets::attach_target))]
