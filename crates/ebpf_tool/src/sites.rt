@@ -1,0 +1,368 @@
+//! What a kernel means for the slots of a linked program.
+
+use crate::findings::{At, Findings, Place, Rank, Topic};
+use crate::kinds::Kind;
+use crate::lines::Lines;
+use crate::linked::Linked;
+use crate::map_uses::MapUse;
+use crate::outcomes::{Absence, RecordOutcome, RecordResult};
+use crate::record_names::record_name;
+use crate::verdict::{Answers, topic_of};
+use ebpf_btf::Btf;
+use ebpf_core::RelocationError;
+use ebpf_parts::insn::bpf_insn;
+use ebpf_reloc::CodeCopy;
+use std::alloc::{AllocError, Global};
+
+/// The code of a call.
+const CALL: u8 = 0x85;
+
+/// The number of the helper function that a poisoned slot calls.
+const POISON: i32 = 195_896_080;
+
+/// A linked program, whose slots are judged.
+#[derive(Drop)]
+pub struct Site<'a> {
+    /// The program's number.
+    number: usize,
+    linked: &'a Linked,
+    lines: Lines<'a>,
+}
+
+/// A slot of a copy.
+#[derive(Clone, Copy)]
+struct Spot<'a> {
+    copy: &'a CodeCopy,
+    /// The slot in the function that is copied.
+    slot: usize,
+}
+
+impl Spot<'_> {
+    /// The slot in the program.
+    fn place(&self) -> usize {
+        self.copy.base.saturating_add(self.slot)
+    }
+}
+
+impl<'a> Site<'a> {
+    /// A program of a number, linked.
+    pub fn new(alloc: Global, number: usize, linked: &'a Linked) -> Result<Site<'a>, AllocError> {
+        Ok(Site {
+            number,
+            linked,
+            lines: Lines::new(alloc, &linked.function)?,
+        })
+    }
+
+    /// A program as a whole.
+    pub fn whole(alloc: Global, number: usize) -> (At, Place) {
+        let place = Place {
+            within: None,
+            line: None,
+            kernels: Vec::new(alloc),
+        };
+        ((number, None), place)
+    }
+
+    /// Whether a slot is reached.
+    fn is_reached(&self, spot: Spot<'_>) -> bool {
+        match self.linked.reached.get(spot.place()) {
+            Some(reached) => *reached,
+            None => false,
+        }
+    }
+
+    /// The instruction of a slot.
+    fn instruction(&self, spot: Spot<'_>) -> Option<bpf_insn> {
+        self.linked.function.instructions.get(spot.place()).copied()
+    }
+
+    /// Where a slot stands.
+    fn place(
+        &self,
+        alloc: Global,
+        local: Option<&Btf>,
+        spot: Spot<'_>,
+    ) -> Result<(At, Place), AllocError> {
+        let within = if spot.copy.base == 0 {
+            None
+        } else {
+            Some((spot.copy.name.clone()?, spot.slot))
+        };
+        let line = self.lines.of(alloc, local, spot.copy.base, spot.place())?;
+        let place = Place {
+            within,
+            line,
+            kernels: Vec::new(alloc),
+        };
+        Ok(((self.number, Some(spot.place())), place))
+    }
+}
+
+/// The topic of a record at a source line.
+fn record_topic(
+    alloc: Global,
+    local: &Btf,
+    record: &RecordOutcome,
+    place: &Place,
+    rank: Rank,
+    reason: String,
+) -> Result<Topic, AllocError> {
+    let (file, line) = match &place.line {
+        Some((file, line)) => (String::from_str(alloc, file.as_str())?, *line),
+        None => (String::new(alloc), 0),
+    };
+    Ok(Topic {
+        rank,
+        name: record_name(alloc, local, &record.relocation)?,
+        kind: Kind::of(record.relocation.kind),
+        file,
+        line,
+        reason,
+    })
+}
+
+/// Notes a record that has no value.
+fn note_record(
+    alloc: Global,
+    findings: &mut Findings,
+    answers: &Answers<'_>,
+    site: &Site<'_>,
+    spot: Spot<'_>,
+    record: &RecordOutcome,
+    rank: Rank,
+    reason: String,
+) -> Result<(), AllocError> {
+    let Some(local) = &answers.loaded.object.btf else {
+        return Ok(());
+    };
+    let (at, place) = site.place(alloc, Some(local), spot)?;
+    let topic = record_topic(alloc, local, record, &place, rank, reason)?;
+    findings.add(topic, answers.kernel, Some((at, place)))
+}
+
+/// Why a record has no value, in words.
+fn absence_words(absence: Absence) -> &'static str {
+    match absence {
+        Absence::NoType => "no such type (a module's?)",
+        Absence::NoMember => "no such member",
+        Absence::MemberOfAnotherKind => "a member of another kind",
+        Absence::NoEnumerator => "no such enumerator",
+        Absence::NoValue => "no value",
+    }
+}
+
+/// Notes a record whose value is absent; whether its program breaks.
+fn judge_absent(
+    alloc: Global,
+    findings: &mut Findings,
+    answers: &Answers<'_>,
+    site: &Site<'_>,
+    spot: Spot<'_>,
+    record: &RecordOutcome,
+    absence: Absence,
+) -> Result<bool, AllocError> {
+    if Kind::of(record.relocation.kind).is_question() {
+        return Ok(false);
+    }
+    let breaks = site.is_reached(spot);
+    let rank = if breaks { Rank::Breaks } else { Rank::Guarded };
+    let reason = String::from_str(alloc, absence_words(absence))?;
+    note_record(alloc, findings, answers, site, spot, record, rank, reason)?;
+    Ok(breaks)
+}
+
+/// Notes a record that is refused.
+fn judge_refused(
+    alloc: Global,
+    findings: &mut Findings,
+    answers: &Answers<'_>,
+    site: &Site<'_>,
+    spot: Spot<'_>,
+    record: &RecordOutcome,
+    error: &RelocationError,
+) -> Result<bool, AllocError> {
+    let reason = format!(in alloc; "refused: {error}")?;
+    let rank = Rank::Breaks;
+    note_record(alloc, findings, answers, site, spot, record, rank, reason)?;
+    Ok(true)
+}
+
+/// Notes a value that is another one than the object's own.
+fn note_value(
+    alloc: Global,
+    findings: &mut Findings,
+    answers: &Answers<'_>,
+    number: usize,
+    record: &RecordOutcome,
+    value: Option<u64>,
+) -> Result<(), AllocError> {
+    let own = answers.loaded.own_values.get(number).copied().flatten();
+    let (Some(own), Some(value), Some(local)) = (own, value, &answers.loaded.object.btf) else {
+        return Ok(());
+    };
+    if own == value {
+        return Ok(());
+    }
+    let topic = Topic {
+        rank: Rank::Changed,
+        name: record_name(alloc, local, &record.relocation)?,
+        kind: Kind::of(record.relocation.kind),
+        file: String::new(alloc),
+        line: 0,
+        reason: String::new(alloc),
+    };
+    findings.add_changed(topic, answers.kernel, own, value)
+}
+
+/// Judges the record of a number; whether the program breaks by it.
+fn judge_record(
+    alloc: Global,
+    findings: &mut Findings,
+    answers: &Answers<'_>,
+    site: &Site<'_>,
+    copy: &CodeCopy,
+    number: usize,
+) -> Result<bool, AllocError> {
+    let Some(record) = answers.records.get(number) else {
+        return Ok(false);
+    };
+    let slot = record.slot;
+    let spot = Spot { copy, slot };
+    match &record.result {
+        RecordResult::Value(outcome) => {
+            note_value(alloc, findings, answers, number, record, outcome.value)?;
+            Ok(false)
+        }
+        RecordResult::Absent(absence) => {
+            judge_absent(alloc, findings, answers, site, spot, record, *absence)
+        }
+        RecordResult::Refused(error) => {
+            judge_refused(alloc, findings, answers, site, spot, record, error)
+        }
+    }
+}
+
+/// Judges the records of a copy; whether the program breaks by them.
+fn judge_records(
+    alloc: Global,
+    findings: &mut Findings,
+    answers: &Answers<'_>,
+    site: &Site<'_>,
+    copy: &CodeCopy,
+) -> Result<bool, AllocError> {
+    let mut breaks = false;
+    let Some(numbers) = answers.by_function.get(copy.key) else {
+        return Ok(false);
+    };
+    for number in numbers.iter() {
+        if judge_record(alloc, findings, answers, site, copy, *number)? {
+            breaks = true;
+        }
+    }
+    Ok(breaks)
+}
+
+/// Judges a map that a copy uses; whether the kernel has no type of its number.
+fn judge_map(
+    alloc: Global,
+    findings: &mut Findings,
+    answers: &Answers<'_>,
+    site: &Site<'_>,
+    copy: &CodeCopy,
+    used: &MapUse,
+) -> Result<bool, AllocError> {
+    if answers.numbers.has_map_type(used.map_type) != Some(false) {
+        return Ok(false);
+    }
+    let slot = used.slot;
+    let local = answers.loaded.object.btf.as_ref();
+    let place = site.place(alloc, local, Spot { copy, slot })?;
+    let name = used.name.as_str();
+    let name = format!(in alloc; "map {name}")?;
+    let number = used.map_type;
+    let reason = format!(in alloc; "no map type {number}")?;
+    let topic = topic_of(alloc, name, Kind::MapType, reason);
+    findings.add(topic, answers.kernel, Some(place))?;
+    Ok(true)
+}
+
+/// Judges the maps that a copy uses; whether the program breaks by them.
+fn judge_maps(
+    alloc: Global,
+    findings: &mut Findings,
+    answers: &Answers<'_>,
+    site: &Site<'_>,
+    copy: &CodeCopy,
+) -> Result<bool, AllocError> {
+    let mut breaks = false;
+    let Some(uses) = answers.loaded.map_uses.get(copy.key) else {
+        return Ok(false);
+    };
+    for used in uses.iter() {
+        if judge_map(alloc, findings, answers, site, copy, used)? {
+            breaks = true;
+        }
+    }
+    Ok(breaks)
+}
+
+/// The number of the helper function that an instruction calls. A poisoned slot calls none.
+fn helper_of(instruction: bpf_insn) -> Option<i32> {
+    if instruction.code != CALL || instruction.src_reg() != 0 || instruction.imm == POISON {
+        return None;
+    }
+    Some(instruction.imm)
+}
+
+/// The number of the helper function that a slot calls, where it is reached and the kernel has none of the number.
+fn missing_helper(answers: &Answers<'_>, site: &Site<'_>, spot: Spot<'_>) -> Option<i32> {
+    let helper = helper_of(site.instruction(spot)?)?;
+    if !site.is_reached(spot) {
+        return None;
+    }
+    let number = u32::try_from(helper).unwrap_or(u32::MAX);
+    if answers.numbers.has_helper(number) != Some(false) {
+        return None;
+    }
+    Some(helper)
+}
+
+/// Judges the helper functions that a copy calls; whether the program breaks by them.
+fn judge_helpers(
+    alloc: Global,
+    findings: &mut Findings,
+    answers: &Answers<'_>,
+    site: &Site<'_>,
+    copy: &CodeCopy,
+) -> Result<bool, AllocError> {
+    let mut breaks = false;
+    let local = answers.loaded.object.btf.as_ref();
+    for slot in 0..copy.slots {
+        let spot = Spot { copy, slot };
+        let Some(helper) = missing_helper(answers, site, spot) else {
+            continue;
+        };
+        breaks = true;
+        let name = format!(in alloc; "helper {helper}")?;
+        let reason = String::from_str(alloc, "no such helper function")?;
+        let topic = topic_of(alloc, name, Kind::Helper, reason);
+        let place = site.place(alloc, local, spot)?;
+        findings.add(topic, answers.kernel, Some(place))?;
+    }
+    Ok(breaks)
+}
+
+/// Judges a copy of a function in a linked program; whether the program breaks by it.
+pub fn judge_copy(
+    alloc: Global,
+    findings: &mut Findings,
+    answers: &Answers<'_>,
+    site: &Site<'_>,
+    copy: &CodeCopy,
+) -> Result<bool, AllocError> {
+    let by_records = judge_records(alloc, findings, answers, site, copy)?;
+    let by_maps = judge_maps(alloc, findings, answers, site, copy)?;
+    let by_helpers = judge_helpers(alloc, findings, answers, site, copy)?;
+    Ok(by_records || by_maps || by_helpers)
+}
