@@ -61,11 +61,7 @@ fn reason_of(alloc: Global, error: &KsymsError) -> Result<String, AllocError> {
 }
 
 /// An extern alone.
-fn alone(
-    alloc: Global,
-    name: &str,
-    known: ExternDesc,
-) -> Result<ByName<ExternDesc>, AllocError> {
+fn alone(alloc: Global, name: &str, known: ExternDesc) -> Result<ByName<ExternDesc>, AllocError> {
     let mut one = ByName::new(alloc);
     one.insert(String::from_str(alloc, name)?, known)?;
     Ok(one)

@@ -46,11 +46,7 @@ fn write_breaking<W: Write>(
 }
 
 /// Writes a kernel.
-fn write_kernel<W: Write>(
-    out: &mut W,
-    session: &Session,
-    kernel: &KernelAnswer,
-) -> io::Result<()> {
+fn write_kernel<W: Write>(out: &mut W, session: &Session, kernel: &KernelAnswer) -> io::Result<()> {
     let name = Quoted(kernel.name.as_str());
     write!(out, "{{\"name\":{name},")?;
     match &kernel.answer {
@@ -96,12 +92,7 @@ fn write_line<W: Write>(out: &mut W, line: &Option<(Text, u32)>) -> io::Result<(
 }
 
 /// Writes a place.
-fn write_place<W: Write>(
-    out: &mut W,
-    session: &Session,
-    at: At,
-    place: &Place,
-) -> io::Result<()> {
+fn write_place<W: Write>(out: &mut W, session: &Session, at: At, place: &Place) -> io::Result<()> {
     let name = match session.loaded.programs.get(at.0) {
         Some(program) => program.name.as_str(),
         None => "",
@@ -207,12 +198,7 @@ fn write_changed<W: Write>(
 }
 
 /// Writes the findings of a rank.
-fn write_rank<W: Write>(
-    out: &mut W,
-    session: &Session,
-    key: &str,
-    rank: Rank,
-) -> io::Result<()> {
+fn write_rank<W: Write>(out: &mut W, session: &Session, key: &str, rank: Rank) -> io::Result<()> {
     let mut is_first = true;
     write!(out, "\"{key}\":[")?;
     for (topic, found) in session.findings.topics.iter() {

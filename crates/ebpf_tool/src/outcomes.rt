@@ -133,8 +133,14 @@ pub fn record_outcomes(
             })?;
         }
     }
-    let written = match relocate_slots(alloc, functions, section_infos, local, relocations, target)
-    {
+    let written = match relocate_slots(
+        alloc,
+        functions,
+        section_infos,
+        local,
+        relocations,
+        target,
+    ) {
         Ok(written) => written,
         Err(_) => ByKey::new(alloc),
     };

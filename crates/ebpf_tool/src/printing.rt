@@ -86,12 +86,7 @@ fn write_on<W: Write>(
 }
 
 /// Writes the program of a place, its slot and the function that the slot was copied from.
-fn write_slot<W: Write>(
-    out: &mut W,
-    session: &Session,
-    at: At,
-    place: &Place,
-) -> io::Result<()> {
+fn write_slot<W: Write>(out: &mut W, session: &Session, at: At, place: &Place) -> io::Result<()> {
     if let Some(program) = session.loaded.programs.get(at.0) {
         let name = Shown(program.name.as_str());
         write!(out, "{name}")?;
@@ -247,7 +242,10 @@ fn write_settings<W: Write>(out: &mut W, session: &Session) -> io::Result<()> {
     if session.loaded.settings.is_empty() {
         return Ok(());
     }
-    writeln!(out, "WANTED (of the kernel's configuration; not looked for)")?;
+    writeln!(
+        out,
+        "WANTED (of the kernel's configuration; not looked for)"
+    )?;
     for name in session.loaded.settings.iter() {
         let name = Shown(name.as_str());
         writeln!(out, "  {name}")?;
@@ -281,11 +279,7 @@ fn write_summary<W: Write>(out: &mut W, session: &Session) -> io::Result<()> {
 }
 
 /// Writes what was found over all kernels, behind the lines of the kernels.
-pub fn write_findings<W: Write>(
-    out: &mut W,
-    session: &Session,
-    manner: Manner,
-) -> io::Result<()> {
+pub fn write_findings<W: Write>(out: &mut W, session: &Session, manner: Manner) -> io::Result<()> {
     writeln!(out, "")?;
     write_rank(out, session, manner, Rank::Breaks)?;
     write_rank(out, session, manner, Rank::Guarded)?;

@@ -101,6 +101,10 @@ pub fn record_name(
 }
 
 /// What a record is about, as a text.
-pub fn record_text(alloc: Global, local: &Btf, relocation: &Relocation) -> Result<Text, AllocError> {
+pub fn record_text(
+    alloc: Global,
+    local: &Btf,
+    relocation: &Relocation,
+) -> Result<Text, AllocError> {
     Ok(Text::from_string(record_name(alloc, local, relocation)?))
 }

@@ -94,12 +94,18 @@ impl Session {
 
     /// How many kernels' types were read.
     pub fn judged(&self) -> usize {
-        self.kernels.iter().filter(|kernel| kernel.is_judged()).count()
+        self.kernels
+            .iter()
+            .filter(|kernel| kernel.is_judged())
+            .count()
     }
 
     /// On how many kernels some program breaks.
     pub fn broken(&self) -> usize {
-        self.kernels.iter().filter(|kernel| kernel.breaking() > 0).count()
+        self.kernels
+            .iter()
+            .filter(|kernel| kernel.breaking() > 0)
+            .count()
     }
 
     /// Whether the program of a number breaks on some kernel.
@@ -110,7 +116,9 @@ impl Session {
     /// How many programs break on some kernel.
     pub fn breaking_programs(&self) -> usize {
         let count = self.loaded.programs.len();
-        (0..count).filter(|program| self.breaks_somewhere(*program)).count()
+        (0..count)
+            .filter(|program| self.breaks_somewhere(*program))
+            .count()
     }
 
     /// The status that the programs and kernels give: 2 where the types of a kernel can't be read, else 1 where some

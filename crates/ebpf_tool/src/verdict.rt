@@ -41,11 +41,7 @@ pub fn topic_of(alloc: Global, name: String, kind: Kind, reason: String) -> Topi
 }
 
 /// What the records of an object come to; no record of one without types.
-fn outcomes_of(
-    alloc: Global,
-    loaded: &Loaded,
-    kernel: &Btf,
-) -> Result<RecordOutcomes, AllocError> {
+fn outcomes_of(alloc: Global, loaded: &Loaded, kernel: &Btf) -> Result<RecordOutcomes, AllocError> {
     let object = &loaded.object;
     match (&object.btf, &object.btf_ext) {
         (Some(local), Some(relocations)) => record_outcomes(
@@ -112,7 +108,10 @@ fn note_lacking(
 
 /// Whether programs of a section replace those of another object, whose types are asked.
 fn replaces(section: &str) -> bool {
-    section.strip_prefix('?').unwrap_or(section).starts_with("freplace")
+    section
+        .strip_prefix('?')
+        .unwrap_or(section)
+        .starts_with("freplace")
 }
 
 /// Notes that a kernel has no type for what a program is attached to; whether it has none.
