@@ -1,0 +1,2 @@
+pub mod TargetPieces
+pub mod TargetRows

@@ -1,0 +1,67 @@
+-- The first piece of a name, and the rows of program kinds that the name fits.
+use Rattle.std.proofs.Common.{◌⊎◌, inl, inr, arith, ◌+◌, ◌≡◌, ℕ, suc, Bool, true, false, not, ◌&&◌, ◌||◌, List, [], ◌∷◌, length, refl, ap, ◌∙◌, sym}
+use Rattle.std.specs.Prelude.{◌==◌, nat_eq, slice_index}
+use Rattle.std.specs.List.{list_any, position_or_len, starts_with}
+use Rattle.std.specs.Str.{bytes_eq}
+use Rattle.std.proofs.lemmas.Bool.{and_parts, both_ways, cases_Bool, eqb-true, not-true, or_cases, or_parts}
+use Rattle.std.proofs.lemmas.Slice.Eq.{bytes_eq-Decides}
+use Rattle.ebpf_parts.specs.ProgramKinds.{fits, has_target, name_of}
+use Rattle.ebpf_parts.specs.ProgramSections.{first_piece}
+use Rattle.ebpf_parts.specs.declared.programs.kind.NamedKind.{NamedKind}
+
+abbrev pub has_slash : List ℕ → Bool
+has_slash name = list_any (λ b. b == 47) name
+
+abbrev length_before : List ℕ → ℕ
+length_before name = position_or_len (λ b. b == 47) name
+
+-- a name without a slash is one piece
+own_piece : (own : List ℕ) → has_slash own ≡ false → first_piece own ≡ own
+own_piece [] none = refl
+own_piece (b ∷ own) none =
+    let parts = or_parts (b == 47) (has_slash own) none in
+    let on : 1 + length_before own ≡ suc (length_before own) = omega arith in
+    rw (parts.0, on) (ap (λ rest. b ∷ rest) (own_piece own parts.1))
+
+-- a name that goes on with a slash behind another has that as its first piece
+target_piece : (name own : List ℕ) → has_slash own ≡ false → starts_with nat_eq name own ≡ true
+    → slice_index name (length own) ≡ 47 → first_piece name ≡ own
+target_piece [] [] none begins slash = absurd (omega arith)
+target_piece (b ∷ name) [] none begins slash = rw slash refl
+target_piece [] (o ∷ own) none begins slash = absurd (cc)
+target_piece (b ∷ name) (o ∷ own) none begins slash =
+    let same = and_parts (nat_eq o b) _ begins in
+    let parts = or_parts (o == 47) (has_slash own) none in
+    let is : o ≡ b = eqb-true o b same.0 in
+    let on : 1 + length_before name ≡ suc (length_before name) = omega arith in
+    rw (← is, parts.0, on) (ap (λ rest. o ∷ rest) (target_piece name own parts.1 same.1 slash))
+
+-- a name that a row fits has the first piece of the row's own, where no row with a slash takes a target
+pub piece_of_fit : (name : List ℕ) (row : NamedKind) → not (row.takes_target && has_slash (name_of row)) ≡ true → fits name row ≡ true
+    → first_piece name ≡ first_piece (name_of row)
+piece_of_fit name row plain fit = by_fit (or_cases _ _ fit)
+  where
+    by_fit : (bytes_eq name (name_of row) ≡ true) ⊎ ((row.takes_target && has_target name (name_of row)) ≡ true)
+        → first_piece name ≡ first_piece (name_of row)
+    by_fit (inl same) = ap first_piece ((bytes_eq-Decides name (name_of row)).0 same)
+    by_fit (inr longer) =
+        let takes = and_parts row.takes_target _ longer in
+        let target = and_parts (starts_with nat_eq name (name_of row)) _ takes.1 in
+        let none : has_slash (name_of row) ≡ false = not-true _ (rw takes.0 at plain) in
+        target_piece name (name_of row) none target.0 (eqb-true _ 47 target.1) ∙ sym (own_piece (name_of row) none)
+
+-- a name is its first piece, or goes on with a slash behind it
+fits_piece : (name : List ℕ) → (bytes_eq name (first_piece name) || has_target name (first_piece name)) ≡ true
+fits_piece [] = refl
+fits_piece (b ∷ name) = elim (cases_Bool (b == 47)) [
+  | inl slash ↦ rw slash (rw slash refl)
+  | inr other ↦
+      let on : 1 + length_before name ≡ suc (length_before name) = omega arith in
+      rw (other, on) (rw (eqb-refl b) (fits_piece name))
+]
+
+-- a row that takes a target fits each name that has its own as its first piece
+pub fit_of_piece : (name : List ℕ) (row : NamedKind) → (row.takes_target && bytes_eq (name_of row) (first_piece name)) ≡ true → fits name row ≡ true
+fit_of_piece name row is =
+    let parts = and_parts row.takes_target _ is in
+    rw (parts.0, (bytes_eq-Decides (name_of row) (first_piece name)).0 parts.1) (fits_piece name)

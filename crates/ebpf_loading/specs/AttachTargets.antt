@@ -1,0 +1,86 @@
+-- What a program is attached to, as the id of a type, by the name of its section (libbpf 1.5, libbpf.c:
+-- libbpf_prepare_prog_load, find_kernel_btf_id, find_attach_btf_id, btf_get_kernel_prefix_kind).
+use Rattle.std.specs.Prelude.{ℕ, ◌==◌, List, [], ◌∷◌, ◌++◌, drop, nat_eq, codes, Option, Some, None, if◌then◌else◌}
+use Rattle.std.specs.List.{after_first, starts_with}
+use Rattle.ebpf_btf.specs.Strings.{id_of_name}
+use Rattle.ebpf_btf.specs.TypeInfo.{TypeInfo}
+use Rattle.ebpf_btf.specs.declared.kind.BtfKind.{BtfKind}
+use Rattle.ebpf_btf.specs.declared.kind.BtfKind.TheVariants as kinds
+use Rattle.ebpf_parts.specs.ProgramKinds.{unmarked}
+use Rattle.ebpf_parts.specs.ProgramSections.{first_piece, said}
+use Rattle.ebpf_loading.specs.declared.attach.AttachTarget.{AttachTarget}
+use Rattle.ebpf_loading.specs.declared.attach.AttachTarget.TheVariants.{NotWanted, Unnamed, Found, NotFound}
+use Rattle.ebpf_loading.specs.declared.target.Target.{Target}
+use Rattle.ebpf_loading.specs.declared.target.Target.TheVariants.{TracePoint, SecurityHook, Iterator, Function}
+
+-- what the programs of a section are attached to, by the first piece of the section's name
+unfoldable pub targets : List (List ℕ × Target)
+targets =
+    (codes "tp_btf", TracePoint)
+    ∷ (codes "lsm", SecurityHook)
+    ∷ (codes "lsm.s", SecurityHook)
+    ∷ (codes "lsm_cgroup", SecurityHook)
+    ∷ (codes "iter", Iterator)
+    ∷ (codes "iter.s", Iterator)
+    ∷ (codes "fentry", Function)
+    ∷ (codes "fentry.s", Function)
+    ∷ (codes "fexit", Function)
+    ∷ (codes "fexit.s", Function)
+    ∷ (codes "fmod_ret", Function)
+    ∷ (codes "fmod_ret.s", Function)
+    ∷ (codes "freplace", Function)
+    ∷ []
+
+-- what stands before a target's name in the name of its type
+unfoldable pub prefix_of : Target → List ℕ
+prefix_of TracePoint = codes "btf_trace_"
+prefix_of SecurityHook = codes "bpf_lsm_"
+prefix_of Iterator = codes "bpf_iter_"
+prefix_of Function = []
+
+-- the kind of that type
+unfoldable pub kind_of : Target → BtfKind
+kind_of TracePoint = kinds.Typedef
+kind_of SecurityHook = kinds.Func
+kind_of Iterator = kinds.Func
+kind_of Function = kinds.Func
+
+-- ---- the name of a section, a mark `?` before it aside
+
+-- what the programs of a section are attached to, where they are loaded with the id of a type
+abbrev pub wanted : List ℕ → Option Target
+wanted section = said targets (first_piece (unmarked section))
+
+-- the kernel itself may be named before what is in it
+abbrev pub kernel_mark : List ℕ
+kernel_mark = codes "vmlinux:"
+
+abbrev pub in_kernel : List ℕ → List ℕ
+in_kernel name = if starts_with nat_eq name kernel_mark then drop 8 name else name
+
+-- the name of the target: what follows the first slash
+abbrev pub target_name : List ℕ → List ℕ
+target_name section = in_kernel (after_first (λ b. b == 47) (unmarked section))
+
+-- ---- its type
+
+-- the first type of a name and a kind
+abbrev pub found_as : List ℕ → Option ℕ → AttachTarget
+found_as name (Some id) = Found id
+found_as name None = NotFound name
+
+abbrev pub type_named : List ℕ → BtfKind → TypeInfo → AttachTarget
+type_named name kind types = found_as name (id_of_name types name kind)
+
+-- a target without a name is none
+abbrev pub target_in : TypeInfo → Target → List ℕ → AttachTarget
+target_in types target [] = Unnamed
+target_in types target (b ∷ name) = type_named (prefix_of target ++ b ∷ name) (kind_of target) types
+
+abbrev pub target_or_none : TypeInfo → Option Target → List ℕ → AttachTarget
+target_or_none types None name = NotWanted
+target_or_none types (Some target) name = target_in types target name
+
+-- what the programs of a section of this name are attached to
+unfoldable pub attach_target : List ℕ → TypeInfo → AttachTarget
+attach_target section types = target_or_none types (wanted section) (target_name section)

@@ -1,0 +1,2 @@
+pub mod AttachTargets
+pub mod TargetLaws

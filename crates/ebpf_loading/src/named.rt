@@ -1,0 +1,35 @@
+//! Types by kind and name.
+
+ghost use Rattle.std.specs.Prelude.{◌≡◌};
+ghost use Rattle.ebpf_btf.specs.Strings.{id_of_name, is_named};
+ghost use Rattle.ebpf_btf.specs.Types.{is_kind};
+
+use ebpf_btf::strings::is_text_at;
+use ebpf_btf::{Btf, BtfKind, BtfType};
+
+/// Whether a type is of a kind.
+#[tactic(auto, unfolding(ebpf_btf::specs::Types::kind_number))]
+fn is_kind(ty: &BtfType, kind: BtfKind) -> bool
+    ensures { result ≡ is_kind kind ty.now }
+{
+    ty.kind() == kind
+}
+
+/// Whether a type is of a kind and has a name. One that can't be read is none.
+pub fn is_named(types: &Btf, name: &str, kind: BtfKind, ty: &BtfType) -> bool
+    ensures { result ≡ is_named types.now name.now kind ty.now }
+{
+    is_kind(ty, kind) && is_text_at(types.strings(), ty.name_offset(), name)
+}
+
+/// The lowest id of a kind and name.
+pub fn id_of_name(types: &Btf, name: &str, kind: BtfKind) -> Option<u32>
+    ensures { result ≡ id_of_name types.now name.now kind }
+{
+    for (id, ty) in types.types().iter().enumerate() {
+        if is_named(types, name, kind, ty) {
+            return Some(id as u32);
+        }
+    }
+    None
+}
