@@ -59,7 +59,7 @@ fn place_of(
     (None, 0)
 }
 
-fn absence(local: &Btf, target: &Btf, relocation: &Relocation) -> Absence {
+fn why_absent(local: &Btf, target: &Btf, relocation: &Relocation) -> Absence {
     let Ok(ty) = local.type_by_id(relocation.type_id) else {
         return Absence::NoType;
     };
@@ -97,10 +97,10 @@ fn result_of(
         Err(error) => RecordResult::Refused(error),
         Ok(outcome) => match outcome.value {
             Some(0) if is_asked(relocation.kind) => {
-                RecordResult::Absent(absence(local, target, relocation))
+                RecordResult::Absent(why_absent(local, target, relocation))
             }
             Some(_) => RecordResult::Value(outcome),
-            None => RecordResult::Absent(absence(local, target, relocation)),
+            None => RecordResult::Absent(why_absent(local, target, relocation)),
         },
     }
 }
