@@ -1,0 +1,97 @@
+-- Arithmetic on known numbers (RFC 9669, section 4.1), of operands that fit the width.
+use Rattle.std.specs.Prelude.{ℕ, ◌+◌, ◌-◌, ◌*◌, ◌/◌, ◌%◌, ◌^◌, ℤ, pos, Option, Some, None, bit_and, bit_or, bit_xor, int_rem, if◌then◌else◌, ◌==◌}
+use Rattle.std.specs.Int.{Width, w8, w16, w32, w64, cast_signed, cast_unsigned, int_shr, int_wrapping_div, swap_bytes}
+use Rattle.std.specs.Ordering.{int_eq}
+use mir.Val.{bits}
+
+-- division by zero gives 0
+abbrev pub quotient : ℕ → ℕ → ℕ
+quotient x y = if y == 0 then 0 else x / y
+
+-- a remainder by zero leaves the number
+abbrev pub remainder : ℕ → ℕ → ℕ
+remainder x y = if y == 0 then x else x % y
+
+-- the same of signed numbers, rounded to zero; the least one by -1 gives itself, with remainder 0
+abbrev pub signed_quotient : Width → ℕ → ℕ → ℕ
+signed_quotient w x y =
+    if y == 0 then 0 else cast_unsigned w (int_wrapping_div w (cast_signed w x) (cast_signed w y))
+
+abbrev pub signed_remainder : Width → ℕ → ℕ → ℕ
+signed_remainder w x y = if y == 0 then x else cast_unsigned w (int_rem (cast_signed w x) (cast_signed w y))
+
+-- A shift takes its lowest 5 or 6 bits.
+abbrev pub shifted_left : Width → ℕ → ℕ → ℕ
+shifted_left w x y = (x * 2 ^ (y % bits w)) % 2 ^ bits w
+
+abbrev pub shifted_right : Width → ℕ → ℕ → ℕ
+shifted_right w x y = x / 2 ^ (y % bits w)
+
+abbrev pub shifted_signed : Width → ℕ → ℕ → ℕ
+shifted_signed w x y = cast_unsigned w (int_shr (cast_signed w x) (y % bits w))
+
+abbrev pub negated : Width → ℕ → ℕ
+negated w x = (2 ^ bits w - x) % 2 ^ bits w
+
+-- the operations with offset 0, but for NEG (8), MOV (11) and END (13)
+abbrev pub plain : Width → ℕ → ℕ → ℕ → Option ℕ
+plain w operation x y =
+    if operation == 0 then Some ((x + y) % 2 ^ bits w)
+    else (if operation == 1 then Some ((x + (2 ^ bits w - y)) % 2 ^ bits w)
+    else (if operation == 2 then Some ((x * y) % 2 ^ bits w)
+    else (if operation == 3 then Some (quotient x y)
+    else (if operation == 4 then Some (bit_or x y)
+    else (if operation == 5 then Some (bit_and x y)
+    else (if operation == 6 then Some (shifted_left w x y)
+    else (if operation == 7 then Some (shifted_right w x y)
+    else (if operation == 9 then Some (remainder x y)
+    else (if operation == 10 then Some (bit_xor x y)
+    else (if operation == 12 then Some (shifted_signed w x y)
+    else None))))))))))
+
+-- those with offset 1: SDIV and SMOD
+abbrev pub signed : Width → ℕ → ℕ → ℕ → Option ℕ
+signed w operation x y =
+    if operation == 3 then Some (signed_quotient w x y)
+    else (if operation == 9 then Some (signed_remainder w x y)
+    else None)
+
+abbrev pub computed : Width → ℕ → ℤ → ℕ → ℕ → Option ℕ
+computed w operation offset x y =
+    if int_eq offset (pos 0) then plain w operation x y
+    else (if int_eq offset (pos 1) then signed w operation x y
+    else None)
+
+-- the lower bits of a number, sign extended
+abbrev pub extended : Width → Width → ℕ → ℕ
+extended w from x = cast_unsigned w (cast_signed from (x % 2 ^ bits from))
+
+-- MOVSX: how many bits are extended is its offset
+abbrev pub extended_32 : ℤ → ℕ → Option ℕ
+extended_32 offset x =
+    if int_eq offset (pos 8) then Some (extended w32 w8 x)
+    else (if int_eq offset (pos 16) then Some (extended w32 w16 x)
+    else None)
+
+abbrev pub extended_64 : ℤ → ℕ → Option ℕ
+extended_64 offset x =
+    if int_eq offset (pos 8) then Some (extended w64 w8 x)
+    else (if int_eq offset (pos 16) then Some (extended w64 w16 x)
+    else (if int_eq offset (pos 32) then Some (extended w64 w32 x)
+    else None))
+
+-- the lower bits of a number: END to little endian, on a machine that is little endian
+abbrev pub truncated : ℤ → ℕ → Option ℕ
+truncated size x =
+    if int_eq size (pos 16) then Some (x % 2 ^ 16)
+    else (if int_eq size (pos 32) then Some (x % 2 ^ 32)
+    else (if int_eq size (pos 64) then Some x
+    else None))
+
+-- the lower bytes of a number, turned round: END to big endian there, and BSWAP
+abbrev pub swapped : ℤ → ℕ → Option ℕ
+swapped size x =
+    if int_eq size (pos 16) then Some (swap_bytes w16 (x % 2 ^ 16))
+    else (if int_eq size (pos 32) then Some (swap_bytes w32 (x % 2 ^ 32))
+    else (if int_eq size (pos 64) then Some (swap_bytes w64 x)
+    else None))

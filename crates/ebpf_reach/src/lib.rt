@@ -1,0 +1,13 @@
+//! Which slots of a finished program can be reached, where registers that hold known numbers decide jumps.
+#![tactic(auto)]
+
+mod arithmetic;
+mod comparisons;
+mod effects;
+mod registers;
+mod search;
+mod steps;
+#[cfg(test)]
+mod tests;
+
+pub use search::reached_slots;

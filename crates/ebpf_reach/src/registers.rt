@@ -1,0 +1,87 @@
+//! What is known of the registers where a slot is reached.
+
+ghost use Rattle.std.specs.Prelude.{◌≡◌};
+ghost use Rattle.ebpf_reach.specs.Registers.{called, common, forgotten, known, learned, met, unknown};
+
+/// How many registers a program has: r0 to r10.
+pub const COUNT: usize = 11;
+
+/// The numbers that the registers r0 to r10 are known to hold.
+#[derive(Clone, Copy, Debug, PartialEq, Eq)]
+pub struct Registers {
+    /// The number of each register, or nothing.
+    pub numbers: [Option<u64>; 11],
+}
+
+// What is known of a register that one of two numbers reaches.
+fn common(one: Option<u64>, other: Option<u64>) -> Option<u64>
+    ensures { result ≡ common one other }
+{
+    match (one, other) {
+        (Some(number), Some(same)) if number == same => Some(number),
+        _ => None,
+    }
+}
+
+impl Registers {
+    /// Nothing known of any.
+    pub fn unknown() -> Registers
+        ensures { result ≡ unknown }
+    {
+        Registers {
+            numbers: [None; 11],
+        }
+    }
+
+    /// The number that a register is known to hold; none is known of a register that there isn't.
+    pub fn known(&self, register: u8) -> Option<u64>
+        ensures { result ≡ known self.now register }
+    {
+        match self.numbers.get(usize::from(register)) {
+            Some(number) => *number,
+            None => None,
+        }
+    }
+
+    /// The same but for one register.
+    pub fn learned(self, register: u8, number: Option<u64>) -> Registers
+        ensures { result ≡ learned self register number }
+    {
+        let mut numbers = self.numbers;
+        let register = usize::from(register);
+        if register < COUNT {
+            numbers[register] = number;
+        }
+        Registers { numbers }
+    }
+
+    /// The same, but nothing known of one register.
+    pub fn forgotten(self, register: u8) -> Registers
+        ensures { result ≡ forgotten self register }
+    {
+        self.learned(register, None)
+    }
+
+    /// The same behind a call, which may write r0 to r5.
+    pub fn called(self) -> Registers
+        ensures { result ≡ called self }
+    {
+        self.forgotten(0)
+            .forgotten(1)
+            .forgotten(2)
+            .forgotten(3)
+            .forgotten(4)
+            .forgotten(5)
+    }
+
+    /// What is known where two paths meet: the numbers that are equal on both.
+    pub fn met(&self, other: &Registers) -> Registers
+        ensures { result ≡ met self.now other.now }
+    {
+        let mut numbers = [None; 11];
+        for register in 0..COUNT {
+            numbers[register] = common(self.numbers[register], other.numbers[register]);
+        }
+        Registers { numbers }
+    }
+}

@@ -1,0 +1,124 @@
+//! To which slots a slot goes on, and what is known of the registers there.
+
+ghost use Rattle.std.specs.Prelude.{◌≡◌, ◌+◌, ◌<◌, pos, length, IfSome};
+ghost use Rattle.std.specs.Option.{option_to_list};
+ghost use Rattle.ebpf_linker.specs.Slots.{is_branch};
+ghost use Rattle.ebpf_reach.specs.Effects.{decided};
+ghost use Rattle.ebpf_reach.specs.Steps.{AreWithin, behind, callback, further, leads, listed, steps, ways};
+
+use crate::effects::{after, decided, loaded};
+use crate::registers::Registers;
+use ebpf_linker::slot::is_pseudo_call;
+use ebpf_parts::insn::bpf_insn;
+
+/// A slot that is reached, and what is known of the registers there.
+#[derive(Clone, Copy, Debug, PartialEq, Eq)]
+pub struct Step {
+    pub place: usize,
+    pub registers: Registers,
+}
+
+// The step to a place, if the program has it.
+fn step_to(slots: &[bpf_insn], place: usize, registers: Registers) -> Option<Step>
+    ensures leads { option_to_list result ≡ leads slots.now (pos place) registers }
+    ensures within { IfSome result (λ step. step.place < length slots.now) }
+{
+    if place < slots.len() {
+        Some(Step { place, registers })
+    } else {
+        None
+    }
+}
+
+// The step to the place so many slots behind the next one.
+fn step_further(slots: &[bpf_insn], place: usize, by: i32, registers: Registers) -> Option<Step>
+    requires { place < length slots.now }
+    ensures leads { option_to_list result ≡ leads slots.now (further place by) registers }
+    ensures within { IfSome result (λ step. step.place < length slots.now) }
+{
+    match (place + 1).checked_add_signed(by as isize) {
+        Some(to) => step_to(slots, to, registers),
+        None => None,
+    }
+}
+
+// The steps from a conditional jump.
+fn ways(
+    slots: &[bpf_insn],
+    place: usize,
+    slot: bpf_insn,
+    registers: Registers,
+) -> (Option<Step>, Option<Step>)
+    requires { place < length slots.now }
+    ensures ways { listed result ≡ ways (decided slot registers) (leads slots.now (behind place) registers) (leads slots.now (further place slot.off) registers) }
+    ensures within { AreWithin slots.now result }
+{
+    let here = step_to(slots, place + 1, registers);
+    let there = step_further(slots, place, i32::from(slot.off), registers);
+    match decided(slot, &registers) {
+        None => (here, there),
+        Some(true) => (None, there),
+        Some(false) => (here, None),
+    }
+}
+
+// The step to the first slot of a callback, where a wide load has its address.
+fn callback(slots: &[bpf_insn], place: usize, slot: bpf_insn) -> Option<Step>
+    requires { place < length slots.now }
+    ensures leads { option_to_list result ≡ callback slots.now place slot }
+    ensures within { IfSome result (λ step. step.place < length slots.now) }
+{
+    if slot.src_reg() != 4 {
+        return None;
+    }
+    step_further(slots, place, slot.imm, Registers::unknown())
+}
+
+// Whether a code is a jump that a condition decides.
+fn is_branch(code: u8) -> bool
+    ensures { result ≡ is_branch code }
+{
+    (code % 8 == 5 || code % 8 == 6) && code / 16 != 0 && code / 16 != 8 && code / 16 != 9
+}
+
+/// The steps from a slot.
+pub fn steps_from(
+    slots: &[bpf_insn],
+    place: usize,
+    registers: Registers,
+) -> (Option<Step>, Option<Step>)
+    requires { place < length slots.now }
+    ensures steps { listed result ≡ steps slots.now place registers }
+    ensures within { AreWithin slots.now result }
+{
+    let slot = slots[place];
+    if slot.code == 0x95 {
+        return (None, None);
+    }
+    if is_pseudo_call(slot) {
+        return (
+            step_to(slots, place + 1, registers.called()),
+            step_further(slots, place, slot.imm, Registers::unknown()),
+        );
+    }
+    if slot.code == 0x18 {
+        let known = registers.learned(slot.dst_reg(), loaded(slots, place, slot));
+        return (
+            step_to(slots, place + 2, known),
+            callback(slots, place, slot),
+        );
+    }
+    if slot.code == 0x05 {
+        return (
+            None,
+            step_further(slots, place, i32::from(slot.off), registers),
+        );
+    }
+    if slot.code == 0x06 {
+        return (None, step_further(slots, place, slot.imm, registers));
+    }
+    if is_branch(slot.code) {
+        return ways(slots, place, slot, registers);
+    }
+    (None, step_to(slots, place + 1, after(slot, registers)))
+}
