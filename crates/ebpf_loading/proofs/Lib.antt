@@ -1,2 +1,4 @@
+pub mod Found
+pub mod Prefixes
 pub mod TargetPieces
 pub mod TargetRows

@@ -1,7 +1,7 @@
 -- What a program is attached to, as the id of a type, by the name of its section (libbpf 1.5, libbpf.c:
 -- libbpf_prepare_prog_load, find_kernel_btf_id, find_attach_btf_id, btf_get_kernel_prefix_kind).
-use Rattle.std.specs.Prelude.{ℕ, ◌==◌, List, [], ◌∷◌, ◌++◌, drop, nat_eq, codes, Option, Some, None, if◌then◌else◌}
-use Rattle.std.specs.List.{after_first, starts_with}
+use Rattle.std.specs.Prelude.{ℕ, ◌==◌, List, [], ◌∷◌, ◌++◌, codes, Option, Some, None, unwrap_or}
+use Rattle.std.specs.List.{after_first}
 use Rattle.ebpf_btf.specs.Strings.{id_of_name}
 use Rattle.ebpf_btf.specs.TypeInfo.{TypeInfo}
 use Rattle.ebpf_btf.specs.declared.kind.BtfKind.{BtfKind}
@@ -12,6 +12,7 @@ use Rattle.ebpf_loading.specs.declared.attach.AttachTarget.{AttachTarget}
 use Rattle.ebpf_loading.specs.declared.attach.AttachTarget.TheVariants.{NotWanted, Unnamed, Found, NotFound}
 use Rattle.ebpf_loading.specs.declared.target.Target.{Target}
 use Rattle.ebpf_loading.specs.declared.target.Target.TheVariants.{TracePoint, SecurityHook, Iterator, Function}
+use Rattle.ebpf_loading.specs.Texts.{behind}
 
 -- what the programs of a section are attached to, by the first piece of the section's name
 unfoldable pub targets : List (List ℕ × Target)
@@ -56,7 +57,7 @@ abbrev pub kernel_mark : List ℕ
 kernel_mark = codes "vmlinux:"
 
 abbrev pub in_kernel : List ℕ → List ℕ
-in_kernel name = if starts_with nat_eq name kernel_mark then drop 8 name else name
+in_kernel name = unwrap_or (behind kernel_mark name) name
 
 -- the name of the target: what follows the first slash
 abbrev pub target_name : List ℕ → List ℕ

@@ -1,2 +1,5 @@
 pub mod AttachTargets
+pub mod KernelNumbers
+pub mod MapTypeIds
 pub mod TargetLaws
+pub mod Texts

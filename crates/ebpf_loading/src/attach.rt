@@ -9,6 +9,7 @@ ghost use Rattle.ebpf_loading.specs.AttachTargets.{attach_target, in_kernel, kin
 
 use crate::named::id_of_name;
 use crate::target::{Target, target_by};
+use crate::texts::behind;
 use ebpf_base::Text;
 use ebpf_btf::{Btf, BtfKind};
 use std::alloc::{AllocError, Global};
@@ -66,10 +67,7 @@ fn behind_slash(name: &str) -> &str
 fn in_kernel(name: &str) -> &str
     ensures { result.now ≡ in_kernel name.now }
 {
-    match name.strip_prefix("vmlinux:") {
-        Some(rest) => rest,
-        None => name,
-    }
+    behind(name, "vmlinux:").unwrap_or(name)
 }
 
 /// The name of a target's type.

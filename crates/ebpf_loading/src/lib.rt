@@ -3,11 +3,16 @@
 #![tactic(auto)]
 
 mod attach;
+mod kernel_numbers;
 pub mod laws;
+mod map_type_ids;
 mod named;
 mod target;
+mod texts;
 
 pub use attach::{AttachTarget, attach_target};
+pub use kernel_numbers::KernelNumbers;
+pub use map_type_ids::{MapTypeIds, map_types};
 
 #[cfg(test)]
 mod tests;

@@ -1,0 +1,21 @@
+-- One step of a search that keeps what it found first.
+use Rattle.std.proofs.Common.{◌≡◌, ℕ, suc, ◌+◌, ◌<◌, List, ◌∷◌, length, drop, Option, sym, ap, ◌∙◌, arith}
+use Rattle.std.specs.Prelude.{slice_index_or}
+use Rattle.std.proofs.Math.Seq.{drop-cons}
+use Rattle.ebpf_base.specs.Faults.{first_some, or_else}
+use Rattle.ebpf_base.proofs.Faults.{or_else-assoc}
+
+-- what is left from an item on
+rest_more : {X : Type 0} (xs : List X) (i : ℕ) (x : X) → i < length xs → x ≡ slice_index_or xs i x → drop i xs ≡ x ∷ drop (i + 1) xs
+rest_more xs i x below here =
+    let on : suc i ≡ i + 1 = omega arith in
+    drop-cons xs i x below ∙ ap (λ y. y ∷ drop (suc i) xs) (sym here) ∙ ap (λ n. x ∷ drop n xs) on
+
+-- what was found or the item has, or else what is left behind it
+pub found_more : {X Y : Type 0} (f : X → Option Y) (found next : Option Y) (xs : List X) (i : ℕ) (x : X) → i < length xs
+    → x ≡ slice_index_or xs i x → next ≡ or_else found (f x)
+    → or_else next (first_some f (drop (i + 1) xs)) ≡ or_else found (first_some f (drop i xs))
+found_more f found next xs i x below here is =
+    ap (λ o. or_else o (first_some f (drop (i + 1) xs))) is
+    ∙ or_else-assoc found (f x) (first_some f (drop (i + 1) xs))
+    ∙ ap (λ l. or_else found (first_some f l)) (sym (rest_more xs i x below here))

@@ -1,0 +1,174 @@
+//! The numbers of helpers and of types of maps that a kernel knows.
+
+ghost use Rattle.std.specs.Prelude.{◌≡◌, find};
+ghost use Rattle.std.specs.List.{list_any};
+ghost use Rattle.std.specs.Option.{option_copied};
+ghost use Rattle.ebpf_base.specs.Faults.{or_else};
+ghost use Rattle.ebpf_loading.specs.KernelNumbers.{enumeration, enumerators_of, has_number, helper_name, helpers, knows_helper, knows_map_type, map_types, name_by, named_enumerators};
+
+use crate::named::is_named;
+use crate::texts::{as_text, behind};
+use ebpf_btf::strings::is_text_at;
+use ebpf_btf::{Btf, BtfEnum, BtfKind, BtfType};
+use std::marker::Model;
+
+/// The enumerators of the first enumerations with the names.
+#[derive(Clone, Copy)]
+struct Enumerations<'a> {
+    helpers: Option<&'a [BtfEnum]>,
+    map_types: Option<&'a [BtfEnum]>,
+}
+
+/// The enumerators of an ENUM; other types have none.
+#[tactic(auto, unfolding(crate::specs::KernelNumbers::enumerators_of))]
+fn enumerators_of(ty: &BtfType) -> &[BtfEnum]
+    ensures { result.now ≡ enumerators_of ty.now }
+{
+    match ty {
+        BtfType::Enum { variants, .. } => variants.as_slice(),
+        _ => &[],
+    }
+}
+
+/// What was found, or else the enumerators of one more type, where it is the enumeration of this name.
+fn found_or<'a>(
+    found: Option<&'a [BtfEnum]>,
+    types: &Btf,
+    name: &str,
+    ty: &'a BtfType,
+) -> Option<&'a [BtfEnum]>
+    ensures { option_copied result ≡ or_else (option_copied found.entry) (named_enumerators types.now name.now ty.now) }
+{
+    if found.is_some() {
+        return found;
+    }
+    if is_named(types, name, BtfKind::Enum, ty) {
+        return Some(enumerators_of(ty));
+    }
+    None
+}
+
+/// Both enumerations, by one pass over the types.
+fn enumerations_in(types: &Btf) -> Enumerations<'_>
+    ensures helpers { option_copied result.helpers ≡ enumeration types.now helpers.enumeration }
+    ensures map_types { option_copied result.map_types ≡ enumeration types.now map_types.enumeration }
+{
+    let mut helpers = None;
+    let mut map_types = None;
+    for ty in types.types() {
+        helpers = found_or(helpers, types, "bpf_func_id", ty);
+        map_types = found_or(map_types, types, "bpf_map_type", ty);
+    }
+    Enumerations { helpers, map_types }
+}
+
+/// Whether an enumerator has a number, and not the name of the one at the end.
+fn has_number(types: &Btf, end: &str, number: u32, enumerator: &BtfEnum) -> bool
+    ensures { result ≡ has_number types.now end.now number enumerator.now }
+{
+    enumerator.value == number && !is_text_at(types.strings(), enumerator.name_offset, end)
+}
+
+/// Whether one of some enumerators has a number.
+fn have_number(types: &Btf, end: &str, number: u32, enumerators: &[BtfEnum]) -> bool
+    ensures { result ≡ list_any (has_number types.now end.now number) enumerators.now }
+{
+    enumerators
+        .iter()
+        .any(|enumerator| has_number(types, end, number, enumerator))
+}
+
+/// The first of some enumerators that has a number.
+fn first_with<'a>(
+    types: &Btf,
+    end: &str,
+    number: u32,
+    enumerators: &'a [BtfEnum],
+) -> Option<&'a BtfEnum>
+    ensures { option_copied result ≡ find (has_number types.now end.now number) enumerators.now }
+{
+    enumerators
+        .iter()
+        .find(|enumerator| has_number(types, end, number, enumerator))
+}
+
+/// The name that an enumerator gives a helper.
+fn name_by<'a>(types: &'a Btf, enumerator: &BtfEnum) -> Option<&'a str>
+    ensures { option_copied result ≡ name_by types.now enumerator.now }
+{
+    let bytes = types.bytes_at(enumerator.name_offset).ok()?;
+    behind(as_text(bytes)?, "BPF_FUNC_")
+}
+
+/// The numbers that a kernel knows, by its types.
+///
+/// Contracts see the types.
+#[derive(Drop)]
+pub struct KernelNumbers<'a> {
+    types: &'a Btf,
+    found: Enumerations<'a>,
+}
+
+impl<'a> Model for KernelNumbers<'a> {
+    ghost use Rattle.std.specs.Prelude.{◌≡◌};
+    ghost use Rattle.std.specs.Option.{option_copied};
+    ghost use Rattle.ebpf_btf.specs.TypeInfo.{TypeInfo};
+    ghost use Rattle.ebpf_loading.specs.KernelNumbers.{enumeration, helpers, map_types};
+
+    ghost Value = { TypeInfo };
+
+    ghost view = { λ k. k.types.now };
+
+    ghost invariant = { λ k. (option_copied k.found.helpers ≡ enumeration k.types.now helpers.enumeration) × (option_copied k.found.map_types ≡ enumeration k.types.now map_types.enumeration) };
+}
+
+impl<'a> KernelNumbers<'a> {
+    /// The numbers that the kernel with these types knows. The types are gone over once, and no memory is taken.
+    pub fn of(types: &'a Btf) -> KernelNumbers<'a>
+        ensures { result ≡ types.now }
+    {
+        KernelNumbers {
+            types,
+            found: enumerations_in(types),
+        }
+    }
+
+    /// Whether the kernel knows the helper with a number: whether an enumerator of its `enum bpf_func_id` has it, but
+    /// for `__BPF_FUNC_MAX_ID`. So 0, `BPF_FUNC_unspec`, is known. `None` where its types have no such ENUM.
+    #[tactic(auto, unfolding(crate::specs::KernelNumbers::knows_helper))]
+    pub fn knows_helper(&self, number: u32) -> Option<bool>
+        ensures { result ≡ knows_helper self.now number }
+    {
+        match self.found.helpers {
+            Some(all) => Some(have_number(self.types, "__BPF_FUNC_MAX_ID", number, all)),
+            None => None,
+        }
+    }
+
+    /// Whether the kernel knows the type of maps with a number: whether an enumerator of its `enum bpf_map_type` has
+    /// it, but for `__MAX_BPF_MAP_TYPE`. So 0, `BPF_MAP_TYPE_UNSPEC`, is known. `None` where its types have no such
+    /// ENUM.
+    #[tactic(auto, unfolding(crate::specs::KernelNumbers::knows_map_type))]
+    pub fn knows_map_type(&self, number: u32) -> Option<bool>
+        ensures { result ≡ knows_map_type self.now number }
+    {
+        match self.found.map_types {
+            Some(all) => Some(have_number(self.types, "__MAX_BPF_MAP_TYPE", number, all)),
+            None => None,
+        }
+    }
+
+    /// The name of the helper with a number: that of the first enumerator of the kernel's `enum bpf_func_id` that has
+    /// it, behind `BPF_FUNC_`. `None` where none has it but `__BPF_FUNC_MAX_ID`, or its name is no text or doesn't begin
+    /// so. No memory is taken.
+    #[tactic(auto, unfolding(crate::specs::KernelNumbers::helper_name))]
+    pub fn helper_name(&self, number: u32) -> Option<&'a str>
+        ensures { option_copied result ≡ helper_name self.now number }
+    {
+        let all = self.found.helpers?;
+        name_by(
+            self.types,
+            first_with(self.types, "__BPF_FUNC_MAX_ID", number, all)?,
+        )
+    }
+}
