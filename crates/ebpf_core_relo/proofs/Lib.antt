@@ -1,8 +1,12 @@
+pub mod FirstRefusal
 pub mod Grouped
 pub mod JoinedRuns
+pub mod KeptAbsences
 pub mod OneRecord
+pub mod OutcomeRows
 pub mod OutcomeSlots
 pub mod PutSlots
+pub mod Reaches
 pub mod RecordRuns
 pub mod Refused
 pub mod Rewritten

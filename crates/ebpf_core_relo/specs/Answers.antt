@@ -10,6 +10,11 @@ abbrev pub Leaves : {X U : Type 0} → Result U RelocationError → X → Result
 Leaves (Ok u) left stated = stated ≡ Ok left
 Leaves (Err e) left stated = MatchBool (is_memory e) ⊤ (stated ≡ Err (told e))
 
+-- what was written stays where the call refuses, a want of memory aside
+abbrev pub StaysRefused : {U X : Type 0} → Result U RelocationError → X → X → Type 0
+StaysRefused (Ok u) before after = Unit {0}
+StaysRefused (Err e) before after = MatchBool (is_memory e) ⊤ (after ≡ before)
+
 abbrev pub is_memory_at : BtfRelocationError → Bool
 is_memory_at e = is_memory e.error
 

@@ -1,9 +1,15 @@
+pub mod Absences
 pub mod Alone
 pub mod Answers
 pub mod Carried
+pub mod Carrying
+pub mod Kept
+pub mod OutcomeLaws
 pub mod Places
+pub mod RecordOutcomes
 pub mod Records
 pub mod Refused
+pub mod Sections
 pub mod SlotOutcomes
 pub mod Spans
 pub mod SpanLists

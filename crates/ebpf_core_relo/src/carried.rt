@@ -1,9 +1,10 @@
 //! Slots that carry the outcome of a record.
 
-ghost use Rattle.std.specs.Prelude.{◌≡◌, ◌<◌, ◌≤◌, ⊤, MatchBool, [], length, slice_index_or, Some, Ok, Err, IfErr, IfSome, OnOk};
+ghost use Rattle.std.specs.Prelude.{◌≡◌, ◌<◌, ◌≤◌, ⊤, MatchBool, [], length, slice_index_or, Some, Ok, Err, IfErr, IfOk, IfSome};
 ghost use Rattle.ebpf_core.specs.Answers.{Tells, told};
 ghost use Rattle.ebpf_core.specs.Memory.{is_memory};
 ghost use Rattle.ebpf_core.specs.declared.error.RelocationError.TheVariants as errors;
+ghost use Rattle.ebpf_core_relo.specs.Carrying.{HasRoom, put_at};
 ghost use Rattle.ebpf_core_relo.specs.Carried.{carrier_of, carried_by, high_half, laid, low_half, may_resize, moved_code, poison, poisoned, resized, resized_to, size_bits, with_offset, written};
 
 use ebpf_base::Text;
@@ -191,53 +192,69 @@ fn no_carrier<X>(
     })
 }
 
-/// Writes a slot that fails where it is reached, and where it is a wide load the one behind it.
-fn poison_at(slots: &mut [bpf_insn], at: usize, record_number: usize) -> Result<(), RelocationError>
-    requires { at < length slots.old }
-    ensures slots { OnOk result (poisoned record_number slots.old at (slice_index_or slots.old at poison) ≡ Ok slots.new) }
-    ensures fault { IfErr result (λ e. poisoned record_number slots.old at (slice_index_or slots.old at poison) ≡ Err (told e)) }
-{
-    if slots[at].code != WIDE_LOAD {
-        slots[at] = poison();
-        return Ok(());
-    }
-    if at + 1 >= slots.len() {
-        return missing_slot(slots, at + 1, record_number);
-    }
-    slots[at] = poison();
-    slots[at + 1] = poison();
-    Ok(())
+/// What a record makes of its slot, and of the one behind it where both carry its outcome.
+#[derive(Clone, Copy, Debug, PartialEq, Eq)]
+pub struct CarryingSlots {
+    pub slot: bpf_insn,
+    pub next: Option<bpf_insn>,
 }
 
-/// Writes the slot that carries a number, and of a wide load the one behind it.
-fn carry_at(
-    slots: &mut [bpf_insn],
+/// A slot that fails where it is reached, and where it is a wide load the one behind it.
+fn poisoned(
+    slots: &[bpf_insn],
     at: usize,
     record_number: usize,
-    carrying: bpf_insn,
-    number: u64,
-) -> Result<(), RelocationError>
-    requires { at < length slots.old }
-    ensures slots { OnOk result (laid record_number slots.old at (slice_index_or slots.old at poison) carrying number ≡ Ok slots.new) }
-    ensures fault { IfErr result (λ e. laid record_number slots.old at (slice_index_or slots.old at poison) carrying number ≡ Err (told e)) }
+) -> Result<CarryingSlots, RelocationError>
+    requires { at < length slots.now }
+    ensures slots { IfOk result (λ carrying. poisoned record_number slots.now at (slice_index_or slots.now at poison) ≡ Ok (put_at slots.now at carrying)) }
+    ensures there { IfOk result (λ carrying. HasRoom slots.now at carrying.next) }
+    ensures fault { IfErr result (λ e. poisoned record_number slots.now at (slice_index_or slots.now at poison) ≡ Err (told e)) }
 {
-    if carrier_of(&slots[at]) != Carrier::Wide {
-        slots[at] = carrying;
-        return Ok(());
+    if slots[at].code != WIDE_LOAD {
+        return Ok(CarryingSlots {
+            slot: poison(),
+            next: None,
+        });
     }
     if at + 1 >= slots.len() {
         return missing_slot(slots, at + 1, record_number);
     }
-    let next = slots[at + 1];
-    slots[at] = carrying;
-    slots[at + 1] = bpf_insn {
-        imm: high_half(number),
-        ..next
-    };
-    Ok(())
+    Ok(CarryingSlots {
+        slot: poison(),
+        next: Some(poison()),
+    })
 }
 
-/// Writes what a record came to into slot `at` of a function. After a refusal the slots are of no use.
+/// A slot that carries a number, and of a wide load the one behind it.
+fn laid(
+    slots: &[bpf_insn],
+    at: usize,
+    record_number: usize,
+    slot: bpf_insn,
+    number: u64,
+) -> Result<CarryingSlots, RelocationError>
+    requires { at < length slots.now }
+    ensures slots { IfOk result (λ carrying. laid record_number slots.now at (slice_index_or slots.now at poison) slot number ≡ Ok (put_at slots.now at carrying)) }
+    ensures there { IfOk result (λ carrying. HasRoom slots.now at carrying.next) }
+    ensures fault { IfErr result (λ e. laid record_number slots.now at (slice_index_or slots.now at poison) slot number ≡ Err (told e)) }
+{
+    if carrier_of(&slots[at]) != Carrier::Wide {
+        return Ok(CarryingSlots { slot, next: None });
+    }
+    if at + 1 >= slots.len() {
+        return missing_slot(slots, at + 1, record_number);
+    }
+    let next = bpf_insn {
+        imm: high_half(number),
+        ..slots[at + 1]
+    };
+    Ok(CarryingSlots {
+        slot,
+        next: Some(next),
+    })
+}
+
+/// What a record that came to an outcome makes of slot `at` of a function. Nothing is written.
 ///
 /// # Errors
 ///
@@ -246,25 +263,38 @@ fn carry_at(
 /// 32,767, or of a field of another size that is not 1, 2, 4 or 8 bytes or not a pointer or an integer without a sign
 /// on both sides. `OutOfMemory` where memory is refused.
 #[tactic(auto, unfolding(crate::specs::Carried::written))]
-pub fn write_outcome(
+pub fn carrying_slots(
     alloc: Global,
-    slots: &mut [bpf_insn],
+    slots: &[bpf_insn],
     at: usize,
     record_number: usize,
     outcome: &Outcome,
-) -> Result<(), RelocationError>
-    ensures slots { OnOk result (written record_number slots.old at outcome.now ≡ Ok slots.new) }
-    ensures fault { IfErr result (λ e. MatchBool (is_memory e) ⊤ (written record_number slots.old at outcome.now ≡ Err (told e))) }
+) -> Result<CarryingSlots, RelocationError>
+    ensures slots { IfOk result (λ carrying. written record_number slots.now at outcome.now ≡ Ok (put_at slots.now at carrying)) }
+    ensures there { IfOk result (λ carrying. (at < length slots.now) × HasRoom slots.now at carrying.next) }
+    ensures fault { IfErr result (λ e. MatchBool (is_memory e) ⊤ (written record_number slots.now at outcome.now ≡ Err (told e))) }
 {
     let Some(slot) = slots.get(at) else {
         return missing_slot(slots, at, record_number);
     };
     let slot = *slot;
     let Some(number) = outcome.value else {
-        return poison_at(slots, at, record_number);
+        return poisoned(slots, at, record_number);
     };
     let Some(carrying) = carried(slot, number, outcome) else {
         return no_carrier(alloc, at, record_number, slot.code, number);
     };
-    carry_at(slots, at, record_number, carrying, number)
+    laid(slots, at, record_number, carrying, number)
+}
+
+/// Writes what a record makes of slot `at` of a function.
+pub fn put_slots_at(slots: &mut [bpf_insn], at: usize, carrying: CarryingSlots)
+    requires slot { at < length slots.old }
+    requires next { HasRoom slots.old at carrying.next }
+    ensures { slots.new ≡ put_at slots.old at carrying }
+{
+    slots[at] = carrying.slot;
+    if let Some(next) = carrying.next {
+        slots[at + 1] = next;
+    }
 }

@@ -1,6 +1,7 @@
 //! What holds of the slots that records write.
 
 ghost use Rattle.ebpf_core_relo.specs.Alone.{OtherSlotsStay, PutSlotsStand, RecordsAloneAreCarried, RecordsArePlaced, RecordsHaveSlots, RecordsKeepShapes, SlotsStayAsMany};
+ghost use Rattle.ebpf_core_relo.specs.OutcomeLaws.{FirstRefusalIsTheFault, OutcomesAreInOrder, SlotsAreTheSame};
 ghost use Rattle.ebpf_core_relo.specs.Refused.{FaultsAreRefusals, RefusalIsOne};
 ghost use Rattle.ebpf_core_relo.specs.SlotOutcomes.{WrittenSlotsCarry};
 
@@ -43,4 +44,16 @@ pub fn written_slots_carry()
 pub fn records_are_refused()
     ensures refused { FaultsAreRefusals }
     ensures alone { RefusalIsOne }
+{}
+
+/// What the records of an object come to stands in their order, each over the slots that those before it left.
+pub fn outcomes_are_in_order()
+    ensures { OutcomesAreInOrder }
+{}
+
+/// `relocate_slots` refuses exactly where a record is refused, with the first of these refusals and its section, and
+/// else gives the slots that the records leave. Only a section without records is told by `relocate_slots` alone.
+pub fn first_refusal_is_the_fault()
+    ensures fault { FirstRefusalIsTheFault }
+    ensures slots { SlotsAreTheSame }
 {}

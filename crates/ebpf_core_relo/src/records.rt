@@ -1,13 +1,13 @@
 //! Records applied one after the other, beside the functions that they speak of.
 
-ghost use Rattle.std.specs.Prelude.{◌≡◌, ℕ, ◌<◌, ◌^◌, IfOk};
+ghost use Rattle.std.specs.Prelude.{◌≡◌, ◌<◌, IfOk, Ok, length};
 ghost use Rattle.std.specs.FinMap as map;
-ghost use Rattle.ebpf_core.specs.Answers.{Tells};
-ghost use Rattle.ebpf_core_relo.specs.Answers.{Leaves};
-ghost use Rattle.ebpf_core_relo.specs.Carried.{written};
+ghost use Rattle.ebpf_core.specs.Searches.{outcome_of};
+ghost use Rattle.ebpf_core_relo.specs.Answers.{Leaves, StaysRefused};
+ghost use Rattle.ebpf_core_relo.specs.Carrying.{HasRoom, put_at};
 ghost use Rattle.ebpf_core_relo.specs.Records.{put_outcome, record_applied, records_applied, scene_of, slots_at};
 
-use crate::carried::write_outcome;
+use crate::carried::{CarryingSlots, carrying_slots, put_slots_at};
 use crate::scene::Places;
 use crate::section_spans::span_in;
 use crate::spans::{SLOT, Span};
@@ -36,22 +36,35 @@ fn take_slots(
     }
 }
 
-/// Slots of which one carries the outcome of a record.
-fn rewritten(
-    alloc: Global,
-    slots: Items<bpf_insn>,
-    at: usize,
-    record_number: usize,
-    outcome: &Outcome,
-) -> Result<Items<bpf_insn>, RelocationError>
-    ensures { Tells result (written record_number slots at outcome.now) }
+/// The slots of a function as records have left them.
+fn slots_of<'a>(
+    places: &Places<'a>,
+    written: &'a ByKey<Items<bpf_insn>>,
+    key: (usize, u64),
+) -> &'a [bpf_insn]
+    ensures { result.now ≡ slots_at places.now.functions.now written.now key }
 {
-    let mut slots = slots.into_vec();
-    write_outcome(alloc, slots.as_mut_slice(), at, record_number, outcome)?;
-    Ok(Items::from_vec(slots))
+    if let Some(slots) = written.get(key) {
+        return slots.as_slice();
+    }
+    match places.functions.get(key) {
+        Some(function) => function.instructions.as_slice(),
+        None => &[],
+    }
 }
 
-/// Puts the outcome of a record into the function that takes a span.
+/// Slots of which one carries the outcome of a record.
+fn rewritten(slots: Items<bpf_insn>, at: usize, carrying: CarryingSlots) -> Items<bpf_insn>
+    requires slot { at < length slots }
+    requires next { HasRoom slots at carrying.next }
+    ensures { result ≡ put_at slots at carrying }
+{
+    let mut slots = slots.into_vec();
+    put_slots_at(slots.as_mut_slice(), at, carrying);
+    Items::from_vec(slots)
+}
+
+/// Puts the outcome of a record into the function that takes a span. Where it is refused nothing is written.
 #[tactic(auto, unfolding(crate::specs::Records::put_outcome))]
 fn put_outcome(
     alloc: Global,
@@ -61,30 +74,36 @@ fn put_outcome(
     written: &mut ByKey<Items<bpf_insn>>,
     relocation: &Relocation,
     span: Span,
-) -> Result<(), RelocationError>
+) -> Result<Outcome, RelocationError>
     ensures put { Leaves result written.new (put_outcome (scene_of search.old places.now.functions.now places.now.section_infos.now) section written.old relocation.now span) }
+    ensures outcome { IfOk result (λ outcome. outcome_of search.old.local search.old.target relocation.now ≡ Ok outcome) }
+    ensures stays { StaysRefused result written.old written.new }
     ensures search { search.new ≡ search.old }
 {
     let outcome = search.outcome(alloc, relocation)?;
     let key = (section, span.address);
-    let slots = take_slots(alloc, places, written, key)?;
     let at = (relocation.insn_off as usize).saturating_sub(span.start) / SLOT;
-    let slots = rewritten(alloc, slots, at, relocation.number, &outcome)?;
+    let before = slots_of(places, written, key);
+    let carrying = carrying_slots(alloc, before, at, relocation.number, &outcome)?;
+    let slots = take_slots(alloc, places, written, key)?;
+    let slots = rewritten(slots, at, carrying);
     written.insert(key, slots)?;
-    Ok(())
+    Ok(outcome)
 }
 
-/// Applies a record of a section to the function that holds its instruction.
+/// Applies a record of a section to the function that holds its instruction. Where it is refused nothing is written.
 #[tactic(auto, unfolding(crate::specs::Records::record_applied))]
-fn apply_record(
+pub fn apply_record(
     alloc: Global,
     search: &mut CoreSearch<'_>,
     places: &Places<'_>,
     section: usize,
     written: &mut ByKey<Items<bpf_insn>>,
     relocation: &Relocation,
-) -> Result<(), RelocationError>
+) -> Result<Outcome, RelocationError>
     ensures applied { Leaves result written.new (record_applied (scene_of search.old places.now.functions.now places.now.section_infos.now) section written.old relocation.now) }
+    ensures outcome { IfOk result (λ outcome. outcome_of search.old.local search.old.target relocation.now ≡ Ok outcome) }
+    ensures stays { StaysRefused result written.old written.new }
     ensures search { search.new ≡ search.old }
 {
     let Some(span) = span_in(&places.spans, section, relocation.insn_off as usize) else {

@@ -10,6 +10,7 @@ pub mod PatchedBytes
 pub mod TextSections
 pub mod WrittenSlots
 pub mod AdaptedSlots
+pub mod TargetRecords
 pub mod Steps
 pub mod Stages
 pub mod StageFaults

@@ -4,5 +4,8 @@
 pub use ebpf_core::{
     CoreSearch, FieldClass, LoadedField, LocalPath, NamedPath, Outcome, local_path, outcome_among,
 };
-pub use ebpf_core_relo::{BtfRelocationError, RelocationError};
+pub use ebpf_core_relo::{
+    Absence, BtfRelocationError, RecordOutcome, RecordOutcomes, RecordResult, RecordSlot,
+    RelocationError,
+};
 pub use ebpf_ext::{Relocation, RelocationKind};

@@ -12,8 +12,8 @@ pub use ebpf_core::laws::{
     first_fault_refuses, one_first_variant, one_local_side, outcomes_rest_on_what_is_asked,
 };
 pub use ebpf_core_relo::laws::{
-    other_slots_stay, put_slots_stand, records_alone_are_carried, records_are_refused,
-    records_have_slots, written_slots_carry,
+    first_refusal_is_the_fault, other_slots_stay, outcomes_are_in_order, put_slots_stand,
+    records_alone_are_carried, records_are_refused, records_have_slots, written_slots_carry,
 };
 pub use ebpf_parsing::laws::{
     broad_refuses_no_name, externs_are_unresolved, functions_stand_at_their_keys, functions_tile,

@@ -21,6 +21,7 @@ mod patch_plan;
 pub mod prepare;
 mod prepare_error;
 mod queries;
+mod record_outcomes;
 mod relocate_btf;
 mod relocate_calls;
 mod relocate_externs;

@@ -1,0 +1,99 @@
+-- How far along a path candidates come: a path that leads somewhere does so with fewer steps.
+use Rattle.std.proofs.Common.{◌≡◌, ℕ, zero, suc, ◌+◌, ◌<◌, ◌≤◌, max, ◌⊎◌, inl, inr, Bool, true, false, List, [], ◌∷◌, length, take, Option, Some, None, Result, Ok, Err, refl, sym, ap, ◌∙◌, subst, arith}
+use Rattle.std.specs.Prelude.{◌≢◌, if◌then◌else◌}
+use Rattle.std.proofs.lemmas.Bool.{cases_eq, cases_lt}
+use Rattle.ebpf_btf.specs.TypeInfo.{TypeInfo}
+use Rattle.ebpf_places.specs.Places.{begun, followed, if_fine, onward, place_of, stepped}
+use Rattle.ebpf_places.specs.declared.fault.PlaceFault.{PlaceFault}
+use Rattle.ebpf_places.specs.declared.places.Place.{Place}
+use Rattle.ebpf_places.specs.declared.steps.Step.{Step}
+use Rattle.ebpf_places.specs.declared.steps.Step.TheVariants.{Name, Index}
+use Rattle.ebpf_places.specs.declared.walk.Spot.{Spot}
+use Rattle.ebpf_core_relo.specs.Absences.{greatest, is_place, leads, reach}
+
+-- ---- the greatest number that passes a test
+
+module _ (test : ℕ → Bool) where
+  within : (n : ℕ) → greatest test n ≤ n
+  within zero = omega arith
+  within (suc n) = by_test (test (suc n))
+    where
+      by_test : (b : Bool) → (if b then suc n else greatest test n) ≤ suc n
+      by_test true = omega arith
+      by_test false = let h : greatest test n ≤ n = within n in omega arith
+
+  at_least : (n s : ℕ) → s ≤ n → test s ≡ true → s ≤ greatest test n
+  at_least zero s small passes = omega arith
+  at_least (suc n) s small passes = by_test (test (suc n)) refl
+    where
+      by_test : (b : Bool) → test (suc n) ≡ b → s ≤ (if b then suc n else greatest test n)
+      by_test true is = omega arith
+      by_test false is = by_place (cases_eq s (suc n))
+        where
+          by_place : (s ≡ suc n) ⊎ (s ≢ suc n) → s ≤ greatest test n
+          by_place (inl same) = let never : true ≡ false = sym passes ∙ ap test same ∙ is in cc
+          by_place (inr other) = at_least n s (omega arith) passes
+
+  -- Where a test that passes at a number passes at each below, but for 0, it is passed up to the greatest.
+  module _ (falls : (k : ℕ) → test (suc (suc k)) ≡ true → test (suc k) ≡ true) where
+    down : (n s : ℕ) → s ≤ n → test (suc n) ≡ true → test (suc s) ≡ true
+    down zero s small passes = subst (λ k. test (suc k) ≡ true) (let e : 0 ≡ s = omega arith in e) passes
+    down (suc n) s small passes = by_place (cases_eq s (suc n))
+      where
+        by_place : (s ≡ suc n) ⊎ (s ≢ suc n) → test (suc s) ≡ true
+        by_place (inl same) = subst (λ k. test (suc k) ≡ true) (sym same) passes
+        by_place (inr other) = down n s (omega arith) (falls n passes)
+
+    at_most : (n s : ℕ) → test (suc s) ≡ false → greatest test n ≤ s
+    at_most zero s fails = omega arith
+    at_most (suc n) s fails = by_test (test (suc n)) refl
+      where
+        by_place : (s < suc n) ⊎ (suc n ≤ s) → test (suc n) ≡ true → suc n ≤ s
+        by_place (inr high) is = high
+        by_place (inl low) is = let never : true ≡ false = sym (down n s (omega arith) is) ∙ fails in cc
+
+        by_test : (b : Bool) → test (suc n) ≡ b → (if b then suc n else greatest test n) ≤ s
+        by_test true is = by_place (cases_lt s (suc n)) is
+        by_test false is = at_most n s fails
+
+-- ---- a path with fewer steps
+
+module _ (local target : TypeInfo) where
+  fewer : (path : List Step) (n : ℕ) (from : Spot) → is_place (followed local target (take (suc n) path) from) ≡ true → is_place (followed local target (take n path) from) ≡ true
+  unfolding followed
+  fewer path zero from there = refl
+  fewer [] (suc n) from there = there
+  fewer (by ∷ path) (suc n) from there = by_step (stepped local target from by) there
+    where
+      by_step : (r : Result (Option Spot) PlaceFault) → is_place (if_fine r (λ led_to. onward led_to (followed local target (take (suc n) path)))) ≡ true
+          → is_place (if_fine r (λ led_to. onward led_to (followed local target (take n path)))) ≡ true
+      by_step (Ok None) there = there
+      by_step (Ok (Some next)) there = fewer path n next there
+      by_step (Err fault) there = there
+
+  leads_fewer : (steps : List Step) (id n : ℕ) → leads local target steps id (suc (suc n)) ≡ true → leads local target steps id (suc n) ≡ true
+  unfolding place_of
+  leads_fewer [] id n there = there
+  leads_fewer (Name name local_type ∷ path) id n there = there
+  leads_fewer (Index index ∷ path) id n there = by_start (begun target id index) there
+    where
+      by_start : (r : Result Spot PlaceFault) → is_place (if_fine r (followed local target (take (suc n) path))) ≡ true → is_place (if_fine r (followed local target (take n path))) ≡ true
+      by_start (Ok from) there = fewer path n from there
+      by_start (Err fault) there = there
+
+  -- where steps lead somewhere up to a number, past one that is known, and one more does not
+  pub reach_is : (steps : List Step) (id known n : ℕ) → known ≤ n → n ≤ length steps → (n ≡ known) ⊎ (leads local target steps id n ≡ true)
+      → (n ≡ length steps) ⊎ (leads local target steps id (suc n) ≡ false) → n ≡ max known (reach local target steps id)
+  unfolding reach
+  reach_is steps id known n above within_steps start stop = omega (arith, below start, top stop)
+    where
+      test : ℕ → Bool
+      test = leads local target steps id
+
+      below : (n ≡ known) ⊎ (test n ≡ true) → n ≤ max known (greatest test (length steps))
+      below (inl same) = omega arith
+      below (inr there) = let h : n ≤ greatest test (length steps) = at_least test (length steps) n within_steps there in omega arith
+
+      top : (n ≡ length steps) ⊎ (test (suc n) ≡ false) → greatest test (length steps) ≤ n
+      top (inl same) = let h : greatest test (length steps) ≤ length steps = within test (length steps) in omega arith
+      top (inr fails) = at_most test (leads_fewer steps id) (length steps) n fails

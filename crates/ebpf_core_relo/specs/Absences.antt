@@ -1,0 +1,135 @@
+-- Why a record has no value: how far along its path the kernel's types come, and what is missing there.
+use Rattle.std.specs.Prelude.{ℕ, zero, suc, ◌==◌, nat_lt, Bool, true, false, List, [], ◌∷◌, length, take, fold, Option, Some, None, option_map, option_and_then, unwrap_or, Result, Ok, Err, slice_get, if◌then◌else◌}
+use Rattle.std.specs.List.{list_any}
+use Rattle.std.specs.Result.{result_ok}
+use Rattle.ebpf_btf.specs.Steps.{resolved_type}
+use Rattle.ebpf_btf.specs.Strings.{is_text, text_at}
+use Rattle.ebpf_btf.specs.TypeInfo.{TypeInfo}
+use Rattle.ebpf_btf.specs.Types.{members_of}
+use Rattle.ebpf_btf.specs.declared.error.BtfError.{BtfError}
+use Rattle.ebpf_btf.specs.declared.members.BtfMember.{BtfMember}
+use Rattle.ebpf_btf.specs.declared.types.BtfType.{BtfType}
+use Rattle.ebpf_places.specs.Members.{unnamed_levels}
+use Rattle.ebpf_places.specs.Places.{place_of}
+use Rattle.ebpf_places.specs.declared.fault.PlaceFault.{PlaceFault}
+use Rattle.ebpf_places.specs.declared.places.Place.{Place}
+use Rattle.ebpf_places.specs.declared.places.PlaceEnd.{PlaceEnd}
+use Rattle.ebpf_places.specs.declared.places.PlaceEnd.TheVariants.{Element, Member}
+use Rattle.ebpf_places.specs.declared.steps.Step.{Step}
+use Rattle.ebpf_places.specs.declared.steps.Step.TheVariants.{Name, Index}
+use Rattle.ebpf_ext.specs.declared.relocation.Relocation.{Relocation}
+use Rattle.ebpf_core.specs.Fields.{member_at}
+use Rattle.ebpf_core.specs.LocalPaths.{local_path}
+use Rattle.ebpf_core.specs.Searches.{candidates_for}
+use Rattle.ebpf_core.specs.declared.error.RelocationError.{RelocationError}
+use Rattle.ebpf_core.specs.declared.paths.LocalPath.{LocalPath}
+use Rattle.ebpf_core.specs.declared.paths.NamedPath.{NamedPath}
+use Rattle.ebpf_core.specs.declared.paths.NamedPath.TheVariants as paths
+use Rattle.ebpf_core_relo.specs.declared.absence.Absence.{Absence}
+use Rattle.ebpf_core_relo.specs.declared.absence.Absence.TheVariants.{NoType, TypeOfAnotherKind, NoMember, MemberOfAnotherKind, NoEnumerator, NoValue}
+use Rattle.ebpf_core_relo.specs.declared.furthest.Furthest.{Furthest}
+
+-- ---- how far a path leads
+
+abbrev pub is_place : Result (Option Place) PlaceFault → Bool
+is_place (Ok (Some place)) = true
+is_place (Ok None) = false
+is_place (Err fault) = false
+
+-- whether the first n steps of a path lead somewhere in a candidate
+abbrev pub leads : TypeInfo → TypeInfo → List Step → ℕ → ℕ → Bool
+leads local target steps id n = is_place (place_of local target id (take n steps))
+
+-- the greatest number up to a limit that passes a test, or 0
+abbrev pub greatest : (ℕ → Bool) → ℕ → ℕ
+greatest test zero = 0
+greatest test (suc n) = if test (suc n) then suc n else greatest test n
+
+-- how many steps of a path lead somewhere in a candidate: the length of its longest beginning that does
+unfoldable pub reach : TypeInfo → TypeInfo → List Step → ℕ → ℕ
+reach local target steps id = greatest (leads local target steps id) (length steps)
+
+-- of a candidate and those before it the one that comes furthest, the first of those that come as far
+abbrev pub further : Furthest → ℕ → ℕ → Furthest
+further so_far id steps = if nat_lt so_far.steps steps then record { candidate = Some id; steps = steps } else so_far
+
+abbrev pub nowhere : Furthest
+nowhere = record { candidate = None; steps = 0 }
+
+unfoldable pub furthest : TypeInfo → TypeInfo → List Step → List ℕ → Furthest
+furthest local target steps ids = fold (λ so_far id. further so_far id (reach local target steps id)) nowhere ids
+
+-- ---- whether a name stands in a type
+
+-- the members of the type that an id stands for
+abbrev pub members_at : TypeInfo → ℕ → List BtfMember
+members_at target id = unwrap_or (option_and_then members_of (result_ok (resolved_type target.types id))) []
+
+-- whether a member has a name; an unnamed one is told by the type that it leads to
+abbrev pub is_or_has : TypeInfo → List ℕ → (ℕ → Bool) → BtfMember → Bool
+is_or_has target name inner m = if m.name_offset == 0 then inner m.btf_type else is_text name (text_at target.strings m.name_offset)
+
+-- whether one of some members has a name, or one inside of an unnamed one of them, which is looked into so many levels
+-- down
+unfoldable pub has_member : TypeInfo → List ℕ → ℕ → List BtfMember → Bool
+has_member target name zero members = list_any (is_or_has target name (λ id. false)) members
+has_member target name (suc levels) members = list_any (is_or_has target name (λ id. has_member target name levels (members_at target id))) members
+
+-- ---- what is missing
+
+-- the id of the type of what a path ends in
+abbrev pub type_of_end : List BtfType → PlaceEnd → Option ℕ
+type_of_end types (Element id) = Some id
+type_of_end types (Member parent index) = option_map (λ m. m.btf_type) (option_and_then (λ t. member_at t index) (slice_get types parent))
+
+abbrev pub is_member_of : TypeInfo → List ℕ → Option ℕ → Bool
+is_member_of target name None = false
+is_member_of target name (Some id) = has_member target name unnamed_levels (members_at target id)
+
+-- A step by a name that leads nowhere from a place: a member of the name that is there has a type that doesn't fit.
+abbrev pub name_absence : TypeInfo → List ℕ → Result (Option Place) PlaceFault → Absence
+name_absence target name (Ok (Some place)) = if is_member_of target name (type_of_end target.types place.end) then MemberOfAnotherKind else NoMember
+name_absence target name _ = NoMember
+
+-- the absence at the step that leads nowhere; where no step is left, the place that was found has no value
+abbrev pub step_absence : TypeInfo → Result (Option Place) PlaceFault → Option Step → Absence
+step_absence target from None = NoValue
+step_absence target from (Some (Name name local_type)) = name_absence target name from
+step_absence target from (Some (Index index)) = NoMember
+
+-- what the candidate that comes furthest along a path lacks
+abbrev pub lacks : TypeInfo → TypeInfo → List Step → ℕ → Option ℕ → Absence
+lacks local target steps n None = NoMember
+lacks local target steps n (Some id) = step_absence target (place_of local target id (take n steps)) (slice_get steps n)
+
+unfoldable pub field_absence : TypeInfo → TypeInfo → List Step → List ℕ → Absence
+field_absence local target steps ids = let last = furthest local target steps ids in lacks local target steps last.steps last.candidate
+
+abbrev pub path_absence : TypeInfo → TypeInfo → NamedPath → List ℕ → Absence
+path_absence local target paths.WholeType ids = TypeOfAnotherKind
+path_absence local target (paths.Variant name) ids = NoEnumerator
+path_absence local target (paths.Field steps place) ids = field_absence local target steps ids
+
+-- among the candidates of a record's local type
+abbrev pub absence_among : TypeInfo → TypeInfo → NamedPath → List ℕ → Absence
+absence_among local target path [] = NoType
+absence_among local target path (id ∷ ids) = path_absence local target path (id ∷ ids)
+
+abbrev pub absence_in : TypeInfo → TypeInfo → NamedPath → Result (List ℕ) BtfError → Absence
+absence_in local target path (Ok ids) = absence_among local target path ids
+absence_in local target path (Err e) = NoType
+
+-- ---- of a record
+
+-- Where a record has no value, both of its sides could be read.
+abbrev pub absence_by : TypeInfo → TypeInfo → Result (List ℕ) BtfError → Result LocalPath RelocationError → Absence
+absence_by local target ids (Ok path) = absence_in local target path.path ids
+absence_by local target ids (Err fault) = NoType
+
+-- what a record asks, without its own place: its number and its instruction make no difference
+abbrev pub without_place : Relocation → Relocation
+without_place r = record r { number = 0; insn_off = 0 }
+
+-- why a record that has no value has none
+unfoldable pub absence_of : TypeInfo → TypeInfo → Relocation → Absence
+absence_of local target r = absence_by local target (candidates_for local target r.type_id) (local_path local (without_place r))

@@ -1,0 +1,58 @@
+-- What holds of the outcomes of records, beside the slots that they write.
+use Rattle.std.specs.Prelude.{◌≡◌, ℕ, ◌≢◌, List, [], ◌∷◌, take, Option, Some, None, option_map, Result, Ok, Err, slice_get}
+use Rattle.std.specs.FinMap.{empty}
+use Rattle.ebpf_base.specs.Faults.{first_some}
+use Rattle.ebpf_btf.specs.Strings.{text_at}
+use Rattle.ebpf_btf.specs.declared.error.BtfError.{BtfError}
+use Rattle.ebpf_ext.specs.declared.relocation.Relocation.{Relocation}
+use Rattle.ebpf_core.specs.declared.error.RelocationError.{RelocationError}
+use Rattle.ebpf_core_relo.specs.Answers.{fault_in}
+use Rattle.ebpf_core_relo.specs.RecordOutcomes.{Named, named_records, outcome_after, outcomes_from, record_outcomes, record_slots, slots_left}
+use Rattle.ebpf_core_relo.specs.Records.{Scene, Written, slots_written, unnamed_section}
+use Rattle.ebpf_core_relo.specs.declared.error.BtfRelocationError.{BtfRelocationError}
+use Rattle.ebpf_core_relo.specs.declared.record_outcome.RecordOutcome.{RecordOutcome}
+use Rattle.ebpf_core_relo.specs.declared.record_outcome.RecordResult.{RecordResult}
+use Rattle.ebpf_core_relo.specs.declared.record_outcome.RecordResult.TheVariants.{Value, Absent, Refused}
+
+-- Each record has a place, and there is what it comes to over the slots that those before it left.
+abbrev pub OutcomesAreInOrder : Type 0
+OutcomesAreInOrder =
+    (scene : Scene) (parts : List (ℕ × List Relocation)) (k : ℕ)
+    → slice_get (record_outcomes scene parts) k
+    ≡ option_map (λ named. outcome_after scene (slots_left scene empty (take k (named_records parts))) named) (slice_get (named_records parts) k)
+
+-- the name of a section, or what stands for one that can't be read
+abbrev pub told_name : ℕ → Result (List ℕ) BtfError → List ℕ
+told_name offset (Ok name) = name
+told_name offset (Err e) = unnamed_section offset
+
+-- the refusal of a record, in its section
+abbrev pub refusal_in : List ℕ → RecordResult → Option BtfRelocationError
+refusal_in name (Value outcome) = None
+refusal_in name (Absent absence) = None
+refusal_in name (Refused fault) = Some (fault_in name fault)
+
+abbrev pub refusal : Scene → RecordOutcome → Option BtfRelocationError
+refusal scene row = refusal_in (told_name row.section_name (text_at scene.sides.local.strings row.section_name)) row.result
+
+-- some slots, unless there is a refusal
+abbrev pub unless : Option BtfRelocationError → Written → Result Written BtfRelocationError
+unless None left = Ok left
+unless (Some fault) left = Err fault
+
+-- each part has records
+abbrev pub HaveRecords : List (ℕ × List Relocation) → Type 0
+HaveRecords parts = (n : ℕ) (part : ℕ × List Relocation) → slice_get parts n ≡ Some part → part.1 ≢ []
+
+-- Records one by one and all at once: the slots are refused where a record is, with the first refusal, and else they are
+-- those that all records leave. Of a part without records nothing is told here, and its section has to be found there.
+abbrev pub FirstRefusalIsTheFault : Type 0
+FirstRefusalIsTheFault =
+    (scene : Scene) (parts : List (ℕ × List Relocation)) → HaveRecords parts
+    → slots_written scene parts ≡ unless (first_some (refusal scene) (record_outcomes scene parts)) (record_slots scene parts)
+
+-- Where no record is refused and no section is missing, the slots are the same, whatever parts have records.
+abbrev pub SlotsAreTheSame : Type 0
+SlotsAreTheSame =
+    (scene : Scene) (parts : List (ℕ × List Relocation)) (so_far : Written) → slots_written scene parts ≡ Ok so_far
+    → (record_slots scene parts ≡ so_far) × (first_some (refusal scene) (record_outcomes scene parts) ≡ None)

@@ -1,0 +1,167 @@
+//! Why a record has no value.
+
+ghost use Rattle.std.specs.Prelude.{◌≡◌, IfOk};
+ghost use Rattle.ebpf_btf.specs.Strings.{is_text, text_at};
+ghost use Rattle.ebpf_places.specs.Places.{place_of};
+ghost use Rattle.ebpf_core_relo.specs.Absences.{absence_among, field_absence, has_member, is_member_of, members_at, name_absence, path_absence, type_of_end};
+
+use crate::furthest::furthest_candidate;
+use crate::memory::unless_memory_of_places;
+use ebpf_btf::{Btf, BtfMember};
+use ebpf_core::NamedPath;
+use ebpf_places::{PlaceEnd, Step, place_in};
+use std::alloc::AllocError;
+
+/// Inside how many unnamed members a name is looked for at most.
+const UNNAMED_LEVELS: u32 = 64;
+
+/// What the kernel's types lack, so that a record has no value. Where a field is asked for it is what the type lacks
+/// that has the field's path furthest, and of those that have it as far the one with the lowest id.
+#[derive(Clone, Copy, Debug, PartialEq, Eq)]
+pub enum Absence {
+    /// No type has the kind and the name.
+    NoType,
+    /// Types have the kind and the name, and none is compatible with the local one.
+    TypeOfAnotherKind,
+    /// There is no member of a name on the way to the field, or no element of a number.
+    NoMember,
+    /// There is a member of the name, and its type is not compatible with the local one's.
+    MemberOfAnotherKind,
+    /// No enumeration has a variant of the name.
+    NoEnumerator,
+    /// The field is there, and what is asked of it can't be had.
+    NoValue,
+}
+
+/// Whether a member has a name.
+fn has_name(target: &Btf, name: &str, member: &BtfMember) -> bool
+    ensures { result ≡ is_text name.now (text_at target.now.strings member.now.name_offset) }
+{
+    matches!(target.is_name_at(member.name_offset, name), Ok(true))
+}
+
+/// The members of the type that an id stands for; none of one that is no STRUCT or UNION.
+fn members_at(target: &Btf, type_id: u32) -> &[BtfMember]
+    ensures { result.now ≡ members_at target.now type_id }
+{
+    let Ok(ty) = target.resolved_type(type_id) else {
+        return &[];
+    };
+    ty.members().unwrap_or(&[])
+}
+
+/// Whether a type has a member of a name. Unnamed members are looked into, so many levels down.
+#[tactic(auto, unfolding(crate::specs::Absences::has_member))]
+fn has_member(target: &Btf, name: &str, type_id: u32, levels: u32) -> bool
+    ensures { result ≡ has_member target.now name.now levels (members_at target.now type_id) }
+{
+    for member in members_at(target, type_id) {
+        if member.name_offset != 0 {
+            if has_name(target, name, member) {
+                return true;
+            }
+            continue;
+        }
+        if levels == 0 {
+            continue;
+        }
+        if has_member(target, name, member.btf_type, levels - 1) {
+            return true;
+        }
+    }
+    false
+}
+
+/// The id of the type of what a path ends in.
+fn type_of_end(target: &Btf, end: PlaceEnd) -> Option<u32>
+    ensures { result ≡ type_of_end target.now.types end }
+{
+    match end {
+        PlaceEnd::Element { type_id } => Some(type_id),
+        PlaceEnd::Member { parent, index } => {
+            let members = target.types().get(parent as usize)?.members()?;
+            Some(members.get(index)?.btf_type)
+        }
+    }
+}
+
+/// Whether what a path ends in has a member of a name.
+fn is_member_of(target: &Btf, name: &str, end: PlaceEnd) -> bool
+    ensures { result ≡ is_member_of target.now name.now (type_of_end target.now.types end) }
+{
+    match type_of_end(target, end) {
+        Some(type_id) => has_member(target, name, type_id, UNNAMED_LEVELS),
+        None => false,
+    }
+}
+
+/// Why a name leads nowhere from where a path leads in a candidate.
+fn name_absence(
+    local: &Btf,
+    target: &Btf,
+    candidate: u32,
+    path: &[Step],
+    name: &str,
+) -> Result<Absence, AllocError>
+    ensures { IfOk result (λ absence. absence ≡ name_absence target.now name.now (place_of local.now target.now candidate path.now)) }
+{
+    let place = match place_in(local, target, candidate, path) {
+        Ok(place) => place,
+        Err(fault) => {
+            unless_memory_of_places(fault)?;
+            return Ok(Absence::NoMember);
+        }
+    };
+    match place {
+        Some(place) if is_member_of(target, name, place.end) => Ok(Absence::MemberOfAnotherKind),
+        _ => Ok(Absence::NoMember),
+    }
+}
+
+/// What the candidate lacks that comes furthest along a path.
+#[tactic(auto, unfolding(crate::specs::Absences::field_absence))]
+fn field_absence(
+    local: &Btf,
+    target: &Btf,
+    path: &[Step],
+    candidates: &[u32],
+) -> Result<Absence, AllocError>
+    ensures { IfOk result (λ absence. absence ≡ field_absence local.now target.now path.now candidates.now) }
+{
+    let last = furthest_candidate(local, target, path, candidates)?;
+    let Some(candidate) = last.candidate else {
+        return Ok(Absence::NoMember);
+    };
+    match path.get(last.steps) {
+        None => Ok(Absence::NoValue),
+        Some(Step::Index { .. }) => Ok(Absence::NoMember),
+        Some(Step::Name { name, .. }) => name_absence(
+            local,
+            target,
+            candidate,
+            &path[..last.steps],
+            name.as_str(),
+        ),
+    }
+}
+
+/// Why a path of the local type has no value among candidates, the target types that it may stand for.
+pub fn absence_among(
+    local: &Btf,
+    target: &Btf,
+    path: &NamedPath,
+    candidates: &[u32],
+) -> Result<Absence, AllocError>
+    ensures { IfOk result (λ absence. absence ≡ absence_among local.now target.now path.now candidates.now) }
+{
+    if candidates.is_empty() {
+        return Ok(Absence::NoType);
+    }
+    match path {
+        NamedPath::WholeType => Ok(Absence::TypeOfAnotherKind),
+        NamedPath::Variant { .. } => Ok(Absence::NoEnumerator),
+        NamedPath::Field { steps, .. } => {
+            field_absence(local, target, steps.as_slice(), candidates)
+        }
+    }
+}

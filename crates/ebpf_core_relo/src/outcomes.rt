@@ -1,0 +1,281 @@
+//! What each record of an object comes to, also behind one that is refused.
+
+ghost use Rattle.std.specs.Prelude.{◌≡◌, [], ◌∷◌, ◌++◌, map, None, Ok, IfOk, OnOk};
+ghost use Rattle.ebpf_core.specs.Sides.{Sides};
+ghost use Rattle.ebpf_core_relo.specs.RecordOutcomes.{answered, applied, left_by, named_in, named_records, outcome_in, outcomes_from, record_outcomes, record_slots, result_in, section_at, slot_in, slots_left, told_outcome, told_result};
+ghost use Rattle.ebpf_core_relo.specs.Records.{scene_between, scene_of};
+ghost use Rattle.ebpf_core_relo.specs.Sections.{found_number};
+ghost use Rattle.ebpf_core_relo.specs.declared.record_outcome.RecordResult.TheVariants.{Refused};
+
+use crate::absences::Absences;
+use crate::memory::{unless_memory, unless_memory_of_types};
+use crate::record_outcome::{RecordOutcome, RecordOutcomes, RecordResult, RecordSlot};
+use crate::records::apply_record;
+use crate::scene::Places;
+use crate::section_spans::span_in;
+use crate::spans::SLOT;
+use ebpf_base::{ByKey, ByName, Items};
+use ebpf_btf::{Btf, BtfError};
+use ebpf_core::{CoreSearch, Outcome, RelocationError};
+use ebpf_elf::SectionIndex;
+use ebpf_ext::{BtfExt, Relocation};
+use ebpf_parts::insn::bpf_insn;
+use ebpf_reloc::Function;
+use std::alloc::{AllocError, Global};
+
+/// The section that some records are for, by the offset of its name.
+#[derive(Clone, Copy)]
+pub enum FoundSection {
+    /// Its number.
+    Number(usize),
+    /// No name can be read at the offset.
+    NoName(usize),
+    /// The object has no section of the name.
+    NoSection,
+}
+
+/// The section whose name stands at an offset.
+#[tactic(auto, unfolding(crate::specs::RecordOutcomes::section_at, ebpf_btf::specs::Strings::text_at))]
+fn section_at(places: &Places<'_>, local: &Btf, offset: u32) -> Result<FoundSection, AllocError>
+    ensures { IfOk result (λ found. found_number found ≡ section_at local.now places.now.section_infos.now offset) }
+{
+    let name = match local.string_at(offset) {
+        Ok(name) => name,
+        Err(error) => {
+            unless_memory_of_types(error)?;
+            return Ok(FoundSection::NoName(offset as usize));
+        }
+    };
+    match places.section_infos.get(name.as_str()) {
+        Some(section) => Ok(FoundSection::Number(section.0)),
+        None => Ok(FoundSection::NoSection),
+    }
+}
+
+/// The slot that a record of a section is about.
+fn slot_in(places: &Places<'_>, section: usize, relocation: &Relocation) -> Option<RecordSlot>
+    ensures { (sides : Sides) → result ≡ slot_in (scene_of sides places.now.functions.now places.now.section_infos.now) (Ok section) relocation.now }
+{
+    let offset = relocation.insn_off as usize;
+    let span = span_in(&places.spans, section, offset)?;
+    Some(RecordSlot {
+        function: (section, span.address),
+        slot: offset.saturating_sub(span.start) / SLOT,
+    })
+}
+
+/// A record with an outcome, by why it has no value where it has none.
+fn answered(
+    alloc: Global,
+    absences: &mut Absences<'_>,
+    relocation: &Relocation,
+    outcome: Outcome,
+) -> Result<RecordResult, AllocError>
+    ensures answered { IfOk result (λ answer. answer ≡ answered absences.old relocation.now outcome) }
+    ensures stays { absences.new ≡ absences.old }
+{
+    if outcome.value.is_some() {
+        return Ok(RecordResult::Value(outcome));
+    }
+    let absence = absences.absence(alloc, relocation)?;
+    Ok(RecordResult::Absent(absence))
+}
+
+/// What a record of a section comes to. Where it is refused nothing is written.
+fn result_in(
+    alloc: Global,
+    search: &mut CoreSearch<'_>,
+    absences: &mut Absences<'_>,
+    places: &Places<'_>,
+    section: usize,
+    written: &mut ByKey<Items<bpf_insn>>,
+    relocation: &Relocation,
+) -> Result<RecordResult, AllocError>
+    requires { absences.old ≡ search.old }
+    ensures answered { IfOk result (λ answer. told_result answer ≡ result_in (scene_of search.old places.now.functions.now places.now.section_infos.now) (Ok section) written.old relocation.now) }
+    ensures written { OnOk result (written.new ≡ left_by written.old (applied (scene_of search.old places.now.functions.now places.now.section_infos.now) (Ok section) written.old relocation.now)) }
+    ensures search { search.new ≡ search.old }
+    ensures absences { absences.new ≡ absences.old }
+{
+    match apply_record(alloc, search, places, section, written, relocation) {
+        Ok(outcome) => answered(alloc, absences, relocation, outcome),
+        Err(fault) => Ok(RecordResult::Refused(unless_memory(fault)?)),
+    }
+}
+
+/// What a record comes to whose section is not found.
+fn unplaced(name: u32, relocation: &Relocation, fault: RelocationError) -> RecordOutcome
+    ensures { result ≡ record { section_name = name; number = relocation.now.number; slot = None; result = Refused fault } }
+{
+    RecordOutcome {
+        section_name: name,
+        number: relocation.number,
+        slot: None,
+        result: RecordResult::Refused(fault),
+    }
+}
+
+/// What a record of a section comes to, with its slot.
+fn outcome_in(
+    alloc: Global,
+    search: &mut CoreSearch<'_>,
+    absences: &mut Absences<'_>,
+    places: &Places<'_>,
+    name: u32,
+    section: FoundSection,
+    written: &mut ByKey<Items<bpf_insn>>,
+    relocation: &Relocation,
+) -> Result<RecordOutcome, AllocError>
+    requires { absences.old ≡ search.old }
+    ensures outcome { IfOk result (λ outcome. told_outcome outcome ≡ outcome_in (scene_of search.old places.now.functions.now places.now.section_infos.now) name (found_number section) written.old relocation.now) }
+    ensures written { OnOk result (written.new ≡ left_by written.old (applied (scene_of search.old places.now.functions.now places.now.section_infos.now) (found_number section) written.old relocation.now)) }
+    ensures search { search.new ≡ search.old }
+    ensures absences { absences.new ≡ absences.old }
+{
+    match section {
+        FoundSection::Number(number) => {
+            let result = result_in(alloc, search, absences, places, number, written, relocation)?;
+            Ok(RecordOutcome {
+                section_name: name,
+                number: relocation.number,
+                slot: slot_in(places, number, relocation),
+                result,
+            })
+        }
+        FoundSection::NoName(offset) => {
+            let error = BtfError::InvalidStringOffset { offset };
+            Ok(unplaced(name, relocation, RelocationError::BtfError(error)))
+        }
+        FoundSection::NoSection => Ok(unplaced(name, relocation, RelocationError::SectionNotFound)),
+    }
+}
+
+/// Adds what a record of a section comes to.
+fn add_record(
+    alloc: Global,
+    search: &mut CoreSearch<'_>,
+    absences: &mut Absences<'_>,
+    places: &Places<'_>,
+    name: u32,
+    section: FoundSection,
+    relocation: &Relocation,
+    outcomes: &mut RecordOutcomes,
+) -> Result<(), AllocError>
+    requires { absences.old ≡ search.old }
+    ensures records { OnOk result (map told_outcome outcomes.new.records ≡ map told_outcome outcomes.old.records ++ outcome_in (scene_of search.old places.now.functions.now places.now.section_infos.now) name (found_number section) outcomes.old.written relocation.now ∷ []) }
+    ensures written { OnOk result (outcomes.new.written ≡ left_by outcomes.old.written (applied (scene_of search.old places.now.functions.now places.now.section_infos.now) (found_number section) outcomes.old.written relocation.now)) }
+    ensures search { search.new ≡ search.old }
+    ensures absences { absences.new ≡ absences.old }
+{
+    let outcome = outcome_in(
+        alloc,
+        search,
+        absences,
+        places,
+        name,
+        section,
+        &mut outcomes.written,
+        relocation,
+    )?;
+    outcomes.records.push(outcome)?;
+    Ok(())
+}
+
+/// Adds what the records of a section come to, in order.
+fn add_records(
+    alloc: Global,
+    search: &mut CoreSearch<'_>,
+    absences: &mut Absences<'_>,
+    places: &Places<'_>,
+    name: u32,
+    section: FoundSection,
+    relocations: &[Relocation],
+    outcomes: &mut RecordOutcomes,
+) -> Result<(), AllocError>
+    requires sides { absences.old ≡ search.old }
+    requires section { found_number section ≡ section_at search.old.local places.now.section_infos.now name }
+    ensures records { OnOk result (map told_outcome outcomes.new.records ≡ map told_outcome outcomes.old.records ++ outcomes_from (scene_of search.old places.now.functions.now places.now.section_infos.now) outcomes.old.written (named_in name relocations.now)) }
+    ensures written { OnOk result (outcomes.new.written ≡ slots_left (scene_of search.old places.now.functions.now places.now.section_infos.now) outcomes.old.written (named_in name relocations.now)) }
+    ensures search { search.new ≡ search.old }
+    ensures absences { absences.new ≡ absences.old }
+{
+    for relocation in relocations {
+        add_record(
+            alloc, search, absences, places, name, section, relocation, outcomes,
+        )?;
+    }
+    Ok(())
+}
+
+/// Adds what all records come to, section by section.
+fn add_sections(
+    alloc: Global,
+    search: &mut CoreSearch<'_>,
+    absences: &mut Absences<'_>,
+    places: &Places<'_>,
+    local: &Btf,
+    sections: &[(u32, Items<Relocation>)],
+    outcomes: &mut RecordOutcomes,
+) -> Result<(), AllocError>
+    requires sides { absences.old ≡ search.old }
+    requires local { search.old.local ≡ local.now }
+    ensures records { OnOk result (map told_outcome outcomes.new.records ≡ map told_outcome outcomes.old.records ++ outcomes_from (scene_of search.old places.now.functions.now places.now.section_infos.now) outcomes.old.written (named_records sections.now)) }
+    ensures written { OnOk result (outcomes.new.written ≡ slots_left (scene_of search.old places.now.functions.now places.now.section_infos.now) outcomes.old.written (named_records sections.now)) }
+{
+    for section in sections {
+        let found = section_at(places, local, section.0)?;
+        add_records(
+            alloc,
+            search,
+            absences,
+            places,
+            section.0,
+            found,
+            section.1.as_slice(),
+            outcomes,
+        )?;
+    }
+    Ok(())
+}
+
+/// What each CO-RE relocation of an object comes to over a kernel's types, also behind one that is refused, and the slots
+/// of the functions that they write. Sections come in order, and in a section the relocations. Each is applied over those
+/// before it; one that is refused writes nothing.
+///
+/// A relocation has a value, also the 0 that says that a type, field or variant is not there where that is asked. Or it
+/// has none, with what the kernel's types lack, and its instruction fails where it is reached. Or it is refused with the
+/// error that `relocate_slots` gives where it is the first: also where its section's name can't be read, the object has
+/// no section of the name, or no function of the section has the slot.
+///
+/// # Errors
+///
+/// `AllocError` where memory is refused, and no other.
+pub fn record_outcomes(
+    alloc: Global,
+    functions: &ByKey<Function>,
+    section_infos: &ByName<SectionIndex>,
+    local: &Btf,
+    relocations: &BtfExt,
+    target: &Btf,
+) -> Result<RecordOutcomes, AllocError>
+    ensures records { IfOk result (λ outcomes. map told_outcome outcomes.records ≡ record_outcomes (scene_between local.now target.now functions.now section_infos.now) relocations.now.relocations) }
+    ensures written { IfOk result (λ outcomes. outcomes.written ≡ record_slots (scene_between local.now target.now functions.now section_infos.now) relocations.now.relocations) }
+{
+    let places = Places::new(alloc, functions, section_infos)?;
+    let mut search = CoreSearch::new(alloc, local, target);
+    let mut absences = Absences::new(alloc, local, target);
+    let mut outcomes = RecordOutcomes {
+        records: Items::new(alloc),
+        written: ByKey::new(alloc),
+    };
+    add_sections(
+        alloc,
+        &mut search,
+        &mut absences,
+        &places,
+        local,
+        relocations.relocations(),
+        &mut outcomes,
+    )?;
+    Ok(outcomes)
+}
