@@ -82,12 +82,4 @@ impl Kind {
             Kind::Ksym => "ksym",
         }
     }
-
-    /// Whether the answer of a kernel that has nothing is no.
-    pub fn is_question(self) -> bool {
-        matches!(
-            self,
-            Kind::FieldExists | Kind::TypeExists | Kind::EnumeratorExists
-        )
-    }
 }

@@ -2,13 +2,13 @@
 
 use crate::loaded::Loaded;
 use crate::programs::Chosen;
-use crate::reach_stub::reached_slots;
 use ebpf_base::{ByKey, ByName, Items};
 use ebpf_core_relo::put_slots;
 use ebpf_object::Object;
 use ebpf_object::prepare::PrepareError;
 use ebpf_object::relocation::ProgramMaps;
 use ebpf_parts::insn::bpf_insn;
+use ebpf_reach::reached_slots;
 use ebpf_reloc::{
     CodeCopy, EbpfRelocationError, ExternDesc, Function, Linkable, ProgramKey, RelocationError,
     relocate_calls,

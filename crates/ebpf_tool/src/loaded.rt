@@ -6,12 +6,21 @@ use crate::programs::{Chosen, section_names};
 use crate::wanted::wanted_settings;
 use ebpf_base::{ByKey, ByName, Items, Text};
 use ebpf_btf::Btf;
-use ebpf_ext::BtfExt;
+use ebpf_ext::Relocation;
 use ebpf_object::Object;
 use ebpf_object::obj::ParseError;
 use ebpf_parts::Reading;
 use ebpf_reloc::ExternDesc;
 use std::alloc::{AllocError, Global};
+
+/// A CO-RE relocation.
+#[derive(Clone, Copy, Debug, PartialEq, Eq)]
+pub struct Record {
+    /// What is asked.
+    pub relocation: Relocation,
+    /// What the object's own types answer, where it is told that a kernel answers otherwise.
+    pub own: Option<u64>,
+}
 
 /// An object, with what is asked of it.
 #[derive(Drop)]
@@ -20,8 +29,8 @@ pub struct Loaded {
     pub object: Object,
     /// The programs that count, in byte order of their names.
     pub programs: Vec<Chosen>,
-    /// What the object's own types say to each record, where another value is told.
-    pub own_values: Vec<Option<u64>>,
+    /// Its records, section by section and in order.
+    pub records: Vec<Record>,
     /// The maps that functions use, by the functions' keys.
     pub map_uses: ByKey<Items<MapUse>>,
     /// The externs with a type.
@@ -30,40 +39,34 @@ pub struct Loaded {
     pub settings: Items<Text>,
 }
 
-/// The values that the object's own types give its records.
-fn own_values(
+/// Adds the records of a section.
+fn add_records(
     alloc: Global,
+    records: &mut Vec<Record>,
     local: &Btf,
-    relocations: &BtfExt,
-    all: bool,
-) -> Result<Vec<Option<u64>>, AllocError> {
-    let mut values = Vec::new(alloc);
-    for section in relocations.relocations() {
-        add_own_values(alloc, &mut values, local, section.1.as_slice(), all)?;
-    }
-    Ok(values)
-}
-
-/// Adds those of a section.
-fn add_own_values(
-    alloc: Global,
-    values: &mut Vec<Option<u64>>,
-    local: &Btf,
-    records: &[ebpf_ext::Relocation],
+    relocations: &[Relocation],
     all: bool,
 ) -> Result<(), AllocError> {
-    for relocation in records {
-        values.push(own_value(alloc, local, relocation, all))?;
+    for relocation in relocations {
+        let own = own_value(alloc, local, relocation, all);
+        records.push(Record {
+            relocation: *relocation,
+            own,
+        })?;
     }
     Ok(())
 }
 
-/// The same of an object, which may have no types.
-fn values_of(alloc: Global, object: &Object, all: bool) -> Result<Vec<Option<u64>>, AllocError> {
-    match (&object.btf, &object.btf_ext) {
-        (Some(local), Some(relocations)) => own_values(alloc, local, relocations, all),
-        _ => Ok(Vec::new(alloc)),
+/// The records of an object; none of one without types.
+fn records_of(alloc: Global, object: &Object, all: bool) -> Result<Vec<Record>, AllocError> {
+    let mut records = Vec::new(alloc);
+    let (Some(local), Some(said)) = (&object.btf, &object.btf_ext) else {
+        return Ok(records);
+    };
+    for section in said.relocations() {
+        add_records(alloc, &mut records, local, section.1.as_slice(), all)?;
     }
+    Ok(records)
 }
 
 /// The externs with a type.
@@ -85,7 +88,7 @@ fn typed_externs(alloc: Global, object: &Object) -> Result<ByName<ExternDesc>, A
 /// The reader's own; `OutOfMemory` where memory is refused.
 pub fn load(alloc: Global, file: &[u8], all: bool) -> Result<Loaded, ParseError> {
     let object = Object::parse_as(alloc, file, Reading::Broad)?;
-    let own_values = values_of(alloc, &object, all)?;
+    let records = records_of(alloc, &object, all)?;
     let programs = section_names(alloc, file, &object)?;
     let map_uses = map_uses(alloc, &object)?;
     let typed = typed_externs(alloc, &object)?;
@@ -93,7 +96,7 @@ pub fn load(alloc: Global, file: &[u8], all: bool) -> Result<Loaded, ParseError>
     Ok(Loaded {
         object,
         programs,
-        own_values,
+        records,
         map_uses,
         typed,
         settings,

@@ -4,12 +4,12 @@ use crate::findings::{At, Findings, Place, Rank, Topic};
 use crate::kinds::Kind;
 use crate::lines::Lines;
 use crate::linked::Linked;
+use crate::loaded::Record;
 use crate::map_uses::MapUse;
-use crate::outcomes::{Absence, RecordOutcome, RecordResult};
 use crate::record_names::record_name;
 use crate::verdict::{Answers, topic_of};
 use ebpf_btf::Btf;
-use ebpf_core::RelocationError;
+use ebpf_core_relo::{Absence, RecordResult, RelocationError};
 use ebpf_parts::insn::bpf_insn;
 use ebpf_reloc::CodeCopy;
 use std::alloc::{AllocError, Global};
@@ -103,7 +103,7 @@ impl<'a> Site<'a> {
 fn record_topic(
     alloc: Global,
     local: &Btf,
-    record: &RecordOutcome,
+    record: &Record,
     place: &Place,
     rank: Rank,
     reason: String,
@@ -129,7 +129,7 @@ fn note_record(
     answers: &Answers<'_>,
     site: &Site<'_>,
     spot: Spot<'_>,
-    record: &RecordOutcome,
+    record: &Record,
     rank: Rank,
     reason: String,
 ) -> Result<(), AllocError> {
@@ -145,6 +145,7 @@ fn note_record(
 fn absence_words(absence: Absence) -> &'static str {
     match absence {
         Absence::NoType => "no such type (a module's?)",
+        Absence::TypeOfAnotherKind => "a type of another kind",
         Absence::NoMember => "no such member",
         Absence::MemberOfAnotherKind => "a member of another kind",
         Absence::NoEnumerator => "no such enumerator",
@@ -159,12 +160,9 @@ fn judge_absent(
     answers: &Answers<'_>,
     site: &Site<'_>,
     spot: Spot<'_>,
-    record: &RecordOutcome,
+    record: &Record,
     absence: Absence,
 ) -> Result<bool, AllocError> {
-    if Kind::of(record.relocation.kind).is_question() {
-        return Ok(false);
-    }
     let breaks = site.is_reached(spot);
     let rank = if breaks { Rank::Breaks } else { Rank::Guarded };
     let reason = String::from_str(alloc, absence_words(absence))?;
@@ -179,7 +177,7 @@ fn judge_refused(
     answers: &Answers<'_>,
     site: &Site<'_>,
     spot: Spot<'_>,
-    record: &RecordOutcome,
+    record: &Record,
     error: &RelocationError,
 ) -> Result<bool, AllocError> {
     let reason = format!(in alloc; "refused: {error}")?;
@@ -193,12 +191,11 @@ fn note_value(
     alloc: Global,
     findings: &mut Findings,
     answers: &Answers<'_>,
-    number: usize,
-    record: &RecordOutcome,
+    record: &Record,
     value: Option<u64>,
 ) -> Result<(), AllocError> {
-    let own = answers.loaded.own_values.get(number).copied().flatten();
-    let (Some(own), Some(value), Some(local)) = (own, value, &answers.loaded.object.btf) else {
+    let local = &answers.loaded.object.btf;
+    let (Some(own), Some(value), Some(local)) = (record.own, value, local) else {
         return Ok(());
     };
     if own == value {
@@ -224,14 +221,20 @@ fn judge_record(
     copy: &CodeCopy,
     number: usize,
 ) -> Result<bool, AllocError> {
-    let Some(record) = answers.records.get(number) else {
+    let (Some(outcome), Some(record)) = (
+        answers.outcomes.get(number),
+        answers.loaded.records.get(number),
+    ) else {
         return Ok(false);
     };
-    let slot = record.slot;
+    let slot = match outcome.slot {
+        Some(place) => place.slot,
+        None => return Ok(false),
+    };
     let spot = Spot { copy, slot };
-    match &record.result {
+    match &outcome.result {
         RecordResult::Value(outcome) => {
-            note_value(alloc, findings, answers, number, record, outcome.value)?;
+            note_value(alloc, findings, answers, record, outcome.value)?;
             Ok(false)
         }
         RecordResult::Absent(absence) => {
@@ -272,7 +275,7 @@ fn judge_map(
     copy: &CodeCopy,
     used: &MapUse,
 ) -> Result<bool, AllocError> {
-    if answers.numbers.has_map_type(used.map_type) != Some(false) {
+    if answers.numbers.knows_map_type(used.map_type) != Some(false) {
         return Ok(false);
     }
     let slot = used.slot;
@@ -322,7 +325,7 @@ fn missing_helper(answers: &Answers<'_>, site: &Site<'_>, spot: Spot<'_>) -> Opt
         return None;
     }
     let number = u32::try_from(helper).unwrap_or(u32::MAX);
-    if answers.numbers.has_helper(number) != Some(false) {
+    if answers.numbers.knows_helper(number) != Some(false) {
         return None;
     }
     Some(helper)

@@ -5,12 +5,11 @@ use crate::findings::{Findings, Rank, Topic};
 use crate::kinds::Kind;
 use crate::linked::{Linked, Linker, written_object};
 use crate::loaded::Loaded;
-use crate::numbers_stub::KernelNumbers;
-use crate::outcomes::{RecordOutcome, RecordOutcomes, record_outcomes};
 use crate::sites::{Site, judge_copy};
 use ebpf_base::{ByKey, Items};
 use ebpf_btf::Btf;
-use ebpf_loading::{AttachTarget, attach_target};
+use ebpf_core_relo::RecordOutcome;
+use ebpf_loading::{AttachTarget, KernelNumbers, attach_target};
 use std::alloc::{AllocError, Global};
 
 /// A kernel's answers to an object.
@@ -21,11 +20,11 @@ pub struct Answers<'a> {
     /// The kernel's number.
     pub kernel: usize,
     /// What each record comes to.
-    pub records: Items<RecordOutcome>,
+    pub outcomes: Items<RecordOutcome>,
     /// The numbers of the records of functions, by the functions' keys.
     pub by_function: ByKey<Items<usize>>,
     /// The numbers that the kernel knows.
-    pub numbers: KernelNumbers,
+    pub numbers: KernelNumbers<'a>,
 }
 
 /// A topic that no source line stands for.
@@ -37,25 +36,6 @@ pub fn topic_of(alloc: Global, name: String, kind: Kind, reason: String) -> Topi
         file: String::new(alloc),
         line: 0,
         reason,
-    }
-}
-
-/// What the records of an object come to; no record of one without types.
-fn outcomes_of(alloc: Global, loaded: &Loaded, kernel: &Btf) -> Result<RecordOutcomes, AllocError> {
-    let object = &loaded.object;
-    match (&object.btf, &object.btf_ext) {
-        (Some(local), Some(relocations)) => record_outcomes(
-            alloc,
-            &object.functions,
-            &object.section_infos,
-            local,
-            relocations,
-            kernel,
-        ),
-        _ => Ok(RecordOutcomes {
-            records: Items::new(alloc),
-            written: ByKey::new(alloc),
-        }),
     }
 }
 
@@ -83,10 +63,10 @@ fn by_function(
 ) -> Result<ByKey<Items<usize>>, AllocError> {
     let mut numbers = ByKey::new(alloc);
     for (number, record) in records.iter().enumerate() {
-        let Some(key) = record.key else {
+        let Some(slot) = record.slot else {
             continue;
         };
-        add_number(alloc, &mut numbers, key, number)?;
+        add_number(alloc, &mut numbers, slot.function, number)?;
     }
     Ok(numbers)
 }
@@ -233,7 +213,7 @@ pub fn judge_kernel(
     kernel: &Btf,
     number: usize,
 ) -> Result<Vec<bool>, AllocError> {
-    let outcomes = outcomes_of(alloc, loaded, kernel)?;
+    let outcomes = loaded.object.record_outcomes(kernel)?;
     let externs = kernel_externs(alloc, loaded, kernel)?;
     let lacks = !externs.lacking.is_empty();
     note_lacking(alloc, findings, number, externs.lacking)?;
@@ -241,8 +221,8 @@ pub fn judge_kernel(
         loaded,
         kernel: number,
         by_function: by_function(alloc, outcomes.records.as_slice())?,
-        records: outcomes.records,
-        numbers: KernelNumbers::read(alloc, kernel)?,
+        outcomes: outcomes.records,
+        numbers: KernelNumbers::of(kernel),
     };
     match written_object(alloc, loaded, outcomes.written, externs.written)? {
         Ok(object) => {
