@@ -2,8 +2,10 @@
 
 use crate::kernel_order::compare_names;
 use ebpf_base::{Items, Text};
-use std::io::{self, ErrorKind, Read};
+use std::alloc::{AllocError, AllocFailed};
+use std::io::{self, Read};
 use std::{env, fs};
+use thiserror::Error;
 
 /// The words of the command line after the program's own name.
 pub fn gather_words(rt: &HostRuntime) -> io::Result<Vec<String>> {
@@ -44,65 +46,79 @@ fn files_in(rt: &HostRuntime, folder: &str) -> io::Result<Vec<Text>> {
         paths.push(Text::from_str(rt.alloc(), path)?)?;
     }
     paths.sort_by(|left, right| compare_names(left.as_str(), right.as_str()))?;
-    if paths.is_empty() {
-        return Err(io::Error::from(ErrorKind::NotFound));
-    }
     Ok(paths)
 }
 
-/// Why the files that a word names can't be listed: the word, and what was answered.
+/// Why the files that a word names can't be listed.
+#[derive(Debug, Drop, Error)]
+pub enum ListError {
+    /// It is a folder without files.
+    #[error("no file in the folder")]
+    NoFile,
+    /// It can't be read.
+    #[error("{0}")]
+    Unreadable(io::Error),
+}
+
+impl From<io::Error> for ListError {
+    fn from(error: io::Error) -> ListError {
+        ListError::Unreadable(error)
+    }
+}
+
+impl From<AllocError> for ListError {
+    fn from(error: AllocError) -> ListError {
+        ListError::Unreadable(io::Error::from(error))
+    }
+}
+
+impl<T: Drop> From<AllocFailed<T>> for ListError {
+    fn from(error: AllocFailed<T>) -> ListError {
+        ListError::from(AllocError::from(error))
+    }
+}
+
+/// A word whose files can't be listed, and why.
 #[derive(Drop)]
 pub struct Unlisted<'a> {
     pub path: &'a str,
-    pub error: io::Error,
+    pub error: ListError,
 }
 
-/// The paths that a word names: itself, or the files of the folder that it is.
-fn paths_of<'a>(rt: &HostRuntime, word: &'a str) -> Result<Vec<Text>, Unlisted<'a>> {
-    let listed = if is_folder(rt, word) {
-        files_in(rt, word)
-    } else {
-        one_path(rt, word)
-    };
-    match listed {
-        Ok(paths) => Ok(paths),
-        Err(error) => Err(Unlisted { path: word, error }),
+/// Adds the paths that a word names: itself, or the files of the folder that it is.
+fn add_paths(rt: &HostRuntime, all: &mut Items<Text>, word: &str) -> Result<(), ListError> {
+    if !is_folder(rt, word) {
+        all.push(Text::from_str(rt.alloc(), word)?)?;
+        return Ok(());
     }
-}
-
-/// A path as a list.
-fn one_path(rt: &HostRuntime, path: &str) -> io::Result<Vec<Text>> {
-    let mut paths = Vec::new(rt.alloc());
-    paths.push(Text::from_str(rt.alloc(), path)?)?;
-    Ok(paths)
-}
-
-/// Adds paths behind others.
-fn add_all(all: &mut Items<Text>, paths: Vec<Text>) -> io::Result<()> {
+    let paths = files_in(rt, word)?;
+    if paths.is_empty() {
+        return Err(ListError::NoFile);
+    }
     for path in paths {
         all.push(path)?;
     }
     Ok(())
 }
 
+/// The running kernel's types.
+const RUNNING: &str = "/sys/kernel/btf/vmlinux";
+
 /// The paths of the kernels that words name: files, and the files of folders; without a word the running kernel's.
 pub fn kernel_paths<'a>(rt: &HostRuntime, words: &'a [Text]) -> Result<Items<Text>, Unlisted<'a>> {
     let mut all = Items::new(rt.alloc());
-    let running = "/sys/kernel/btf/vmlinux";
     if words.is_empty() {
-        let paths = paths_of(rt, running)?;
-        return match add_all(&mut all, paths) {
+        return match add_paths(rt, &mut all, RUNNING) {
             Ok(()) => Ok(all),
             Err(error) => Err(Unlisted {
-                path: running,
+                path: RUNNING,
                 error,
             }),
         };
     }
     for word in words {
         let path = word.as_str();
-        let paths = paths_of(rt, path)?;
-        if let Err(error) = add_all(&mut all, paths) {
+        if let Err(error) = add_paths(rt, &mut all, path) {
             return Err(Unlisted { path, error });
         }
     }

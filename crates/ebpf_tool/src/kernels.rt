@@ -18,7 +18,7 @@ pub enum KernelError {
     #[error("no section .BTF")]
     NoSection,
     /// Its types are of the other byte order than the object.
-    #[error("types of the other byte order than the object")]
+    #[error("types of the other byte order than the object's")]
     OtherByteOrder,
     /// Its types can't be read.
     #[error("{0}")]

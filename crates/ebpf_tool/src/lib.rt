@@ -1,6 +1,7 @@
 //! What the program `ebpf` does: `ebpf check`, which tells on which kernels the programs of an object break.
 #![tactic(auto)]
 
+mod calls;
 mod externs;
 mod files;
 mod findings;

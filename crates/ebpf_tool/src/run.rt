@@ -1,6 +1,6 @@
 //! From the words of a command line to a status.
 
-use crate::files::{gather_words, kernel_paths, read_file};
+use crate::files::{ListError, Unlisted, gather_words, kernel_paths, read_file};
 use crate::help::{CHECK_HELP, CHECK_USAGE, HELP, VERSION};
 use crate::json::write_json;
 use crate::kernels::kernel_types;
@@ -8,7 +8,7 @@ use crate::loaded::{Loaded, load};
 use crate::names::Shown;
 use crate::printing::{Manner, write_findings, write_kernel};
 use crate::programs::{counting, unknown_name};
-use crate::session::Session;
+use crate::session::{Answer, Session};
 use crate::words::{Asked, CheckWords, WordsError, read_words};
 use ebpf_base::Text;
 use ebpf_object::obj::ExplainedParse;
@@ -64,6 +64,19 @@ fn complain(rt: &HostRuntime, path: &str, error: &io::Error) -> Stop {
     let path = Shown(path);
     let _ = eprintln!(rt; "ebpf: {path}: {error}");
     Stop::Told(2)
+}
+
+/// Says why the files that a word names can't be listed, and gives the status.
+fn refuse_kernel(rt: &HostRuntime, unlisted: &Unlisted<'_>) -> Stop {
+    match &unlisted.error {
+        ListError::Unreadable(error) => complain(rt, unlisted.path, error),
+        ListError::NoFile => {
+            let path = Shown(unlisted.path);
+            let error = &unlisted.error;
+            let _ = eprintln!(rt; "ebpf: {path}: {error}");
+            Stop::Told(2)
+        }
+    }
 }
 
 /// Says why words can't be read, with the usage line.
@@ -135,7 +148,7 @@ fn tell_unread(rt: &HostRuntime, session: &Session) {
     let Some(kernel) = session.kernels.last() else {
         return;
     };
-    if let crate::session::Answer::Unread(sentence) = &kernel.answer {
+    if let Answer::Unread(sentence) = &kernel.answer {
         let name = Shown(kernel.name.as_str());
         let sentence = Shown(sentence.as_str());
         let _ = eprintln!(rt; "ebpf: {name}: {sentence}");
@@ -159,7 +172,7 @@ fn check(rt: &HostRuntime, words: &CheckWords) -> Result<u8, Stop> {
     let loaded = load_chosen(rt, words)?;
     let paths = match kernel_paths(rt, words.kernels.as_slice()) {
         Ok(paths) => paths,
-        Err(unlisted) => return Err(complain(rt, unlisted.path, &unlisted.error)),
+        Err(unlisted) => return Err(refuse_kernel(rt, &unlisted)),
     };
     let mut session = Session::new(rt.alloc(), words.file.clone()?, loaded);
     let mut out = BufWriter::new(rt.alloc(), rt.stdout())?;

@@ -1,5 +1,6 @@
 //! What a kernel means for the slots of a linked program.
 
+use crate::calls::judge_calls;
 use crate::findings::{At, Findings, Place, Rank, Topic};
 use crate::kinds::Kind;
 use crate::lines::Lines;
@@ -14,12 +15,6 @@ use ebpf_parts::insn::bpf_insn;
 use ebpf_reloc::CodeCopy;
 use std::alloc::{AllocError, Global};
 
-/// The code of a call.
-const CALL: u8 = 0x85;
-
-/// The number of the helper function that a poisoned slot calls.
-const POISON: i32 = 195_896_080;
-
 /// A linked program, whose slots are judged.
 #[derive(Drop)]
 pub struct Site<'a> {
@@ -31,10 +26,11 @@ pub struct Site<'a> {
 
 /// A slot of a copy.
 #[derive(Clone, Copy)]
-struct Spot<'a> {
-    copy: &'a CodeCopy,
+pub struct Spot<'a> {
+    /// The copy.
+    pub copy: &'a CodeCopy,
     /// The slot in the function that is copied.
-    slot: usize,
+    pub slot: usize,
 }
 
 impl Spot<'_> {
@@ -65,7 +61,7 @@ impl<'a> Site<'a> {
     }
 
     /// Whether a slot is reached.
-    fn is_reached(&self, spot: Spot<'_>) -> bool {
+    pub fn is_reached(&self, spot: Spot<'_>) -> bool {
         match self.linked.reached.get(spot.place()) {
             Some(reached) => *reached,
             None => false,
@@ -73,12 +69,12 @@ impl<'a> Site<'a> {
     }
 
     /// The instruction of a slot.
-    fn instruction(&self, spot: Spot<'_>) -> Option<bpf_insn> {
+    pub fn instruction(&self, spot: Spot<'_>) -> Option<bpf_insn> {
         self.linked.function.instructions.get(spot.place()).copied()
     }
 
     /// Where a slot stands.
-    fn place(
+    pub fn place(
         &self,
         alloc: Global,
         local: Option<&Btf>,
@@ -310,52 +306,6 @@ fn judge_maps(
     Ok(breaks)
 }
 
-/// The number of the helper function that an instruction calls. A poisoned slot calls none.
-fn helper_of(instruction: bpf_insn) -> Option<i32> {
-    if instruction.code != CALL || instruction.src_reg() != 0 || instruction.imm == POISON {
-        return None;
-    }
-    Some(instruction.imm)
-}
-
-/// The number of the helper function that a slot calls, where it is reached and the kernel has none of the number.
-fn missing_helper(answers: &Answers<'_>, site: &Site<'_>, spot: Spot<'_>) -> Option<i32> {
-    let helper = helper_of(site.instruction(spot)?)?;
-    if !site.is_reached(spot) {
-        return None;
-    }
-    let number = u32::try_from(helper).unwrap_or(u32::MAX);
-    if answers.numbers.knows_helper(number) != Some(false) {
-        return None;
-    }
-    Some(helper)
-}
-
-/// Judges the helper functions that a copy calls; whether the program breaks by them.
-fn judge_helpers(
-    alloc: Global,
-    findings: &mut Findings,
-    answers: &Answers<'_>,
-    site: &Site<'_>,
-    copy: &CodeCopy,
-) -> Result<bool, AllocError> {
-    let mut breaks = false;
-    let local = answers.loaded.object.btf.as_ref();
-    for slot in 0..copy.slots {
-        let spot = Spot { copy, slot };
-        let Some(helper) = missing_helper(answers, site, spot) else {
-            continue;
-        };
-        breaks = true;
-        let name = format!(in alloc; "helper {helper}")?;
-        let reason = String::from_str(alloc, "no such helper function")?;
-        let topic = topic_of(alloc, name, Kind::Helper, reason);
-        let place = site.place(alloc, local, spot)?;
-        findings.add(topic, answers.kernel, Some(place))?;
-    }
-    Ok(breaks)
-}
-
 /// Judges a copy of a function in a linked program; whether the program breaks by it.
 pub fn judge_copy(
     alloc: Global,
@@ -366,6 +316,6 @@ pub fn judge_copy(
 ) -> Result<bool, AllocError> {
     let by_records = judge_records(alloc, findings, answers, site, copy)?;
     let by_maps = judge_maps(alloc, findings, answers, site, copy)?;
-    let by_helpers = judge_helpers(alloc, findings, answers, site, copy)?;
-    Ok(by_records || by_maps || by_helpers)
+    let by_calls = judge_calls(alloc, findings, answers, site, copy)?;
+    Ok(by_records || by_maps || by_calls)
 }
