@@ -174,7 +174,7 @@ def example(rows):
     both = ["check", "memdrop.o", "--program=on_shrink", "--program", "on_tick", "btf"]
     rows.row("both programs by name", both, 1, EXAMPLE_OUT)
     moved = rows.run("check", "memdrop.o", "btf/5.18", "--all").stdout
-    rows.expect("--all tells what moved", "  struct task_struct.pid  <byte_off>  0 in the object\n    24 on btf/5.18\n" in moved, True)
+    rows.expect("--all tells what moved", "  struct task_struct.pid  <byte_off>  0 in the object\n    32 on btf/5.18\n" in moved, True)
 
 
 def as_json(rows):

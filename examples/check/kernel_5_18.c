@@ -6,6 +6,8 @@ struct cfs_rq {
 	unsigned int nr_running;
 };
 
+struct cfs_rq queue;
+
 struct sched_entity {
 	unsigned long runnable_weight;
 	struct cfs_rq *cfs_rq;

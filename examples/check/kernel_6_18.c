@@ -6,6 +6,8 @@ struct cfs_rq {
 	unsigned int nr_queued;
 };
 
+struct cfs_rq queue;
+
 struct sched_entity {
 	unsigned long weight;
 	unsigned long deadline;

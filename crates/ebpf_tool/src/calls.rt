@@ -110,7 +110,11 @@ pub fn judge_calls(
     let mut breaks = false;
     let object = &answers.loaded.object;
     for slot in 0..copy.slots {
-        let spot = Spot { copy, slot };
+        let spot = Spot {
+            copy,
+            slot,
+            leads: false,
+        };
         let Some(called) = lacking_at(answers, site, spot) else {
             continue;
         };

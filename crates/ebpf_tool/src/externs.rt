@@ -122,6 +122,25 @@ fn add_unknown(
     Ok(())
 }
 
+/// An extern that the kernel's configuration gives, of which nothing is known.
+const SETTING: ExternDesc = ExternDesc {
+    btf_id: 0,
+    is_typed: false,
+    is_weak: false,
+    kernel_btf_id: Some(1),
+    ksym_addr: None,
+    is_resolved: true,
+};
+
+/// Notes the externs that the kernel's configuration gives.
+fn add_settings(names: &[Text], written: &mut ByName<ExternDesc>) -> Result<(), AllocError> {
+    for name in names {
+        let name = name.clone()?;
+        written.insert(name.into_string(), SETTING)?;
+    }
+    Ok(())
+}
+
 /// What is known of an object's externs over a kernel: those with a type are sought in its types.
 pub fn kernel_externs(
     alloc: Global,
@@ -140,5 +159,6 @@ pub fn kernel_externs(
         }
     }
     add_unknown(&loaded.object.externs, &mut externs.written)?;
+    add_settings(loaded.settings.as_slice(), &mut externs.written)?;
     Ok(externs)
 }

@@ -5,7 +5,7 @@ use crate::programs::Chosen;
 use ebpf_base::{ByKey, ByName, Items};
 use ebpf_core_relo::put_slots;
 use ebpf_object::Object;
-use ebpf_object::prepare::PrepareError;
+use ebpf_object::prepare::{PrepareError, relocate_own_maps};
 use ebpf_object::relocation::ProgramMaps;
 use ebpf_parts::insn::bpf_insn;
 use ebpf_reach::reached_slots;
@@ -30,28 +30,74 @@ pub struct Linked {
 /// Why a program, or all, can't be linked, in a sentence.
 pub type Refusal = String;
 
-/// An object's functions as they are over a kernel: with the slots that records write and what is known of externs.
+/// Descriptors of an object's own maps: 1 and on, in byte order of their names.
+fn own_descriptors(alloc: Global, object: &Object) -> Result<Vec<(&str, i32)>, AllocError> {
+    let mut described = Vec::with_capacity(alloc, object.maps.len())?;
+    let mut descriptor: i32 = 0;
+    for (name, _) in object.maps.iter() {
+        descriptor = descriptor.saturating_add(1);
+        described.push((name.as_str(), descriptor))?;
+    }
+    Ok(described)
+}
+
+/// Whether memory was refused.
+fn is_memory(error: &EbpfRelocationError) -> bool {
+    matches!(error.error, RelocationError::OutOfMemory)
+}
+
+/// The refusal of a pass, in a sentence.
 ///
 /// # Errors
 ///
-/// The outer one where memory is refused, the inner where the externs can't be written.
+/// `AllocError` where memory was refused, in the pass or for the sentence.
+fn explained(alloc: Global, object: &Object, error: PrepareError) -> Result<Refusal, AllocError> {
+    let for_memory = match &error {
+        PrepareError::OutOfMemory => true,
+        PrepareError::Maps(refusal)
+        | PrepareError::Externs(refusal)
+        | PrepareError::Calls(refusal) => is_memory(refusal),
+        _ => false,
+    };
+    if for_memory {
+        return Err(AllocError);
+    }
+    let explained = object.explain(&error);
+    format!(in alloc; "{explained}")
+}
+
+/// Writes descriptors of an object's own maps and what is known of its externs.
+fn write_passes(
+    alloc: Global,
+    object: &mut Object,
+    descriptors: &[(&str, i32)],
+) -> Result<(), PrepareError> {
+    relocate_own_maps(alloc, object, descriptors)?;
+    match object.relocate_externs() {
+        Ok(()) => Ok(()),
+        Err(error) => Err(PrepareError::Externs(error)),
+    }
+}
+
+/// An object as it is over a kernel before its programs are linked: with the slots that records write, descriptors of its
+/// maps and what is known of externs.
+///
+/// # Errors
+///
+/// The outer one where memory is refused, the inner where a pass refuses.
 pub fn written_object(
     alloc: Global,
     loaded: &Loaded,
     written: ByKey<Items<bpf_insn>>,
     externs: ByName<ExternDesc>,
 ) -> Result<Result<Object, Refusal>, AllocError> {
+    let descriptors = own_descriptors(alloc, &loaded.object)?;
     let mut object = loaded.object.clone()?;
     object.externs = externs;
     put_slots(&mut object.functions, written);
-    match object.relocate_externs() {
+    match write_passes(alloc, &mut object, &descriptors) {
         Ok(()) => Ok(Ok(object)),
-        Err(error) if is_memory(&error) => Err(AllocError),
-        Err(error) => {
-            let error = PrepareError::Externs(error);
-            let explained = object.explain(&error);
-            Ok(Err(format!(in alloc; "{explained}")?))
-        }
+        Err(error) => Ok(Err(explained(alloc, &object, error)?)),
     }
 }
 
@@ -71,11 +117,6 @@ fn keys_of(alloc: Global, programs: &[Chosen]) -> Result<Vec<ProgramKey<'_>>, Al
         keys.push(key_of(program))?;
     }
     Ok(keys)
-}
-
-/// Whether memory was refused.
-fn is_memory(error: &EbpfRelocationError) -> bool {
-    matches!(error.error, RelocationError::OutOfMemory)
 }
 
 /// Links programs of an object.
@@ -148,7 +189,7 @@ impl<'a> Linker<'a> {
         let keys = [key_of(program)];
         match link(alloc, self.object, self.sections, &keys)? {
             Ok(mut linked) => Ok(Ok(linked.remove(program.key))),
-            Err(error) => Ok(Err(self.explained(alloc, error)?)),
+            Err(error) => Ok(Err(explained(alloc, self.object, PrepareError::Calls(error))?)),
         }
     }
 
@@ -184,12 +225,5 @@ impl<'a> Linker<'a> {
             copies,
             reached,
         })))
-    }
-
-    /// The sentence of an error.
-    fn explained(&self, alloc: Global, error: EbpfRelocationError) -> Result<Refusal, AllocError> {
-        let error = PrepareError::Calls(error);
-        let explained = self.object.explain(&error);
-        format!(in alloc; "{explained}")
     }
 }

@@ -1,6 +1,5 @@
 //! What records are about, as libbpf's log names it.
 
-use ebpf_base::Text;
 use ebpf_btf::{Btf, BtfKind};
 use ebpf_core::{NamedPath, local_path};
 use ebpf_ext::Relocation;
@@ -42,10 +41,13 @@ fn add_type(name: &mut String, local: &Btf, type_id: u32) -> Result<(), AllocErr
     };
     name.push_str(kind_word(ty.kind()))?;
     name.push_str(" ")?;
-    match local.type_name(ty) {
-        Ok(text) if !text.as_str().is_empty() => name.push_str(text.as_str()),
-        _ => name.push_str("<anon>"),
+    let Ok(text) = local.type_name(ty) else {
+        return name.push_str("<anon>");
+    };
+    if text.as_str().is_empty() {
+        return name.push_str("<anon>");
     }
+    name.push_str(text.as_str())
 }
 
 /// Adds the steps to a field. The first of them, which counts in the root type itself, is told where it isn't 0.
@@ -98,13 +100,4 @@ pub fn record_name(
         NamedPath::Field { steps, .. } => add_steps(alloc, &mut name, steps.as_slice())?,
     }
     Ok(name)
-}
-
-/// What a record is about, as a text.
-pub fn record_text(
-    alloc: Global,
-    local: &Btf,
-    relocation: &Relocation,
-) -> Result<Text, AllocError> {
-    Ok(Text::from_string(record_name(alloc, local, relocation)?))
 }

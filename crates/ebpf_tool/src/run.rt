@@ -88,17 +88,20 @@ fn usage(rt: &HostRuntime, error: &WordsError<'_>) -> u8 {
 
 /// Reads the object's file.
 fn load_file(rt: &HostRuntime, words: &CheckWords) -> Result<Loaded, Stop> {
+    let alloc = rt.alloc();
     let path = words.file.as_str();
     let file = match read_file(rt, path) {
         Ok(file) => file,
         Err(error) => return Err(complain(rt, path, &error)),
     };
-    match load(rt.alloc(), &file, words.all) {
+    match load(alloc, &file, words.all) {
         Ok(loaded) => Ok(loaded),
         Err(ParseError::OutOfMemory) => Err(Stop::Memory),
         Err(error) => {
+            let explained = ExplainedParse::new(&file, &error);
+            let sentence = format!(in alloc; "{explained}")?;
             let path = Shown(path);
-            let sentence = ExplainedParse::new(&file, &error);
+            let sentence = Shown(sentence.as_str());
             let _ = eprintln!(rt; "ebpf: {path}: {sentence}");
             Err(Stop::Told(1))
         }

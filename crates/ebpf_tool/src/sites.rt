@@ -3,7 +3,7 @@
 use crate::calls::judge_calls;
 use crate::findings::{At, Findings, Place, Rank, Topic};
 use crate::kinds::Kind;
-use crate::lines::Lines;
+use crate::lines::{Lines, Span};
 use crate::linked::Linked;
 use crate::loaded::Record;
 use crate::map_uses::MapUse;
@@ -31,12 +31,24 @@ pub struct Spot<'a> {
     pub copy: &'a CodeCopy,
     /// The slot in the function that is copied.
     pub slot: usize,
+    /// Whether it loads a number for those behind it.
+    pub leads: bool,
 }
 
 impl Spot<'_> {
     /// The slot in the program.
     fn place(&self) -> usize {
         self.copy.base.saturating_add(self.slot)
+    }
+
+    /// The slot in its copy.
+    fn span(&self) -> Span {
+        Span {
+            begin: self.copy.base,
+            end: self.copy.base.saturating_add(self.copy.slots),
+            slot: self.place(),
+            leads: self.leads,
+        }
     }
 }
 
@@ -85,7 +97,7 @@ impl<'a> Site<'a> {
         } else {
             Some((spot.copy.name.clone()?, spot.slot))
         };
-        let line = self.lines.of(alloc, local, spot.copy.base, spot.place())?;
+        let line = self.lines.of(alloc, local, spot.span())?;
         let place = Place {
             within,
             line,
@@ -208,6 +220,18 @@ fn note_value(
     findings.add_changed(topic, answers.kernel, own, value)
 }
 
+/// Whether a slot, as the object has it, loads a number and nothing else: by its class it is no load from memory and no
+/// store.
+fn loads_number(answers: &Answers<'_>, copy: &CodeCopy, slot: usize) -> bool {
+    let Some(function) = answers.loaded.object.functions.get(copy.key) else {
+        return false;
+    };
+    match function.instructions.get(slot) {
+        Some(instruction) => matches!(instruction.code % 8, 0 | 4 | 7),
+        None => false,
+    }
+}
+
 /// Judges the record of a number; whether the program breaks by it.
 fn judge_record(
     alloc: Global,
@@ -227,7 +251,8 @@ fn judge_record(
         Some(place) => place.slot,
         None => return Ok(false),
     };
-    let spot = Spot { copy, slot };
+    let leads = loads_number(answers, copy, slot);
+    let spot = Spot { copy, slot, leads };
     match &outcome.result {
         RecordResult::Value(outcome) => {
             note_value(alloc, findings, answers, record, outcome.value)?;
@@ -276,7 +301,8 @@ fn judge_map(
     }
     let slot = used.slot;
     let local = answers.loaded.object.btf.as_ref();
-    let place = site.place(alloc, local, Spot { copy, slot })?;
+    let leads = false;
+    let place = site.place(alloc, local, Spot { copy, slot, leads })?;
     let name = used.name.as_str();
     let name = format!(in alloc; "map {name}")?;
     let number = used.map_type;
