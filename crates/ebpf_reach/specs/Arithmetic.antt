@@ -56,7 +56,7 @@ signed w operation x y =
     else (if operation == 9 then Some (signed_remainder w x y)
     else None)
 
-abbrev pub computed : Width → ℕ → ℤ → ℕ → ℕ → Option ℕ
+unfoldable pub computed : Width → ℕ → ℤ → ℕ → ℕ → Option ℕ
 computed w operation offset x y =
     if int_eq offset (pos 0) then plain w operation x y
     else (if int_eq offset (pos 1) then signed w operation x y

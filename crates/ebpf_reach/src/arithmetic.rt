@@ -186,6 +186,7 @@ fn signed_64(operation: u8, x: u64, y: u64) -> Option<u64>
 }
 
 /// What an operation of class 4 gives, by its offset.
+#[tactic(auto, unfolding(crate::specs::Arithmetic::computed))]
 pub fn computed_32(operation: u8, offset: i16, x: u32, y: u32) -> Option<u32>
     ensures { result ≡ computed w32 operation offset x y }
 {
@@ -199,6 +200,7 @@ pub fn computed_32(operation: u8, offset: i16, x: u32, y: u32) -> Option<u32>
 }
 
 /// What an operation of class 7 gives, by its offset.
+#[tactic(auto, unfolding(crate::specs::Arithmetic::computed))]
 pub fn computed_64(operation: u8, offset: i16, x: u64, y: u64) -> Option<u64>
     ensures { result ≡ computed w64 operation offset x y }
 {

@@ -4,6 +4,7 @@
 mod arithmetic;
 mod comparisons;
 mod effects;
+mod probe;
 mod registers;
 mod search;
 mod steps;

@@ -2,9 +2,9 @@
 
 ghost use Rattle.std.specs.Prelude.{◌≡◌, ◌+◌, ◌<◌, pos, length, IfSome};
 ghost use Rattle.std.specs.Option.{option_to_list};
-ghost use Rattle.ebpf_linker.specs.Slots.{is_branch};
+ghost use Rattle.ebpf_linker.specs.Slots.{flow, is_branch};
 ghost use Rattle.ebpf_reach.specs.Effects.{decided};
-ghost use Rattle.ebpf_reach.specs.Steps.{AreWithin, behind, callback, further, leads, listed, steps, ways};
+ghost use Rattle.ebpf_reach.specs.Steps.{AreWithin, behind, callback, follow, further, leads, listed, steps, ways};
 
 use crate::effects::{after, decided, loaded};
 use crate::registers::Registers;
@@ -81,17 +81,17 @@ fn is_branch(code: u8) -> bool
     (code % 8 == 5 || code % 8 == 6) && code / 16 != 0 && code / 16 != 8 && code / 16 != 9
 }
 
-/// The steps from a slot.
-pub fn steps_from(
+// The steps from a slot that stands at a place.
+fn steps_of(
     slots: &[bpf_insn],
     place: usize,
+    slot: bpf_insn,
     registers: Registers,
 ) -> (Option<Step>, Option<Step>)
     requires { place < length slots.now }
-    ensures steps { listed result ≡ steps slots.now place registers }
+    ensures steps { listed result ≡ follow slots.now place slot registers (flow slot) }
     ensures within { AreWithin slots.now result }
 {
-    let slot = slots[place];
     if slot.code == 0x95 {
         return (None, None);
     }
@@ -121,4 +121,17 @@ pub fn steps_from(
         return ways(slots, place, slot, registers);
     }
     (None, step_to(slots, place + 1, after(slot, registers)))
+}
+
+/// The steps from a slot: it goes on to two others at most.
+pub fn steps_from(
+    slots: &[bpf_insn],
+    place: usize,
+    registers: Registers,
+) -> (Option<Step>, Option<Step>)
+    requires { place < length slots.now }
+    ensures steps { listed result ≡ steps slots.now place registers }
+    ensures within { AreWithin slots.now result }
+{
+    steps_of(slots, place, slots[place], registers)
 }

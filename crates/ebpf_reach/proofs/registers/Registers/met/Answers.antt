@@ -1,0 +1,16 @@
+use Rattle.std.proofs.Common.{◌≡◌, ℕ, ◌<◌, List, length, Option, None, ap, arith}
+use Rattle.std.specs.Prelude.{slice_index_or}
+use Rattle.ebpf_reach.specs.declared.registers.Registers.{Registers}
+use Rattle.ebpf_reach.specs.Registers.{common, commons}
+use Rattle.ebpf_reach.proofs.Meeting.{commons_filled}
+use Rattle.ebpf_reach.proofs.registers.Registers.met.Goals as goal
+
+pub returns : goal.returns
+returns c =
+    let mine : length c.args.self.now.numbers ≡ 11 = omega arith in
+    let theirs : length c.args.other.now.numbers ≡ 11 = omega arith in
+    let invariant = c.loop-register.invariant in
+    let as_many = invariant.as_many in
+    let all : c.loop-register.numbers ≡ commons c.args.self.now.numbers c.args.other.now.numbers = commons_filled _ _ _ (omega arith) (omega arith) (λ k l. invariant.so_far k (omega arith)) in
+    let make : List (Option ℕ) → Registers = λ numbers. record { numbers = numbers } in
+    ap make all
