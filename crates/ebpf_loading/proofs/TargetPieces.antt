@@ -1,5 +1,5 @@
 -- The first piece of a name, and the rows of program kinds that the name fits.
-use Rattle.std.proofs.Common.{◌⊎◌, inl, inr, arith, ◌+◌, ◌≡◌, ℕ, suc, Bool, true, false, not, ◌&&◌, ◌||◌, List, [], ◌∷◌, length, refl, ap, ◌∙◌, sym}
+use Rattle.std.proofs.Common.{◌⊎◌, inl, inr, arith, ◌+◌, ◌≡◌, ℕ, suc, Bool, true, false, not, ◌&&◌, ◌||◌, List, [], ◌∷◌, length, refl, ap, ◌∙◌, sym, eq-eqb}
 use Rattle.std.specs.Prelude.{◌==◌, nat_eq, slice_index}
 use Rattle.std.specs.List.{list_any, position_or_len, starts_with}
 use Rattle.std.specs.Str.{bytes_eq}
@@ -57,7 +57,7 @@ fits_piece (b ∷ name) = elim (cases_Bool (b == 47)) [
   | inl slash ↦ rw slash (rw slash refl)
   | inr other ↦
       let on : 1 + length_before name ≡ suc (length_before name) = omega arith in
-      rw (other, on) (rw (eqb-refl b) (fits_piece name))
+      rw (other, on) (rw (eq-eqb b b refl) (fits_piece name))
 ]
 
 -- a row that takes a target fits each name that has its own as its first piece

@@ -87,11 +87,12 @@ fits_some name (row ∷ rows) found = elim (cases_Bool (row.takes_target && byte
 
 stays : (row : NamedKind) (rows : List NamedKind) → is_some (fold longer (Some row) rows) ≡ true
 stays row [] = refl
-stays row (next ∷ rows) = by_length (nat_le (length (name_of next)) (length (name_of row)))
+stays row (next ∷ rows) = by_length (nat_le (length (name_of next)) (length (name_of row))) (stays row rows) (stays next rows)
   where
-    by_length : (b : Bool) → is_some (fold longer (if b then Some row else Some next) rows) ≡ true
-    by_length true = stays row rows
-    by_length false = stays next rows
+    by_length : (b : Bool) → is_some (fold longer (Some row) rows) ≡ true → is_some (fold longer (Some next) rows) ≡ true
+        → is_some (fold longer (if b then Some row else Some next) rows) ≡ true
+    by_length true first second = first
+    by_length false first second = second
 
 finds_some : (name : List ℕ) (rows : List NamedKind) → list_any (fits name) rows ≡ true → is_some (longest_fit name rows) ≡ true
 unfolding longest_fit
