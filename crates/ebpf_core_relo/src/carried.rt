@@ -294,7 +294,8 @@ pub fn put_slots_at(slots: &mut [bpf_insn], at: usize, carrying: CarryingSlots)
     ensures { slots.new ≡ put_at slots.old at carrying }
 {
     slots[at] = carrying.slot;
-    if let Some(next) = carrying.next {
-        slots[at + 1] = next;
-    }
+    let Some(next) = carrying.next else {
+        return;
+    };
+    slots[at + 1] = next;
 }

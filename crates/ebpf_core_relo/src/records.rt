@@ -1,9 +1,12 @@
 //! Records applied one after the other, beside the functions that they speak of.
 
-ghost use Rattle.std.specs.Prelude.{◌≡◌, ◌<◌, IfOk, Ok, length};
+ghost use Rattle.std.specs.Prelude.{◌≡◌, ◌<◌, ⊤, MatchBool, IfOk, IfErr, Ok, Err, length};
 ghost use Rattle.std.specs.FinMap as map;
+ghost use Rattle.ebpf_core.specs.Answers.{told};
+ghost use Rattle.ebpf_core.specs.Memory.{is_memory};
 ghost use Rattle.ebpf_core.specs.Searches.{outcome_of};
 ghost use Rattle.ebpf_core_relo.specs.Answers.{Leaves, StaysRefused};
+ghost use Rattle.ebpf_core_relo.specs.Carried as carried;
 ghost use Rattle.ebpf_core_relo.specs.Carrying.{HasRoom, put_at};
 ghost use Rattle.ebpf_core_relo.specs.Records.{put_outcome, record_applied, records_applied, scene_of, slots_at};
 
@@ -36,20 +39,33 @@ fn take_slots(
     }
 }
 
-/// The slots of a function as records have left them.
-fn slots_of<'a>(
-    places: &Places<'a>,
-    written: &'a ByKey<Items<bpf_insn>>,
+/// What a record that came to an outcome makes of a slot of a function, over what records have left of it. Nothing is
+/// written.
+fn carrying_in(
+    alloc: Global,
+    places: &Places<'_>,
+    written: &ByKey<Items<bpf_insn>>,
     key: (usize, u64),
-) -> &'a [bpf_insn]
-    ensures { result.now ≡ slots_at places.now.functions.now written.now key }
+    at: usize,
+    record_number: usize,
+    outcome: &Outcome,
+) -> Result<CarryingSlots, RelocationError>
+    ensures slots { IfOk result (λ carrying. carried.written record_number (slots_at places.now.functions.now written.now key) at outcome.now ≡ Ok (put_at (slots_at places.now.functions.now written.now key) at carrying)) }
+    ensures there { IfOk result (λ carrying. (at < length (slots_at places.now.functions.now written.now key)) × HasRoom (slots_at places.now.functions.now written.now key) at carrying.next) }
+    ensures fault { IfErr result (λ e. MatchBool (is_memory e) ⊤ (carried.written record_number (slots_at places.now.functions.now written.now key) at outcome.now ≡ Err (told e))) }
 {
     if let Some(slots) = written.get(key) {
-        return slots.as_slice();
+        return carrying_slots(alloc, slots.as_slice(), at, record_number, outcome);
     }
     match places.functions.get(key) {
-        Some(function) => function.instructions.as_slice(),
-        None => &[],
+        Some(function) => carrying_slots(
+            alloc,
+            function.instructions.as_slice(),
+            at,
+            record_number,
+            outcome,
+        ),
+        None => carrying_slots(alloc, &[], at, record_number, outcome),
     }
 }
 
@@ -83,8 +99,7 @@ fn put_outcome(
     let outcome = search.outcome(alloc, relocation)?;
     let key = (section, span.address);
     let at = (relocation.insn_off as usize).saturating_sub(span.start) / SLOT;
-    let before = slots_of(places, written, key);
-    let carrying = carrying_slots(alloc, before, at, relocation.number, &outcome)?;
+    let carrying = carrying_in(alloc, places, written, key, at, relocation.number, &outcome)?;
     let slots = take_slots(alloc, places, written, key)?;
     let slots = rewritten(slots, at, carrying);
     written.insert(key, slots)?;
