@@ -1,9 +1,10 @@
 //! An object's externs over a kernel's types.
 
+use crate::kernel_symbols::{KernelSymbols, Sort};
 use crate::loaded::Loaded;
 use ebpf_base::{ByName, Text};
-use ebpf_btf::Btf;
-use ebpf_ksyms::{KsymsError, resolve_text};
+use ebpf_btf::{Btf, BtfError, BtfType};
+use ebpf_candidates::types_are_compatible;
 use ebpf_reloc::ExternDesc;
 use std::alloc::{AllocError, Global};
 
@@ -26,10 +27,32 @@ pub struct KernelExterns {
     pub lacking: Vec<Lacking>,
 }
 
+/// What a kernel has for an extern with a type.
+#[derive(Debug, Drop)]
+enum Answer {
+    /// A function or variable with a type that fits, by its id.
+    Found(u32),
+    /// None of the name.
+    Missing(Sort),
+    /// One of the name with another type.
+    OtherType(Sort),
+    /// Types that can't be read, or an extern that is neither a function nor a variable.
+    Unreadable(BtfError),
+}
+
 /// An extern whose value isn't known.
 fn unknown(known: ExternDesc) -> ExternDesc {
     ExternDesc {
         kernel_btf_id: Some(1),
+        is_resolved: true,
+        ..known
+    }
+}
+
+/// An extern that a kernel has, by its id.
+fn resolved(known: ExternDesc, id: u32) -> ExternDesc {
+    ExternDesc {
+        kernel_btf_id: Some(id),
         is_resolved: true,
         ..known
     }
@@ -44,66 +67,102 @@ fn left_out(known: ExternDesc) -> ExternDesc {
 }
 
 /// Why a kernel has no extern.
-fn reason_of(alloc: Global, error: &KsymsError) -> Result<String, AllocError> {
-    match error {
-        KsymsError::FunctionNotFound { .. } => {
-            String::from_str(alloc, "no such function (a module's?)")
-        }
-        KsymsError::VariableNotFound { .. } => {
-            String::from_str(alloc, "no such variable (a module's?)")
-        }
-        KsymsError::IncompatibleFunctionSignature { .. } => {
-            String::from_str(alloc, "another signature")
-        }
-        KsymsError::IncompatibleVariableType { .. } => String::from_str(alloc, "another type"),
-        error => format!(in alloc; "{error}"),
-    }
+fn reason_of(alloc: Global, answer: &Answer) -> Result<String, AllocError> {
+    let words = match answer {
+        Answer::Missing(Sort::Function) => "no such function (a module's?)",
+        Answer::Missing(Sort::Variable) => "no such variable (a module's?)",
+        Answer::OtherType(Sort::Function) => "another signature",
+        Answer::OtherType(Sort::Variable) => "another type",
+        Answer::Unreadable(error) => return format!(in alloc; "{error}"),
+        Answer::Found(_) => "",
+    };
+    String::from_str(alloc, words)
 }
 
-/// An extern alone.
-fn alone(alloc: Global, name: &str, known: ExternDesc) -> Result<ByName<ExternDesc>, AllocError> {
-    let mut one = ByName::new(alloc);
-    one.insert(String::from_str(alloc, name)?, known)?;
-    Ok(one)
+/// Whether the type that a local function or variable holds stands for the one that the kernel's holds.
+fn holds_alike(local: &Btf, held: u32, kernel: &Btf, id: u32) -> Result<bool, BtfError> {
+    let one = local.resolve_type(held)?;
+    let other = kernel.type_by_id(id)?.btf_type().unwrap_or(0);
+    let other = kernel.resolve_type(other)?;
+    types_are_compatible(local, one, kernel, other)
 }
 
-/// What a kernel has for an extern with a type.
-fn resolved(
-    alloc: Global,
+/// What a kernel has for a function or variable that holds a type.
+fn answer_for(
     local: &Btf,
     kernel: &Btf,
+    symbols: &KernelSymbols<'_>,
     name: &str,
-    known: ExternDesc,
-) -> Result<Result<ExternDesc, KsymsError>, AllocError> {
-    let one = alone(alloc, name, known)?;
-    match resolve_text(alloc, Some(local), &one, Some(kernel), &[]) {
-        Ok(found) => Ok(Ok(found.get(name).copied().unwrap_or(known))),
-        Err(KsymsError::OutOfMemory) => Err(AllocError),
-        Err(error) => Ok(Err(error)),
+    sort: Sort,
+    held: u32,
+) -> Answer {
+    let Some(id) = symbols.id(sort, name) else {
+        return Answer::Missing(sort);
+    };
+    match holds_alike(local, held, kernel, id) {
+        Ok(true) => Answer::Found(id),
+        Ok(false) => Answer::OtherType(sort),
+        Err(error) => Answer::Unreadable(error),
     }
 }
 
-/// Notes what a kernel has for each extern with a type, one after the other.
-fn resolve_each(
+/// What a kernel has for an extern of a name and an id.
+fn answer_of(
+    local: &Btf,
+    kernel: &Btf,
+    symbols: &KernelSymbols<'_>,
+    name: &str,
+    known: &ExternDesc,
+) -> Answer {
+    match local.type_by_id(known.btf_id) {
+        Ok(BtfType::Func { btf_type, .. }) => {
+            answer_for(local, kernel, symbols, name, Sort::Function, *btf_type)
+        }
+        Ok(BtfType::Var { btf_type, .. }) => {
+            answer_for(local, kernel, symbols, name, Sort::Variable, *btf_type)
+        }
+        Ok(_) => Answer::Unreadable(BtfError::InvalidDatasec),
+        Err(error) => Answer::Unreadable(error),
+    }
+}
+
+/// Notes an extern that a kernel lacks; how it is written.
+fn lack(
+    alloc: Global,
+    lacking: &mut Vec<Lacking>,
+    name: &str,
+    known: ExternDesc,
+    answer: &Answer,
+) -> Result<ExternDesc, AllocError> {
+    if known.is_weak {
+        return Ok(left_out(known));
+    }
+    lacking.push(Lacking {
+        name: Text::from_str(alloc, name)?,
+        reason: reason_of(alloc, answer)?,
+    })?;
+    Ok(unknown(known))
+}
+
+/// Notes what a kernel has for each extern with a type.
+fn add_typed(
     alloc: Global,
     local: &Btf,
     kernel: &Btf,
     typed: &ByName<ExternDesc>,
     externs: &mut KernelExterns,
 ) -> Result<(), AllocError> {
+    let symbols = KernelSymbols::read(alloc, kernel, typed)?;
     for (name, known) in typed.iter() {
-        let written = match resolved(alloc, local, kernel, name.as_str(), *known)? {
-            Ok(found) => found,
-            Err(_) if known.is_weak => left_out(*known),
-            Err(error) => {
-                externs.lacking.push(Lacking {
-                    name: Text::from_str(alloc, name.as_str())?,
-                    reason: reason_of(alloc, &error)?,
-                })?;
-                unknown(*known)
-            }
+        let name = name.as_str();
+        let written = match answer_of(local, kernel, &symbols, name, known) {
+            Answer::Found(id) => resolved(*known, id),
+            Answer::Unreadable(BtfError::OutOfMemory) => return Err(AllocError),
+            answer => lack(alloc, &mut externs.lacking, name, *known, &answer)?,
         };
-        externs.written.insert(name.clone()?, written)?;
+        externs
+            .written
+            .insert(String::from_str(alloc, name)?, written)?;
     }
     Ok(())
 }
@@ -152,11 +211,7 @@ pub fn kernel_externs(
         lacking: Vec::new(alloc),
     };
     if let Some(local) = &loaded.object.btf {
-        match resolve_text(alloc, Some(local), &loaded.typed, Some(kernel), &[]) {
-            Ok(all) => externs.written = all,
-            Err(KsymsError::OutOfMemory) => return Err(AllocError),
-            Err(_) => resolve_each(alloc, local, kernel, &loaded.typed, &mut externs)?,
-        }
+        add_typed(alloc, local, kernel, &loaded.typed, &mut externs)?;
     }
     add_unknown(&loaded.object.externs, &mut externs.written)?;
     add_settings(loaded.settings.as_slice(), &mut externs.written)?;

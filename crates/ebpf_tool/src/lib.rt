@@ -8,6 +8,7 @@ mod findings;
 mod help;
 mod json;
 mod kernel_order;
+mod kernel_symbols;
 mod kernels;
 mod kinds;
 mod lines;
