@@ -1,13 +1,13 @@
 #!/usr/bin/env python3
 """Writes the cases of the test programs and what each has to print of them: data/cases.txt and stdout of
-crates/test_rows, crates/test_btf_rows and crates/test_ksyms_rows, and stdout of crates/bench_prepare.
+crates/test_rows and crates/test_btf_rows, and stdout of crates/bench_prepare.
 usage: make_rows.py
 
 A new row: in the module of rows/ on its subject, or in a new one listed below, add to its cases() a
     Case("its name", bytes or {"name of a file": bytes}, {"action and its words": "the lines that it has to give"})
 with files made by rows/elf.py and rows/btf.py. What has to be given is written by hand, from the definitions or from
 another reader, and never taken from what the program prints. A new action is a function that gives its text and an arm of
-the `match` in src/objects.rt of test_rows, src/types.rt of test_btf_rows or src/outcomes.rt of test_ksyms_rows: it borrows
+the `match` in src/objects.rt or src/symbols.rt of test_rows, or in src/types.rt of test_btf_rows: it borrows
 the object or the types and doesn't hold them, or its proof takes minutes. Then run this script, and `rt ci` compares.
 """
 from pathlib import Path
@@ -63,6 +63,7 @@ CRATES = Path(__file__).parents[1] / "crates"
 
 OBJECTS = [small_object, programs, texts, terms, order, maps, declared_maps, externs, type_faults, records, joined]
 OBJECTS += [mapped, known_externs, resolved, prepared, printed, values, names, loaded_names, compiled, references, big_endian, broad]
+OBJECTS += [kallsyms]
 
 TYPES = [btf_one_int, btf_kinds, btf_added, btf_candidates, btf_fits, btf_ext, btf_ext_faults]
 
@@ -82,5 +83,4 @@ if __name__ == "__main__":
         printed.add_to(held)
     write_cases(CRATES / "test_rows", objects, **core)
     write_cases(CRATES / "test_btf_rows", cases_of(TYPES))
-    write_cases(CRATES / "test_ksyms_rows", kallsyms.cases())
     (CRATES / "bench_prepare/stdout").write_text("".join(line + "\n" for line in many_types.expected_lines()))

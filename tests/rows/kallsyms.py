@@ -225,4 +225,6 @@ def whole_files():
 
 
 def cases():
-    return lists() + failures() + unread() + texts() + lines() + whole_files()
+    """The cases, whose actions are those on lists of addresses."""
+    held = lists() + failures() + unread() + texts() + lines() + whole_files()
+    return [Case(case.name, case.files, {f"symbols_{action}": text for action, text in case.gives.items()}) for case in held]

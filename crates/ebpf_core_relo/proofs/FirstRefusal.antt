@@ -73,19 +73,21 @@ module _ (scene : Scene) (offset : ℕ) (name : List ℕ) (named : told_name off
   in_records : (number : ℕ) → section ≡ Ok number → (rs : List Relocation) (so_far : Written)
       → in_section name (records_applied scene number rs so_far) ≡ stated scene so_far (named_in offset rs)
   in_records number found [] so_far = refl
-  in_records number found (r ∷ rs) so_far = by_record (record_applied scene number so_far r) refl
+  in_records number found (r ∷ rs) so_far = by_record (record_applied scene number so_far r) refl (λ next. in_records number found rs next)
     where
+      by_case : ((next : Written) → in_section name (records_applied scene number rs next) ≡ stated scene next (named_in offset rs))
+          → (b : Result Written RelocationError) → in_section name (if_ok b (records_applied scene number rs)) ≡ joined rs (fault_of (in_section name b)) (left_by so_far b)
+      by_case later (Ok next) = later next
+      by_case later (Err fault) = refl
+
       by_record : (a : Result Written RelocationError) → record_applied scene number so_far r ≡ a
+          → ((next : Written) → in_section name (records_applied scene number rs next) ≡ stated scene next (named_in offset rs))
           → in_section name (if_ok a (records_applied scene number rs)) ≡ stated scene so_far (named_in offset (r ∷ rs))
-      by_record a is =
-          by_case a
+      by_record a is later =
+          by_case later a
           ∙ sym (ap (λ b. joined rs (fault_of (in_section name b)) (left_by so_far b)) is)
           ∙ sym (ap (λ f. joined rs f (left_by so_far (record_applied scene number so_far r))) (refusal_is so_far r (Ok number) found ∙ by_applied number so_far r _ refl))
           ∙ sym (ap (λ s. joined rs (refusal scene (outcome_after scene so_far (offset, r))) (left_by so_far (applied scene s so_far r))) found)
-        where
-          by_case : (b : Result Written RelocationError) → in_section name (if_ok b (records_applied scene number rs)) ≡ joined rs (fault_of (in_section name b)) (left_by so_far b)
-          by_case (Ok next) = in_records number found rs next
-          by_case (Err fault) = refl
 
   -- where it is not, the first record is refused
   in_none : (fault : RelocationError) → section ≡ Err fault → (rs : List Relocation) (so_far : Written) → rs ≢ []
@@ -140,25 +142,25 @@ module _ (scene : Scene) (part : ℕ × List Relocation) (parts : List (ℕ × L
   abbrev here : List Named
   here = named_in part.0 part.1
 
-  abbrev then : List Named
-  then = named_records parts
+  abbrev behind : List Named
+  behind = named_records parts
 
-  both : stated scene so_far (here ++ then)
-      ≡ unless (or_else (first scene so_far here) (first scene (slots_left scene so_far here) then)) (slots_left scene (slots_left scene so_far here) then)
+  both : stated scene so_far (here ++ behind)
+      ≡ unless (or_else (first scene so_far here) (first scene (slots_left scene so_far here) behind)) (slots_left scene (slots_left scene so_far here) behind)
   both =
-      ap (λ rows. unless (first_some (refusal scene) rows) (slots_left scene so_far (here ++ then))) (outcomes-append scene so_far here then)
-      ∙ ap (λ f. unless f (slots_left scene so_far (here ++ then))) (first_some-append (refusal scene) (outcomes_from scene so_far here) (outcomes_from scene (slots_left scene so_far here) then))
-      ∙ ap (unless (or_else (first scene so_far here) (first scene (slots_left scene so_far here) then))) (slots-append scene so_far here then)
+      ap (λ rows. unless (first_some (refusal scene) rows) (slots_left scene so_far (here ++ behind))) (outcomes-append scene so_far here behind)
+      ∙ ap (λ f. unless f (slots_left scene so_far (here ++ behind))) (first_some-append (refusal scene) (outcomes_from scene so_far here) (outcomes_from scene (slots_left scene so_far here) behind))
+      ∙ ap (unless (or_else (first scene so_far here) (first scene (slots_left scene so_far here) behind))) (slots-append scene so_far here behind)
 
   onward : (fault : Option BtfRelocationError) (left : Written)
-      → ((next : Written) → unless fault left ≡ Ok next → all_applied scene parts next ≡ stated scene next then)
-      → if_ok (unless fault left) (all_applied scene parts) ≡ unless (or_else fault (first scene left then)) (slots_left scene left then)
+      → ((next : Written) → unless fault left ≡ Ok next → all_applied scene parts next ≡ stated scene next behind)
+      → if_ok (unless fault left) (all_applied scene parts) ≡ unless (or_else fault (first scene left behind)) (slots_left scene left behind)
   onward None left more = more left refl
   onward (Some e) left more = refl
 
   one_more : named_applied scene part so_far ≡ stated scene so_far here
-      → ((next : Written) → named_applied scene part so_far ≡ Ok next → all_applied scene parts next ≡ stated scene next then)
-      → if_ok (named_applied scene part so_far) (all_applied scene parts) ≡ stated scene so_far (here ++ then)
+      → ((next : Written) → named_applied scene part so_far ≡ Ok next → all_applied scene parts next ≡ stated scene next behind)
+      → if_ok (named_applied scene part so_far) (all_applied scene parts) ≡ stated scene so_far (here ++ behind)
   one_more is more =
       ap (λ r. if_ok r (all_applied scene parts)) is
       ∙ onward (first scene so_far here) (slots_left scene so_far here) (λ next e. more next (is ∙ e))

@@ -2,6 +2,7 @@ pub mod FirstRefusal
 pub mod Grouped
 pub mod JoinedRuns
 pub mod KeptAbsences
+pub mod NamedMembers
 pub mod OneRecord
 pub mod OutcomeRows
 pub mod OutcomeSlots

@@ -1,15 +1,17 @@
 -- What records come to, list by list and by place.
-use Rattle.std.proofs.Common.{◌≡◌, ℕ, zero, suc, ◌+◌, ◌<◌, List, [], ◌∷◌, ◌++◌, length, take, drop, Result, refl, sym, ap, ◌∙◌, append_assoc, slice_get}
-use Rattle.std.specs.Prelude.{option_map, slice_index_or}
+use Rattle.std.proofs.Common.{◌≡◌, ℕ, zero, suc, ◌+◌, ◌<◌, List, [], ◌∷◌, ◌++◌, length, take, drop, Option, Result, refl, sym, ap, ◌∙◌, append_assoc, get_or, slice_get, arith}
+use Rattle.std.proofs.Math.Seq.{drop-cons}
+use Rattle.std.specs.Prelude.{option_map}
 use Rattle.std.proofs.lemmas.List.Sums.{fold-append}
 use Rattle.std.specs.FinMap.{empty}
 use Rattle.ebpf_ext.specs.declared.relocation.Relocation.{Relocation}
-use Rattle.ebpf_core.proofs.Lists.{rest_more}
 use Rattle.ebpf_core.specs.declared.error.RelocationError.{RelocationError}
 use Rattle.ebpf_core_relo.specs.OutcomeLaws.{OutcomesAreInOrder}
 use Rattle.ebpf_core_relo.specs.RecordOutcomes.{Named, applied, left_after, left_by, named_in, named_records, outcome_after, outcome_in, outcomes_from, section_at, slots_left}
 use Rattle.ebpf_core_relo.specs.Records.{Scene, Written}
 use Rattle.ebpf_core_relo.specs.declared.record_outcome.RecordOutcome.{RecordOutcome}
+use Rattle.ebpf_core_relo.specs.declared.record_outcome.RecordResult.{RecordResult}
+use Rattle.ebpf_core_relo.specs.declared.record_outcome.RecordSlot.{RecordSlot}
 
 pub outcomes-append : (scene : Scene) (so_far : Written) (xs ys : List Named)
     → outcomes_from scene so_far (xs ++ ys) ≡ outcomes_from scene so_far xs ++ outcomes_from scene (slots_left scene so_far xs) ys
@@ -19,53 +21,85 @@ outcomes-append scene so_far (x ∷ xs) ys = ap (λ rows. outcome_after scene so
 pub slots-append : (scene : Scene) (so_far : Written) (xs ys : List Named) → slots_left scene so_far (xs ++ ys) ≡ slots_left scene (slots_left scene so_far xs) ys
 slots-append scene so_far xs ys = fold-append (left_after scene) so_far xs ys
 
+-- what is left from a member on, of a list of such as are copied
+pub rest_at : {X : Type 0} (xs : List X) (i : ℕ) (d : X) → i < length xs → drop i xs ≡ get_or xs i d ∷ drop (i + 1) xs
+rest_at xs i d below =
+    let on : suc i ≡ i + 1 = omega arith in
+    drop-cons xs i d below ∙ ap (λ n. get_or xs i d ∷ drop n xs) on
+
 -- ---- one record more
 
-module _ (scene : Scene) (name : ℕ) (section : Result ℕ RelocationError) (found : section ≡ section_at scene.sides.local scene.section_infos name)
-    (rs : List Relocation) (i : ℕ) (r : Relocation) (below : i < length rs) (here : r ≡ slice_index_or rs i r) (so_far left : Written)
-    (written : left ≡ left_by so_far (applied scene section so_far r)) where
+module _ (scene from : Scene) (same : from ≡ scene) (name : ℕ) (section : Result ℕ RelocationError) (found : section ≡ section_at scene.sides.local scene.section_infos name)
+    (rs : List Relocation) (i : ℕ) (r : Relocation) (here : drop i rs ≡ r ∷ drop (i + 1) rs) (so_far left : Written)
+    (written : left ≡ left_by so_far (applied from section so_far r)) where
   abbrev later : List Named
   later = named_in name (drop (i + 1) rs)
 
   left_is : left ≡ left_after scene so_far (name, r)
-  left_is = written ∙ ap (λ s. left_by so_far (applied scene s so_far r)) found
+  left_is =
+      written
+      ∙ ap (λ (world : Scene). left_by so_far (applied world section so_far r)) same
+      ∙ ap (λ s. left_by so_far (applied scene s so_far r)) found
 
-  row_is : outcome_in scene name section so_far r ≡ outcome_after scene so_far (name, r)
+  row_is : outcome_in from name section so_far r ≡ outcome_after scene so_far (name, r)
   unfolding outcome_after
-  row_is = ap (λ s. outcome_in scene name s so_far r) found
+  row_is = ap (λ (world : Scene). outcome_in world name section so_far r) same ∙ ap (λ s. outcome_in scene name s so_far r) found
 
-  pub record_more : (rows more : List RecordOutcome) → more ≡ rows ++ outcome_in scene name section so_far r ∷ []
+  pub record_more : (rows more : List RecordOutcome) → more ≡ rows ++ outcome_in from name section so_far r ∷ []
       → more ++ outcomes_from scene left later ≡ rows ++ outcomes_from scene so_far (named_in name (drop i rs))
   record_more rows more pushed =
       ap (λ all. all ++ outcomes_from scene left later) pushed
-      ∙ append_assoc rows (outcome_in scene name section so_far r ∷ []) (outcomes_from scene left later)
-      ∙ ap (λ m. rows ++ (outcome_in scene name section so_far r ∷ outcomes_from scene m later)) left_is
+      ∙ append_assoc rows (outcome_in from name section so_far r ∷ []) (outcomes_from scene left later)
+      ∙ ap (λ m. rows ++ (outcome_in from name section so_far r ∷ outcomes_from scene m later)) left_is
       ∙ ap (λ row. rows ++ (row ∷ outcomes_from scene (left_after scene so_far (name, r)) later)) row_is
-      ∙ ap (λ all. rows ++ outcomes_from scene so_far (named_in name all)) (sym (rest_more rs i r below here))
+      ∙ ap (λ all. rows ++ outcomes_from scene so_far (named_in name all)) (sym here)
 
   pub slots_more : slots_left scene left later ≡ slots_left scene so_far (named_in name (drop i rs))
   slots_more =
       ap (λ m. slots_left scene m later) left_is
-      ∙ ap (λ all. slots_left scene so_far (named_in name all)) (sym (rest_more rs i r below here))
+      ∙ ap (λ all. slots_left scene so_far (named_in name all)) (sym here)
 
 -- ---- one section more
 
-module _ (scene : Scene) (parts : List (ℕ × List Relocation)) (i : ℕ) (part : ℕ × List Relocation) (below : i < length parts) (here : part ≡ slice_index_or parts i part)
-    (so_far left : Written) (written : left ≡ slots_left scene so_far (named_in part.0 part.1)) where
-  pub section_more : (rows more : List RecordOutcome) → more ≡ rows ++ outcomes_from scene so_far (named_in part.0 part.1)
-      → more ++ outcomes_from scene left (named_records (drop (i + 1) parts)) ≡ rows ++ outcomes_from scene so_far (named_records (drop i parts))
-  section_more rows more added =
-      ap (λ all. all ++ outcomes_from scene left (named_records (drop (i + 1) parts))) added
-      ∙ append_assoc rows (outcomes_from scene so_far (named_in part.0 part.1)) (outcomes_from scene left (named_records (drop (i + 1) parts)))
-      ∙ ap (λ m. rows ++ (outcomes_from scene so_far (named_in part.0 part.1) ++ outcomes_from scene m (named_records (drop (i + 1) parts)))) written
-      ∙ ap (λ all. rows ++ all) (sym (outcomes-append scene so_far (named_in part.0 part.1) (named_records (drop (i + 1) parts))))
-      ∙ ap (λ all. rows ++ outcomes_from scene so_far (named_records all)) (sym (rest_more parts i part below here))
+module _ (scene from : Scene) (same : from ≡ scene) (parts : List (ℕ × List Relocation)) (i : ℕ) (part : ℕ × List Relocation) (here : drop i parts ≡ part ∷ drop (i + 1) parts)
+    (rs : List Relocation) (items : rs ≡ part.1) (so_far left : Written) (written : left ≡ slots_left from so_far (named_in part.0 rs)) where
+  abbrev rest : List Named
+  rest = named_records (drop (i + 1) parts)
 
-  pub section_slots_more : slots_left scene left (named_records (drop (i + 1) parts)) ≡ slots_left scene so_far (named_records (drop i parts))
+  abbrev own : List Named
+  own = named_in part.0 part.1
+
+  left_here : left ≡ slots_left scene so_far own
+  left_here =
+      written
+      ∙ ap (λ (world : Scene). slots_left world so_far (named_in part.0 rs)) same
+      ∙ ap (λ xs. slots_left scene so_far (named_in part.0 xs)) items
+
+  rows_here : outcomes_from from so_far (named_in part.0 rs) ≡ outcomes_from scene so_far own
+  rows_here = ap (λ (world : Scene). outcomes_from world so_far (named_in part.0 rs)) same ∙ ap (λ xs. outcomes_from scene so_far (named_in part.0 xs)) items
+
+  pub section_more : (rows more : List RecordOutcome) → more ≡ rows ++ outcomes_from from so_far (named_in part.0 rs)
+      → more ++ outcomes_from scene left rest ≡ rows ++ outcomes_from scene so_far (named_records (drop i parts))
+  section_more rows more added =
+      ap (λ all. all ++ outcomes_from scene left rest) (added ∙ ap (λ xs. rows ++ xs) rows_here)
+      ∙ append_assoc rows (outcomes_from scene so_far own) (outcomes_from scene left rest)
+      ∙ ap (λ m. rows ++ (outcomes_from scene so_far own ++ outcomes_from scene m rest)) left_here
+      ∙ ap (λ all. rows ++ all) (sym (outcomes-append scene so_far own rest))
+      ∙ ap (λ all. rows ++ outcomes_from scene so_far (named_records all)) (sym here)
+
+  pub section_slots_more : slots_left scene left rest ≡ slots_left scene so_far (named_records (drop i parts))
   section_slots_more =
-      ap (λ m. slots_left scene m (named_records (drop (i + 1) parts))) written
-      ∙ sym (slots-append scene so_far (named_in part.0 part.1) (named_records (drop (i + 1) parts)))
-      ∙ ap (λ all. slots_left scene so_far (named_records all)) (sym (rest_more parts i part below here))
+      ap (λ m. slots_left scene m rest) left_here
+      ∙ sym (slots-append scene so_far own rest)
+      ∙ ap (λ all. slots_left scene so_far (named_records all)) (sym here)
+
+-- ---- one row, by its parts
+
+pub same_row : (name number : ℕ) (a b : Option RecordSlot) (r s : RecordResult) → a ≡ b → r ≡ s
+    → ◌≡◌ {A = RecordOutcome} (record { section_name = name; number = number; slot = a; result = r }) (record { section_name = name; number = number; slot = b; result = s })
+same_row name number a b r s slots results =
+    ap (λ (o : Option RecordSlot). let row : RecordOutcome = record { section_name = name; number = number; slot = o; result = r } in row) slots
+    ∙ ap (λ (t : RecordResult). let row : RecordOutcome = record { section_name = name; number = number; slot = b; result = t } in row) results
 
 -- ---- by place
 

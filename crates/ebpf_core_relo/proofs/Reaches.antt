@@ -1,7 +1,7 @@
 -- How far along a path candidates come: a path that leads somewhere does so with fewer steps.
 use Rattle.std.proofs.Common.{◌≡◌, ℕ, zero, suc, ◌+◌, ◌<◌, ◌≤◌, max, ◌⊎◌, inl, inr, Bool, true, false, List, [], ◌∷◌, length, take, Option, Some, None, Result, Ok, Err, refl, sym, ap, ◌∙◌, subst, arith}
 use Rattle.std.specs.Prelude.{◌≢◌, if◌then◌else◌}
-use Rattle.std.proofs.lemmas.Bool.{cases_eq, cases_lt}
+use Rattle.std.proofs.lemmas.Bool.{cases_eq, cases_lt, le-ltb, lt-ltb}
 use Rattle.ebpf_btf.specs.TypeInfo.{TypeInfo}
 use Rattle.ebpf_places.specs.Places.{begun, followed, if_fine, onward, place_of, stepped}
 use Rattle.ebpf_places.specs.declared.fault.PlaceFault.{PlaceFault}
@@ -9,52 +9,53 @@ use Rattle.ebpf_places.specs.declared.places.Place.{Place}
 use Rattle.ebpf_places.specs.declared.steps.Step.{Step}
 use Rattle.ebpf_places.specs.declared.steps.Step.TheVariants.{Name, Index}
 use Rattle.ebpf_places.specs.declared.walk.Spot.{Spot}
-use Rattle.ebpf_core_relo.specs.Absences.{greatest, is_place, leads, reach}
+use Rattle.ebpf_core_relo.specs.Absences.{further, greatest, is_place, leads, reach}
+use Rattle.ebpf_core_relo.specs.declared.furthest.Furthest.{Furthest}
 
 -- ---- the greatest number that passes a test
 
 module _ (test : ℕ → Bool) where
   within : (n : ℕ) → greatest test n ≤ n
   within zero = omega arith
-  within (suc n) = by_test (test (suc n))
+  within (suc n) = by_test (test (suc n)) (within n)
     where
-      by_test : (b : Bool) → (if b then suc n else greatest test n) ≤ suc n
-      by_test true = omega arith
-      by_test false = let h : greatest test n ≤ n = within n in omega arith
+      by_test : (b : Bool) → greatest test n ≤ n → (if b then suc n else greatest test n) ≤ suc n
+      by_test true less = omega arith
+      by_test false less = omega arith
 
   at_least : (n s : ℕ) → s ≤ n → test s ≡ true → s ≤ greatest test n
   at_least zero s small passes = omega arith
-  at_least (suc n) s small passes = by_test (test (suc n)) refl
+  at_least (suc n) s small passes = by_test (test (suc n)) refl (λ less. at_least n s less passes)
     where
-      by_test : (b : Bool) → test (suc n) ≡ b → s ≤ (if b then suc n else greatest test n)
-      by_test true is = omega arith
-      by_test false is = by_place (cases_eq s (suc n))
-        where
-          by_place : (s ≡ suc n) ⊎ (s ≢ suc n) → s ≤ greatest test n
-          by_place (inl same) = let never : true ≡ false = sym passes ∙ ap test same ∙ is in cc
-          by_place (inr other) = at_least n s (omega arith) passes
+      by_place : test (suc n) ≡ false → (s ≤ n → s ≤ greatest test n) → (s ≡ suc n) ⊎ (s ≢ suc n) → s ≤ greatest test n
+      by_place is less (inl same) = let never : true ≡ false = sym passes ∙ ap test same ∙ is in cc
+      by_place is less (inr other) = less (omega arith)
+
+      by_test : (b : Bool) → test (suc n) ≡ b → (s ≤ n → s ≤ greatest test n) → s ≤ (if b then suc n else greatest test n)
+      by_test true is less = small
+      by_test false is less = by_place is less (cases_eq s (suc n))
 
   -- Where a test that passes at a number passes at each below, but for 0, it is passed up to the greatest.
   module _ (falls : (k : ℕ) → test (suc (suc k)) ≡ true → test (suc k) ≡ true) where
     down : (n s : ℕ) → s ≤ n → test (suc n) ≡ true → test (suc s) ≡ true
     down zero s small passes = subst (λ k. test (suc k) ≡ true) (let e : 0 ≡ s = omega arith in e) passes
-    down (suc n) s small passes = by_place (cases_eq s (suc n))
+    down (suc n) s small passes = by_place (λ less. down n s less (falls n passes)) (cases_eq s (suc n))
       where
-        by_place : (s ≡ suc n) ⊎ (s ≢ suc n) → test (suc s) ≡ true
-        by_place (inl same) = subst (λ k. test (suc k) ≡ true) (sym same) passes
-        by_place (inr other) = down n s (omega arith) (falls n passes)
+        by_place : (s ≤ n → test (suc s) ≡ true) → (s ≡ suc n) ⊎ (s ≢ suc n) → test (suc s) ≡ true
+        by_place less (inl same) = subst (λ k. test (suc k) ≡ true) (sym same) passes
+        by_place less (inr other) = less (omega arith)
 
     at_most : (n s : ℕ) → test (suc s) ≡ false → greatest test n ≤ s
     at_most zero s fails = omega arith
-    at_most (suc n) s fails = by_test (test (suc n)) refl
+    at_most (suc n) s fails = by_test (test (suc n)) refl (at_most n s fails)
       where
         by_place : (s < suc n) ⊎ (suc n ≤ s) → test (suc n) ≡ true → suc n ≤ s
         by_place (inr high) is = high
         by_place (inl low) is = let never : true ≡ false = sym (down n s (omega arith) is) ∙ fails in cc
 
-        by_test : (b : Bool) → test (suc n) ≡ b → (if b then suc n else greatest test n) ≤ s
-        by_test true is = by_place (cases_lt s (suc n)) is
-        by_test false is = at_most n s fails
+        by_test : (b : Bool) → test (suc n) ≡ b → greatest test n ≤ s → (if b then suc n else greatest test n) ≤ s
+        by_test true is less = by_place (cases_lt s (suc n)) is
+        by_test false is less = less
 
 -- ---- a path with fewer steps
 
@@ -63,13 +64,15 @@ module _ (local target : TypeInfo) where
   unfolding followed
   fewer path zero from there = refl
   fewer [] (suc n) from there = there
-  fewer (by ∷ path) (suc n) from there = by_step (stepped local target from by) there
+  fewer (by ∷ path) (suc n) from there = by_step (stepped local target from by) (λ next. fewer path n next) there
     where
-      by_step : (r : Result (Option Spot) PlaceFault) → is_place (if_fine r (λ led_to. onward led_to (followed local target (take (suc n) path)))) ≡ true
+      by_step : (r : Result (Option Spot) PlaceFault)
+          → ((next : Spot) → is_place (followed local target (take (suc n) path) next) ≡ true → is_place (followed local target (take n path) next) ≡ true)
+          → is_place (if_fine r (λ led_to. onward led_to (followed local target (take (suc n) path)))) ≡ true
           → is_place (if_fine r (λ led_to. onward led_to (followed local target (take n path)))) ≡ true
-      by_step (Ok None) there = there
-      by_step (Ok (Some next)) there = fewer path n next there
-      by_step (Err fault) there = there
+      by_step (Ok None) less there = there
+      by_step (Ok (Some next)) less there = less next there
+      by_step (Err fault) less there = there
 
   leads_fewer : (steps : List Step) (id n : ℕ) → leads local target steps id (suc (suc n)) ≡ true → leads local target steps id (suc n) ≡ true
   unfolding place_of
@@ -97,3 +100,28 @@ module _ (local target : TypeInfo) where
       top : (n ≡ length steps) ⊎ (test (suc n) ≡ false) → greatest test (length steps) ≤ n
       top (inl same) = let h : greatest test (length steps) ≤ length steps = within test (length steps) in omega arith
       top (inr fails) = at_most test (leads_fewer steps id) (length steps) n fails
+
+  -- all steps of the path do
+  pub all_reach : (steps : List Step) (id known n : ℕ) → known ≤ length steps → n ≡ length steps → (n ≡ known) ⊎ (leads local target steps id n ≡ true)
+      → length steps ≡ max known (reach local target steps id)
+  all_reach steps id known n above all start = sym all ∙ reach_is steps id known n (omega arith) (omega arith) start (inl all)
+
+  pub reach_within : (steps : List Step) (id : ℕ) → reach local target steps id ≤ length steps
+  unfolding reach
+  reach_within steps id = within (leads local target steps id) (length steps)
+
+-- ---- the furthest
+
+-- a candidate that comes further
+pub one_further : (last : Furthest) (id far steps : ℕ) → steps ≡ max last.steps far → last.steps < steps → further last id far ≡ record { candidate = Some id; steps = steps }
+one_further last id far steps is more =
+    let same : far ≡ steps = omega arith in
+    let past : last.steps < far = omega arith in
+    ap (λ b. if b then record { candidate = Some id; steps = far } else last) (lt-ltb last.steps far past)
+    ∙ ap (λ (n : ℕ). let found : Furthest = record { candidate = Some id; steps = n } in found) same
+
+-- one that does not
+pub none_further : (last : Furthest) (id far steps : ℕ) → steps ≡ max last.steps far → steps ≤ last.steps → further last id far ≡ last
+none_further last id far steps is less =
+    let past : far ≤ last.steps = omega arith in
+    ap (λ b. if b then record { candidate = Some id; steps = far } else last) (le-ltb last.steps far past)

@@ -1,8 +1,7 @@
 //! How far along a path the candidates of a record come.
 
 ghost use Rattle.std.specs.Prelude.{◌≡◌, ◌≤◌, IfOk, length, max};
-ghost use Rattle.ebpf_places.specs.Places.{place_of};
-ghost use Rattle.ebpf_core_relo.specs.Absences.{furthest, is_place, reach};
+ghost use Rattle.ebpf_core_relo.specs.Absences.{furthest, leads, reach};
 
 use crate::memory::unless_memory_of_places;
 use ebpf_btf::Btf;
@@ -18,11 +17,18 @@ pub struct Furthest {
     pub steps: usize,
 }
 
-/// Whether a path leads somewhere in a candidate.
-fn leads(local: &Btf, target: &Btf, candidate: u32, path: &[Step]) -> Result<bool, AllocError>
-    ensures { IfOk result (λ leads. leads ≡ is_place (place_of local.now target.now candidate path.now)) }
+/// Whether so many steps of a path lead somewhere in a candidate.
+fn leads(
+    local: &Btf,
+    target: &Btf,
+    candidate: u32,
+    path: &[Step],
+    steps: usize,
+) -> Result<bool, AllocError>
+    requires { steps ≤ length path.now }
+    ensures { IfOk result (λ there. there ≡ leads local.now target.now path.now candidate steps) }
 {
-    match place_in(local, target, candidate, path) {
+    match place_in(local, target, candidate, &path[..steps]) {
         Ok(place) => Ok(place.is_some()),
         Err(fault) => {
             unless_memory_of_places(fault)?;
@@ -44,7 +50,7 @@ fn reach_past(
     ensures { IfOk result (λ steps. steps ≡ max known (reach local.now target.now path.now candidate)) }
 {
     for steps in known..path.len() {
-        if !leads(local, target, candidate, &path[..steps + 1])? {
+        if !leads(local, target, candidate, path, steps + 1)? {
             return Ok(steps);
         }
     }

@@ -21,23 +21,23 @@ below_through a b c p q = record { as_many = p.as_many ∙ q.as_many; numbers = 
 pub read_written : (xs : List (Option ℕ)) (r q : ℕ) (x : Option ℕ) → ((q ≡ r) × (r < length xs) × (get_or (set xs r x) q None ≡ x)) ⊎ (((q ≢ r) ⊎ (length xs ≤ r)) × (get_or (set xs r x) q None ≡ get_or xs q None))
 read_written xs r q x =
     elim (eqb_tells q r) [
-      inl same ↦ elim (leb_tells (length xs) r) [
-        inl past ↦ inr (inr past.1, ap (λ (u : List (Option ℕ)). get_or u q None) (set_past xs r x past.1))
-      | inr within ↦ inl (same.1, within.1, let P : ℕ → Type 0 = λ u. get_or (set xs r x) u None ≡ x in subst P (sym same.1) (get_or-set_same xs r x None within.1))
+      | inl same ↦ elim (leb_tells (length xs) r) [
+        | inl past ↦ inr (inr past.1, ap (λ (u : List (Option ℕ)). get_or u q None) (set_past xs r x past.1))
+        | inr within ↦ inl (same.1, within.1, let P : ℕ → Type 0 = λ u. get_or (set xs r x) u None ≡ x in subst P (sym same.1) (get_or-set_same xs r x None within.1))
       ]
-    | inr other ↦ inr (inl other.1, get_or-set_other xs r q x None other.1)
+      | inr other ↦ inr (inl other.1, get_or-set_other xs r q x None other.1)
     ]
 
 learned_tells : (xs ys : List (Option ℕ)) (r : ℕ) (x y : Option ℕ) → length xs ≡ length ys → Tells x y → (q n : ℕ) → (get_or ys q None ≡ Some n → get_or xs q None ≡ Some n) → get_or (set ys r y) q None ≡ Some n → get_or (set xs r x) q None ≡ Some n
 learned_tells xs ys r x y same t q n below h =
     elim (read_written ys r q y) [
-      inl there ↦ elim (read_written xs r q x) [
-        inl here ↦ here.2 ∙ t n (sym there.2 ∙ h)
-      | inr other ↦ elim other.0 [ inl apart ↦ absurd (apart there.0) | inr past ↦ absurd (omega arith) ]
+      | inl there ↦ elim (read_written xs r q x) [
+        | inl here ↦ here.2 ∙ t n (sym there.2 ∙ h)
+        | inr other ↦ elim other.0 [ inl apart ↦ absurd (apart there.0) | inr past ↦ absurd (omega arith) ]
       ]
-    | inr there ↦ elim (read_written xs r q x) [
-        inl here ↦ elim there.0 [ inl apart ↦ absurd (apart here.0) | inr past ↦ absurd (omega arith) ]
-      | inr other ↦ other.1 ∙ below (sym there.1 ∙ h)
+      | inr there ↦ elim (read_written xs r q x) [
+        | inl here ↦ elim there.0 [ inl apart ↦ absurd (apart here.0) | inr past ↦ absurd (omega arith) ]
+        | inr other ↦ other.1 ∙ below (sym there.1 ∙ h)
       ]
     ]
 
@@ -127,6 +127,6 @@ fewer_known (Some m ∷ xs) (Some k ∷ ys) h =
     let rest = fewer_known xs ys (omega arith) in
     let fewer = no_more_known xs (commons xs ys) rest in
     elim (eqb_tells m k) [
-      inl same ↦ subst (λ (b : Bool). (cond b (Some m) None ∷ commons xs ys ≡ Some m ∷ xs) ⊎ (numbers_known (cond b (Some m) None ∷ commons xs ys) < numbers_known (Some m ∷ xs))) (sym same.0) (fewer_with (Some m) xs (commons xs ys) rest)
-    | inr other ↦ subst (λ (b : Bool). (cond b (Some m) None ∷ commons xs ys ≡ Some m ∷ xs) ⊎ (numbers_known (cond b (Some m) None ∷ commons xs ys) < numbers_known (Some m ∷ xs))) (sym other.0) (inr (omega arith))
+      | inl same ↦ subst (λ (b : Bool). (cond b (Some m) None ∷ commons xs ys ≡ Some m ∷ xs) ⊎ (numbers_known (cond b (Some m) None ∷ commons xs ys) < numbers_known (Some m ∷ xs))) (sym same.0) (fewer_with (Some m) xs (commons xs ys) rest)
+      | inr other ↦ subst (λ (b : Bool). (cond b (Some m) None ∷ commons xs ys ≡ Some m ∷ xs) ⊎ (numbers_known (cond b (Some m) None ∷ commons xs ys) < numbers_known (Some m ∷ xs))) (sym other.0) (inr (omega arith))
     ]

@@ -5,3 +5,5 @@ pub mod Counted
 pub mod Effects
 pub mod Steps
 pub mod Reached
+pub mod Searched
+pub mod Visits

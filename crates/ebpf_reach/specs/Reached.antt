@@ -43,8 +43,8 @@ pub record IsLeast (slots : List bpf_insn) (A : Assignment) : Type 0 where
 abbrev pub reached : Assignment → List Bool
 reached A = map is_some A
 
--- these are the slots that the least assignment reaches
-pub record AreReached (slots : List bpf_insn) (flags : List Bool) : Type 0 where
+-- The answer tells which slots the least assignment reaches.
+pub record AreReached (slots : List bpf_insn) (answer : List Bool) : Type 0 where
   pub assignment : Assignment
   pub least : IsLeast slots assignment
-  pub flags : flags ≡ reached assignment
+  pub told : answer ≡ reached assignment

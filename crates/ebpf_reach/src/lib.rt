@@ -4,7 +4,7 @@
 mod arithmetic;
 mod comparisons;
 mod effects;
-mod probe;
+pub mod laws;
 mod registers;
 mod search;
 mod steps;

@@ -18,8 +18,8 @@ pub struct Step {
     pub registers: Registers,
 }
 
-// The step to a place, if the program has it.
-fn step_to(slots: &[bpf_insn], place: usize, registers: Registers) -> Option<Step>
+/// The step to a place, if the program has it.
+pub fn step_to(slots: &[bpf_insn], place: usize, registers: Registers) -> Option<Step>
     ensures leads { option_to_list result ≡ leads slots.now (pos place) registers }
     ensures within { IfSome result (λ step. step.place < length slots.now) }
 {

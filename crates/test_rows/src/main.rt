@@ -20,6 +20,7 @@ mod records;
 mod resolved;
 mod sanitized;
 mod slots;
+mod symbols;
 mod tables;
 
 use crate::outcomes::ObjectOutcomes;

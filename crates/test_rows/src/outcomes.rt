@@ -6,6 +6,7 @@ use crate::names::{default_attach_type, kind, loaded, of_number};
 use crate::objects::on_object;
 use crate::prepared::prepared;
 use crate::printed::printed;
+use crate::symbols::on_symbols;
 use std::alloc::{AllocError, Global};
 use test_cases::{Action, Files, Outcomes};
 
@@ -20,6 +21,9 @@ impl Outcomes for ObjectOutcomes {
         files: &Files,
         action: &Action<'_>,
     ) -> Result<String, AllocError> {
+        if let Some(name) = action.name.strip_prefix("symbols_") {
+            return on_symbols(alloc, files, action, name);
+        }
         match action.name {
             "kind" => kind(alloc, action),
             "loaded" => loaded(alloc, action),

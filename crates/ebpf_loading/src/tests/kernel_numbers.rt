@@ -67,25 +67,45 @@ fn kernel(alloc: Global) -> Result<Btf, BtfError> {
     Ok(types)
 }
 
+/// Numbers of helpers, and whether the kernel knows them.
+const HELPERS: [(u32, bool); 6] = [
+    (0, true),
+    (1, true),
+    (2, false),
+    (5, false),
+    (7, true),
+    (8, false),
+];
+
+/// Numbers of helpers, and their names.
+const NAMES: [(u32, Option<&str>); 5] = [
+    (0, Some("unspec")),
+    (1, Some("map_lookup_elem")),
+    (2, None),
+    (7, None),
+    (8, None),
+];
+
+/// Numbers of types of maps, and whether the kernel knows them.
+const MAP_TYPES: [(u32, bool); 4] = [(0, true), (1, false), (2, true), (3, false)];
+
 #[test]
 fn helpers(rt: HostRuntime) -> Result<(), Fail> {
     let types = kernel(rt.alloc())?;
     let numbers = KernelNumbers::of(&types);
-    for (number, known) in [
-        (0, true),
-        (1, true),
-        (2, false),
-        (5, false),
-        (7, true),
-        (8, false),
-    ] {
-        assert_eq!(rt; numbers.knows_helper(number), Some(known), "of {number}");
+    for (number, known) in &HELPERS {
+        assert_eq!(rt; numbers.knows_helper(*number), Some(*known), "of {number}");
     }
-    assert_eq!(rt; numbers.helper_name(0), Some("unspec"));
-    assert_eq!(rt; numbers.helper_name(1), Some("map_lookup_elem"));
-    assert_eq!(rt; numbers.helper_name(2), None);
-    assert_eq!(rt; numbers.helper_name(7), None);
-    assert_eq!(rt; numbers.helper_name(8), None);
+    Ok(())
+}
+
+#[test]
+fn names(rt: HostRuntime) -> Result<(), Fail> {
+    let types = kernel(rt.alloc())?;
+    let numbers = KernelNumbers::of(&types);
+    for (number, name) in &NAMES {
+        assert!(rt; numbers.helper_name(*number) == *name, "of {number}");
+    }
     Ok(())
 }
 
@@ -93,8 +113,12 @@ fn helpers(rt: HostRuntime) -> Result<(), Fail> {
 fn map_types(rt: HostRuntime) -> Result<(), Fail> {
     let types = kernel(rt.alloc())?;
     let numbers = KernelNumbers::of(&types);
-    for (number, known) in [(0, true), (1, false), (2, true), (3, false)] {
-        assert_eq!(rt; numbers.knows_map_type(number), Some(known), "of {number}");
+    for (number, known) in &MAP_TYPES {
+        assert_eq!(rt;
+            numbers.knows_map_type(*number),
+            Some(*known),
+            "of {number}"
+        );
     }
     Ok(())
 }

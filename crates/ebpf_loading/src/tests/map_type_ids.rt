@@ -8,6 +8,7 @@ use ebpf_parts::maps::{
     BtfMap, BtfMapDef, LegacyMap, Map, PinningType, bpf_map_def, bpf_map_info, parse_map_info,
 };
 use std::alloc::{AllocError, Global};
+use std::process::Abort;
 use std::test::Fail;
 
 /// `.bss` of 8 bytes with size 0 in its DATASEC, `.data` of 8 with size 8, `.rodata` of 8 with size 4.
@@ -66,38 +67,55 @@ fn stated_map(alloc: Global, map_type: u32) -> Map {
     parse_map_info(alloc, info, PinningType::None)
 }
 
+/// The types of maps that take no types of keys and values.
+const UNTYPED: [u32; 14] = [4, 7, 8, 12, 13, 14, 15, 16, 17, 18, 22, 23, 25, 33];
+
+/// Those that take both.
+const TYPED: [u32; 20] = [
+    0, 1, 2, 3, 5, 6, 9, 10, 11, 19, 20, 21, 24, 27, 28, 29, 30, 31, 32, 34,
+];
+
+/// Sections of data, the sizes of their maps' values, and the types of these.
+const DATA: [(&str, EbpfSectionKind, u32, u32); 7] = [
+    (".bss", EbpfSectionKind::Bss, 8, 2),
+    (".bss", EbpfSectionKind::Bss, 16, 0),
+    (".data", EbpfSectionKind::Data, 8, 3),
+    (".data", EbpfSectionKind::Data, 4, 0),
+    (".rodata", EbpfSectionKind::Rodata, 8, 0),
+    (".rodata.str1.1", EbpfSectionKind::Rodata, 8, 0),
+    (".data", EbpfSectionKind::Maps, 8, 0),
+];
+
+/// Sees what maps of some types are created with, whose definitions state the types 5 and 6.
+fn expect_all(
+    rt: &impl Abort,
+    alloc: Global,
+    numbers: &[u32],
+    wanted: MapTypeIds,
+) -> Result<(), BtfError> {
+    let types = object_types(alloc)?;
+    for map_type in numbers {
+        let map = stated_map(alloc, *map_type);
+        assert_eq!(rt; map_types(".data", &map, &types), wanted, "of {map_type}");
+    }
+    Ok(())
+}
+
 #[test]
 fn by_type_of_map(rt: HostRuntime) -> Result<(), Fail> {
-    let types = object_types(rt.alloc())?;
-    for map_type in [4, 7, 8, 12, 13, 14, 15, 16, 17, 18, 22, 23, 25, 33] {
-        let ids = map_types("m", &stated_map(rt.alloc(), map_type), &types);
-        assert_eq!(rt; ids, MapTypeIds { key: 0, value: 0 }, "of {map_type}");
-    }
-    for map_type in [
-        0, 1, 2, 3, 5, 6, 9, 10, 11, 19, 20, 21, 24, 27, 28, 29, 30, 31, 32, 34,
-    ] {
-        let ids = map_types(".data", &stated_map(rt.alloc(), map_type), &types);
-        assert_eq!(rt; ids, MapTypeIds { key: 5, value: 6 }, "of {map_type}");
-    }
-    let ids = map_types("m", &stated_map(rt.alloc(), 26), &types);
-    assert_eq!(rt; ids, MapTypeIds { key: 5, value: 0 });
+    expect_all(&rt, rt.alloc(), &UNTYPED, MapTypeIds { key: 0, value: 0 })?;
+    expect_all(&rt, rt.alloc(), &TYPED, MapTypeIds { key: 5, value: 6 })?;
+    expect_all(&rt, rt.alloc(), &[26], MapTypeIds { key: 5, value: 0 })?;
     Ok(())
 }
 
 #[test]
 fn of_data_sections(rt: HostRuntime) -> Result<(), Fail> {
     let types = object_types(rt.alloc())?;
-    for (name, kind, value_size, value) in [
-        (".bss", EbpfSectionKind::Bss, 8, 2),
-        (".bss", EbpfSectionKind::Bss, 16, 0),
-        (".data", EbpfSectionKind::Data, 8, 3),
-        (".data", EbpfSectionKind::Data, 4, 0),
-        (".rodata", EbpfSectionKind::Rodata, 8, 0),
-        (".rodata.str1.1", EbpfSectionKind::Rodata, 8, 0),
-        (".data", EbpfSectionKind::Maps, 8, 0),
-    ] {
-        let map = data_map(rt.alloc(), kind, value_size)?;
+    for (name, kind, value_size, value) in &DATA {
+        let map = data_map(rt.alloc(), *kind, *value_size)?;
         let ids = map_types(name, &map, &types);
+        let value = *value;
         assert_eq!(rt;
             ids,
             MapTypeIds { key: 0, value },

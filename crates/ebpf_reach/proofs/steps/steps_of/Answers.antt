@@ -1,6 +1,7 @@
 use Rattle.std.proofs.Common.{◌≡◌, ℕ, ◌+◌, List, ◌++◌, sym, ap, ◌∙◌, refl, pos, ◌+ℤ◌, rules, arith, ℤ}
 use Rattle.std.specs.Option.{option_to_list}
-use Rattle.std.specs.Int.{w16, w32, FitsSigned, cast_signed, cast_unsigned}
+use Rattle.std.specs.Prelude.{FitsSigned}
+use Rattle.std.specs.Int.{w16, w32, cast_signed, cast_unsigned}
 use Rattle.std.proofs.lemmas.Int.{to_z-of_z}
 use Rattle.ebpf_parts.specs.Slots.{dst_of}
 use Rattle.ebpf_reach.specs.declared.registers.Registers.{Registers}

@@ -1,6 +1,6 @@
 //! What preparing a whole file answers, whose externs are sought in the lines that a reader or a text gives.
 
-use crate::answers::{Question, found};
+use super::answers::{Question, found};
 use ebpf_object::Object;
 use ebpf_object::prepare::{PrepareError, Steps, SymbolText, prepare};
 use std::alloc::{AllocError, Global};

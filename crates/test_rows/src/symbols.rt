@@ -1,20 +1,20 @@
-//! The actions, by name. Their words say the externs, or none where the file `object` is prepared; the lines are the
-//! file `kallsyms`.
+//! Actions on a list of a kernel's addresses, the file `kallsyms`, by name. Their words say the externs, or none where
+//! the file `object` is prepared. The reader of the list can fail.
 
-use crate::answers::{Question, Sought};
-use crate::given::externs_by;
-use crate::prepared::File;
+mod answers;
+mod file;
+mod given;
+
+use self::answers::{Question, Sought};
+use self::file::File;
+use self::given::externs_by;
 use ebpf_base::ByName;
 use ebpf_btf::Btf;
 use ebpf_ksyms::TextLines;
 use ebpf_reloc::ExternDesc;
 use std::alloc::{AllocError, Global};
 use std::io::ErrorKind;
-use test_cases::{Action, FailingReader, Files, Outcomes, front, no_action, shown, tally_each};
-
-/// What actions on lists of addresses give.
-#[derive(Clone, Copy, Debug)]
-pub struct LineOutcomes;
+use test_cases::{Action, FailingReader, Files, front, no_action, shown, tally_each};
 
 /// What is answered where these bytes are read and then the end or a failure, and whether they were asked for.
 fn answer_behind<Q: Question>(
@@ -80,24 +80,23 @@ fn lines_of(alloc: Global, bytes: &[u8]) -> Result<String, AllocError> {
     Ok(text)
 }
 
-impl Outcomes for LineOutcomes {
-    fn outcome(
-        &self,
-        alloc: Global,
-        files: &Files,
-        action: &Action<'_>,
-    ) -> Result<String, AllocError> {
-        let lines = files.get("kallsyms");
-        if action.name == "lines" {
-            return lines_of(alloc, lines);
-        }
-        if let Some(name) = action.name.strip_prefix("prepared_") {
-            let bytes = files.get("object");
-            return of_question(alloc, &File { bytes }, lines, name);
-        }
-        match externs_by(alloc, action.words.as_slice())? {
-            Some(externs) => of_externs(alloc, externs, lines, action.name),
-            None => no_action(alloc),
-        }
+/// What an action of this name gives.
+pub fn on_symbols(
+    alloc: Global,
+    files: &Files,
+    action: &Action<'_>,
+    name: &str,
+) -> Result<String, AllocError> {
+    let lines = files.get("kallsyms");
+    if name == "lines" {
+        return lines_of(alloc, lines);
+    }
+    if let Some(name) = name.strip_prefix("prepared_") {
+        let bytes = files.get("object");
+        return of_question(alloc, &File { bytes }, lines, name);
+    }
+    match externs_by(alloc, action.words.as_slice())? {
+        Some(externs) => of_externs(alloc, externs, lines, name),
+        None => no_action(alloc),
     }
 }

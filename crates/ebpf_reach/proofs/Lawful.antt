@@ -1,0 +1,54 @@
+-- What holds of each closed assignment, and of the least one.
+use Rattle.std.proofs.Common.{◌≡◌, ℕ, zero, suc, ◌<◌, Bool, true, false, List, [], ◌∷◌, length, get_or, map, Option, Some, None, refl, sym, ap, ◌∙◌, subst, inl, inr, arith, pos, negsuc, ℤ, ◌+ℤ◌, ◌⊎◌}
+use Rattle.std.specs.Prelude.{slice_get, IsSome, is_some}
+use Rattle.ebpf_parts.specs.declared.insn.bpf_insn.{bpf_insn}
+use Rattle.ebpf_reach.specs.declared.registers.Registers.{Registers}
+use Rattle.ebpf_reach.specs.declared.steps.Step.{Step}
+use Rattle.ebpf_reach.specs.Registers.{IsBelow, known, unknown}
+use Rattle.ebpf_reach.specs.Steps.{leads, steps}
+use Rattle.ebpf_reach.specs.Reached.{AreBelow, AreReached, Assignment, Holds, IsClosed, IsLeast, IsStateBelow, reached, state_at}
+use Rattle.ebpf_reach.specs.Visits.{AnswerIsOne, AreNumbers, Begins, ComesTo, GoesOn, IsStep, MachinesAreReached}
+use Rattle.ebpf_reach.proofs.Order.{below_through}
+use Rattle.ebpf_reach.proofs.Upward.{leads_held, steps_below}
+use Rattle.ebpf_reach.proofs.Searching.{nothing_there}
+
+same_flag : (x y : Option Registers) → IsStateBelow x y → IsStateBelow y x → is_some x ≡ is_some y
+same_flag None None p q = refl
+same_flag None (Some b) p q = absurd q
+same_flag (Some a) None p q = absurd p
+same_flag (Some a) (Some b) p q = refl
+
+same_flags : (A B : Assignment) → length A ≡ length B → AreBelow A B → AreBelow B A → reached A ≡ reached B
+same_flags [] [] h p q = refl
+same_flags [] (y ∷ B) h p q = absurd (omega arith)
+same_flags (x ∷ A) [] h p q = absurd (omega arith)
+same_flags (x ∷ A) (y ∷ B) h p q =
+    let first = same_flag x y (p 0) (q 0) in
+    let rest = same_flags A B (omega arith) (λ i. p (suc i)) (λ i. q (suc i)) in
+    cc
+
+pub answer_is_one : AnswerIsOne
+answer_is_one slots one other p q =
+    p.told ∙ (same_flags p.assignment q.assignment (p.least.closed.as_many ∙ sym q.least.closed.as_many) (p.least.least q.assignment q.least.closed) (q.least.least p.assignment p.least.closed) ∙ sym q.told)
+
+-- what holds a list of steps holds each of them
+holds_step : (A : Assignment) (s : List Step) (step : Step) → Holds A s → IsStep s step → IsStateBelow (Some step.registers) (state_at A step.place)
+holds_step A [] step h m = absurd m
+holds_step A (x ∷ s) step h (inl e) = let P : Step → Type 0 = λ u. IsStateBelow (Some u.registers) (state_at A u.place) in subst P e h.0
+holds_step A (x ∷ s) step h (inr m) = holds_step A s step h.1 m
+
+comes_below : (A : Assignment) (i : ℕ) (a b : Registers) (z : Option Registers) → state_at A i ≡ z → IsBelow a b → IsStateBelow (Some b) z → (c : Registers) × (state_at A i ≡ Some c) × IsBelow a c
+comes_below A i a b None is p q = absurd q
+comes_below A i a b (Some c) is p q = (c, is, below_through a b c p q)
+
+-- the machine's numbers are below nothing known
+numbers_below : (a : Registers) → AreNumbers a → IsBelow a unknown
+numbers_below a numbers = record { as_many = numbers.as_many; numbers = λ r n e. absurd (let none = nothing_there ℕ 11 r in cc) }
+
+pub machines_are_reached : MachinesAreReached
+machines_are_reached slots A closed _ _ (Begins a some numbers) =
+    comes_below A 0 a unknown (state_at A 0) refl (numbers_below a numbers) (leads_held slots A 0 unknown some closed.first)
+machines_are_reached slots A closed _ _ (GoesOn j a b step before is_step numbers below) =
+    let (c, is, under) = machines_are_reached slots A closed j a before in
+    let holds = steps_below slots A j a c under (closed.steps j c is) in
+    comes_below A step.place b step.registers (state_at A step.place) refl below (holds_step A (steps slots j a) step holds is_step)

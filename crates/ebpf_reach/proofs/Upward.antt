@@ -1,0 +1,94 @@
+-- What holds the steps of what is known holds those of what more is known.
+use Rattle.std.proofs.Common.{◌≡◌, ℕ, ◌+◌, ◌<◌, Bool, true, false, cond, List, [], ◌∷◌, ◌++◌, length, Option, Some, None, refl, sym, ap, ◌∙◌, subst, arith, ℤ, pos, negsuc, ◌+ℤ◌, nat_lt}
+use Rattle.std.specs.Prelude.{slice_get}
+use Rattle.std.proofs.lemmas.Bool.Decides.{nat_tests}
+use Rattle.ebpf_parts.specs.declared.insn.bpf_insn.{bpf_insn}
+use Rattle.ebpf_parts.specs.Slots.{dst_of}
+use Rattle.ebpf_linker.specs.Slots.{Flow, Return, Enter, Wide, Jump, Branch, Next, flow}
+use Rattle.ebpf_reach.specs.declared.registers.Registers.{Registers}
+use Rattle.ebpf_reach.specs.declared.steps.Step.{Step}
+use Rattle.ebpf_reach.specs.Registers.{IsBelow, unknown, learned, called}
+use Rattle.ebpf_reach.specs.Effects.{after, decided, loaded}
+use Rattle.ebpf_reach.specs.Steps.{behind, callback, follow, further, leads, steps, steps_at, ways}
+use Rattle.ebpf_reach.specs.Reached.{AreBelow, Assignment, Holds, IsStateBelow, state_at}
+use Rattle.ebpf_reach.proofs.Order.{Tells, below_itself, below_through, learned_below, called_below}
+use Rattle.ebpf_reach.proofs.Told.{after_below, decided_tells}
+
+pub state_below_itself : (x : Option Registers) → IsStateBelow x x
+state_below_itself None = tt
+state_below_itself (Some a) = below_itself a
+
+pub state_below_through : (x y z : Option Registers) → IsStateBelow x y → IsStateBelow y z → IsStateBelow x z
+state_below_through None y z p q = tt
+state_below_through (Some a) None z p q = absurd p
+state_below_through (Some a) (Some b) None p q = absurd q
+state_below_through (Some a) (Some b) (Some c) p q = below_through a b c p q
+
+pub holds_both : (A : Assignment) (s t : List Step) → Holds A s → Holds A t → Holds A (s ++ t)
+holds_both A [] t p q = q
+holds_both A (x ∷ s) t p q = (p.0, holds_both A s t p.1 q)
+
+pub holds_first : (A : Assignment) (s t : List Step) → Holds A (s ++ t) → Holds A s
+holds_first A [] t p = tt
+holds_first A (x ∷ s) t p = (p.0, holds_first A s t p.1)
+
+pub holds_second : (A : Assignment) (s t : List Step) → Holds A (s ++ t) → Holds A t
+holds_second A [] t p = p
+holds_second A (x ∷ s) t p = holds_second A s t p.1
+
+-- a higher assignment holds no less
+pub holds_above : (A B : Assignment) (s : List Step) → AreBelow A B → Holds A s → Holds B s
+holds_above A B [] p h = tt
+holds_above A B (x ∷ s) p h = (state_below_through (Some x.registers) (state_at A x.place) (state_at B x.place) h.0 (p x.place), holds_above A B s p h.1)
+
+one_below : (A : Assignment) (t : Bool) (n : ℕ) (a b : Registers) → IsBelow a b → Holds A (cond t (record { place = n; registers = b } ∷ []) []) → Holds A (cond t (record { place = n; registers = a } ∷ []) [])
+one_below A true n a b p h = (state_below_through (Some a) (Some b) (state_at A n) p h.0, tt)
+one_below A false n a b p h = tt
+
+leads_below : (slots : List bpf_insn) (A : Assignment) (x : ℤ) (a b : Registers) → IsBelow a b → Holds A (leads slots x b) → Holds A (leads slots x a)
+leads_below slots A (negsuc n) a b p h = tt
+leads_below slots A (pos n) a b p h = one_below A (nat_lt n (length slots)) n a b p h
+
+-- a jump that decides takes one of the two ways of one that doesn't
+ways_below : (A : Assignment) (x y : Option Bool) (s t u v : List Step) → Tells x y → (Holds A u → Holds A s) → (Holds A v → Holds A t) → Holds A (ways y u v) → Holds A (ways x s t)
+ways_below A None None s t u v p q r h = holds_both A s t (q (holds_first A u v h)) (r (holds_second A u v h))
+ways_below A (Some true) None s t u v p q r h = r (holds_second A u v h)
+ways_below A (Some false) None s t u v p q r h = q (holds_first A u v h)
+ways_below A None (Some d) s t u v p q r h = absurd (let e : None ≡ Some d = p d refl in cc)
+ways_below A (Some true) (Some true) s t u v p q r h = r h
+ways_below A (Some false) (Some false) s t u v p q r h = q h
+ways_below A (Some true) (Some false) s t u v p q r h = absurd (let e : Some true ≡ Some false = p false refl in cc)
+ways_below A (Some false) (Some true) s t u v p q r h = absurd (let e : Some false ≡ Some true = p true refl in cc)
+
+follow_below : (slots : List bpf_insn) (A : Assignment) (i : ℕ) (slot : bpf_insn) (a b : Registers) (f : Flow) → IsBelow a b → Holds A (follow slots i slot b f) → Holds A (follow slots i slot a f)
+follow_below slots A i slot a b Return p h = tt
+follow_below slots A i slot a b Enter p h =
+    let back = leads slots (behind i) (called b) in
+    let there = leads slots (further i slot.imm) unknown in
+    holds_both A (leads slots (behind i) (called a)) there (leads_below slots A (behind i) _ _ (called_below a b p) (holds_first A back there h)) (holds_second A back there h)
+follow_below slots A i slot a b Wide p h =
+    let next = leads slots (pos i +ℤ pos 2) (learned b (dst_of slot) (loaded slots i slot)) in
+    let there = callback slots i slot in
+    holds_both A (leads slots (pos i +ℤ pos 2) (learned a (dst_of slot) (loaded slots i slot))) there (leads_below slots A (pos i +ℤ pos 2) _ _ (learned_below a b (dst_of slot) _ _ p (λ n e. e)) (holds_first A next there h)) (holds_second A next there h)
+follow_below slots A i slot a b (Jump d) p h = leads_below slots A (further i d) a b p h
+follow_below slots A i slot a b (Branch d) p h =
+    ways_below A (decided slot a) (decided slot b) _ _ _ _ (decided_tells slot a b p) (leads_below slots A (behind i) a b p) (leads_below slots A (further i d) a b p) h
+follow_below slots A i slot a b Next p h = leads_below slots A (behind i) _ _ (after_below slot a b p) h
+
+steps_at_below : (slots : List bpf_insn) (A : Assignment) (i : ℕ) (x : Option bpf_insn) (a b : Registers) → IsBelow a b → Holds A (steps_at slots i b x) → Holds A (steps_at slots i a x)
+steps_at_below slots A i None a b p h = tt
+steps_at_below slots A i (Some slot) a b p h = follow_below slots A i slot a b (flow slot) p h
+
+pub steps_below : (slots : List bpf_insn) (A : Assignment) (i : ℕ) (a b : Registers) → IsBelow a b → Holds A (steps slots i b) → Holds A (steps slots i a)
+steps_below slots A i a b p h = steps_at_below slots A i (slice_get slots i) a b p h
+
+within_true : (n m : ℕ) → n < m → nat_lt n m ≡ true
+within_true n m h = grind (arith, nat_tests)
+
+one_held : (A : Assignment) (t : Bool) (n : ℕ) (a : Registers) → t ≡ true → Holds A (cond t (record { place = n; registers = a } ∷ []) []) → IsStateBelow (Some a) (state_at A n)
+one_held A true n a e h = h.0
+one_held A false n a e h = cc
+
+-- a step to a place of the program that is held
+pub leads_held : (slots : List bpf_insn) (A : Assignment) (n : ℕ) (a : Registers) → n < length slots → Holds A (leads slots (pos n) a) → IsStateBelow (Some a) (state_at A n)
+leads_held slots A n a within h = one_held A (nat_lt n (length slots)) n a (within_true n (length slots) within) h
