@@ -254,7 +254,8 @@ def unread(rows):
         rows.expect(f"{name}: summary", lines[-2], "memdrop.o: ok on 1 of 1 kernels, 2 of 2 programs; 1 not read")
         if name != "cut":
             rows.expect(f"{name}: errors", ran.stderr, f"ebpf: {name}: {sentence}\n")
-    rows.row("no such kernel", ["check", "memdrop.o", "nowhere"], 2, err="ebpf: nowhere: No such file or directory (os error 2)")
+    alone = "unread  -/2 programs  nowhere\n\nmemdrop.o: no kernel to tell of; 1 not read\n"
+    rows.row("no such kernel", ["check", "memdrop.o", "nowhere"], 2, alone, "ebpf: nowhere: No such file or directory (os error 2)")
     wins = rows.run("check", "memdrop.o", "btf/6.18", "nowhere")
     rows.expect("2 wins over 1", wins.returncode, 2)
     (rows.folder / "hollow").mkdir()
@@ -298,6 +299,9 @@ def lacks(rows):
     wanted = "  bpf_rcu_read_lock  <ksym>  no such function (a module's?)\n    on 1 of 1\n"
     rows.expect("an extern that is not: line", wanted in ran.stdout, True)
     rows.expect("an extern that is not: no program runs", ran.stdout.split("\n")[0], "breaks  2/2 programs  small")
+    shutil.copy(TOP / "crates" / "test_rows" / "data" / "references.o", rows.folder)
+    ran = rows.row("many externs that are not", ["check", "references.o", "small"], 1)
+    rows.expect("many externs that are not: two are told", ran.stdout.count("<ksym>"), 2)
 
 
 def names(rows):

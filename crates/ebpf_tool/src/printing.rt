@@ -260,7 +260,9 @@ fn write_summary<W: Write>(out: &mut W, session: &Session) -> io::Result<()> {
     let programs = session.loaded.programs.len();
     let broken = session.broken();
     let breaking = session.breaking_programs();
-    if broken > 0 {
+    if judged == 0 {
+        write!(out, "{file}: no kernel to tell of")?;
+    } else if broken > 0 {
         write!(
             out,
             "{file}: breaks on {broken} of {judged} kernels, {breaking} of {programs} programs"
