@@ -167,6 +167,9 @@ def example(rows):
     rows.row("the example", ["check", "memdrop.o", "btf/5.18", "btf/6.18"], 1, EXAMPLE_OUT)
     rows.row("a folder", ["check", "memdrop.o", "btf"], 1, EXAMPLE_OUT)
     rows.row("a folder with a slash", ["check", "memdrop.o", "btf/"], 1, EXAMPLE_OUT)
+    page = (TOP / "docs" / "TOOL.md").read_text().split("$ ebpf check memdrop.o btf; echo $?\n")[1]
+    told = "".join(line.removeprefix("    ") + "\n" for line in page.split("\n\nOf the newer")[0].split("\n"))
+    rows.expect("docs/TOOL.md: the example", told, EXAMPLE_OUT + "1\n")
     ok = rows.row("one kernel", ["check", "memdrop.o", "btf/5.18"], 0)
     rows.expect("one kernel: last line", ok.stdout.split("\n")[-2], "memdrop.o: ok on 1 of 1 kernels, 2 of 2 programs")
     chosen = rows.row("one program", ["check", "memdrop.o", "btf", "--program", "on_shrink"], 0)

@@ -91,7 +91,7 @@ fn holds_alike(local: &Btf, held: u32, kernel: &Btf, id: u32) -> Result<bool, Bt
 fn answer_for(
     local: &Btf,
     kernel: &Btf,
-    symbols: &KernelSymbols<'_>,
+    symbols: &KernelSymbols,
     name: &str,
     sort: Sort,
     held: u32,
@@ -110,7 +110,7 @@ fn answer_for(
 fn answer_of(
     local: &Btf,
     kernel: &Btf,
-    symbols: &KernelSymbols<'_>,
+    symbols: &KernelSymbols,
     name: &str,
     known: &ExternDesc,
 ) -> Answer {

@@ -4,7 +4,6 @@ use ebpf_base::ByName;
 use ebpf_btf::{Btf, BtfType};
 use ebpf_reloc::ExternDesc;
 use std::alloc::{AllocError, Global};
-use std::collections::BTreeMap;
 
 /// Whether a function or a variable is sought.
 #[derive(Clone, Copy, Debug, PartialEq, Eq)]
@@ -24,8 +23,8 @@ struct Ids {
 
 /// The functions and variables of a kernel that have the names of externs.
 #[derive(Drop)]
-pub struct KernelSymbols<'a> {
-    by_name: BTreeMap<&'a str, Ids>,
+pub struct KernelSymbols {
+    by_name: ByName<Ids>,
 }
 
 /// What stands before the first three underscores in a row, or the whole name.
@@ -37,24 +36,22 @@ fn without_flavor(name: &str) -> &str {
 }
 
 /// The names that externs are sought by: of a variable its own, of a function what stands before three underscores.
-fn sought_names<'a>(
-    alloc: Global,
-    externs: &'a ByName<ExternDesc>,
-) -> Result<BTreeMap<&'a str, Ids>, AllocError> {
-    let mut names = BTreeMap::new(alloc);
+fn sought_names(alloc: Global, externs: &ByName<ExternDesc>) -> Result<ByName<Ids>, AllocError> {
+    let mut names = ByName::new(alloc);
     let nothing = Ids {
         function: None,
         variable: None,
     };
     for (name, _) in externs.iter() {
-        names.insert(name.as_str(), nothing)?;
-        names.insert(without_flavor(name.as_str()), nothing)?;
+        names.insert(name.clone()?, nothing)?;
+        let front = without_flavor(name.as_str());
+        names.insert(String::from_str(alloc, front)?, nothing)?;
     }
     Ok(names)
 }
 
 /// Notes the id of a type, where it is a function or a variable and the first of its name.
-fn note_type(names: &mut BTreeMap<&str, Ids>, kernel: &Btf, ty: &BtfType, id: u32) {
+fn note_type(names: &mut ByName<Ids>, kernel: &Btf, ty: &BtfType, id: u32) {
     let is_function = match ty {
         BtfType::Func { .. } => true,
         BtfType::Var { .. } => false,
@@ -66,7 +63,7 @@ fn note_type(names: &mut BTreeMap<&str, Ids>, kernel: &Btf, ty: &BtfType, id: u3
     let Ok(name) = str::from_utf8(bytes) else {
         return;
     };
-    let Some(ids) = names.get_mut(&name) else {
+    let Some(ids) = names.get_mut(name) else {
         return;
     };
     if is_function {
@@ -76,13 +73,13 @@ fn note_type(names: &mut BTreeMap<&str, Ids>, kernel: &Btf, ty: &BtfType, id: u3
     }
 }
 
-impl<'a> KernelSymbols<'a> {
+impl KernelSymbols {
     /// The functions and variables of a kernel that have the names of externs, by one pass over its types.
     pub fn read(
         alloc: Global,
         kernel: &Btf,
-        externs: &'a ByName<ExternDesc>,
-    ) -> Result<KernelSymbols<'a>, AllocError> {
+        externs: &ByName<ExternDesc>,
+    ) -> Result<KernelSymbols, AllocError> {
         let mut by_name = sought_names(alloc, externs)?;
         if by_name.is_empty() {
             return Ok(KernelSymbols { by_name });
@@ -98,9 +95,9 @@ impl<'a> KernelSymbols<'a> {
         match sort {
             Sort::Function => {
                 let front = without_flavor(name);
-                self.by_name.get(&front)?.function
+                self.by_name.get(front)?.function
             }
-            Sort::Variable => self.by_name.get(&name)?.variable,
+            Sort::Variable => self.by_name.get(name)?.variable,
         }
     }
 }

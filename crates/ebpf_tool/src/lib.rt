@@ -28,3 +28,6 @@ mod wanted;
 mod words;
 
 pub use run::start;
+
+#[cfg(test)]
+mod tests;

@@ -273,7 +273,7 @@ fn write_summary<W: Write>(out: &mut W, session: &Session) -> io::Result<()> {
             "{file}: ok on {judged} of {judged} kernels, {programs} of {programs} programs"
         )?;
     }
-    let unread = session.kernels.len().saturating_sub(judged);
+    let unread = session.unread();
     if unread > 0 {
         write!(out, "; {unread} not read")?;
     }

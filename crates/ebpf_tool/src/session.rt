@@ -1,11 +1,24 @@
 //! An object over kernels, one after the other.
 
+ghost use Rattle.std.specs.Prelude.{◌≡◌};
+ghost use Rattle.ebpf_tool.specs.Statuses.{status_of};
+
 use crate::findings::{Findings, Rank};
 use crate::loaded::Loaded;
 use crate::verdict::judge_kernel;
 use ebpf_base::Text;
 use ebpf_btf::Btf;
 use std::alloc::{AllocError, Global};
+
+/// The status by how many kernels' types can't be read, and on how many kernels some program breaks.
+fn status_of(unread: usize, broken: usize) -> u8
+    ensures { result ≡ status_of unread broken }
+{
+    if unread > 0 {
+        return 2;
+    }
+    if broken > 0 { 1 } else { 0 }
+}
 
 /// What is known of a kernel.
 #[derive(Debug, Drop)]
@@ -100,6 +113,14 @@ impl Session {
             .count()
     }
 
+    /// How many kernels' types can't be read.
+    pub fn unread(&self) -> usize {
+        self.kernels
+            .iter()
+            .filter(|kernel| !kernel.is_judged())
+            .count()
+    }
+
     /// On how many kernels some program breaks.
     pub fn broken(&self) -> usize {
         self.kernels
@@ -124,10 +145,7 @@ impl Session {
     /// The status that the programs and kernels give: 2 where the types of a kernel can't be read, else 1 where some
     /// program breaks on some kernel, else 0.
     pub fn status(&self) -> u8 {
-        if self.judged() < self.kernels.len() {
-            return 2;
-        }
-        if self.broken() > 0 { 1 } else { 0 }
+        status_of(self.unread(), self.broken())
     }
 
     /// Whether something of a rank was found.
