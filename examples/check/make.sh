@@ -1,5 +1,6 @@
 #!/bin/sh
-# Makes memdrop.o and the two kernels' types in btf/ of the sources beside them, with clang and the tools of LLVM 14.
+# Makes memdrop.o and the two kernels' types in btf/ of the sources beside them, with clang and the tools of LLVM 14, and
+# copies them to crates/ebpf/data, on which the gate runs the program.
 set -e
 cd "$(dirname "$0")"
 made() {
@@ -12,3 +13,4 @@ for kernel in 5_18 6_18; do
     llvm-objcopy --dump-section .BTF=btf/"$(echo $kernel | tr _ .)" kernel.o
     rm kernel.o
 done
+cp memdrop.o btf/5.18 btf/6.18 ../../crates/ebpf/data/
