@@ -42,6 +42,15 @@ fn kernel_name(session: &Session, number: usize) -> Shown<'_> {
     }
 }
 
+/// Writes a name, behind a comma where it isn't the first.
+fn write_name<W: Write>(out: &mut W, name: Shown<'_>, is_first: bool) -> io::Result<()> {
+    if is_first {
+        write!(out, "{name}")
+    } else {
+        write!(out, ", {name}")
+    }
+}
+
 /// Writes the names of kernels: all, or the first three and how many more there are.
 fn write_names<W: Write>(
     out: &mut W,
@@ -55,11 +64,10 @@ fn write_names<W: Write>(
     } else {
         NAMED
     };
-    let mut comma = "";
+    let mut is_first = true;
     for number in kernels.iter().take(named) {
-        let name = kernel_name(session, *number);
-        write!(out, "{comma}{name}")?;
-        comma = ", ";
+        write_name(out, kernel_name(session, *number), is_first)?;
+        is_first = false;
     }
     if named < count {
         let more = count - named;

@@ -13,8 +13,11 @@ fn settings_in(types: &Btf) -> &[DataSecEntry] {
     let Ok(id) = types.id_by_type_name_kind(SETTINGS, BtfKind::DataSec) else {
         return &[];
     };
-    match types.type_by_id(id) {
-        Ok(BtfType::DataSec { entries, .. }) => entries.as_slice(),
+    let Ok(ty) = types.type_by_id(id) else {
+        return &[];
+    };
+    match ty {
+        BtfType::DataSec { entries, .. } => entries.as_slice(),
         _ => &[],
     }
 }
