@@ -1,0 +1,219 @@
+//! An object's externs over a kernel's types.
+
+use crate::kernel_symbols::{KernelSymbols, Sort};
+use crate::loaded::Loaded;
+use ebpf_base::{ByName, Text};
+use ebpf_btf::{Btf, BtfError, BtfType};
+use ebpf_candidates::types_are_compatible;
+use ebpf_reloc::ExternDesc;
+use std::alloc::{AllocError, Global};
+
+/// An extern that has to be there, and that a kernel lacks.
+#[derive(Drop)]
+pub struct Lacking {
+    /// Its name.
+    pub name: Text,
+    /// Why.
+    pub reason: String,
+}
+
+/// What is known of externs over a kernel.
+#[derive(Drop)]
+pub struct KernelExterns {
+    /// All externs, as they are written. One that the kernel lacks or whose address isn't known stands for a type's id,
+    /// so that nothing is said of its value.
+    pub written: ByName<ExternDesc>,
+    /// Those that the kernel lacks.
+    pub lacking: Vec<Lacking>,
+}
+
+/// What a kernel has for an extern with a type.
+#[derive(Debug, Drop)]
+enum Answer {
+    /// A function or variable with a type that fits, by its id.
+    Found(u32),
+    /// None of the name.
+    Missing(Sort),
+    /// One of the name with another type.
+    OtherType(Sort),
+    /// Types that can't be read, or an extern that is neither a function nor a variable.
+    Unreadable(BtfError),
+}
+
+/// An extern whose value isn't known.
+fn unknown(known: ExternDesc) -> ExternDesc {
+    ExternDesc {
+        kernel_btf_id: Some(1),
+        is_resolved: true,
+        ..known
+    }
+}
+
+/// An extern that a kernel has, by its id.
+fn resolved(known: ExternDesc, id: u32) -> ExternDesc {
+    ExternDesc {
+        kernel_btf_id: Some(id),
+        is_resolved: true,
+        ..known
+    }
+}
+
+/// An extern that a kernel lacks and may lack.
+fn left_out(known: ExternDesc) -> ExternDesc {
+    ExternDesc {
+        ksym_addr: Some(0),
+        ..known
+    }
+}
+
+/// Why a kernel has no extern.
+fn reason_of(alloc: Global, answer: &Answer) -> Result<String, AllocError> {
+    let words = match answer {
+        Answer::Missing(Sort::Function) => "no such function (a module's?)",
+        Answer::Missing(Sort::Variable) => "no such variable (a module's?)",
+        Answer::OtherType(Sort::Function) => "another signature",
+        Answer::OtherType(Sort::Variable) => "another type",
+        Answer::Unreadable(error) => return format!(in alloc; "{error}"),
+        Answer::Found(_) => "",
+    };
+    String::from_str(alloc, words)
+}
+
+/// Whether the type that a local function or variable holds stands for the one that the kernel's holds.
+fn holds_alike(local: &Btf, held: u32, kernel: &Btf, id: u32) -> Result<bool, BtfError> {
+    let one = local.resolve_type(held)?;
+    let other = kernel.type_by_id(id)?.btf_type().unwrap_or(0);
+    let other = kernel.resolve_type(other)?;
+    types_are_compatible(local, one, kernel, other)
+}
+
+/// What a kernel has for a function or variable that holds a type.
+fn answer_for(
+    local: &Btf,
+    kernel: &Btf,
+    symbols: &KernelSymbols,
+    name: &str,
+    sort: Sort,
+    held: u32,
+) -> Answer {
+    let Some(id) = symbols.id(sort, name) else {
+        return Answer::Missing(sort);
+    };
+    match holds_alike(local, held, kernel, id) {
+        Ok(true) => Answer::Found(id),
+        Ok(false) => Answer::OtherType(sort),
+        Err(error) => Answer::Unreadable(error),
+    }
+}
+
+/// What a kernel has for an extern of a name and an id.
+fn answer_of(
+    local: &Btf,
+    kernel: &Btf,
+    symbols: &KernelSymbols,
+    name: &str,
+    known: &ExternDesc,
+) -> Answer {
+    match local.type_by_id(known.btf_id) {
+        Ok(BtfType::Func { btf_type, .. }) => {
+            answer_for(local, kernel, symbols, name, Sort::Function, *btf_type)
+        }
+        Ok(BtfType::Var { btf_type, .. }) => {
+            answer_for(local, kernel, symbols, name, Sort::Variable, *btf_type)
+        }
+        Ok(_) => Answer::Unreadable(BtfError::InvalidDatasec),
+        Err(error) => Answer::Unreadable(error),
+    }
+}
+
+/// Notes an extern that a kernel lacks; how it is written.
+fn lack(
+    alloc: Global,
+    lacking: &mut Vec<Lacking>,
+    name: &str,
+    known: ExternDesc,
+    answer: &Answer,
+) -> Result<ExternDesc, AllocError> {
+    if known.is_weak {
+        return Ok(left_out(known));
+    }
+    lacking.push(Lacking {
+        name: Text::from_str(alloc, name)?,
+        reason: reason_of(alloc, answer)?,
+    })?;
+    Ok(unknown(known))
+}
+
+/// Notes what a kernel has for each extern with a type.
+fn add_typed(
+    alloc: Global,
+    local: &Btf,
+    kernel: &Btf,
+    typed: &ByName<ExternDesc>,
+    externs: &mut KernelExterns,
+) -> Result<(), AllocError> {
+    let symbols = KernelSymbols::read(alloc, kernel, typed)?;
+    for (name, known) in typed.iter() {
+        let name = name.as_str();
+        let written = match answer_of(local, kernel, &symbols, name, known) {
+            Answer::Found(id) => resolved(*known, id),
+            Answer::Unreadable(BtfError::OutOfMemory) => return Err(AllocError),
+            answer => lack(alloc, &mut externs.lacking, name, *known, &answer)?,
+        };
+        externs
+            .written
+            .insert(String::from_str(alloc, name)?, written)?;
+    }
+    Ok(())
+}
+
+/// Notes the externs of which nothing is known yet.
+fn add_unknown(
+    all: &ByName<ExternDesc>,
+    written: &mut ByName<ExternDesc>,
+) -> Result<(), AllocError> {
+    for (name, known) in all.iter() {
+        if written.contains_key(name.as_str()) {
+            continue;
+        }
+        written.insert(name.clone()?, unknown(*known))?;
+    }
+    Ok(())
+}
+
+/// An extern that the kernel's configuration gives, of which nothing is known.
+const SETTING: ExternDesc = ExternDesc {
+    btf_id: 0,
+    is_typed: false,
+    is_weak: false,
+    kernel_btf_id: Some(1),
+    ksym_addr: None,
+    is_resolved: true,
+};
+
+/// Notes the externs that the kernel's configuration gives.
+fn add_settings(names: &[Text], written: &mut ByName<ExternDesc>) -> Result<(), AllocError> {
+    for name in names {
+        let name = name.clone()?;
+        written.insert(name.into_string(), SETTING)?;
+    }
+    Ok(())
+}
+
+/// What is known of an object's externs over a kernel: those with a type are sought in its types.
+pub fn kernel_externs(
+    alloc: Global,
+    loaded: &Loaded,
+    kernel: &Btf,
+) -> Result<KernelExterns, AllocError> {
+    let mut externs = KernelExterns {
+        written: ByName::new(alloc),
+        lacking: Vec::new(alloc),
+    };
+    if let Some(local) = &loaded.object.btf {
+        add_typed(alloc, local, kernel, &loaded.typed, &mut externs)?;
+    }
+    add_unknown(&loaded.object.externs, &mut externs.written)?;
+    add_settings(loaded.settings.as_slice(), &mut externs.written)?;
+    Ok(externs)
+}

@@ -1,0 +1,33 @@
+//! What `ebpf` says of itself.
+
+/// The usage line of `ebpf check`.
+pub const CHECK_USAGE: &str =
+    "usage: ebpf check FILE [KERNEL ..] [--program NAME ..] [--all] [--json]";
+
+/// What `ebpf --help` prints.
+pub const HELP: &str = "usage: ebpf COMMAND ..
+       ebpf --help | --version
+
+  check    whether an object's programs run on kernels
+
+ebpf COMMAND --help says more of a command.";
+
+/// What `ebpf check --help` prints behind the usage line.
+pub const CHECK_HELP: &str = "
+Tells on which kernels the programs of an eBPF object file break, and why: which
+fields, types and enumerators they need that a kernel lacks.
+
+  FILE            an object file, as clang makes it
+  KERNEL          a kernel's types: raw BTF, an ELF file with a section .BTF, or a
+                  folder of such files; /sys/kernel/btf/vmlinux where none is named
+  --program NAME  looks at this program; may be repeated
+  --all           names every kernel, and tells each offset that moved
+  -j, --json      prints JSON
+  -h, --help      prints this
+  -V, --version   prints the version
+
+Status: 0 each program runs on each kernel; 1 one breaks, or FILE is refused;
+2 for other words, and where a file or a kernel's types can't be read.";
+
+/// What `ebpf --version` prints.
+pub const VERSION: &str = "ebpf 0.1.0";

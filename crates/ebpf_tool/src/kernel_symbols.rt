@@ -1,0 +1,103 @@
+//! The functions and variables of a kernel, by their names.
+
+use ebpf_base::ByName;
+use ebpf_btf::{Btf, BtfType};
+use ebpf_reloc::ExternDesc;
+use std::alloc::{AllocError, Global};
+
+/// Whether a function or a variable is sought.
+#[derive(Clone, Copy, Debug, PartialEq, Eq)]
+pub enum Sort {
+    /// A function.
+    Function,
+    /// A variable.
+    Variable,
+}
+
+/// The lowest ids of the FUNC and the VAR of a name.
+#[derive(Clone, Copy, Debug, PartialEq, Eq)]
+struct Ids {
+    function: Option<u32>,
+    variable: Option<u32>,
+}
+
+/// The functions and variables of a kernel that have the names of externs.
+#[derive(Drop)]
+pub struct KernelSymbols {
+    by_name: ByName<Ids>,
+}
+
+/// What stands before the first three underscores in a row, or the whole name.
+fn without_flavor(name: &str) -> &str {
+    match name.split_once("___") {
+        Some((front, _)) => front,
+        None => name,
+    }
+}
+
+/// The names that externs are sought by: of a variable its own, of a function what stands before three underscores.
+fn sought_names(alloc: Global, externs: &ByName<ExternDesc>) -> Result<ByName<Ids>, AllocError> {
+    let mut names = ByName::new(alloc);
+    let nothing = Ids {
+        function: None,
+        variable: None,
+    };
+    for (name, _) in externs.iter() {
+        names.insert(name.clone()?, nothing)?;
+        let front = without_flavor(name.as_str());
+        names.insert(String::from_str(alloc, front)?, nothing)?;
+    }
+    Ok(names)
+}
+
+/// Notes the id of a type, where it is a function or a variable and the first of its name.
+fn note_type(names: &mut ByName<Ids>, kernel: &Btf, ty: &BtfType, id: u32) {
+    let is_function = match ty {
+        BtfType::Func { .. } => true,
+        BtfType::Var { .. } => false,
+        _ => return,
+    };
+    let Ok(bytes) = kernel.bytes_at(ty.name_offset()) else {
+        return;
+    };
+    let Ok(name) = str::from_utf8(bytes) else {
+        return;
+    };
+    let Some(ids) = names.get_mut(name) else {
+        return;
+    };
+    if is_function {
+        ids.function = ids.function.or(Some(id));
+    } else {
+        ids.variable = ids.variable.or(Some(id));
+    }
+}
+
+impl KernelSymbols {
+    /// The functions and variables of a kernel that have the names of externs, by one pass over its types.
+    pub fn read(
+        alloc: Global,
+        kernel: &Btf,
+        externs: &ByName<ExternDesc>,
+    ) -> Result<KernelSymbols, AllocError> {
+        let mut by_name = sought_names(alloc, externs)?;
+        if by_name.is_empty() {
+            return Ok(KernelSymbols { by_name });
+        }
+        for (id, ty) in kernel.types().iter().enumerate() {
+            note_type(&mut by_name, kernel, ty, id as u32);
+        }
+        Ok(KernelSymbols { by_name })
+    }
+
+    /// The lowest id of the function or variable that an extern of a name stands for.
+    pub fn id(&self, sort: Sort, name: &str) -> Option<u32> {
+        match sort {
+            Sort::Function => {
+                let front = without_flavor(name);
+                self.by_name.get(front)?.function
+            }
+            Sort::Variable => self.by_name.get(name)?.variable,
+        }
+    }
+}

@@ -1,0 +1,114 @@
+//! The source lines of a linked program's slots.
+
+use ebpf_base::Text;
+use ebpf_btf::Btf;
+use ebpf_ext::bpf_line_info;
+use ebpf_reloc::Function;
+use std::alloc::{AllocError, Global};
+
+/// A slot in the copy of a function.
+#[derive(Clone, Copy, Debug, PartialEq, Eq)]
+pub struct Span {
+    /// Where the copy begins.
+    pub begin: usize,
+    /// Where it ends.
+    pub end: usize,
+    /// The slot.
+    pub slot: usize,
+    /// Whether the compiler gives the slot no line of its own, but those that use what it loads.
+    pub leads: bool,
+}
+
+/// The source lines of a program's slots.
+#[derive(Drop)]
+pub struct Lines<'a> {
+    records: &'a [bpf_line_info],
+    /// For each slot the number of the record that begins there, else the number of records.
+    begins: Vec<usize>,
+}
+
+/// A table in which no record begins anywhere.
+fn empty_table(alloc: Global, slots: usize, none: usize) -> Result<Vec<usize>, AllocError> {
+    let mut begins = Vec::with_capacity(alloc, slots)?;
+    for _ in 0..slots {
+        begins.push(none)?;
+    }
+    Ok(begins)
+}
+
+/// Notes where records begin; of several at a slot the last one stands.
+fn note_records(begins: &mut [usize], records: &[bpf_line_info]) {
+    for (number, record) in records.iter().enumerate() {
+        if let Some(place) = begins.get_mut(record.insn_off as usize) {
+            *place = number;
+        }
+    }
+}
+
+impl<'a> Lines<'a> {
+    /// The lines of a linked program.
+    pub fn new(alloc: Global, function: &'a Function) -> Result<Lines<'a>, AllocError> {
+        let records = function.line_info.line_info.as_slice();
+        let slots = function.instructions.len();
+        let mut begins = empty_table(alloc, slots, records.len())?;
+        note_records(&mut begins, records);
+        Ok(Lines { records, begins })
+    }
+
+    /// The record of a number, where it names a line.
+    fn naming(&self, number: usize) -> Option<&'a bpf_line_info> {
+        let record = self.records.get(number)?;
+        if record.line_col >> 10 == 0 {
+            return None;
+        }
+        Some(record)
+    }
+
+    /// The last record that begins at some slots and names a line.
+    fn last_in(&self, begin: usize, end: usize) -> Option<&'a bpf_line_info> {
+        for number in self.begins.get(begin..end)?.iter().rev() {
+            if let Some(record) = self.naming(*number) {
+                return Some(record);
+            }
+        }
+        None
+    }
+
+    /// The first record that begins at some slots and names a line.
+    fn first_in(&self, begin: usize, end: usize) -> Option<&'a bpf_line_info> {
+        for number in self.begins.get(begin..end)?.iter() {
+            if let Some(record) = self.naming(*number) {
+                return Some(record);
+            }
+        }
+        None
+    }
+
+    /// The record of a slot: where it leads the instructions behind it, which have lines of their own, the first one from
+    /// it on; else, and where there is none, the last one up to it.
+    fn record(&self, span: Span) -> Option<&'a bpf_line_info> {
+        if span.leads {
+            if let Some(record) = self.first_in(span.slot, span.end) {
+                return Some(record);
+            }
+        }
+        self.last_in(span.begin, span.slot.saturating_add(1))
+    }
+
+    /// The file and the number of the line of a slot, where they are told and can be read.
+    pub fn of(
+        &self,
+        alloc: Global,
+        local: Option<&Btf>,
+        span: Span,
+    ) -> Result<Option<(Text, u32)>, AllocError> {
+        let (Some(local), Some(record)) = (local, self.record(span)) else {
+            return Ok(None);
+        };
+        let Ok(file) = local.string_at(record.file_name_off) else {
+            return Ok(None);
+        };
+        let file = Text::from_str(alloc, file.as_str())?;
+        Ok(Some((file, record.line_col >> 10)))
+    }
+}

@@ -1,0 +1,229 @@
+//! The programs of an object as a kernel would get them.
+
+use crate::loaded::Loaded;
+use crate::programs::Chosen;
+use ebpf_base::{ByKey, ByName, Items};
+use ebpf_core_relo::put_slots;
+use ebpf_object::Object;
+use ebpf_object::prepare::{PrepareError, relocate_own_maps};
+use ebpf_object::relocation::ProgramMaps;
+use ebpf_parts::insn::bpf_insn;
+use ebpf_reach::reached_slots;
+use ebpf_reloc::{
+    CodeCopy, EbpfRelocationError, ExternDesc, Function, Linkable, ProgramKey, RelocationError,
+    relocate_calls,
+};
+use std::alloc::{AllocError, Global};
+use std::collections::HashSet;
+
+/// A program, linked.
+#[derive(Drop)]
+pub struct Linked {
+    /// Its function with all slots, and the records of their lines.
+    pub function: Function,
+    /// The copies that it is made of.
+    pub copies: Items<CodeCopy>,
+    /// The slots that are reached.
+    pub reached: Items<bool>,
+}
+
+/// Why a program, or all, can't be linked, in a sentence.
+pub type Refusal = String;
+
+/// Descriptors of an object's own maps: 1 and on, in byte order of their names.
+fn own_descriptors(alloc: Global, object: &Object) -> Result<Vec<(&str, i32)>, AllocError> {
+    let mut described = Vec::with_capacity(alloc, object.maps.len())?;
+    let mut descriptor: i32 = 0;
+    for (name, _) in object.maps.iter() {
+        descriptor = descriptor.saturating_add(1);
+        described.push((name.as_str(), descriptor))?;
+    }
+    Ok(described)
+}
+
+/// Whether memory was refused.
+fn is_memory(error: &EbpfRelocationError) -> bool {
+    matches!(error.error, RelocationError::OutOfMemory)
+}
+
+/// The refusal of a pass, in a sentence.
+///
+/// # Errors
+///
+/// `AllocError` where memory was refused, in the pass or for the sentence.
+fn explained(alloc: Global, object: &Object, error: PrepareError) -> Result<Refusal, AllocError> {
+    let for_memory = match &error {
+        PrepareError::OutOfMemory => true,
+        PrepareError::Maps(refusal)
+        | PrepareError::Externs(refusal)
+        | PrepareError::Calls(refusal) => is_memory(refusal),
+        _ => false,
+    };
+    if for_memory {
+        return Err(AllocError);
+    }
+    let explained = object.explain(&error);
+    format!(in alloc; "{explained}")
+}
+
+/// Writes descriptors of an object's own maps and what is known of its externs.
+fn write_passes(
+    alloc: Global,
+    object: &mut Object,
+    descriptors: &[(&str, i32)],
+) -> Result<(), PrepareError> {
+    relocate_own_maps(alloc, object, descriptors)?;
+    match object.relocate_externs() {
+        Ok(()) => Ok(()),
+        Err(error) => Err(PrepareError::Externs(error)),
+    }
+}
+
+/// An object as it is over a kernel before its programs are linked: with the slots that records write, descriptors of its
+/// maps and what is known of externs.
+///
+/// # Errors
+///
+/// The outer one where memory is refused, the inner where a pass refuses.
+pub fn written_object(
+    alloc: Global,
+    loaded: &Loaded,
+    written: ByKey<Items<bpf_insn>>,
+    externs: ByName<ExternDesc>,
+) -> Result<Result<Object, Refusal>, AllocError> {
+    let descriptors = own_descriptors(alloc, &loaded.object)?;
+    let mut object = loaded.object.clone()?;
+    object.externs = externs;
+    put_slots(&mut object.functions, written);
+    match write_passes(alloc, &mut object, &descriptors) {
+        Ok(()) => Ok(Ok(object)),
+        Err(error) => Ok(Err(explained(alloc, &object, error)?)),
+    }
+}
+
+/// What the linker needs of a program.
+fn key_of(program: &Chosen) -> ProgramKey<'_> {
+    ProgramKey {
+        name: program.name.as_str(),
+        section_index: program.key.0,
+        address: program.key.1,
+    }
+}
+
+/// What the linker needs of each program.
+fn keys_of(alloc: Global, programs: &[Chosen]) -> Result<Vec<ProgramKey<'_>>, AllocError> {
+    let mut keys = Vec::with_capacity(alloc, programs.len())?;
+    for program in programs {
+        keys.push(key_of(program))?;
+    }
+    Ok(keys)
+}
+
+/// Links programs of an object.
+///
+/// # Errors
+///
+/// The outer one where memory is refused, the inner that of the first program that can't be linked.
+fn link(
+    alloc: Global,
+    object: &Object,
+    sections: &HashSet<usize>,
+    keys: &[ProgramKey<'_>],
+) -> Result<Result<ByKey<Function>, EbpfRelocationError>, AllocError> {
+    let parts = Linkable {
+        functions: &object.functions,
+        symbols: &object.symbol_table,
+        relocations: &object.relocations,
+        text_sections: sections,
+    };
+    match relocate_calls(alloc, keys, &parts) {
+        Ok(linked) => Ok(Ok(linked)),
+        Err(error) if is_memory(&error) => Err(AllocError),
+        Err(error) => Ok(Err(error)),
+    }
+}
+
+/// Programs, linked together or, where one of them is refused, each alone.
+#[derive(Drop)]
+pub struct Linker<'a> {
+    object: &'a Object,
+    sections: &'a HashSet<usize>,
+    maps: ProgramMaps<'a>,
+    /// All programs, where none is refused.
+    together: Option<ByKey<Function>>,
+}
+
+impl<'a> Linker<'a> {
+    /// Links the programs that count; `sections` has the numbers of the sections with functions.
+    pub fn new(
+        alloc: Global,
+        object: &'a Object,
+        sections: &'a HashSet<usize>,
+        programs: &[Chosen],
+    ) -> Result<Linker<'a>, AllocError> {
+        let Ok(maps) = object.program_maps(sections) else {
+            return Err(AllocError);
+        };
+        let keys = keys_of(alloc, programs)?;
+        let together = link(alloc, object, sections, &keys)?.ok();
+        Ok(Linker {
+            object,
+            sections,
+            maps,
+            together,
+        })
+    }
+
+    /// The function of a program, linked.
+    fn function(
+        &self,
+        alloc: Global,
+        program: &Chosen,
+    ) -> Result<Result<Option<Function>, Refusal>, AllocError> {
+        if let Some(together) = &self.together {
+            return match together.get(program.key) {
+                Some(function) => Ok(Ok(Some(function.clone()?))),
+                None => Ok(Ok(None)),
+            };
+        }
+        let keys = [key_of(program)];
+        match link(alloc, self.object, self.sections, &keys)? {
+            Ok(mut linked) => Ok(Ok(linked.remove(program.key))),
+            Err(error) => Ok(Err(explained(alloc, self.object, PrepareError::Calls(error))?)),
+        }
+    }
+
+    /// The copies that a program is made of.
+    fn copies(&self, alloc: Global, program: &Chosen) -> Result<Items<CodeCopy>, AllocError> {
+        match self.maps.of(program.name.as_str()) {
+            Ok(Some(map)) => Ok(map.copies),
+            Ok(None) => Ok(Items::new(alloc)),
+            Err(error) if is_memory(&error) => Err(AllocError),
+            Err(_) => Ok(Items::new(alloc)),
+        }
+    }
+
+    /// A program, linked, or why it can't be. None where the object has no function of it.
+    ///
+    /// # Errors
+    ///
+    /// The outer one where memory is refused.
+    pub fn linked(
+        &self,
+        alloc: Global,
+        program: &Chosen,
+    ) -> Result<Result<Option<Linked>, Refusal>, AllocError> {
+        let function = match self.function(alloc, program)? {
+            Ok(Some(function)) => function,
+            Ok(None) => return Ok(Ok(None)),
+            Err(sentence) => return Ok(Err(sentence)),
+        };
+        let copies = self.copies(alloc, program)?;
+        let reached = reached_slots(alloc, function.instructions.as_slice())?;
+        Ok(Ok(Some(Linked {
+            function,
+            copies,
+            reached,
+        })))
+    }
+}

@@ -1,0 +1,104 @@
+//! An object, read once for all kernels.
+
+use crate::map_uses::{MapUse, map_uses};
+use crate::own_values::own_value;
+use crate::programs::{Chosen, section_names};
+use crate::wanted::wanted_settings;
+use ebpf_base::{ByKey, ByName, Items, Text};
+use ebpf_btf::Btf;
+use ebpf_ext::Relocation;
+use ebpf_object::Object;
+use ebpf_object::obj::ParseError;
+use ebpf_parts::Reading;
+use ebpf_reloc::ExternDesc;
+use std::alloc::{AllocError, Global};
+
+/// A CO-RE relocation.
+#[derive(Clone, Copy, Debug, PartialEq, Eq)]
+pub struct Record {
+    /// What is asked.
+    pub relocation: Relocation,
+    /// What the object's own types answer, where it is told that a kernel answers otherwise.
+    pub own: Option<u64>,
+}
+
+/// An object, with what is asked of it.
+#[derive(Drop)]
+pub struct Loaded {
+    /// The object, read broadly.
+    pub object: Object,
+    /// The programs that count, in byte order of their names.
+    pub programs: Vec<Chosen>,
+    /// Its records, section by section and in order.
+    pub records: Vec<Record>,
+    /// The maps that functions use, by the functions' keys.
+    pub map_uses: ByKey<Items<MapUse>>,
+    /// The externs with a type.
+    pub typed: ByName<ExternDesc>,
+    /// The names of the externs that the kernel's configuration gives.
+    pub settings: Items<Text>,
+}
+
+/// Adds the records of a section.
+fn add_records(
+    alloc: Global,
+    records: &mut Vec<Record>,
+    local: &Btf,
+    relocations: &[Relocation],
+    all: bool,
+) -> Result<(), AllocError> {
+    for relocation in relocations {
+        let own = own_value(alloc, local, relocation, all);
+        records.push(Record {
+            relocation: *relocation,
+            own,
+        })?;
+    }
+    Ok(())
+}
+
+/// The records of an object; none of one without types.
+fn records_of(alloc: Global, object: &Object, all: bool) -> Result<Vec<Record>, AllocError> {
+    let mut records = Vec::new(alloc);
+    let (Some(local), Some(said)) = (&object.btf, &object.btf_ext) else {
+        return Ok(records);
+    };
+    for section in said.relocations() {
+        add_records(alloc, &mut records, local, section.1.as_slice(), all)?;
+    }
+    Ok(records)
+}
+
+/// The externs with a type.
+fn typed_externs(alloc: Global, object: &Object) -> Result<ByName<ExternDesc>, AllocError> {
+    let mut typed = ByName::new(alloc);
+    for (name, known) in object.externs.iter() {
+        if !known.is_typed {
+            continue;
+        }
+        typed.insert(name.clone()?, *known)?;
+    }
+    Ok(typed)
+}
+
+/// Reads an object's file, with all its programs; `all` says whether each value that a kernel may change is told.
+///
+/// # Errors
+///
+/// The reader's own; `OutOfMemory` where memory is refused.
+pub fn load(alloc: Global, file: &[u8], all: bool) -> Result<Loaded, ParseError> {
+    let object = Object::parse_as(alloc, file, Reading::Broad)?;
+    let records = records_of(alloc, &object, all)?;
+    let programs = section_names(alloc, file, &object)?;
+    let map_uses = map_uses(alloc, &object)?;
+    let typed = typed_externs(alloc, &object)?;
+    let settings = wanted_settings(alloc, &object)?;
+    Ok(Loaded {
+        object,
+        programs,
+        records,
+        map_uses,
+        typed,
+        settings,
+    })
+}

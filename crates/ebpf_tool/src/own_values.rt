@@ -1,0 +1,64 @@
+//! What records ask, answered by the object's own types.
+
+use ebpf_btf::{Btf, BtfKind};
+use ebpf_core::{NamedPath, local_path, outcome_among};
+use ebpf_ext::{Relocation, RelocationKind};
+use ebpf_places::{Place, PlaceEnd};
+use std::alloc::Global;
+
+/// The id of the type of the member with a number.
+fn member_type(local: &Btf, parent: u32, index: usize) -> Option<u32> {
+    let ty = local.type_by_id(parent).ok()?;
+    let member = ty.members()?.get(index)?;
+    Some(member.btf_type)
+}
+
+/// The id of the type of the field at a place.
+fn field_type(local: &Btf, place: Place) -> Option<u32> {
+    match place.end {
+        PlaceEnd::Element { type_id } => Some(type_id),
+        PlaceEnd::Member { parent, index } => member_type(local, parent, index),
+    }
+}
+
+/// Whether the field at a place is an integer, an enumeration or a pointer.
+fn is_scalar(local: &Btf, place: Place) -> bool {
+    let Some(type_id) = field_type(local, place) else {
+        return false;
+    };
+    match local.resolved_type(type_id) {
+        Ok(ty) => matches!(
+            ty.kind(),
+            BtfKind::Int | BtfKind::Enum | BtfKind::Enum64 | BtfKind::Ptr
+        ),
+        Err(_) => false,
+    }
+}
+
+/// Whether a record's value is told where a kernel has another one: of an enumerator, and of the size of an integer, an
+/// enumeration or a pointer; where all is told each that a kernel may change.
+fn is_told(local: &Btf, kind: RelocationKind, path: &NamedPath, all: bool) -> bool {
+    match (kind, path) {
+        (RelocationKind::EnumVariantValue, _) => true,
+        (RelocationKind::FieldByteSize, NamedPath::Field { place, .. }) => {
+            all || is_scalar(local, *place)
+        }
+        (RelocationKind::TypeIdLocal, _)
+        | (RelocationKind::TypeIdTarget, _)
+        | (RelocationKind::FieldExists, _)
+        | (RelocationKind::TypeExists, _)
+        | (RelocationKind::EnumVariantExists, _) => false,
+        _ => all,
+    }
+}
+
+/// The value that the object's own types give a record, where another one is told. None where they give none.
+pub fn own_value(alloc: Global, local: &Btf, relocation: &Relocation, all: bool) -> Option<u64> {
+    let path = local_path(alloc, local, relocation).ok()?;
+    if !is_told(local, relocation.kind, &path.path, all) {
+        return None;
+    }
+    let itself = [relocation.type_id];
+    let outcome = outcome_among(alloc, local, local, relocation, &path, &itself).ok()?;
+    outcome.value
+}

@@ -1,0 +1,234 @@
+//! From the words of a command line to a status.
+
+use crate::files::{ListError, Unlisted, gather_words, kernel_paths, read_file};
+use crate::help::{CHECK_HELP, CHECK_USAGE, HELP, VERSION};
+use crate::json::write_json;
+use crate::kernels::kernel_types;
+use crate::loaded::{Loaded, load};
+use crate::names::Shown;
+use crate::printing::{Manner, write_findings, write_kernel};
+use crate::programs::{counting, unknown_name};
+use crate::session::{Answer, Session};
+use crate::words::{Asked, CheckWords, WordsError, read_words};
+use ebpf_base::Text;
+use ebpf_object::obj::ExplainedParse;
+use ebpf_parts::ParseError;
+use std::alloc::AllocError;
+use std::io::{self, BufWriter, ErrorKind, Stdout, Write};
+use std::process::ExitCode;
+
+/// Why the work ends before its end.
+#[derive(Debug, Drop)]
+enum Stop {
+    /// What was told already; with the status.
+    Told(u8),
+    /// The output can't be written.
+    Output(io::Error),
+    /// No memory was found.
+    Memory,
+}
+
+impl From<AllocError> for Stop {
+    fn from(_error: AllocError) -> Stop {
+        Stop::Memory
+    }
+}
+
+impl From<io::Error> for Stop {
+    fn from(error: io::Error) -> Stop {
+        Stop::Output(error)
+    }
+}
+
+/// Says why nothing more is done, and gives the status. An output whose reader is gone ends without a word.
+fn stopped(rt: &HostRuntime, stop: Stop) -> u8 {
+    match stop {
+        Stop::Told(status) => status,
+        Stop::Output(error) if matches!(error.kind(), ErrorKind::BrokenPipe) => 2,
+        Stop::Output(error) => {
+            let _ = eprintln!(rt; "ebpf: cannot write: {error}");
+            2
+        }
+        Stop::Memory => {
+            let _ = eprintln!(rt; "ebpf: out of memory");
+            2
+        }
+    }
+}
+
+/// Says what is wrong with a file, and gives the status.
+fn complain(rt: &HostRuntime, path: &str, error: &io::Error) -> Stop {
+    if matches!(error.kind(), ErrorKind::OutOfMemory) {
+        return Stop::Memory;
+    }
+    let path = Shown(path);
+    let _ = eprintln!(rt; "ebpf: {path}: {error}");
+    Stop::Told(2)
+}
+
+/// Says why the files that a word names can't be listed, and gives the status.
+fn refuse_kernel(rt: &HostRuntime, unlisted: &Unlisted<'_>) -> Stop {
+    match &unlisted.error {
+        ListError::Unreadable(error) => complain(rt, unlisted.path, error),
+        ListError::NoFile => {
+            let path = Shown(unlisted.path);
+            let error = &unlisted.error;
+            let _ = eprintln!(rt; "ebpf: {path}: {error}");
+            Stop::Told(2)
+        }
+    }
+}
+
+/// Says why words can't be read, with the usage line.
+fn usage(rt: &HostRuntime, error: &WordsError<'_>) -> u8 {
+    let _ = eprintln!(rt; "ebpf: {error}");
+    let _ = eprintln!(rt; "{CHECK_USAGE}");
+    2
+}
+
+/// Reads the object's file.
+fn load_file(rt: &HostRuntime, words: &CheckWords) -> Result<Loaded, Stop> {
+    let alloc = rt.alloc();
+    let path = words.file.as_str();
+    let file = match read_file(rt, path) {
+        Ok(file) => file,
+        Err(error) => return Err(complain(rt, path, &error)),
+    };
+    match load(alloc, &file, words.all) {
+        Ok(loaded) => Ok(loaded),
+        Err(ParseError::OutOfMemory) => Err(Stop::Memory),
+        Err(error) => {
+            let explained = ExplainedParse::new(&file, &error);
+            let sentence = format!(in alloc; "{explained}")?;
+            let path = Shown(path);
+            let sentence = Shown(sentence.as_str());
+            let _ = eprintln!(rt; "ebpf: {path}: {sentence}");
+            Err(Stop::Told(1))
+        }
+    }
+}
+
+/// Reads the object's file, and keeps the programs that count.
+fn load_chosen(rt: &HostRuntime, words: &CheckWords) -> Result<Loaded, Stop> {
+    let loaded = load_file(rt, words)?;
+    let names = words.programs.as_slice();
+    if let Some(name) = unknown_name(&loaded.programs, names) {
+        let path = Shown(words.file.as_str());
+        let name = Shown(name);
+        let _ = eprintln!(rt; "ebpf: {path}: no program {name}");
+        return Err(Stop::Told(2));
+    }
+    let programs = counting(rt.alloc(), loaded.programs, names)?;
+    Ok(Loaded { programs, ..loaded })
+}
+
+/// Judges the programs over the kernel of a path.
+fn judge_path(rt: &HostRuntime, session: &mut Session, path: &Text) -> Result<(), Stop> {
+    let alloc = rt.alloc();
+    let name = path.clone()?;
+    let bytes = match read_file(rt, path.as_str()) {
+        Ok(bytes) => bytes,
+        Err(error) if matches!(error.kind(), ErrorKind::OutOfMemory) => return Err(Stop::Memory),
+        Err(error) => {
+            let sentence = format!(in alloc; "{error}")?;
+            return Ok(session.note_unread(name, Text::from_string(sentence))?);
+        }
+    };
+    match kernel_types(alloc, &bytes, session.loaded.object.endianness) {
+        Ok(kernel) => {
+            drop(bytes);
+            Ok(session.judge(alloc, name, &kernel)?)
+        }
+        Err(error) => {
+            let sentence = format!(in alloc; "{error}")?;
+            Ok(session.note_unread(name, Text::from_string(sentence))?)
+        }
+    }
+}
+
+/// Tells a kernel's types that can't be read.
+fn tell_unread(rt: &HostRuntime, session: &Session) {
+    let Some(kernel) = session.kernels.last() else {
+        return;
+    };
+    if let Answer::Unread(sentence) = &kernel.answer {
+        let name = Shown(kernel.name.as_str());
+        let sentence = Shown(sentence.as_str());
+        let _ = eprintln!(rt; "ebpf: {name}: {sentence}");
+    }
+}
+
+/// Tells a kernel that is done.
+fn tell_kernel(out: &mut BufWriter<Stdout>, session: &Session) -> io::Result<()> {
+    let programs = session.loaded.programs.len();
+    match session.kernels.last() {
+        Some(kernel) => {
+            write_kernel(out, kernel, programs)?;
+            out.flush()
+        }
+        None => Ok(()),
+    }
+}
+
+/// Does what `ebpf check` is asked.
+fn check(rt: &HostRuntime, words: &CheckWords) -> Result<u8, Stop> {
+    let loaded = load_chosen(rt, words)?;
+    let paths = match kernel_paths(rt, words.kernels.as_slice()) {
+        Ok(paths) => paths,
+        Err(unlisted) => return Err(refuse_kernel(rt, &unlisted)),
+    };
+    let mut session = Session::new(rt.alloc(), words.file.clone()?, loaded);
+    let mut out = BufWriter::new(rt.alloc(), rt.stdout())?;
+    for path in paths.iter() {
+        judge_path(rt, &mut session, path)?;
+        tell_unread(rt, &session);
+        if !words.json {
+            tell_kernel(&mut out, &session)?;
+        }
+    }
+    if words.json {
+        write_json(&mut out, &session)?;
+    } else {
+        write_findings(&mut out, &session, Manner { all: words.all })?;
+    }
+    out.flush()?;
+    Ok(session.status())
+}
+
+/// Prints a text.
+fn tell(rt: &HostRuntime, text: &str) -> Result<u8, Stop> {
+    println!(rt; "{text}")?;
+    Ok(0)
+}
+
+/// Does what a command line asks.
+fn obey(rt: &HostRuntime, asked: &Asked) -> Result<u8, Stop> {
+    match asked {
+        Asked::Help => tell(rt, HELP),
+        Asked::CheckHelp => {
+            tell(rt, CHECK_USAGE)?;
+            tell(rt, CHECK_HELP)
+        }
+        Asked::Version => tell(rt, VERSION),
+        Asked::Check(words) => check(rt, words),
+    }
+}
+
+/// Runs `ebpf`: reads the words of its command line, does what they ask and gives the status.
+pub fn start(rt: &HostRuntime) -> ExitCode {
+    let words = match gather_words(rt) {
+        Ok(words) => words,
+        Err(error) => {
+            let _ = eprintln!(rt; "ebpf: {error}");
+            return ExitCode::from(2);
+        }
+    };
+    let asked = match read_words(rt.alloc(), &words) {
+        Ok(asked) => asked,
+        Err(error) => return ExitCode::from(usage(rt, &error)),
+    };
+    match obey(rt, &asked) {
+        Ok(status) => ExitCode::from(status),
+        Err(stop) => ExitCode::from(stopped(rt, stop)),
+    }
+}

@@ -1,0 +1,347 @@
+//! What a kernel means for the slots of a linked program.
+
+use crate::calls::judge_calls;
+use crate::findings::{At, Findings, Place, Rank, Topic};
+use crate::kinds::Kind;
+use crate::lines::{Lines, Span};
+use crate::linked::Linked;
+use crate::loaded::Record;
+use crate::map_uses::MapUse;
+use crate::record_names::record_name;
+use crate::verdict::{Answers, topic_of};
+use ebpf_btf::Btf;
+use ebpf_core_relo::{Absence, RecordResult, RelocationError};
+use ebpf_parts::insn::bpf_insn;
+use ebpf_reloc::CodeCopy;
+use std::alloc::{AllocError, Global};
+
+/// A linked program, whose slots are judged.
+#[derive(Drop)]
+pub struct Site<'a> {
+    /// The program's number.
+    number: usize,
+    linked: &'a Linked,
+    lines: Lines<'a>,
+}
+
+/// A slot of a copy.
+#[derive(Clone, Copy)]
+pub struct Spot<'a> {
+    /// The copy.
+    pub copy: &'a CodeCopy,
+    /// The slot in the function that is copied.
+    pub slot: usize,
+    /// Whether it loads a number for those behind it.
+    pub leads: bool,
+}
+
+impl Spot<'_> {
+    /// The slot in the program.
+    fn place(&self) -> usize {
+        self.copy.base.saturating_add(self.slot)
+    }
+
+    /// The slot in its copy.
+    fn span(&self) -> Span {
+        Span {
+            begin: self.copy.base,
+            end: self.copy.base.saturating_add(self.copy.slots),
+            slot: self.place(),
+            leads: self.leads,
+        }
+    }
+}
+
+impl<'a> Site<'a> {
+    /// A program of a number, linked.
+    pub fn new(alloc: Global, number: usize, linked: &'a Linked) -> Result<Site<'a>, AllocError> {
+        Ok(Site {
+            number,
+            linked,
+            lines: Lines::new(alloc, &linked.function)?,
+        })
+    }
+
+    /// A program as a whole.
+    pub fn whole(alloc: Global, number: usize) -> (At, Place) {
+        let place = Place {
+            within: None,
+            line: None,
+            kernels: Vec::new(alloc),
+        };
+        ((number, None), place)
+    }
+
+    /// Whether a slot is reached.
+    pub fn is_reached(&self, spot: Spot<'_>) -> bool {
+        match self.linked.reached.get(spot.place()) {
+            Some(reached) => *reached,
+            None => false,
+        }
+    }
+
+    /// The instruction of a slot.
+    pub fn instruction(&self, spot: Spot<'_>) -> Option<bpf_insn> {
+        self.linked.function.instructions.get(spot.place()).copied()
+    }
+
+    /// Where a slot stands.
+    pub fn place(
+        &self,
+        alloc: Global,
+        local: Option<&Btf>,
+        spot: Spot<'_>,
+    ) -> Result<(At, Place), AllocError> {
+        let within = if spot.copy.base == 0 {
+            None
+        } else {
+            Some((spot.copy.name.clone()?, spot.slot))
+        };
+        let line = self.lines.of(alloc, local, spot.span())?;
+        let place = Place {
+            within,
+            line,
+            kernels: Vec::new(alloc),
+        };
+        Ok(((self.number, Some(spot.place())), place))
+    }
+}
+
+/// The topic of a record at a source line.
+fn record_topic(
+    alloc: Global,
+    local: &Btf,
+    record: &Record,
+    place: &Place,
+    rank: Rank,
+    reason: String,
+) -> Result<Topic, AllocError> {
+    let (file, line) = match &place.line {
+        Some((file, line)) => (String::from_str(alloc, file.as_str())?, *line),
+        None => (String::new(alloc), 0),
+    };
+    Ok(Topic {
+        rank,
+        name: record_name(alloc, local, &record.relocation)?,
+        kind: Kind::of(record.relocation.kind),
+        file,
+        line,
+        reason,
+    })
+}
+
+/// Notes a record that has no value.
+fn note_record(
+    alloc: Global,
+    findings: &mut Findings,
+    answers: &Answers<'_>,
+    site: &Site<'_>,
+    spot: Spot<'_>,
+    record: &Record,
+    rank: Rank,
+    reason: String,
+) -> Result<(), AllocError> {
+    let Some(local) = &answers.loaded.object.btf else {
+        return Ok(());
+    };
+    let (at, place) = site.place(alloc, Some(local), spot)?;
+    let topic = record_topic(alloc, local, record, &place, rank, reason)?;
+    findings.add(topic, answers.kernel, Some((at, place)))
+}
+
+/// Why a record has no value, in words.
+fn absence_words(absence: Absence) -> &'static str {
+    match absence {
+        Absence::NoType => "no such type (a module's?)",
+        Absence::TypeOfAnotherKind => "a type of another kind",
+        Absence::NoMember => "no such member",
+        Absence::MemberOfAnotherKind => "a member of another kind",
+        Absence::NoEnumerator => "no such enumerator",
+        Absence::NoValue => "no value",
+    }
+}
+
+/// Notes a record whose value is absent; whether its program breaks.
+fn judge_absent(
+    alloc: Global,
+    findings: &mut Findings,
+    answers: &Answers<'_>,
+    site: &Site<'_>,
+    spot: Spot<'_>,
+    record: &Record,
+    absence: Absence,
+) -> Result<bool, AllocError> {
+    let breaks = site.is_reached(spot);
+    let rank = if breaks { Rank::Breaks } else { Rank::Guarded };
+    let reason = String::from_str(alloc, absence_words(absence))?;
+    note_record(alloc, findings, answers, site, spot, record, rank, reason)?;
+    Ok(breaks)
+}
+
+/// Notes a record that is refused.
+fn judge_refused(
+    alloc: Global,
+    findings: &mut Findings,
+    answers: &Answers<'_>,
+    site: &Site<'_>,
+    spot: Spot<'_>,
+    record: &Record,
+    error: &RelocationError,
+) -> Result<bool, AllocError> {
+    let reason = format!(in alloc; "refused: {error}")?;
+    let rank = Rank::Breaks;
+    note_record(alloc, findings, answers, site, spot, record, rank, reason)?;
+    Ok(true)
+}
+
+/// Notes a value that is another one than the object's own.
+fn note_value(
+    alloc: Global,
+    findings: &mut Findings,
+    answers: &Answers<'_>,
+    record: &Record,
+    value: Option<u64>,
+) -> Result<(), AllocError> {
+    let local = &answers.loaded.object.btf;
+    let (Some(own), Some(value), Some(local)) = (record.own, value, local) else {
+        return Ok(());
+    };
+    if own == value {
+        return Ok(());
+    }
+    let topic = Topic {
+        rank: Rank::Changed,
+        name: record_name(alloc, local, &record.relocation)?,
+        kind: Kind::of(record.relocation.kind),
+        file: String::new(alloc),
+        line: 0,
+        reason: String::new(alloc),
+    };
+    findings.add_changed(topic, answers.kernel, own, value)
+}
+
+/// Whether a slot, as the object has it, loads a number and nothing else: by its class it is no load from memory and no
+/// store.
+fn loads_number(answers: &Answers<'_>, copy: &CodeCopy, slot: usize) -> bool {
+    let Some(function) = answers.loaded.object.functions.get(copy.key) else {
+        return false;
+    };
+    match function.instructions.get(slot) {
+        Some(instruction) => matches!(instruction.code % 8, 0 | 4 | 7),
+        None => false,
+    }
+}
+
+/// Judges the record of a number; whether the program breaks by it.
+fn judge_record(
+    alloc: Global,
+    findings: &mut Findings,
+    answers: &Answers<'_>,
+    site: &Site<'_>,
+    copy: &CodeCopy,
+    number: usize,
+) -> Result<bool, AllocError> {
+    let (Some(outcome), Some(record)) = (
+        answers.outcomes.get(number),
+        answers.loaded.records.get(number),
+    ) else {
+        return Ok(false);
+    };
+    let slot = match outcome.slot {
+        Some(place) => place.slot,
+        None => return Ok(false),
+    };
+    let leads = loads_number(answers, copy, slot);
+    let spot = Spot { copy, slot, leads };
+    match &outcome.result {
+        RecordResult::Value(outcome) => {
+            note_value(alloc, findings, answers, record, outcome.value)?;
+            Ok(false)
+        }
+        RecordResult::Absent(absence) => {
+            judge_absent(alloc, findings, answers, site, spot, record, *absence)
+        }
+        RecordResult::Refused(error) => {
+            judge_refused(alloc, findings, answers, site, spot, record, error)
+        }
+    }
+}
+
+/// Judges the records of a copy; whether the program breaks by them.
+fn judge_records(
+    alloc: Global,
+    findings: &mut Findings,
+    answers: &Answers<'_>,
+    site: &Site<'_>,
+    copy: &CodeCopy,
+) -> Result<bool, AllocError> {
+    let mut breaks = false;
+    let Some(numbers) = answers.by_function.get(copy.key) else {
+        return Ok(false);
+    };
+    for number in numbers.iter() {
+        if judge_record(alloc, findings, answers, site, copy, *number)? {
+            breaks = true;
+        }
+    }
+    Ok(breaks)
+}
+
+/// Judges a map that a copy uses; whether the kernel has no type of its number.
+fn judge_map(
+    alloc: Global,
+    findings: &mut Findings,
+    answers: &Answers<'_>,
+    site: &Site<'_>,
+    copy: &CodeCopy,
+    used: &MapUse,
+) -> Result<bool, AllocError> {
+    if answers.numbers.knows_map_type(used.map_type) != Some(false) {
+        return Ok(false);
+    }
+    let slot = used.slot;
+    let local = answers.loaded.object.btf.as_ref();
+    let leads = false;
+    let place = site.place(alloc, local, Spot { copy, slot, leads })?;
+    let name = used.name.as_str();
+    let name = format!(in alloc; "map {name}")?;
+    let number = used.map_type;
+    let reason = format!(in alloc; "no map type {number}")?;
+    let topic = topic_of(alloc, name, Kind::MapType, reason);
+    findings.add(topic, answers.kernel, Some(place))?;
+    Ok(true)
+}
+
+/// Judges the maps that a copy uses; whether the program breaks by them.
+fn judge_maps(
+    alloc: Global,
+    findings: &mut Findings,
+    answers: &Answers<'_>,
+    site: &Site<'_>,
+    copy: &CodeCopy,
+) -> Result<bool, AllocError> {
+    let mut breaks = false;
+    let Some(uses) = answers.loaded.map_uses.get(copy.key) else {
+        return Ok(false);
+    };
+    for used in uses.iter() {
+        if judge_map(alloc, findings, answers, site, copy, used)? {
+            breaks = true;
+        }
+    }
+    Ok(breaks)
+}
+
+/// Judges a copy of a function in a linked program; whether the program breaks by it.
+pub fn judge_copy(
+    alloc: Global,
+    findings: &mut Findings,
+    answers: &Answers<'_>,
+    site: &Site<'_>,
+    copy: &CodeCopy,
+) -> Result<bool, AllocError> {
+    let by_records = judge_records(alloc, findings, answers, site, copy)?;
+    let by_maps = judge_maps(alloc, findings, answers, site, copy)?;
+    let by_calls = judge_calls(alloc, findings, answers, site, copy)?;
+    Ok(by_records || by_maps || by_calls)
+}

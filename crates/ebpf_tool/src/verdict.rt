@@ -1,0 +1,240 @@
+//! What a kernel means for each program.
+
+use crate::externs::{Lacking, kernel_externs};
+use crate::findings::{Findings, Rank, Topic};
+use crate::kinds::Kind;
+use crate::linked::{Linked, Linker, written_object};
+use crate::loaded::Loaded;
+use crate::sites::{Site, judge_copy};
+use ebpf_base::{ByKey, Items};
+use ebpf_btf::Btf;
+use ebpf_core_relo::RecordOutcome;
+use ebpf_loading::{AttachTarget, KernelNumbers, attach_target};
+use std::alloc::{AllocError, Global};
+
+/// A kernel's answers to an object.
+#[derive(Drop)]
+pub struct Answers<'a> {
+    /// The object.
+    pub loaded: &'a Loaded,
+    /// The kernel's number.
+    pub kernel: usize,
+    /// What each record comes to.
+    pub outcomes: Items<RecordOutcome>,
+    /// The numbers of the records of functions, by the functions' keys.
+    pub by_function: ByKey<Items<usize>>,
+    /// The numbers that the kernel knows.
+    pub numbers: KernelNumbers<'a>,
+}
+
+/// A topic that no source line stands for.
+pub fn topic_of(alloc: Global, name: String, kind: Kind, reason: String) -> Topic {
+    Topic {
+        rank: Rank::Breaks,
+        name,
+        kind,
+        file: String::new(alloc),
+        line: 0,
+        reason,
+    }
+}
+
+/// Adds the number of a record to those of its function.
+fn add_number(
+    alloc: Global,
+    by_function: &mut ByKey<Items<usize>>,
+    key: (usize, u64),
+    number: usize,
+) -> Result<(), AllocError> {
+    if let Some(numbers) = by_function.get_mut(key) {
+        numbers.push(number)?;
+        return Ok(());
+    }
+    let mut numbers = Items::new(alloc);
+    numbers.push(number)?;
+    by_function.insert(key, numbers)?;
+    Ok(())
+}
+
+/// The numbers of the records of functions.
+fn by_function(
+    alloc: Global,
+    records: &[RecordOutcome],
+) -> Result<ByKey<Items<usize>>, AllocError> {
+    let mut numbers = ByKey::new(alloc);
+    for (number, record) in records.iter().enumerate() {
+        let Some(slot) = record.slot else {
+            continue;
+        };
+        add_number(alloc, &mut numbers, slot.function, number)?;
+    }
+    Ok(numbers)
+}
+
+/// Notes the externs that a kernel lacks; then no program is loaded.
+fn note_lacking(
+    alloc: Global,
+    findings: &mut Findings,
+    kernel: usize,
+    lacking: Vec<Lacking>,
+) -> Result<(), AllocError> {
+    for extern_ in lacking {
+        let name = extern_.name.into_string();
+        let topic = topic_of(alloc, name, Kind::Ksym, extern_.reason);
+        findings.add(topic, kernel, None)?;
+    }
+    Ok(())
+}
+
+/// Whether programs of a section replace those of another object, whose types are asked.
+fn replaces(section: &str) -> bool {
+    section
+        .strip_prefix('?')
+        .unwrap_or(section)
+        .starts_with("freplace")
+}
+
+/// Notes that a kernel has no type for what a program is attached to; whether it has none.
+fn note_attach(
+    alloc: Global,
+    findings: &mut Findings,
+    answers: &Answers<'_>,
+    kernel: &Btf,
+    number: usize,
+    section: &str,
+) -> Result<bool, AllocError> {
+    if replaces(section) {
+        return Ok(false);
+    }
+    let AttachTarget::NotFound { name } = attach_target(alloc, section, kernel)? else {
+        return Ok(false);
+    };
+    let section = String::from_str(alloc, section)?;
+    let reason = format!(in alloc; "no such type {} (a module's?)", name.as_str())?;
+    let topic = topic_of(alloc, section, Kind::Attach, reason);
+    let place = Site::whole(alloc, number);
+    findings.add(topic, answers.kernel, Some(place))?;
+    Ok(true)
+}
+
+/// Notes that a program can't be linked.
+fn note_refused(
+    alloc: Global,
+    findings: &mut Findings,
+    answers: &Answers<'_>,
+    number: usize,
+    name: &str,
+    sentence: String,
+) -> Result<(), AllocError> {
+    let name = format!(in alloc; "program {name}")?;
+    let topic = topic_of(alloc, name, Kind::Linking, sentence);
+    let place = Site::whole(alloc, number);
+    findings.add(topic, answers.kernel, Some(place))
+}
+
+/// Judges the copies that a program is made of; whether it breaks.
+fn judge_linked(
+    alloc: Global,
+    findings: &mut Findings,
+    answers: &Answers<'_>,
+    number: usize,
+    linked: &Linked,
+) -> Result<bool, AllocError> {
+    let site = Site::new(alloc, number, linked)?;
+    let mut breaks = false;
+    for copy in linked.copies.iter() {
+        if judge_copy(alloc, findings, answers, &site, copy)? {
+            breaks = true;
+        }
+    }
+    Ok(breaks)
+}
+
+/// Judges a program; whether it breaks.
+fn judge_program(
+    alloc: Global,
+    findings: &mut Findings,
+    answers: &Answers<'_>,
+    linker: &Linker<'_>,
+    kernel: &Btf,
+    number: usize,
+) -> Result<bool, AllocError> {
+    let Some(program) = answers.loaded.programs.get(number) else {
+        return Ok(false);
+    };
+    let section = program.section.as_str();
+    let unattached = note_attach(alloc, findings, answers, kernel, number, section)?;
+    match linker.linked(alloc, program)? {
+        Ok(Some(linked)) => {
+            let breaks = judge_linked(alloc, findings, answers, number, &linked)?;
+            Ok(breaks || unattached)
+        }
+        Ok(None) => Ok(unattached),
+        Err(sentence) => {
+            let name = program.name.as_str();
+            note_refused(alloc, findings, answers, number, name, sentence)?;
+            Ok(true)
+        }
+    }
+}
+
+/// The same answer for each program.
+fn all_alike(alloc: Global, count: usize, breaks: bool) -> Result<Vec<bool>, AllocError> {
+    let mut all = Vec::with_capacity(alloc, count)?;
+    for _ in 0..count {
+        all.push(breaks)?;
+    }
+    Ok(all)
+}
+
+/// Judges each program; whether each breaks.
+fn judge_programs(
+    alloc: Global,
+    findings: &mut Findings,
+    answers: &Answers<'_>,
+    linker: &Linker<'_>,
+    kernel: &Btf,
+    lacks: bool,
+) -> Result<Vec<bool>, AllocError> {
+    let count = answers.loaded.programs.len();
+    let mut all = Vec::with_capacity(alloc, count)?;
+    for number in 0..count {
+        let breaks = judge_program(alloc, findings, answers, linker, kernel, number)?;
+        all.push(breaks || lacks)?;
+    }
+    Ok(all)
+}
+
+/// Notes what a kernel of a number means for the programs that count; whether each breaks.
+pub fn judge_kernel(
+    alloc: Global,
+    findings: &mut Findings,
+    loaded: &Loaded,
+    kernel: &Btf,
+    number: usize,
+) -> Result<Vec<bool>, AllocError> {
+    let outcomes = loaded.object.record_outcomes(kernel)?;
+    let externs = kernel_externs(alloc, loaded, kernel)?;
+    let lacks = !externs.lacking.is_empty();
+    note_lacking(alloc, findings, number, externs.lacking)?;
+    let answers = Answers {
+        loaded,
+        kernel: number,
+        by_function: by_function(alloc, outcomes.records.as_slice())?,
+        outcomes: outcomes.records,
+        numbers: KernelNumbers::of(kernel),
+    };
+    match written_object(alloc, loaded, outcomes.written, externs.written)? {
+        Ok(object) => {
+            let sections = object.text_sections(alloc)?;
+            let linker = Linker::new(alloc, &object, &sections, &loaded.programs)?;
+            judge_programs(alloc, findings, &answers, &linker, kernel, lacks)
+        }
+        Err(sentence) => {
+            let name = String::from_str(alloc, "all programs")?;
+            let topic = topic_of(alloc, name, Kind::Linking, sentence);
+            findings.add(topic, number, None)?;
+            all_alike(alloc, loaded.programs.len(), true)
+        }
+    }
+}
