@@ -81,6 +81,32 @@ fn typed_externs(alloc: Global, object: &Object) -> Result<ByName<ExternDesc>, A
     Ok(typed)
 }
 
+/// What is asked of an object.
+#[derive(Drop)]
+struct Asked {
+    programs: Vec<Chosen>,
+    records: Vec<Record>,
+    map_uses: ByKey<Items<MapUse>>,
+    typed: ByName<ExternDesc>,
+    settings: Items<Text>,
+}
+
+/// What is asked of an object, which it borrows: each way out of a function is proved to let go of what it holds.
+fn asked_of(alloc: Global, file: &[u8], object: &Object, all: bool) -> Result<Asked, AllocError> {
+    let records = records_of(alloc, object, all)?;
+    let programs = section_names(alloc, file, object)?;
+    let map_uses = map_uses(alloc, object)?;
+    let typed = typed_externs(alloc, object)?;
+    let settings = wanted_settings(alloc, object)?;
+    Ok(Asked {
+        programs,
+        records,
+        map_uses,
+        typed,
+        settings,
+    })
+}
+
 /// Reads an object's file, with all its programs; `all` says whether each value that a kernel may change is told.
 ///
 /// # Errors
@@ -88,17 +114,13 @@ fn typed_externs(alloc: Global, object: &Object) -> Result<ByName<ExternDesc>, A
 /// The reader's own; `OutOfMemory` where memory is refused.
 pub fn load(alloc: Global, file: &[u8], all: bool) -> Result<Loaded, ParseError> {
     let object = Object::parse_as(alloc, file, Reading::Broad)?;
-    let records = records_of(alloc, &object, all)?;
-    let programs = section_names(alloc, file, &object)?;
-    let map_uses = map_uses(alloc, &object)?;
-    let typed = typed_externs(alloc, &object)?;
-    let settings = wanted_settings(alloc, &object)?;
+    let asked = asked_of(alloc, file, &object, all)?;
     Ok(Loaded {
         object,
-        programs,
-        records,
-        map_uses,
-        typed,
-        settings,
+        programs: asked.programs,
+        records: asked.records,
+        map_uses: asked.map_uses,
+        typed: asked.typed,
+        settings: asked.settings,
     })
 }
