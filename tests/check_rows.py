@@ -325,11 +325,12 @@ def words(rows):
     """Words."""
     refused = {
         (): "no command",
-        ("chek",): 'no command "chek"',
+        ("chek",): "no command chek",
         ("--wide",): "no option --wide",
         ("check",): "no FILE",
         ("check", "memdrop.o", "--wide"): "no option --wide",
         ("check", "memdrop.o", "-x"): "no option -x",
+        ("check", "memdrop.o", "-\x1bx"): r"no option -\x1bx",
         ("check", "memdrop.o", "--program"): "--program needs a value",
         ("check", "memdrop.o", "--json=yes"): "--json takes no value",
     }

@@ -79,11 +79,14 @@ fn refuse_kernel(rt: &HostRuntime, unlisted: &Unlisted<'_>) -> Stop {
     }
 }
 
-/// Says why words can't be read, with the usage line.
-fn usage(rt: &HostRuntime, error: &WordsError<'_>) -> u8 {
-    let _ = eprintln!(rt; "ebpf: {error}");
+/// Says why words can't be read, with the usage line, and gives the status.
+fn usage(rt: &HostRuntime, error: &WordsError<'_>) -> Result<u8, Stop> {
+    let alloc = rt.alloc();
+    let sentence = format!(in alloc; "{error}")?;
+    let sentence = Shown(sentence.as_str());
+    let _ = eprintln!(rt; "ebpf: {sentence}");
     let _ = eprintln!(rt; "{CHECK_USAGE}");
-    2
+    Ok(2)
 }
 
 /// Reads the object's file.
@@ -223,11 +226,11 @@ pub fn start(rt: &HostRuntime) -> ExitCode {
             return ExitCode::from(2);
         }
     };
-    let asked = match read_words(rt.alloc(), &words) {
-        Ok(asked) => asked,
-        Err(error) => return ExitCode::from(usage(rt, &error)),
+    let done = match read_words(rt.alloc(), &words) {
+        Ok(asked) => obey(rt, &asked),
+        Err(error) => usage(rt, &error),
     };
-    match obey(rt, &asked) {
+    match done {
         Ok(status) => ExitCode::from(status),
         Err(stop) => ExitCode::from(stopped(rt, stop)),
     }

@@ -39,7 +39,7 @@ pub enum WordsError<'a> {
     #[error("no command")]
     NoCommand,
     /// The first word is no command.
-    #[error("no command {0:?}")]
+    #[error("no command {0}")]
     UnknownCommand(&'a str),
     /// A word is no option that the command has.
     #[error("no option {0}")]
