@@ -173,29 +173,66 @@ fn tell_kernel(out: &mut BufWriter<Stdout>, session: &Session) -> io::Result<()>
     }
 }
 
-/// Does what `ebpf check` is asked.
-fn check(rt: &HostRuntime, words: &CheckWords) -> Result<u8, Stop> {
-    let loaded = load_chosen(rt, words)?;
-    let paths = match kernel_paths(rt, words.kernels.as_slice()) {
-        Ok(paths) => paths,
-        Err(unlisted) => return Err(refuse_kernel(rt, &unlisted)),
-    };
-    let mut session = Session::new(rt.alloc(), words.file.clone()?, loaded);
-    let mut out = BufWriter::new(rt.alloc(), rt.stdout())?;
-    for path in paths.iter() {
-        judge_path(rt, &mut session, path)?;
-        tell_unread(rt, &session);
+/// Judges the programs over the kernel of each path, and tells each kernel when it is done.
+fn judge_paths(
+    rt: &HostRuntime,
+    words: &CheckWords,
+    session: &mut Session,
+    paths: &[Text],
+    out: &mut BufWriter<Stdout>,
+) -> Result<(), Stop> {
+    for path in paths {
+        judge_path(rt, session, path)?;
+        tell_unread(rt, session);
         if !words.json {
-            tell_kernel(&mut out, &session)?;
+            tell_kernel(out, session)?;
         }
     }
+    Ok(())
+}
+
+/// Tells what was found on all kernels.
+fn tell_findings(
+    words: &CheckWords,
+    session: &Session,
+    out: &mut BufWriter<Stdout>,
+) -> io::Result<()> {
     if words.json {
-        write_json(&mut out, &session)?;
+        write_json(out, session)?;
     } else {
-        write_findings(&mut out, &session, Manner { all: words.all })?;
+        write_findings(out, session, Manner { all: words.all })?;
     }
-    out.flush()?;
+    out.flush()
+}
+
+/// Judges the programs over the kernels of these paths, tells what was found, and gives the status.
+fn check_paths(
+    rt: &HostRuntime,
+    words: &CheckWords,
+    session: &mut Session,
+    paths: &[Text],
+) -> Result<u8, Stop> {
+    let mut out = BufWriter::new(rt.alloc(), rt.stdout())?;
+    judge_paths(rt, words, session, paths, &mut out)?;
+    tell_findings(words, session, &mut out)?;
     Ok(session.status())
+}
+
+/// The same over the kernels that the words name.
+fn check_kernels(rt: &HostRuntime, words: &CheckWords, session: &mut Session) -> Result<u8, Stop> {
+    match kernel_paths(rt, words.kernels.as_slice()) {
+        Ok(paths) => check_paths(rt, words, session, paths.as_slice()),
+        Err(unlisted) => Err(refuse_kernel(rt, &unlisted)),
+    }
+}
+
+/// Does what `ebpf check` is asked. It alone holds the object, and leaves early nowhere while it does: each way out of a
+/// function is proved to let go of what it holds.
+fn check(rt: &HostRuntime, words: &CheckWords) -> Result<u8, Stop> {
+    let name = words.file.clone()?;
+    let loaded = load_chosen(rt, words)?;
+    let mut session = Session::new(rt.alloc(), name, loaded);
+    check_kernels(rt, words, &mut session)
 }
 
 /// Prints a text.
