@@ -1,5 +1,5 @@
 -- The first record that is refused, and the fault of all records at once.
-use Rattle.std.proofs.Common.{◌≡◌, ℕ, zero, suc, Bool, true, false, List, [], ◌∷◌, ◌++◌, Option, Some, None, Result, Ok, Err, refl, sym, ap, ◌∙◌, subst, slice_get}
+use Rattle.std.proofs.Common.{◌≡◌, ℕ, suc, Bool, true, false, List, [], ◌∷◌, ◌++◌, Option, Some, None, Result, Ok, Err, refl, sym, ap, ◌∙◌, subst}
 use Rattle.std.specs.Prelude.{◌≢◌, is_some, if◌then◌else◌}
 use Rattle.std.specs.FinMap.{empty, get}
 use Rattle.ebpf_base.proofs.Faults.{first_some-append}
@@ -20,12 +20,10 @@ use Rattle.ebpf_core_relo.proofs.OutcomeSlots.{same_ok}
 use Rattle.ebpf_core_relo.specs.Absences.{absence_of}
 use Rattle.ebpf_core_relo.specs.Answers.{fault_in}
 use Rattle.ebpf_core_relo.specs.OutcomeLaws.{FirstRefusalIsTheFault, HaveRecords, SlotsAreTheSame, refusal, refusal_in, told_name, unless}
-use Rattle.ebpf_core_relo.specs.RecordOutcomes.{Named, answered, applied, concluded, left_after, left_by, named_in, named_records, outcome_after, outcome_in, outcomes_from, record_outcomes, record_slots, result_in, section_at, section_by, slots_left}
-use Rattle.ebpf_core_relo.specs.Records.{Scene, Written, all_applied, in_section, named_applied, record_applied, records_applied, section_applied, slots_written, unnamed_section}
+use Rattle.ebpf_core_relo.specs.RecordOutcomes.{Named, answered, applied, concluded, left_after, left_by, named_in, named_records, outcome_after, outcomes_from, record_slots, result_in, section_at, section_by, slots_left}
+use Rattle.ebpf_core_relo.specs.Records.{Scene, Written, all_applied, in_section, named_applied, record_applied, records_applied, section_applied, unnamed_section}
 use Rattle.ebpf_core_relo.specs.declared.error.BtfRelocationError.{BtfRelocationError}
-use Rattle.ebpf_core_relo.specs.declared.record_outcome.RecordOutcome.{RecordOutcome}
-use Rattle.ebpf_core_relo.specs.declared.record_outcome.RecordResult.{RecordResult}
-use Rattle.ebpf_core_relo.specs.declared.record_outcome.RecordResult.TheVariants.{Value, Absent, Refused}
+use Rattle.ebpf_core_relo.specs.declared.record_outcome.RecordResult.TheVariants.{Value, Absent}
 use Rattle.ebpf_elf.specs.declared.entries.SectionIndex.{SectionIndex}
 
 -- what is first refused of some records, and what they leave

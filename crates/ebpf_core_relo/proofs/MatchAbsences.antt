@@ -30,7 +30,7 @@ use Rattle.ebpf_core_relo.proofs.FurthestOnes.{comes_furthest, nothing_leads}
 use Rattle.ebpf_core_relo.proofs.OneRecord.{ok_parts}
 use Rattle.ebpf_core_relo.proofs.OutcomeSlots.{same_ok}
 use Rattle.ebpf_core_relo.specs.AbsenceLaws.{AbsencesAreTold, ComesFurthest, IsTold, NoValueIsOfMatches}
-use Rattle.ebpf_core_relo.specs.Absences.{absence_by, absence_of, field_absence, furthest, is_place, lacks, leads, name_absence, step_absence, without_place}
+use Rattle.ebpf_core_relo.specs.Absences.{absence_by, absence_of, field_absence, furthest, is_place, lacks, leads, step_absence, without_place}
 use Rattle.ebpf_core_relo.specs.declared.absence.Absence.{Absence}
 use Rattle.ebpf_core_relo.specs.declared.absence.Absence.TheVariants.{MemberOfAnotherKind, NoMember, NoValue}
 use Rattle.ebpf_core_relo.specs.declared.furthest.Furthest.{Furthest}

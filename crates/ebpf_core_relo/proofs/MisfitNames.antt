@@ -1,15 +1,15 @@
 -- A name that a search finds no fitting member of stands in a type exactly where the search met a misfit.
-use Rattle.std.proofs.Common.{◌≡◌, ℕ, zero, suc, ◌+◌, ◌<◌, Bool, true, false, cond, ◌&&◌, ◌||◌, List, [], ◌∷◌, ◌++◌, Option, Some, None, Result, Ok, Err, refl, sym, ap, ◌∙◌, subst, arith, slice_get}
-use Rattle.std.specs.Prelude.{if◌then◌else◌, nat_lt, nat_eq, ◌==◌, option_and_then, unwrap_or}
+use Rattle.std.proofs.Common.{◌≡◌, ℕ, zero, suc, ◌+◌, ◌<◌, Bool, true, false, ◌&&◌, ◌||◌, List, [], ◌∷◌, ◌++◌, Option, Some, None, Result, Ok, Err, refl, sym, ap, ◌∙◌, arith, slice_get}
+use Rattle.std.specs.Prelude.{if◌then◌else◌, nat_lt, nat_eq, option_and_then, unwrap_or}
 use Rattle.std.specs.List.{flat_map, list_all, list_any}
 use Rattle.std.specs.Option.{option_map_or}
 use Rattle.std.specs.Result.{result_ok}
 use Rattle.std.specs.Str.{bytes_eq}
-use Rattle.std.proofs.lemmas.Bool.{lt-ltb, ltb-true}
+use Rattle.std.proofs.lemmas.Bool.{ltb-true}
 use Rattle.std.proofs.lemmas.List.Folds.{list_all-append, list_any-append}
-use Rattle.ebpf_btf.specs.Steps.{resolved, resolved_type, type_at}
+use Rattle.ebpf_btf.specs.Steps.{resolved, type_at}
 use Rattle.ebpf_btf.specs.Next as types
-use Rattle.ebpf_btf.specs.Strings.{is_name_at, is_text, text_at}
+use Rattle.ebpf_btf.specs.Strings.{is_text, text_at}
 use Rattle.ebpf_btf.specs.TypeInfo.{TypeInfo}
 use Rattle.ebpf_btf.specs.Types.{members_of}
 use Rattle.ebpf_btf.specs.declared.error.BtfError.{BtfError}
@@ -20,9 +20,9 @@ use Rattle.ebpf_candidates.specs.Compatibility.{fields_compatible}
 use Rattle.ebpf_places.proofs.TypeMembers.{known_members, known_role}
 use Rattle.ebpf_places.specs.Members.{Known, Member, if_read, known, member_at, members_from, members_in, named_role, role, unnamed_levels, unnamed_role}
 use Rattle.ebpf_places.specs.MemberViews.{Entry, below as under, entry, flat, is_misfit, nothing, own, view}
-use Rattle.ebpf_places.specs.Searches.{found_by, or_on, run, search_entries, sought, stop, stop_by}
+use Rattle.ebpf_places.specs.Searches.{found_by, or_on, run, search_entries, sought, stop_by}
 use Rattle.ebpf_places.specs.declared.fault.PlaceFault.{PlaceFault}
-use Rattle.ebpf_places.specs.declared.fault.PlaceFault.TheVariants.{NestingLevel, Btf}
+use Rattle.ebpf_places.specs.declared.fault.PlaceFault.TheVariants.{NestingLevel}
 use Rattle.ebpf_places.specs.declared.role.Role.{Role}
 use Rattle.ebpf_places.specs.declared.role.Role.TheVariants.{Unnamed, Other, Sought, Misfit}
 use Rattle.ebpf_places.specs.declared.search.Answer.{Answer}

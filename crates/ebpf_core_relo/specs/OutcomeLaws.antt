@@ -1,13 +1,12 @@
 -- What holds of the outcomes of records, beside the slots that they write.
-use Rattle.std.specs.Prelude.{◌≡◌, ℕ, ◌≢◌, List, [], ◌∷◌, take, Option, Some, None, option_map, Result, Ok, Err, slice_get}
+use Rattle.std.specs.Prelude.{◌≡◌, ℕ, ◌≢◌, List, [], take, Option, Some, None, option_map, Result, Ok, Err, slice_get}
 use Rattle.std.specs.FinMap.{empty}
 use Rattle.ebpf_base.specs.Faults.{first_some}
 use Rattle.ebpf_btf.specs.Strings.{text_at}
 use Rattle.ebpf_btf.specs.declared.error.BtfError.{BtfError}
 use Rattle.ebpf_ext.specs.declared.relocation.Relocation.{Relocation}
-use Rattle.ebpf_core.specs.declared.error.RelocationError.{RelocationError}
 use Rattle.ebpf_core_relo.specs.Answers.{fault_in}
-use Rattle.ebpf_core_relo.specs.RecordOutcomes.{Named, named_records, outcome_after, outcomes_from, record_outcomes, record_slots, slots_left}
+use Rattle.ebpf_core_relo.specs.RecordOutcomes.{named_records, outcome_after, record_outcomes, record_slots, slots_left}
 use Rattle.ebpf_core_relo.specs.Records.{Scene, Written, slots_written, unnamed_section}
 use Rattle.ebpf_core_relo.specs.declared.error.BtfRelocationError.{BtfRelocationError}
 use Rattle.ebpf_core_relo.specs.declared.record_outcome.RecordOutcome.{RecordOutcome}

@@ -23,7 +23,7 @@ use ebpf_parts::insn::bpf_insn;
 use ebpf_reloc::Function;
 use std::alloc::{AllocError, Global};
 
-/// The section that some records are for, by the offset of its name.
+/// What is found of a section by the offset of its name.
 #[derive(Clone, Copy)]
 pub enum FoundSection {
     /// Its number.
@@ -32,6 +32,13 @@ pub enum FoundSection {
     NoName(usize),
     /// The object has no section of the name.
     NoSection,
+}
+
+/// The section that some records are for, with the offset of its name.
+#[derive(Clone, Copy)]
+struct NamedSection {
+    name: u32,
+    found: FoundSection,
 }
 
 /// The section whose name stands at an offset.
@@ -121,22 +128,21 @@ fn outcome_in(
     search: &mut CoreSearch<'_>,
     absences: &mut Absences<'_>,
     places: &Places<'_>,
-    name: u32,
-    section: FoundSection,
+    section: NamedSection,
     written: &mut ByKey<Items<bpf_insn>>,
     relocation: &Relocation,
 ) -> Result<RecordOutcome, AllocError>
     requires { absences.old ≡ search.old }
-    ensures outcome { IfOk result (λ outcome. told_outcome outcome ≡ outcome_in (scene_of search.old places.now.functions.now places.now.section_infos.now) name (found_number section) written.old relocation.now) }
-    ensures written { OnOk result (written.new ≡ left_by written.old (applied (scene_of search.old places.now.functions.now places.now.section_infos.now) (found_number section) written.old relocation.now)) }
+    ensures outcome { IfOk result (λ outcome. told_outcome outcome ≡ outcome_in (scene_of search.old places.now.functions.now places.now.section_infos.now) section.name (found_number section.found) written.old relocation.now) }
+    ensures written { OnOk result (written.new ≡ left_by written.old (applied (scene_of search.old places.now.functions.now places.now.section_infos.now) (found_number section.found) written.old relocation.now)) }
     ensures search { search.new ≡ search.old }
     ensures absences { absences.new ≡ absences.old }
 {
-    match section {
+    match section.found {
         FoundSection::Number(number) => {
             let result = result_in(alloc, search, absences, places, number, written, relocation)?;
             Ok(RecordOutcome {
-                section_name: name,
+                section_name: section.name,
                 number: relocation.number,
                 slot: slot_in(places, number, relocation),
                 result,
@@ -144,9 +150,13 @@ fn outcome_in(
         }
         FoundSection::NoName(offset) => {
             let error = BtfError::InvalidStringOffset { offset };
-            Ok(unplaced(name, relocation, RelocationError::BtfError(error)))
+            Ok(unplaced(section.name, relocation, RelocationError::BtfError(error)))
         }
-        FoundSection::NoSection => Ok(unplaced(name, relocation, RelocationError::SectionNotFound)),
+        FoundSection::NoSection => Ok(unplaced(
+            section.name,
+            relocation,
+            RelocationError::SectionNotFound,
+        )),
     }
 }
 
@@ -156,14 +166,13 @@ fn add_record(
     search: &mut CoreSearch<'_>,
     absences: &mut Absences<'_>,
     places: &Places<'_>,
-    name: u32,
-    section: FoundSection,
+    section: NamedSection,
     relocation: &Relocation,
     outcomes: &mut RecordOutcomes,
 ) -> Result<(), AllocError>
     requires { absences.old ≡ search.old }
-    ensures records { OnOk result (map told_outcome outcomes.new.records ≡ map told_outcome outcomes.old.records ++ outcome_in (scene_of search.old places.now.functions.now places.now.section_infos.now) name (found_number section) outcomes.old.written relocation.now ∷ []) }
-    ensures written { OnOk result (outcomes.new.written ≡ left_by outcomes.old.written (applied (scene_of search.old places.now.functions.now places.now.section_infos.now) (found_number section) outcomes.old.written relocation.now)) }
+    ensures records { OnOk result (map told_outcome outcomes.new.records ≡ map told_outcome outcomes.old.records ++ outcome_in (scene_of search.old places.now.functions.now places.now.section_infos.now) section.name (found_number section.found) outcomes.old.written relocation.now ∷ []) }
+    ensures written { OnOk result (outcomes.new.written ≡ left_by outcomes.old.written (applied (scene_of search.old places.now.functions.now places.now.section_infos.now) (found_number section.found) outcomes.old.written relocation.now)) }
     ensures search { search.new ≡ search.old }
     ensures absences { absences.new ≡ absences.old }
 {
@@ -172,7 +181,6 @@ fn add_record(
         search,
         absences,
         places,
-        name,
         section,
         &mut outcomes.written,
         relocation,
@@ -187,21 +195,20 @@ fn add_records(
     search: &mut CoreSearch<'_>,
     absences: &mut Absences<'_>,
     places: &Places<'_>,
-    name: u32,
-    section: FoundSection,
+    section: NamedSection,
     relocations: &[Relocation],
     outcomes: &mut RecordOutcomes,
 ) -> Result<(), AllocError>
     requires sides { absences.old ≡ search.old }
-    requires section { found_number section ≡ section_at search.old.local places.now.section_infos.now name }
-    ensures records { OnOk result (map told_outcome outcomes.new.records ≡ map told_outcome outcomes.old.records ++ outcomes_from (scene_of search.old places.now.functions.now places.now.section_infos.now) outcomes.old.written (named_in name relocations.now)) }
-    ensures written { OnOk result (outcomes.new.written ≡ slots_left (scene_of search.old places.now.functions.now places.now.section_infos.now) outcomes.old.written (named_in name relocations.now)) }
+    requires section { found_number section.found ≡ section_at search.old.local places.now.section_infos.now section.name }
+    ensures records { OnOk result (map told_outcome outcomes.new.records ≡ map told_outcome outcomes.old.records ++ outcomes_from (scene_of search.old places.now.functions.now places.now.section_infos.now) outcomes.old.written (named_in section.name relocations.now)) }
+    ensures written { OnOk result (outcomes.new.written ≡ slots_left (scene_of search.old places.now.functions.now places.now.section_infos.now) outcomes.old.written (named_in section.name relocations.now)) }
     ensures search { search.new ≡ search.old }
     ensures absences { absences.new ≡ absences.old }
 {
     for relocation in relocations {
         add_record(
-            alloc, search, absences, places, name, section, relocation, outcomes,
+            alloc, search, absences, places, section, relocation, outcomes,
         )?;
     }
     Ok(())
@@ -222,16 +229,19 @@ fn add_sections(
     ensures records { OnOk result (map told_outcome outcomes.new.records ≡ map told_outcome outcomes.old.records ++ outcomes_from (scene_of search.old places.now.functions.now places.now.section_infos.now) outcomes.old.written (named_records sections.now)) }
     ensures written { OnOk result (outcomes.new.written ≡ slots_left (scene_of search.old places.now.functions.now places.now.section_infos.now) outcomes.old.written (named_records sections.now)) }
 {
-    for section in sections {
-        let found = section_at(places, local, section.0)?;
+    for part in sections {
+        let section = NamedSection {
+            name: part.0,
+            found: section_at(places, local, part.0)?,
+        };
+        let relocations = part.1.as_slice();
         add_records(
             alloc,
             search,
             absences,
             places,
-            section.0,
-            found,
-            section.1.as_slice(),
+            section,
+            relocations,
             outcomes,
         )?;
     }

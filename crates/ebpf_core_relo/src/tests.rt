@@ -1,4 +1,4 @@
-use crate::{RecordResult, record_outcomes};
+use crate::{RecordOutcome, RecordOutcomes, RecordResult, record_outcomes};
 use ebpf_base::{ByKey, ByName, Items, Text};
 use ebpf_btf::{Btf, BtfEnum, BtfError, BtfMember, BtfType, Endianness};
 use ebpf_elf::SectionIndex;
@@ -154,7 +154,61 @@ fn function(alloc: Global) -> Result<Function, AllocError> {
     })
 }
 
-/// What records of section `name` come to, each in a line, and then the slots that they write.
+/// The functions, by their keys.
+fn functions(alloc: Global) -> Result<ByKey<Function>, AllocError> {
+    let mut functions = ByKey::new(alloc);
+    functions.insert((3, 0), function(alloc)?)?;
+    Ok(functions)
+}
+
+/// The numbers of the sections, by their names.
+fn sections(alloc: Global) -> Result<ByName<SectionIndex>, AllocError> {
+    let mut sections = ByName::new(alloc);
+    sections.insert(String::from_str(alloc, "kprobe")?, SectionIndex(3))?;
+    Ok(sections)
+}
+
+/// What a record comes to, in a word or two.
+fn words(alloc: Global, answer: &RecordResult) -> Result<String, AllocError> {
+    match answer {
+        RecordResult::Value(outcome) => format!(in alloc; "{:?}; ", outcome.value),
+        RecordResult::Absent(absence) => format!(in alloc; "{absence:?}; "),
+        RecordResult::Refused(fault) => format!(in alloc; "{fault:?}; "),
+    }
+}
+
+/// What records come to, one after the other.
+fn add_records(
+    alloc: Global,
+    text: &mut String,
+    records: &[RecordOutcome],
+) -> Result<(), AllocError> {
+    for record in records {
+        text.push_str(words(alloc, &record.result)?.as_str())?;
+    }
+    Ok(())
+}
+
+/// Slots, by their codes and immediates.
+fn add_slots(alloc: Global, text: &mut String, slots: &[bpf_insn]) -> Result<(), AllocError> {
+    for slot in slots {
+        let slot = format!(in alloc; "{:x}:{} ", slot.code, slot.imm)?;
+        text.push_str(slot.as_str())?;
+    }
+    Ok(())
+}
+
+/// What records come to, and then the slots of the function, if some were written.
+fn shown(alloc: Global, outcomes: &RecordOutcomes) -> Result<String, AllocError> {
+    let mut text = String::new(alloc);
+    add_records(alloc, &mut text, outcomes.records.as_slice())?;
+    if let Some(slots) = outcomes.written.get((3, 0)) {
+        add_slots(alloc, &mut text, slots.as_slice())?;
+    }
+    Ok(text)
+}
+
+/// What records of section `name` come to, and then the slots.
 fn outcomes(
     alloc: Global,
     local: &Btf,
@@ -162,66 +216,93 @@ fn outcomes(
     name: u32,
     records: &[[u32; 4]],
 ) -> Result<String, BtfError> {
-    let mut functions = ByKey::new(alloc);
-    functions.insert((3, 0), function(alloc)?)?;
-    let mut section_infos = ByName::new(alloc);
-    section_infos.insert(String::from_str(alloc, "kprobe")?, SectionIndex(3))?;
     let bytes = ext_bytes(alloc, name, records)?;
     let ext = BtfExt::parse(alloc, &bytes, Endianness::Little, local)?;
-    let told = record_outcomes(alloc, &functions, &section_infos, local, &ext, target)?;
-    let mut text = String::new(alloc);
-    for record in told.records.iter() {
-        let line = match &record.result {
-            RecordResult::Value(outcome) => format!(in alloc; "{:?}", outcome.value)?,
-            RecordResult::Absent(absence) => format!(in alloc; "{absence:?}")?,
-            RecordResult::Refused(fault) => format!(in alloc; "{fault:?}")?,
-        };
-        text.push_str(line.as_str())?;
-        text.push_str("; ")?;
-    }
-    for (_, slots) in told.written.iter() {
-        for slot in slots.iter() {
-            let line = format!(in alloc; "{:x}:{} ", slot.code, slot.imm)?;
-            text.push_str(line.as_str())?;
-        }
-    }
-    Ok(text)
+    let functions = functions(alloc)?;
+    let sections = sections(alloc)?;
+    let told = record_outcomes(alloc, &functions, &sections, local, &ext, target)?;
+    Ok(shown(alloc, &told)?)
+}
+
+/// Strings of a local side: a section and paths.
+#[derive(Clone, Copy)]
+struct Strings {
+    section: u32,
+    first: u32,
+    second: u32,
+    third: u32,
+    whole: u32,
+}
+
+fn add_strings(btf: &mut Btf) -> Result<Strings, BtfError> {
+    Ok(Strings {
+        section: btf.add_string("kprobe")?,
+        first: btf.add_string("0:0")?,
+        second: btf.add_string("0:1")?,
+        third: btf.add_string("0:2")?,
+        whole: btf.add_string("0")?,
+    })
+}
+
+/// Types of a local side: `s` with `a`, `b` and the struct `i`, the struct `gone`, the name `name`, the enumeration `e`.
+#[derive(Clone, Copy)]
+struct Types {
+    fields: u32,
+    gone: u32,
+    name: u32,
+    variants: u32,
+}
+
+fn add_fields(alloc: Global, btf: &mut Btf) -> Result<u32, BtfError> {
+    let inner = add_struct(alloc, btf, "i", &[("x", INT)])?;
+    let members = [("a", INT), ("b", INT), ("i", inner)];
+    add_struct(alloc, btf, "s", &members)
+}
+
+fn add_types(alloc: Global, btf: &mut Btf) -> Result<Types, BtfError> {
+    Ok(Types {
+        fields: add_fields(alloc, btf)?,
+        gone: add_struct(alloc, btf, "gone", &[("a", INT)])?,
+        name: add_typedef(btf, "name", INT)?,
+        variants: add_enum(alloc, btf, "e", "X")?,
+    })
+}
+
+/// Types of a kernel in which `s` has no `a`, its `b` is a pointer in an unnamed struct, and `i` is larger; `name` is a
+/// pointer, and `e` has another variant.
+fn other_types(alloc: Global) -> Result<Btf, BtfError> {
+    let mut btf = start(alloc)?;
+    let large = add_struct(alloc, &mut btf, "i", &[("x", INT), ("y", INT)])?;
+    let unnamed = add_struct(alloc, &mut btf, "", &[("b", POINTER)])?;
+    let members = [("c", INT), ("", unnamed), ("i", large)];
+    add_struct(alloc, &mut btf, "s", &members)?;
+    add_typedef(&mut btf, "name", POINTER)?;
+    add_enum(alloc, &mut btf, "e", "Y")?;
+    Ok(btf)
 }
 
 /// A value, the 0 of what is not there, and each reason why there is no value.
+fn reasons(alloc: Global) -> Result<String, BtfError> {
+    let mut local = start(alloc)?;
+    let at = add_strings(&mut local)?;
+    let of = add_types(alloc, &mut local)?;
+    let target = other_types(alloc)?;
+    let records = [
+        [0, of.fields, at.third, OFFSET],
+        [8, of.fields, at.first, EXISTS],
+        [16, of.fields, at.first, OFFSET],
+        [16, of.fields, at.second, OFFSET],
+        [16, of.gone, at.first, OFFSET],
+        [16, of.name, at.whole, TYPE_SIZE],
+        [16, of.variants, at.whole, VARIANT],
+        [16, of.fields, at.third, SHIFT],
+    ];
+    outcomes(alloc, &local, &target, at.section, &records)
+}
+
 #[test]
 fn tells_why_there_is_no_value(rt: HostRuntime) -> Result<(), Fail> {
-    let alloc = rt.alloc();
-    let mut local = start(alloc)?;
-    let section = local.add_string("kprobe")?;
-    let first = local.add_string("0:0")?;
-    let second = local.add_string("0:1")?;
-    let third = local.add_string("0:2")?;
-    let whole = local.add_string("0")?;
-    let inner = add_struct(alloc, &mut local, "i", &[("x", INT)])?;
-    let members = [("a", INT), ("b", INT), ("i", inner)];
-    let s = add_struct(alloc, &mut local, "s", &members)?;
-    let gone = add_struct(alloc, &mut local, "gone", &[("a", INT)])?;
-    let name = add_typedef(&mut local, "name", INT)?;
-    let variants = add_enum(alloc, &mut local, "e", "X")?;
-    let mut target = start(alloc)?;
-    let large = add_struct(alloc, &mut target, "i", &[("x", INT), ("y", INT)])?;
-    let unnamed = add_struct(alloc, &mut target, "", &[("b", POINTER)])?;
-    let members = [("c", INT), ("", unnamed), ("i", large)];
-    add_struct(alloc, &mut target, "s", &members)?;
-    add_typedef(&mut target, "name", POINTER)?;
-    add_enum(alloc, &mut target, "e", "Y")?;
-    let records = [
-        [0, s, third, OFFSET],
-        [8, s, first, EXISTS],
-        [16, s, first, OFFSET],
-        [16, s, second, OFFSET],
-        [16, gone, first, OFFSET],
-        [16, name, whole, TYPE_SIZE],
-        [16, variants, whole, VARIANT],
-        [16, s, third, SHIFT],
-    ];
-    let told = outcomes(alloc, &local, &target, section, &records)?;
+    let told = reasons(rt.alloc())?;
     let want =
         "Some(16); Some(0); NoMember; MemberOfAnotherKind; NoType; TypeOfAnotherKind; NoEnumerator; NoValue; \
         b7:16 b7:0 85:195896080 b7:1 5:1 18:1 0:1 ";
@@ -229,59 +310,87 @@ fn tells_why_there_is_no_value(rt: HostRuntime) -> Result<(), Fail> {
     Ok(())
 }
 
-/// The type that has a path furthest says what is missing, also behind one that has less of it.
-#[test]
-fn tells_of_the_furthest_type(rt: HostRuntime) -> Result<(), Fail> {
-    let alloc = rt.alloc();
+/// Types of a kernel: one named `s` without `i`, one whose `i` has an `x` that doesn't fit, and one whose `i` is empty.
+fn three_types(alloc: Global) -> Result<Btf, BtfError> {
+    let mut btf = start(alloc)?;
+    let other = add_struct(alloc, &mut btf, "i", &[("x", POINTER)])?;
+    let empty = add_struct(alloc, &mut btf, "i", &[])?;
+    add_struct(alloc, &mut btf, "s", &[("j", INT)])?;
+    add_struct(alloc, &mut btf, "s___2", &[("i", other)])?;
+    add_struct(alloc, &mut btf, "s___3", &[("i", empty)])?;
+    Ok(btf)
+}
+
+/// A field on the way to which the second of three types comes as far as the third.
+fn furthest(alloc: Global) -> Result<String, BtfError> {
     let mut local = start(alloc)?;
     let section = local.add_string("kprobe")?;
-    let path = local.add_string("0:0:0")?;
-    let inner = add_struct(alloc, &mut local, "i", &[("x", INT)])?;
-    let s = add_struct(alloc, &mut local, "s", &[("i", inner)])?;
-    let mut target = start(alloc)?;
-    let other = add_struct(alloc, &mut target, "i", &[("x", POINTER)])?;
-    let empty = add_struct(alloc, &mut target, "i", &[])?;
-    add_struct(alloc, &mut target, "s", &[("j", INT)])?;
-    add_struct(alloc, &mut target, "s___2", &[("i", other)])?;
-    add_struct(alloc, &mut target, "s___3", &[("i", empty)])?;
-    let records = [[0, s, path, OFFSET]];
-    let told = outcomes(alloc, &local, &target, section, &records)?;
+    let path = local.add_string("0:2:0")?;
+    let fields = add_fields(alloc, &mut local)?;
+    let target = three_types(alloc)?;
+    outcomes(
+        alloc,
+        &local,
+        &target,
+        section,
+        &[[0, fields, path, OFFSET]],
+    )
+}
+
+#[test]
+fn tells_of_the_furthest_type(rt: HostRuntime) -> Result<(), Fail> {
+    let told = furthest(rt.alloc())?;
     let want = "MemberOfAnotherKind; 85:195896080 b7:1 b7:1 b7:1 5:1 18:1 0:1 ";
     assert_eq!(rt; told.as_str(), want);
     Ok(())
 }
 
-/// A record behind a refusal is told, over the slots as they were before the refused one.
-#[test]
-fn goes_on_behind_a_refusal(rt: HostRuntime) -> Result<(), Fail> {
-    let alloc = rt.alloc();
+/// Records behind refusals: of a jump, of a path that is none, of no function.
+fn behind_refusals(alloc: Global) -> Result<String, BtfError> {
     let mut local = start(alloc)?;
-    let section = local.add_string("kprobe")?;
-    let path = local.add_string("0:1")?;
+    let at = add_strings(&mut local)?;
     let wrong = local.add_string("0:x")?;
-    let other = local.add_string("tc")?;
-    let s = add_struct(alloc, &mut local, "s", &[("a", INT), ("b", INT)])?;
+    let fields = add_fields(alloc, &mut local)?;
     let mut target = start(alloc)?;
     add_struct(alloc, &mut target, "s", &[("b", INT)])?;
     let records = [
-        [0, s, path, OFFSET],
-        [32, s, path, OFFSET],
-        [0, s, wrong, OFFSET],
-        [800, s, path, OFFSET],
-        [40, s, path, OFFSET],
+        [0, fields, at.second, OFFSET],
+        [32, fields, at.second, OFFSET],
+        [0, fields, wrong, OFFSET],
+        [800, fields, at.second, OFFSET],
+        [40, fields, at.second, OFFSET],
     ];
-    let told = outcomes(alloc, &local, &target, section, &records)?;
+    outcomes(alloc, &local, &target, at.section, &records)
+}
+
+#[test]
+fn goes_on_behind_a_refusal(rt: HostRuntime) -> Result<(), Fail> {
+    let told = behind_refusals(rt.alloc())?;
     let want = "Some(0); \
         InvalidInstruction { relocation_number: 1, index: 4, error: \"code 0x05 can't carry 0\" }; \
         InvalidAccessString { access_str: \"0:x\" }; FunctionNotFound; Some(0); \
         b7:0 b7:1 b7:1 b7:1 5:1 18:0 0:0 ";
     assert_eq!(rt; told.as_str(), want);
-    let told = outcomes(alloc, &local, &target, other, &records[..2])?;
+    Ok(())
+}
+
+/// Two records of a section whose name is at an offset, or `tc`, of which there is no section.
+fn of_section(alloc: Global, name: Option<u32>) -> Result<String, BtfError> {
+    let mut local = start(alloc)?;
+    let path = local.add_string("0")?;
+    let other = local.add_string("tc")?;
+    let record = [0, INT, path, TYPE_SIZE];
+    let name = name.unwrap_or(other);
+    outcomes(alloc, &local, &local, name, &[record, record])
+}
+
+#[test]
+fn refuses_each_record_of_a_missing_section(rt: HostRuntime) -> Result<(), Fail> {
+    let told = of_section(rt.alloc(), None)?;
     assert_eq!(rt; told.as_str(), "SectionNotFound; SectionNotFound; ");
-    let told = outcomes(alloc, &local, &target, 4000, &records[..1])?;
-    assert_eq!(rt;
-        told.as_str(),
-        "BtfError(InvalidStringOffset { offset: 4000 }); "
-    );
+    let told = of_section(rt.alloc(), Some(4000))?;
+    let want =
+        "BtfError(InvalidStringOffset { offset: 4000 }); BtfError(InvalidStringOffset { offset: 4000 }); ";
+    assert_eq!(rt; told.as_str(), want);
     Ok(())
 }

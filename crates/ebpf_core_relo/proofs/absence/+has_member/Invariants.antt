@@ -1,5 +1,4 @@
 use Rattle.std.proofs.Common.{◌≡◌, drop}
-use Rattle.std.specs.List.{list_any}
 use Rattle.ebpf_core_relo.specs.Absences.{has_member, members_at}
 use Rattle.ebpf_core_relo.proofs.absence.+has_member.Given as goal
 

@@ -1,4 +1,4 @@
-use Rattle.std.proofs.Common.{◌≡◌, ◌+◌, suc, false, ap, arith, inr, length, sym, ◌∙◌}
+use Rattle.std.proofs.Common.{◌≡◌, ◌+◌, suc, false, ap, arith, inr, sym, ◌∙◌}
 use Rattle.ebpf_core_relo.specs.Absences.{leads}
 use Rattle.ebpf_core_relo.proofs.Reaches.{all_reach, reach_is}
 use Rattle.ebpf_core_relo.proofs.furthest.reach_past.Goals as goal

@@ -10,8 +10,8 @@ invariant-loop-relocation l =
     record {
       search : l.search ≡ l.fn.search;
       absences : l.absences ≡ l.fn.absences;
-      records : map told_outcome l.outcomes.records ++ outcomes_from scene l.outcomes.written (named_in l.name (drop l.relocation-index l.relocations))
-          ≡ map told_outcome l.fn.outcomes.records ++ outcomes_from scene l.fn.outcomes.written (named_in l.name l.relocations);
-      written : slots_left scene l.outcomes.written (named_in l.name (drop l.relocation-index l.relocations))
-          ≡ slots_left scene l.fn.outcomes.written (named_in l.name l.relocations);
+      records : map told_outcome l.outcomes.records ++ outcomes_from scene l.outcomes.written (named_in l.section.name (drop l.relocation-index l.relocations))
+          ≡ map told_outcome l.fn.outcomes.records ++ outcomes_from scene l.fn.outcomes.written (named_in l.section.name l.relocations);
+      written : slots_left scene l.outcomes.written (named_in l.section.name (drop l.relocation-index l.relocations))
+          ≡ slots_left scene l.fn.outcomes.written (named_in l.section.name l.relocations);
     }

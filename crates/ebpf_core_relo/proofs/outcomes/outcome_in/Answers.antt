@@ -9,4 +9,4 @@ pub returns-in_ok-result-in-Number-clause-outcome : goal.returns-in_ok-result-in
 returns-in_ok-result-in-Number-clause-outcome c =
     let scene = scene_of c.args.search.now c.args.places.now.functions.now c.args.places.now.section_infos.now in
     same_row _ _ _ _ _ _ (c.slot_in.ensures c.args.search.now) c.in_ok-result-in-Number.ensures.answered
-    ∙ ap (λ section. outcome_in scene c.args.name (found_number section) c.args.written.now c.args.relocation.now) (sym c.in-Number.is)
+    ∙ ap (λ section. outcome_in scene c.args.section.name (found_number section) c.args.written.now c.args.relocation.now) (sym c.in-Number.is)
