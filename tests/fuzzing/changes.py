@@ -1,15 +1,14 @@
 """Changes of files at random."""
 import struct
 
-# Numbers at the edges of what fields hold.
-EDGES = [0, 1, 2, 3, 7, 8, 15, 16, 24, 63, 64, 127, 128, 255, 256, 0xFF00, 0xFFF1, 0xFFFF, 0x10000, 2**31 - 1, 2**31]
-EDGES += [2**32 - 8, 2**32 - 1, 2**32, 2**63 - 1, 2**63, 2**64 - 8, 2**64 - 1]
+from fuzzing.chances import EDGES
 
 # Names that mean something.
 NAMES = [b".maps", b".maps.x", b"maps", b".ksyms", b".text", b".text.x", b"license", b"version", b".BTF", b".BTF.ext"]
 NAMES += [b".bss", b".data", b".rodata", b".data.x", b"kprobe/x", b"xdp", b"sk_skb/stream_parser", b"uprobe.multi.s/x"]
 NAMES += [b"values", b"max_entries", b"key", b"value", b"type", b"pinning", b"s", b"s___a", b"int", b"0:1", b"0:1:2"]
-NAMES += [b"0", b"x", b"", b"\xff\xfe", b"___", b"ksym_func_placeholder"]
+NAMES += [b"0", b"x", b"", b"\xff\xfe", b"___", b"ksym_func_placeholder", b"tc", b"?kprobe/f", b"struct_ops/x", b"s___x"]
+NAMES += [b".kconfig", b"0:0:0:0", b"0:", b"1:18446744073709551616"]
 
 # Slots: calls, wide loads, an end, moves and jumps.
 SLOTS = ["85100000ffffffff", "8510000000000000", "8510000001000000", "1801000000000000", "9500000000000000"]
