@@ -1,7 +1,7 @@
 """Functions in the making: their slots, what these refer to, and the records by types that are on them."""
 from fuzzing import paths
 from fuzzing.some_types import any_of
-from fuzzing.type_table import ENUM, ENUM64, STRUCT, UNION
+from rows.btf import ENUM, ENUM64, STRUCT, UNION
 from rows.elf import CALL32, EXIT, LOAD64, NOTHING, slot
 
 PLAIN = [slot(0xB7, 1, imm=7), slot(0xBF, 0x21), slot(0x07, 1, imm=-8), slot(0x7B, 0x1A, -8), slot(0x55, 1, 1), slot(0x05)]
@@ -74,6 +74,9 @@ def by_place(chance, body, _targets):
 
 def fill(chance, body, table, called, loaded):
     """Adds slots. Called are functions, loaded are data, maps and what is extern, each as a target."""
+    if len(table) and chance.one_in(150):
+        for _ in range(chance.choice([50, 200])):
+            record(chance, body, table)
     for _ in range(chance.choice([0, 1, 2, 3, 4, 6, 10])):
         kind = chance.random()
         if kind < 0.25 and len(table):

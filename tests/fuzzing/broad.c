@@ -19,6 +19,11 @@
 #include <sys/mman.h>
 #include <unistd.h>
 
+#if defined(__has_feature)
+#if __has_feature(address_sanitizer)
+#define __SANITIZE_ADDRESS__
+#endif
+#endif
 #if defined(__SANITIZE_ADDRESS__)
 size_t __sanitizer_get_current_allocated_bytes(void);
 #endif
@@ -26,9 +31,9 @@ size_t __sanitizer_get_current_allocated_bytes(void);
 /* How long an input may take, in seconds. */
 #define SECONDS 10
 
-/* Room for one file or buffer. */
+/* Room for one file or buffer, and behind it, which is a page or some. */
 #define ROOM (1 << 22)
-#define PAGE 4096
+#define PAGE (1 << 16)
 
 /* The part of memory in front of a page that can't be touched. */
 struct part {
@@ -302,27 +307,46 @@ static uint32_t describe(struct ebpf_handle *object)
 	return number;
 }
 
-/* What is done beside the passes: values, sizes, older helper functions, a copy in the place of the object. */
+/* Puts a copy in the place of the object, which has to say the same. */
+static void copy(struct ebpf_handle *object)
+{
+	struct ebpf_handle copied = EBPF_CLOSED_HANDLE;
+	uint64_t before = list_all(object);
+
+	with_room("ebpf_clone", ebpf_clone(object, &copied));
+	if (lacked)
+		return;
+	ebpf_close(object);
+	*object = copied; /* moved */
+	if (list_all(object) != before)
+		say("a copy is another object");
+}
+
+/* The number of a call about a map that may not be there. */
+static void of_map(const char *call, uint32_t number)
+{
+	if (noted(number) != EBPF_DONE && number != EBPF_NO_MAP)
+		say("%s answers %u", call, number);
+}
+
+/* What is done beside the passes: values, sizes, older helper functions, a copy. */
 static void settings(struct ebpf_handle *object)
 {
-	struct ebpf_handle copy = EBPF_CLOSED_HANDLE;
+	const char *variable = how & 2 ? "var0" : "seen", *map = how & 4 ? "map0" : "counts";
 	uint32_t number;
 
-	if (how & 1)
-		judged("ebpf_set_value", ebpf_set_value(object, "seen", 4, file.at, 8, how & 2, ABOUT), 150, 152, 150, 152);
-	if (how & 4 && noted(number = ebpf_set_max_entries(object, "map0", 4, how)) != EBPF_DONE && number != EBPF_NO_MAP)
-		say("ebpf_set_max_entries answers %u", number);
-	if (how & 8 && noted(number = ebpf_set_value_size(object, "counts", 6, 0)) != EBPF_DONE && number != EBPF_NO_MAP)
-		say("ebpf_set_value_size answers %u", number);
-	if (how & 16)
-		with_room("ebpf_sanitize", ebpf_sanitize(object, 0));
-	if (how & 32) {
-		with_room("ebpf_clone", ebpf_clone(object, &copy));
-		if (!lacked) {
-			ebpf_close(object);
-			*object = copy; /* moved */
-		}
+	if (how & 1) {
+		number = ebpf_set_value(object, variable, 4, file.at, how >> 16 & 15, how & 8, ABOUT);
+		judged("ebpf_set_value", number, 150, 152, 150, 152);
 	}
+	if (how & 16)
+		of_map("ebpf_set_max_entries", ebpf_set_max_entries(object, map, strlen(map), how));
+	if (how & 32)
+		of_map("ebpf_set_value_size", ebpf_set_value_size(object, map, strlen(map), how));
+	if (how & 128)
+		with_room("ebpf_sanitize", ebpf_sanitize(object, 0));
+	if (how & 1 << 20)
+		copy(object);
 }
 
 /* Whether a pass refused, behind which the object is as it was before. */

@@ -1,4 +1,5 @@
 """Changes of files at random."""
+import re
 import struct
 
 from fuzzing.chances import EDGES
@@ -162,9 +163,47 @@ def order_changed(_chance, data, _other):
     put(data, 5, bytes([3 - data[5]] if len(data) > 5 and data[5] < 3 else [1]))
 
 
+def types_at(chance, data):
+    """Where `.BTF` or `.BTF.ext` begin, and the lengths that their headers state; None where there are none."""
+    places = [found.start() for found in re.finditer(b"\x9f\xeb\x01\x00", data)]
+    if not places:
+        return None
+    at = chance.choice(places)
+    return (at, struct.unpack_from("<7I", data, at + 4)) if at + 32 <= len(data) else None
+
+
+def word_near(chance, data, start, size, limits):
+    """A word of a range comes near what it was, or near a limit."""
+    at = start + chance.randrange(max(size // 4, 1)) * 4
+    held = int.from_bytes(data[at : at + 4], "little")
+    put(data, at, chance.near(held, limits, 4).to_bytes(4, "little"))
+
+
+def types_changed(chance, data, _other):
+    """A word of a type, or of a record on code: mostly of those by types, which are the last."""
+    found = types_at(chance, data)
+    if found is None:
+        return
+    at, (head, *numbers) = found
+    if head == 24:
+        word_near(chance, data, at + 24, numbers[1], [numbers[1] // 16, numbers[3]])
+    else:
+        part = chance.choice([0, 2, 4, 4, 4, 4])
+        word_near(chance, data, at + head + numbers[part], numbers[part + 1], [numbers[part + 1], 8, 13])
+
+
+def access_changed(chance, data, _other):
+    """A letter of an access string."""
+    places = [found.start() for found in re.finditer(rb"\0\d+(?::\d+)*(?=\0)", data)]
+    if places:
+        at = chance.choice(places) + 1
+        put(data, at + chance.choice([0, 0, 1, 2]), chance.choice([b"0", b"1", b"2", b"9", b":", b"-", b"\0", b"\xff"]))
+
+
 COMMON = [bytes_changed, number_changed, near_changed, part_again, name_changed, part_of_other]
 RARE = [cut, part_removed]
 OF_ELF = [header_changed, header_again, section_changed, section_changed, slot_changed, section_cut, name_changed]
+OF_ELF += [types_changed, types_changed, access_changed]
 
 
 def with_changes(chance, data, other, changes):

@@ -1,6 +1,6 @@
 """What types declare: maps, variables of data sections, and externs of the kernel and of its configuration."""
 from fuzzing import names, some_types
-from fuzzing.type_table import CONST, ENUM, ENUM64, FUNC_PROTO, PTR, STRUCT, TYPEDEF
+from rows.btf import ARRAY, CONST, ENUM, ENUM64, FUNC_PROTO, STRUCT, TYPEDEF
 
 EXTERN = 2
 
@@ -17,7 +17,7 @@ class Extern:
 def number(chance, table, wanted=None):
     """A number as the length of an array that a pointer points to."""
     length = chance.choice([0, 1, 2, 4, 8, 12, 13, 64, 2**32 - 1]) if wanted is None else wanted
-    return table.pointer(table.add(3, "", 0, [1, 1, length], size=4 * length % 2**32))
+    return table.pointer(table.add(ARRAY, "", 0, [1, 1, length], size=4 * length % 2**32))
 
 
 def large(chance, table):
@@ -41,7 +41,7 @@ def member_of_map(chance, table, depth):
         held = shape(chance, table, depth + 1)
     else:
         held = table.add(FUNC_PROTO, "", 1, ["", 1], 1)
-    return "values", table.add(3, "", 0, [table.pointer(held), 1, chance.choice([1, 4]) if chance.bad(3) else 0], size=8)
+    return "values", table.add(ARRAY, "", 0, [table.pointer(held), 1, chance.choice([1, 4]) if chance.bad(3) else 0], size=8)
 
 
 def shape(chance, table, depth=0):

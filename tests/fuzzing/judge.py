@@ -6,7 +6,8 @@ STAGES = "btf|parse|types|maps|ksyms|externs|calls"
 SLOT = rb"[0-9a-f]{2}(?: [0-9a-f]{2}){7}\n"
 HEAD = re.compile(rb"program (.*?) slots (\d+)\n", re.DOTALL)
 SLOTS = re.compile(rb"(?:%s)*" % SLOT)
-REPORT = re.compile(rb"copy 0 \d+ \d+ 0x[0-9a-f]+ .*?\n(?:copy \d+ \d+ \d+ 0x[0-9a-f]+ .*?\n)*(?:ref \d+ \d+ (?:call|load)\n)*", re.DOTALL)
+COPY = rb"copy \d+ \d+ \d+ 0x[0-9a-f]+ .*?\n"
+REPORT = re.compile(rb"%s(?:%s)*(?:ref \d+ \d+ (?:call|load)\n)*" % (COPY.replace(rb"\d+", b"0", 1), COPY), re.DOTALL)
 
 # A line of slots: eight numbers of two digits.
 SLOT_LENGTH = 24
@@ -73,10 +74,13 @@ def fault(name, run):
 
 def difference(first, second):
     """How the runs of both programs on one input differ in what has to be the same, or None: what is refused and why, and
-    which programs there are."""
+    which programs there are. Where one finds no memory, the other may."""
     behind = [run.err.partition(b": ")[2] for run in (first, second)]
+    if b"memory\n" in behind:
+        return None
     if first.status != second.status or first.status == 1 and behind[0] != behind[1]:
-        return f"the first program answers {first.status}, {behind[0][:200]!r}, and the second {second.status}, {behind[1][:200]!r}"
+        said = [f"{run.status}, {why[:200]!r}" for run, why in zip((first, second), behind)]
+        return f"the first program answers {said[0]}, and the second {said[1]}"
     if first.status == 0 and heads(first.out) != heads(second.out):
         return "the programs print other heads"
     return None

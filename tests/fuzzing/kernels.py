@@ -1,7 +1,8 @@
 """A kernel made to match: types that are an object's own, changed in places, and lines of symbols."""
 from fuzzing import names, some_types
 from fuzzing.chances import EDGES
-from fuzzing.type_table import ARRAY, ENUM, ENUM64, FUNC, INT, STRUCT, Strings, Table, UNION, VAR
+from fuzzing.type_table import Strings, Table
+from rows.btf import ARRAY, ENUM, ENUM64, FUNC, INT, STRUCT, UNION, VAR
 
 
 def members_moved(chance, of, _table):

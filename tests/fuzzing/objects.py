@@ -2,8 +2,8 @@
 from fuzzing import bodies, declared, kernels, names, some_types
 from fuzzing.bodies import Body
 from fuzzing.said import Said
-from fuzzing.type_table import FUNC_PROTO, Strings, Table
-from rows.btf import words
+from fuzzing.type_table import Strings, Table
+from rows.btf import FUNC_PROTO, words
 from rows.elf import BIG, LITTLE, NOBITS, OBJECT, PROGBITS, SECTION, File
 
 # The bindings of symbols, and the type of those of functions.
@@ -106,18 +106,21 @@ class Maker:
         for place in range(0, len(body.slots), chance.choice([8, 16, 64])):
             self.said.line(section, at + place, "file.c", "a line", chance.randrange(2**16) << 10 | place)
 
+    def programs(self):
+        """Sections with programs, which are empty so far."""
+        chance, at, found = self.chance, 0, []
+        for _ in range(chance.choice([1, 1, 2, 3, 8])):
+            held = chance.choice([0, 1, 1, 1, 2])
+            found.append((names.of_program(chance, self.broad), [Body(f"p{at + one}", GLOBAL) for one in range(held)]))
+            at += held
+        return found
+
     def code(self):
         """Programs and the functions that they call."""
         chance = self.chance
-        count = chance.choice([0, 1, 2, 3, 5])
-        if chance.one_in(60):
-            count = 200
+        count = 200 if chance.one_in(60) else chance.choice([0, 1, 2, 3, 5])
         text = [Body(f"f{at}", chance.choice([LOCAL, LOCAL, GLOBAL, WEAK])) for at in range(count)]
-        sections, at = [], 0
-        for _ in range(chance.choice([1, 1, 2, 3, 8])):
-            held = chance.choice([0, 1, 1, 1, 2])
-            sections.append((names.of_program(chance, self.broad), [Body(f"p{at + one}", GLOBAL) for one in range(held)]))
-            at += held
+        sections = self.programs()
         called = [body.name for body in text] + (["p0"] if chance.one_in(5) else [])
         calls, loads = self.targets(called)
         if text:
@@ -132,7 +135,8 @@ class Maker:
         of_structs = self.maps if chance.one_in(4) else []
         if of_structs:
             size = chance.choice([20, 24, 28])
-            data = b"".join(words([chance.randrange(1, 30), 4, 8, 16, 0, 0, 2 if chance.bad(5) else 1])[:size] for _ in of_structs)
+            rows = [[chance.randrange(1, 30), 4, 8, 16, 0, 0, 2 if chance.bad(5) else 1] for _ in of_structs]
+            data = b"".join(words(row)[:size] for row in rows)
             self.file.section("maps", PROGBITS, 3, data)
             self.of_section("maps", [(name, size * at, size) for at, name in enumerate(of_structs)])
         elif self.maps:

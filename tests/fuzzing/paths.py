@@ -1,5 +1,5 @@
 """Access strings: where a path leads in a type, right ones and damaged ones."""
-from fuzzing.type_table import ARRAY, ENUM, ENUM64, STRUCT, UNION
+from rows.btf import ARRAY, ENUM, ENUM64, STRUCT, UNION
 
 # 64 parts are the most.
 LONG = [62, 63, 64, 65, 66, 1000, 8000]

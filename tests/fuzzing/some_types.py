@@ -1,18 +1,7 @@
 """Types at random, of each kind, with the shapes that have limits."""
 from fuzzing import names
-from fuzzing.type_table import (
-    DECL_TAG,
-    ENUM,
-    ENUM64,
-    FLOAT,
-    FUNC_PROTO,
-    FWD,
-    MODIFIERS,
-    STRUCT,
-    TYPEDEF,
-    TYPE_TAG,
-    UNION,
-)
+from fuzzing.type_table import MODIFIERS
+from rows.btf import DECL_TAG, ENUM, ENUM64, FLOAT, FUNC_PROTO, FWD, STRUCT, TYPEDEF, TYPE_TAG, UNION
 
 # 32 steps of types, and 64 members without a name, are the most.
 STEPS, LEVELS = range(30, 36), range(62, 67)
@@ -158,6 +147,16 @@ def wide(chance, table):
     return table.add(STRUCT, "s", len(rest) // 3 * 4, rest, len(rest) // 3, size=len(rest) // 3 * 4)
 
 
+def crowd(chance, table):
+    """Many STRUCTs of one name, which is long now and then; some with a flavor."""
+    is_long = chance.one_in(3)
+    name = names.LONG if is_long else "s"
+    for _ in range(chance.randrange(2, 6) if is_long else chance.choice([20, 100, 300])):
+        flavor = chance.choice(names.FLAVORS) if chance.one_in(4) else ""
+        rest, size = placed(chance, table, chance.randrange(1, 4), False)
+        table.add(STRUCT, name + flavor, size, rest, len(rest) // 3, size=size)
+
+
 def fill(chance, table):
     """Adds types."""
     table.integer("int", 4, 1)
@@ -166,4 +165,4 @@ def fill(chance, table):
     for _ in range(chance.choice([2, 4, 6, 10, 16, 30])):
         chance.choice(MAKERS)(chance, table)
     if chance.one_in(20):
-        chance.choice([steps, levels, levels, wide])(chance, table)
+        chance.choice([steps, levels, levels, wide, crowd, crowd])(chance, table)

@@ -1,29 +1,8 @@
 """Types in the making: what `.BTF` says of them, and what is known of them while records on them are made."""
 import struct
 
-from rows.btf import (
-    ARRAY,
-    CONST,
-    DATASEC,
-    DECL_TAG,
-    ENUM,
-    ENUM64,
-    FLOAT,
-    FUNC,
-    FUNC_PROTO,
-    FWD,
-    INT,
-    LITTLE,
-    PTR,
-    RESTRICT,
-    STRUCT,
-    TYPEDEF,
-    TYPE_TAG,
-    UNION,
-    VAR,
-    VOLATILE,
-    magic,
-)
+from rows.btf import ARRAY, CONST, DATASEC, DECL_TAG, ENUM, ENUM64, FUNC, FUNC_PROTO, INT, LITTLE, PTR, RESTRICT
+from rows.btf import STRUCT, TYPEDEF, TYPE_TAG, UNION, VAR, VOLATILE, magic
 
 MODIFIERS = [TYPEDEF, VOLATILE, CONST, RESTRICT, TYPE_TAG]
 
@@ -121,10 +100,7 @@ class Table:
         found = []
         for of in self.types:
             found += [strings.offset(of.name), of.flag << 31 | of.kind << 24 | of.entries]
-            if of.kind != ARRAY:
-                found.append(of.held)
-            else:
-                found.append(0)
+            found.append(of.held)
             found += [word if isinstance(word, int) else strings.offset(word) for word in of.rest]
         return found
 
@@ -143,6 +119,3 @@ class Table:
             number = self.types[number - 1].held
         return number
 
-
-__all__ = ["ARRAY", "DATASEC", "DECL_TAG", "ENUM", "ENUM64", "FLOAT", "FUNC", "FUNC_PROTO", "FWD", "INT", "MODIFIERS"]
-__all__ += ["PTR", "STRUCT", "Strings", "TYPEDEF", "TYPE_TAG", "Table", "Type", "UNION", "VAR", "CONST", "VOLATILE"]
