@@ -35,7 +35,7 @@ class Body:
 
 def of_kinds(chance, table, kinds):
     """A type of one of these kinds, or one that stands for one; now and then any."""
-    found = [number for number in range(1, len(table) + 1) if table.kind(table.resolved(number)) in kinds]
+    found = table.of_kinds(kinds)
     return any_of(chance, table) if not found or chance.bad(6) else chance.choice(found)
 
 

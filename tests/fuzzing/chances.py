@@ -15,6 +15,15 @@ class Chance(random.Random):
         super().__init__(seed)
         self.care = self.choice([1, 10, 50, 200, 1000])
 
+    def randrange(self, start, stop=None):
+        """One of a range, by the one call that gives the same in each version of Python."""
+        if stop is None:
+            return int(self.random() * start)
+        return start + int(self.random() * (stop - start))
+
+    def choice(self, of):
+        return of[int(self.random() * len(of))]
+
     def one_in(self, count):
         return self.random() * count < 1
 

@@ -27,8 +27,8 @@ class Answer:
 
 def built(library, folder):
     """Builds the program, without the sanitizers where the compiler has none; its path."""
-    path = os.path.join(folder, "broad")
-    words = [os.environ.get("CC", "cc"), *FLAGS, str(HERE / "broad.c"), str(library), "-o", path, "-lpthread"]
+    path = os.path.join(folder, "passes")
+    words = [os.environ.get("CC", "cc"), *FLAGS, str(HERE / "passes.c"), str(library), "-o", path, "-lpthread"]
     if subprocess.run([*words, *SANITIZERS], capture_output=True).returncode:
         print(f"{words[0]} builds no program with sanitizers here: it is run without them")
         subprocess.run(words, check=True)

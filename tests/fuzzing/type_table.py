@@ -60,6 +60,7 @@ class Table:
 
     def __init__(self):
         self.types, self.sizes = [], [0]
+        self.found = {}
 
     def __len__(self):
         return len(self.types)
@@ -101,7 +102,7 @@ class Table:
         for of in self.types:
             found += [strings.offset(of.name), of.flag << 31 | of.kind << 24 | of.entries]
             found.append(of.held)
-            found += [word if isinstance(word, int) else strings.offset(word) for word in of.rest]
+            found += [word if type(word) is int else strings.offset(word) for word in of.rest]
         return found
 
     def bytes(self, strings, order=LITTLE):
@@ -110,6 +111,14 @@ class Table:
         types = struct.pack(f"{order}{len(numbers)}I", *numbers)
         sizes = struct.pack(f"{order}5I", 24, 0, len(types), len(types), len(strings.data))
         return magic(order) + sizes + types + strings.data
+
+    def of_kinds(self, kinds):
+        """The types of these kinds, and those that stand for one."""
+        count, found = self.found.get(kinds, (0, None))
+        if count != len(self.types):
+            found = [number for number in range(1, len(self) + 1) if self.kind(self.resolved(number)) in kinds]
+            self.found[kinds] = len(self.types), found
+        return found
 
     def resolved(self, number):
         """The type that typedefs and their like stand for."""

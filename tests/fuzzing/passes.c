@@ -2,7 +2,7 @@
  * Opens objects by the broad reading of the library for C, asks each list of them, runs the passes over them, and drops
  * them.
  *
- * usage: broad < INPUTS      an input is four numbers of 32 bits, lengths of an object, of types and of symbols (2^32 - 1:
+ * usage: passes < INPUTS      an input is four numbers of 32 bits, lengths of an object, of types and of symbols (2^32 - 1:
  * none) and a number that says what is done beside the passes, and the bytes of the three
  *
  * Writes a line for each input once it is done with it: the stage that refused, or `done`; behind a tab, where a call
