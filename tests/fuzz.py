@@ -13,10 +13,13 @@ fields, names, sections and slots changed. No file is longer than 64 KiB.
 
 A find is a run that ends with another status than 0, 1 and 2 or by a signal, or runs past 10 s; one that writes to standard
 error with status 0, or with status 1 or 2 anything but one of the lines that docs/PROGRAMS.md states, or that writes output
-beside a refusal; output of another form; two programs that don't refuse alike; and of the program in C a signal, a report
-of a sanitizer, a byte that isn't freed, a number that a call may not answer, or a run past 10 s. The files of each find are kept
-in FOLDER. Each run of a program has 1 GiB of memory, or MIB (0: no limit). The last line is 'N passed, M failed', of
-inputs; the status is 1 where one failed.
+beside a refusal; output of another form; two programs that don't refuse alike. Of the program in C it is a signal, a report
+of a sanitizer, a run past 10 s, a byte that isn't freed, a number that a call may not answer, another object behind a
+refusal, or a broad reading that isn't the stated one of what that takes.
+
+N is 2,000 inputs of the seed 1 from 0 on, on all processors, where nothing else is said. The files of each find are kept in
+FOLDER (out/fuzz-kept), which is named at the end. Each run of a program has 1 GiB of memory, or MIB (0: no limit). The last
+line is 'N passed, M failed', of inputs; the status is 1 where one failed.
 """
 import argparse
 import collections
@@ -41,7 +44,7 @@ def words():
     parser.add_argument("--seed", type=int, default=1)
     parser.add_argument("--from", type=int, default=0, dest="start")
     parser.add_argument("--jobs", type=int, default=len(os.sched_getaffinity(0)))
-    parser.add_argument("--keep", default="fuzz-kept")
+    parser.add_argument("--keep", default="out/fuzz-kept")
     parser.add_argument("--memory", type=int, default=1024)
     parser.add_argument("--library")
     parser.add_argument("programs", nargs="*")
