@@ -1,15 +1,15 @@
 """Changes of files at random."""
+import re
 import struct
 
-# Numbers at the edges of what fields hold.
-EDGES = [0, 1, 2, 3, 7, 8, 15, 16, 24, 63, 64, 127, 128, 255, 256, 0xFF00, 0xFFF1, 0xFFFF, 0x10000, 2**31 - 1, 2**31]
-EDGES += [2**32 - 8, 2**32 - 1, 2**32, 2**63 - 1, 2**63, 2**64 - 8, 2**64 - 1]
+from fuzzing.chances import EDGES
 
 # Names that mean something.
 NAMES = [b".maps", b".maps.x", b"maps", b".ksyms", b".text", b".text.x", b"license", b"version", b".BTF", b".BTF.ext"]
 NAMES += [b".bss", b".data", b".rodata", b".data.x", b"kprobe/x", b"xdp", b"sk_skb/stream_parser", b"uprobe.multi.s/x"]
 NAMES += [b"values", b"max_entries", b"key", b"value", b"type", b"pinning", b"s", b"s___a", b"int", b"0:1", b"0:1:2"]
-NAMES += [b"0", b"x", b"", b"\xff\xfe", b"___", b"ksym_func_placeholder"]
+NAMES += [b"0", b"x", b"", b"\xff\xfe", b"___", b"ksym_func_placeholder", b"tc", b"?kprobe/f", b"struct_ops/x", b"s___x"]
+NAMES += [b".kconfig", b"0:0:0:0", b"0:", b"1:18446744073709551616"]
 
 # Slots: calls, wide loads, an end, moves and jumps.
 SLOTS = ["85100000ffffffff", "8510000000000000", "8510000001000000", "1801000000000000", "9500000000000000"]
@@ -163,9 +163,47 @@ def order_changed(_chance, data, _other):
     put(data, 5, bytes([3 - data[5]] if len(data) > 5 and data[5] < 3 else [1]))
 
 
+def types_at(chance, data):
+    """Where `.BTF` or `.BTF.ext` begin, and the lengths that their headers state; None where there are none."""
+    places = [found.start() for found in re.finditer(b"\x9f\xeb\x01\x00", data)]
+    if not places:
+        return None
+    at = chance.choice(places)
+    return (at, struct.unpack_from("<7I", data, at + 4)) if at + 32 <= len(data) else None
+
+
+def word_near(chance, data, start, size, limits):
+    """A word of a range comes near what it was, or near a limit."""
+    at = start + chance.randrange(max(size // 4, 1)) * 4
+    held = int.from_bytes(data[at : at + 4], "little")
+    put(data, at, chance.near(held, limits, 4).to_bytes(4, "little"))
+
+
+def types_changed(chance, data, _other):
+    """A word of a type, or of a record on code: mostly of those by types, which are the last."""
+    found = types_at(chance, data)
+    if found is None:
+        return
+    at, (head, *numbers) = found
+    if head == 24:
+        word_near(chance, data, at + 24, numbers[1], [numbers[1] // 16, numbers[3]])
+    else:
+        part = chance.choice([0, 2, 4, 4, 4, 4])
+        word_near(chance, data, at + head + numbers[part], numbers[part + 1], [numbers[part + 1], 8, 13])
+
+
+def access_changed(chance, data, _other):
+    """A letter of an access string."""
+    places = [found.start() for found in re.finditer(rb"\0\d+(?::\d+)*(?=\0)", data)]
+    if places:
+        at = chance.choice(places) + 1
+        put(data, at + chance.choice([0, 0, 1, 2]), chance.choice([b"0", b"1", b"2", b"9", b":", b"-", b"\0", b"\xff"]))
+
+
 COMMON = [bytes_changed, number_changed, near_changed, part_again, name_changed, part_of_other]
 RARE = [cut, part_removed]
 OF_ELF = [header_changed, header_again, section_changed, section_changed, slot_changed, section_cut, name_changed]
+OF_ELF += [types_changed, types_changed, access_changed]
 
 
 def with_changes(chance, data, other, changes):

@@ -17,22 +17,22 @@ def too_long(_signal, _frame):
 def limit_memory(size):
     """Limits this process, and those that it starts, to so many bytes; 0 is no limit."""
     if size:
-        resource.setrlimit(resource.RLIMIT_AS, (size, size))
+        resource.setrlimit(resource.RLIMIT_AS, (size, resource.RLIM_INFINITY))
     resource.setrlimit(resource.RLIMIT_CORE, (0, 0))
 
 
 class Run:
-    """A status (negative: a signal; None: too long), whether there was output, and the standard error."""
+    """A status (negative: a signal; None: too long), the standard output, and the standard error."""
 
-    def __init__(self, status, has_output, err):
-        self.status, self.has_output, self.err = status, has_output, err
+    def __init__(self, status, out, err):
+        self.status, self.out, self.err = status, out, err
 
     def summary(self):
         """The run without what is a name's."""
         if self.status is None or self.status not in (0, 1, 2):
             return f"status {self.status}"
         if self.status == 0:
-            return f"status 0, {'output' if self.has_output else 'no output'}"
+            return f"status 0, {'output' if self.out else 'no output'}"
         line = self.err.split(b"\n")[0].decode("utf-8", "replace")
         for start in ("no program", "cannot read", "usage"):
             if f"{start} " in line or line.startswith(start):
@@ -70,5 +70,5 @@ class Runs:
 
     def run(self, words):
         status = self.wait(self.start(words))
-        size = os.fstat(self.err).st_size
-        return Run(status, os.fstat(self.out).st_size > 0, os.pread(self.err, min(size, 10000), 0))
+        out = os.pread(self.out, os.fstat(self.out).st_size, 0)
+        return Run(status, out, os.pread(self.err, 10000, 0))
