@@ -79,8 +79,9 @@ def run_rows(crate):
     """The rows of a program: what it prints beside its file stdout."""
     folder = CRATES / crate
     args = (folder / "args").read_text().split("\n")[:-1] if (folder / "args").exists() else []
-    words = [f"data/{word}" if (folder / "data" / word).is_file() else word for word in args]
-    ran = rt_try(crate, "--seconds", str(SECONDS), "--", *words)
+    files = [f"{word}=data/{word}" for word in args if (folder / "data" / word).is_file()]
+    flags = [flag for file in files for flag in ("--data", file)]
+    ran = rt_try(crate, "--seconds", str(SECONDS), *flags, "--", *args)
     wanted, given = rows_of((folder / "stdout").read_text()), rows_of(ran.stdout)
     outcome = Outcome()
     for number, (want, gave) in enumerate(zip_longest(wanted, given), 1):
