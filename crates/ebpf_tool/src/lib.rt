@@ -28,6 +28,3 @@ mod wanted;
 mod words;
 
 pub use run::start;
-
-#[cfg(test)]
-mod tests;
