@@ -107,7 +107,7 @@ enum ebpf_number {
 	/* 500 to 599: writing externs. About the function */
 	EBPF_EXTERNS = 500, /* + ebpf_slot_fault */
 
-	/* 600 to 699: joining programs with the functions that they reach. About the program */
+	/* 600 to 699: linking programs with the functions that they reach. About the program */
 	EBPF_CALLS = 600, /* + ebpf_slot_fault */
 };
 
@@ -275,7 +275,7 @@ struct ebpf_program {
 	size_t name_at, name_len; /* its name's place in the text */
 	size_t section;		  /* the number of its section */
 	uint64_t address;	  /* its address there, as its symbol states it */
-	size_t slots;		  /* how many slots it has as it stands, joined or not */
+	size_t slots;		  /* how many slots it has as it stands, linked or not */
 	uint32_t kind;		  /* enum ebpf_program_kind */
 	uint32_t flags;		  /* of enum ebpf_program_flag, added up */
 	uint32_t program_type;	  /* the kernel's enum bpf_prog_type */
@@ -300,7 +300,7 @@ enum ebpf_section_kind {
 	EBPF_SECTION_BSS = 6,
 };
 
-/* what is said of a map; each number as BPF_MAP_CREATE takes it */
+/* the attributes of a map; each number as BPF_MAP_CREATE takes it */
 struct ebpf_map_shape {
 	uint64_t extra;
 	uint32_t type;
@@ -398,11 +398,11 @@ struct ebpf_line_info {
 uint32_t ebpf_slots(struct ebpf_handle *handle, const char *name, size_t name_len, struct ebpf_insn *slots,
 		    size_t room, size_t *count);
 
-/* What is said of a program's functions, by slot. *count is how many. Numbers: 1, 3, 4. */
+/* A program's func info, by slot. *count is how many. Numbers: 1, 3, 4. */
 uint32_t ebpf_func_infos(struct ebpf_handle *handle, const char *name, size_t name_len, struct ebpf_func_info *rows,
 			 size_t room, size_t *count);
 
-/* What is said of a program's lines, by slot. *count is how many. Numbers: 1, 3, 4. */
+/* A program's line info, by slot. *count is how many. Numbers: 1, 3, 4. */
 uint32_t ebpf_line_infos(struct ebpf_handle *handle, const char *name, size_t name_len, struct ebpf_line_info *rows,
 			 size_t room, size_t *count);
 
@@ -440,7 +440,7 @@ struct ebpf_descriptor {
 };
 
 /*
- * Adapts the functions to a kernel whose types are given, as raw BTF in the byte order that its magic number tells.
+ * Relocates the functions to a kernel whose types are given, as raw BTF in the byte order that its magic number tells.
  * Numbers: 2, 3, 200 to 299.
  */
 uint32_t ebpf_relocate_types(struct ebpf_handle *handle, const uint8_t *types, size_t types_len, char *about,
@@ -464,12 +464,12 @@ uint32_t ebpf_resolve_externs(struct ebpf_handle *handle, const uint8_t *types, 
 /* Writes what is known of the externs into the slots that refer to them. Numbers: 2, 3, 500 to 599. */
 uint32_t ebpf_relocate_externs(struct ebpf_handle *handle, char *about, size_t about_room, size_t *about_len);
 
-/* Joins each program with the functions that it reaches. Numbers: 2, 3, 600 to 699. */
+/* Links each program with the functions that it reaches. Numbers: 2, 3, 600 to 699. */
 uint32_t ebpf_relocate_calls(struct ebpf_handle *handle, char *about, size_t about_room, size_t *about_len);
 
 /*
- * Opens the object of a file and runs all of these passes over it. Where types_len is 0, functions are not adapted
- * and externs are sought in the symbols alone. An object that the handle held before is closed where the answer is 0.
+ * Opens the object of a file and runs all of these passes over it. Where types_len is 0, functions are not relocated
+ * and externs are looked up in the symbols alone. An object that the handle held before is closed where the answer is 0.
  * The rows' names are looked at first, then the types are read, then the file. Numbers: 2, 6, 100 to 199, 200 to 299,
  * .., 600 to 699.
  */

@@ -25,7 +25,7 @@ TAKEN = {"private", "class", "new", "this", "default", "register", "typeof", "as
 
 OFFSET, SIZE, EXISTS, IS_SIGNED, LEFT_SHIFT, RIGHT_SHIFT = range(6)
 
-HEAD = """#define ADAPTED __attribute__((preserve_access_index))
+HEAD = """#define RELOCATED __attribute__((preserve_access_index))
 #define NOINLINE static __attribute__((noinline))
 #define SEC(name) __attribute__((section(name), used))
 #define ADD(term) x += term; __asm__ volatile("" : "+r"(x));
@@ -141,7 +141,7 @@ class Flavors:
             return None
         word = "struct" if ty[1] == STRUCT else "union"
         flavor = f"{word} {ty[0]}___l{number}"
-        lines = [f"{flavor} {{ {' '.join(text for text, _ in fields)} }} ADAPTED;"]
+        lines = [f"{flavor} {{ {' '.join(text for text, _ in fields)} }} RELOCATED;"]
         lines.append(f"NOINLINE long f{number}(void *p)\n{{\n\tlong x = 1;\n")
         for path, asked, loaded in (found for _, paths in fields for found in paths):
             lines += [f"\tASK((({flavor} *)0)->{path}, {what})" for what in asked]

@@ -34,14 +34,14 @@ from rows import (
     core_places,
     core_slots,
     core_values,
-    declared_maps,
+    btf_defined_maps,
     externs,
-    joined,
+    linked,
     kallsyms,
-    known_externs,
+    externs_written,
     loaded_names,
     many_types,
-    mapped,
+    fds_written,
     maps,
     names,
     order,
@@ -52,7 +52,7 @@ from rows import (
     references,
     resolved,
     small_object,
-    terms,
+    license_and_version,
     texts,
     type_faults,
     values,
@@ -61,8 +61,8 @@ from rows.case import write_cases
 
 CRATES = Path(__file__).parents[1] / "crates"
 
-OBJECTS = [small_object, programs, texts, terms, order, maps, declared_maps, externs, type_faults, records, joined]
-OBJECTS += [mapped, known_externs, resolved, prepared, printed, values, names, loaded_names, compiled, references, big_endian, broad]
+OBJECTS = [small_object, programs, texts, license_and_version, order, maps, btf_defined_maps, externs, type_faults, records, linked]
+OBJECTS += [fds_written, externs_written, resolved, prepared, printed, values, names, loaded_names, compiled, references, big_endian, broad]
 OBJECTS += [kallsyms]
 
 TYPES = [btf_one_int, btf_kinds, btf_added, btf_candidates, btf_fits, btf_ext, btf_ext_faults]

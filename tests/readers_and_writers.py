@@ -12,7 +12,7 @@ from pathlib import Path
 
 from growths import inputs
 from rows.elf import EXIT, LOAD64, NOTHING
-from rows.joined import chain
+from rows.linked import chain
 from rows.resolved import LOAD, variable_of_void
 
 SECONDS = 60

@@ -73,7 +73,7 @@ def many(size, each):
 
 @shape
 def records_of_one_long_name(size):
-    """Sections of `.BTF.ext` of one long name: its end is sought at each."""
+    """Sections of `.BTF.ext` of one long name: its end is looked up at each."""
     types = Types()
     at = types.strings.long(size // 2)
     said = on_functions([(at, b"")] * many(size // 2, 8))

@@ -6,7 +6,7 @@ typedef unsigned long long u64;
 
 #define SEC(name) __attribute__((section(name), used))
 #define NOINLINE __attribute__((noinline))
-#define ADAPTED __attribute__((preserve_access_index))
+#define RELOCATED __attribute__((preserve_access_index))
 #define NUMBER(name, value) int (*name)[value]
 #define TYPE(name, type) type *name
 #define field_exists(field) __builtin_preserve_field_info(field, 2)
@@ -19,23 +19,23 @@ static long (*const probe_read_kernel)(void *to, u32 size, const void *from) = (
 
 struct cfs_rq {
 	u32 nr_running;
-} ADAPTED;
+} RELOCATED;
 
 struct sched_entity {
 	struct cfs_rq *cfs_rq;
-} ADAPTED;
+} RELOCATED;
 
 struct task_struct {
 	int pid;
 	u32 __state;
 	int mm_cid;
 	struct sched_entity se;
-} ADAPTED;
+} RELOCATED;
 
 // As it was before 5.14.
 struct task_struct___old {
 	long state;
-} ADAPTED;
+} RELOCATED;
 
 enum cgroup_subsys_id {
 	pids_cgrp_id = 11,

@@ -407,7 +407,7 @@ static void check_threads(void)
 		if (pthread_create(&threads[at], NULL, prepare, made[at]))
 			errx(3, "no thread");
 	for (int at = 0; at < 4; at++) {
-		void *fault = "not joined";
+		void *fault = "still running";
 
 		pthread_join(threads[at], &fault);
 		CHECK("four threads", fault == NULL && !memcmp(made[0], made[at], sizeof(made[0])));

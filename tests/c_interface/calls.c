@@ -40,7 +40,7 @@ static struct {
 } given;
 
 /* The maps NAME:N,.. as rows. */
-static void describe_words(char *rest)
+static void read_map_fds(char *rest)
 {
 	given.rows = zeros(strlen(rest), sizeof(*given.rows));
 	given.text = zeros(strlen(rest), 1);
@@ -55,7 +55,7 @@ static void describe_words(char *rest)
 }
 
 /* What a call of this name is to be given; else the object's own maps are 1, 2, .. in the order of the list. */
-static void describe(const char *name, char *rest)
+static void give_map_fds(const char *name, char *rest)
 {
 	struct ebpf_handle held = EBPF_CLOSED_HANDLE;
 	int prepares = !strcmp(name, "prepare");
@@ -66,7 +66,7 @@ static void describe(const char *name, char *rest)
 	if (prepares)
 		ebpf_open(file.at, file.len, &held, about, sizeof(about), &about_len);
 	if (!strcmp(name, "maps") && rest)
-		describe_words(rest);
+		read_map_fds(rest);
 	else if (prepares && held.at)
 		given.count = number_maps(&held, &given.rows, &given.text, &given.text_len);
 	else if (!prepares && object.at)
@@ -248,7 +248,7 @@ static void act(char *word, int is_marked)
 	if (lists(name))
 		return;
 	if (!strcmp(name, "maps") || !strcmp(name, "prepare"))
-		describe(name, rest);
+		give_map_fds(name, rest);
 	if (is_marked) {
 		printf("before:\n");
 		put_all();

@@ -73,14 +73,14 @@ def numbers():
     held = with_extern("v", GLOBAL, integer("int", 4), struct, variable("v", 2), datasec(".ksyms", 3))
     called = variable_of_void("v", slots=[CALL, EXIT], relocations=[(0, CALL32)])
     other = btf(integer("int", 4), prototype(1), function("f", 2), variable("v", 1))
-    resolve, adapt = ["open", "resolve"], ["open", "types"]
+    resolve, relocate = ["open", "resolve"], ["open", "types"]
     other_value = ["open", "value=other:must:00000000"]
     closed = ["calls", "ask=programs", "clone"]
     return [
         CallsRow("no types for a function", (typed, b"", b""), resolve, ["open 0", "resolve 400"]),
         CallsRow("types that can't be read", (typed, b"types", b""), resolve, ["open 0", "resolve 200"]),
-        CallsRow("types to adapt by that can't be read", (SMALL, b"types", b""), adapt, ["open 0", "types 200"]),
-        CallsRow("no types to adapt by", (SMALL, b"", b""), adapt, ["open 0", "types 200"]),
+        CallsRow("types to relocate by that can't be read", (SMALL, b"types", b""), relocate, ["open 0", "types 200"]),
+        CallsRow("no types to relocate by", (SMALL, b"", b""), relocate, ["open 0", "types 200"]),
         CallsRow("a function of another type", (typed, other, b""), resolve, ["open 0", "resolve 402 f"]),
         CallsRow("a variable of another type", (held, other, b""), resolve, ["open 0", "resolve 403 v"]),
         CallsRow("no function in the kernel", (typed, KERNEL, b""), resolve, ["open 0", "resolve 408 f"]),

@@ -25,7 +25,7 @@ PARSING = """
     SymbolNotFound MapNotFound MapSymbolNameNotFound NoSymbolsForSection NoBTF
 """.split()
 
-ADAPTING = """
+TYPE_RELOCATION = """
     SectionNotFound FunctionNotFound InvalidAccessString InvalidInstructionIndex ConflictingCandidates
     MaximumNestingLevelReached InvalidAccessIndex InvalidRelocationKindForType InvalidInstruction
     MissingTargetDefinition
@@ -67,12 +67,12 @@ def of_parsing(text):
     return 140 + PARSING.index(variant), named(text)
 
 
-def of_adapting(text):
+def of_type_relocation(text):
     """Of `SECTION: ERROR`."""
     section, _, error = text.partition(": ")
     if word(error) == "BtfError":
         return 220 + TYPES.index(word(within(error))), section
-    return 240 + ADAPTING.index(word(error)), section
+    return 240 + TYPE_RELOCATION.index(word(error)), section
 
 
 def of_slots(stage, text):
@@ -94,7 +94,7 @@ def variants():
     for first, stage in [(120, "parse"), (220, "types"), (420, "ksyms")]:
         names |= {first + at: f"{stage}: BtfError" for at in range(len(TYPES))}
     names |= {200 + at: f"btf: {name}" for at, name in enumerate(TYPES)}
-    for first, stage, faults in [(140, "parse", PARSING), (240, "types", ADAPTING), (400, "ksyms", FINDING)]:
+    for first, stage, faults in [(140, "parse", PARSING), (240, "types", TYPE_RELOCATION), (400, "ksyms", FINDING)]:
         names |= {first + at: f"{stage}: {name}" for at, name in enumerate(faults)}
     for stage, first in STAGES.items():
         names |= {first + at: f"{stage}: {name}" for at, name in enumerate(SLOTS)}

@@ -75,7 +75,7 @@ def parsed_extern(line):
     )
 
 
-def parsed_terms(text):
+def parsed_license_and_version(text):
     license_bytes, version = re.fullmatch(r"\[(.*)\] (\S+)", text).groups()
     digits = "".join(f"{int(byte):02x}" for byte in license_bytes.split(", ") if byte)
     number = re.sub(r"\D", "", version)
@@ -103,7 +103,7 @@ def with_maps(wanted):
     return judge
 
 
-def with_declared_maps(wanted):
+def with_btf_defined_maps(wanted):
     def judge(lines):
         found = [line for line in lines[1:] if is_declared(line)]
         return None if found == wanted else f"{lines} in place of {wanted}"
@@ -142,12 +142,12 @@ def of_parsing(case, words, text):
     if words == ["maps"]:
         wanted = [parsed_map(line) for line in lines]
         yield CallsRow(case.name, files, ["open", "listed"], with_maps(wanted))
-    if words == ["declared_maps"]:
-        yield CallsRow(case.name, files, ["open", "listed"], with_declared_maps([declared_map(line) for line in lines]))
+    if words == ["btf_defined_maps"]:
+        yield CallsRow(case.name, files, ["open", "listed"], with_btf_defined_maps([declared_map(line) for line in lines]))
     if words == ["externs"]:
         yield CallsRow(case.name, files, ["open", "declared"], ["open 0", *map(parsed_extern, lines)])
-    if words == ["terms"]:
-        yield CallsRow(case.name, files, ["open", "info"], with_line(parsed_terms(text)))
+    if words == ["license_and_version"]:
+        yield CallsRow(case.name, files, ["open", "info"], with_line(parsed_license_and_version(text)))
     if "sections" in words:
         wanted = [line for line in lines if line.startswith("section ")]
         yield CallsRow(case.name, files, ["open", "sections"], ["open 0", *wanted])
@@ -156,7 +156,7 @@ def of_parsing(case, words, text):
         yield CallsRow(case.name, files, ["open", "records"], with_records(wanted))
 
 
-def of_joining(case, words, text):
+def of_linking_programs(case, words, text):
     files = case.files["object"], b"", b""
     lines = outcome_lines(text)
     if lines and lines[0].startswith("EbpfRelocationError"):
@@ -173,7 +173,7 @@ def is_lone(case, slots):
     return function_sizes(case.files["object"]) == [8 * len(slots)]
 
 
-def of_mapping(case, words, text):
+def of_fds(case, words, text):
     """Descriptors, and the slots of a lone program."""
     files = case.files["object"], b"", b""
     given = ",".join(word.replace("=", ":") for word in words)
@@ -207,8 +207,8 @@ def of_resolving(case, words, text):
         yield CallsRow(case.name, files, actions, wanted)
 
 
-def of_adapting(case, words, text):
-    """Functions that are adapted to a kernel's types."""
+def of_type_relocation(case, words, text):
+    """Functions that are relocated to a kernel's types."""
     if len(words) != 1:
         return
     files = case.files["object"], case.files[words[0]], b""
@@ -217,7 +217,7 @@ def of_adapting(case, words, text):
     elif refusals.word(text) in PARSING:
         yield CallsRow(case.name, files, ["open"], [refused("open", refusals.of_parsing(text))])
     else:
-        yield CallsRow(case.name, files, ["open", "types"], ["open 0", refused("types", refusals.of_adapting(text))])
+        yield CallsRow(case.name, files, ["open", "types"], ["open 0", refused("types", refusals.of_type_relocation(text))])
 
 
 def of_patching(case, words, text):
@@ -282,10 +282,10 @@ def of_linking(case, words, text):
 
 OF = {
     "parsed": of_parsing,
-    "joined": of_joining,
-    "mapped": of_mapping,
+    "linked": of_linking_programs,
+    "fds_written": of_fds,
     "resolved": of_resolving,
-    "adapted": of_adapting,
+    "types_relocated": of_type_relocation,
     "patched": of_patching,
     "sanitized": of_sanitizing,
     "link": of_linking,

@@ -212,12 +212,12 @@ class Maker:
             step()
         return self.file.bytes()
 
-    def known_externs(self):
+    def externs_written(self):
         """What a kernel may have: names with types and whether they are functions."""
         return [(of.name, self.table.types[of.held - 1].held, of.is_function) for of in self.externs]
 
     def kernel(self):
-        return kernels.types_of(self.chance, self.table, self.known_externs())
+        return kernels.types_of(self.chance, self.table, self.externs_written())
 
     def lines(self):
-        return kernels.lines_of(self.chance, self.known_externs())
+        return kernels.lines_of(self.chance, self.externs_written())

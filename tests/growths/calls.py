@@ -2,11 +2,11 @@
 from growths import inputs
 from growths.call_row import CallRow
 from growths.inputs import COUNTER, KERNEL, LINES, REFERENCES, SMALL, TASKS
-from rows import externs, mapped, resolved, values
+from rows import externs, fds_written, resolved, values
 from rows.btf import btf, datasec, function, integer, prototype, struct_of, variable
 from rows.core_sides import INT_4, OFFSET, S, one_of
 from rows.elf import CALL, CALL32, EXIT, LOAD64, NOTHING, PROGBITS, File
-from rows.mapped import LOAD_8
+from rows.fds_written import LOAD_8
 from rows.records import PROGRAM, TEXT
 from rows.resolved import GLOBAL
 
@@ -123,7 +123,7 @@ def refused_files():
     no_symbol = externs.declaring(variable("x", 0), datasec(".ksyms", 1))
     no_record = inputs.two_calls(funcs=[(PROGRAM, [0])])
     early = inputs.two_calls(lines=[(PROGRAM, [0]), (TEXT, [8, 0])])
-    no_map = mapped.referring([LOAD_8, NOTHING, EXIT], [(0, 5, LOAD64)])
+    no_map = fds_written.referring([LOAD_8, NOTHING, EXIT], [(0, 5, LOAD64)])
     variables = values.variables()
     return [
         no_answer("parse, no kind of program", [no_kind], "parse", starts="Err(InvalidProgramSection"),

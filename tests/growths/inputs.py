@@ -5,7 +5,7 @@ from rows import references
 from rows.btf import btf, integer, struct_of, words
 from rows.core_sides import INT_4, OFFSET, S, one_of
 from rows.elf import CALL, CALL32, EXIT
-from rows.joined import program
+from rows.linked import program
 from rows.records import NAMES, PROGRAM, TEXT, table
 
 CRATES = Path(__file__).parents[2] / "crates"

@@ -7,8 +7,8 @@ typedef unsigned long long u64;
 #define SEC(name) __attribute__((section(name), used))
 #define NOINLINE __attribute__((noinline))
 #define NUMBER(name, value) int (*name)[value]
-#define JOINED(a, b) a##b
-#define NUMBERED(line, number) JOINED(number_, line) = number
+#define PASTED(a, b) a##b
+#define NUMBERED(line, number) PASTED(number_, line) = number
 #define LARGE(name, number) enum { NUMBERED(__LINE__, number) } name
 #define HELD(name, type) typeof(type) *name[]
 

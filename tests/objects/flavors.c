@@ -4,7 +4,7 @@
 struct mm_struct___x {
 	u64 start_code;
 	u64 no_such;
-} ADAPTED;
+} RELOCATED;
 
 struct task_struct___new {
 	u32 __state;
@@ -14,11 +14,11 @@ struct task_struct___new {
 	struct task_struct___new *real_parent;
 	u32 no_such;
 	u64 start_time;
-} ADAPTED;
+} RELOCATED;
 
 struct task_struct___old {
 	long state;
-} ADAPTED;
+} RELOCATED;
 
 struct sk_buff {
 	u8 pkt_type : 3;
@@ -28,7 +28,7 @@ struct sk_buff {
 	u16 vlan_tci;
 	u32 hash;
 	u8 *head;
-} ADAPTED;
+} RELOCATED;
 
 struct tcp_sock___v {
 	u8 repair : 1;
@@ -36,14 +36,14 @@ struct tcp_sock___v {
 	struct {
 		u32 snd_una;
 	} no_such;
-} ADAPTED;
+} RELOCATED;
 
 struct iphdr {
 	u8 ihl : 4;
 	u8 version : 4;
 	u8 tos;
 	u32 saddr;
-} ADAPTED;
+} RELOCATED;
 
 #define ALL(field)                \
 	do {                      \

@@ -3,7 +3,7 @@
 
 struct task_struct {
 	long long pid;
-} ADAPTED;
+} RELOCATED;
 
 SEC("raw_tp/sys_enter")
 int other_size(u64 *context)

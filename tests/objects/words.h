@@ -9,7 +9,7 @@ typedef unsigned long long u64;
 #define KSYM __attribute__((section(".ksyms")))
 #define WEAK __attribute__((weak))
 #define NOINLINE __attribute__((noinline))
-#define ADAPTED __attribute__((preserve_access_index))
+#define RELOCATED __attribute__((preserve_access_index))
 
 #define NUMBER(name, value) int (*name)[value]
 #define TYPE(name, type) type *name

@@ -31,14 +31,14 @@ def member(name_at, bits):
 
 
 def cases():
-    load, adapted, end = "61 12 00 00 00 00 00 00", "61 12 08 00 00 00 00 00", "95 00 00 00 00 00 00 00"
+    load, types_relocated, end = "61 12 00 00 00 00 00 00", "61 12 08 00 00 00 00 00", "95 00 00 00 00 00 00 00"
     members = f"[{member(7, 0)}, {member(9, 32)}]"
     return [
         Case(
             "a big endian object",
             {"object": whole(), "kernel": KERNEL},
             {
-                "parsed terms programs functions symbols relocations": """
+                "parsed license_and_version programs functions symbols relocations": """
                     [71, 80, 76] Some(1234)
                     program p KProbe at 3 0
                     function p at 3 0 offset 0 slots 3
@@ -60,8 +60,8 @@ def cases():
                     in Ok("kprobe/p")
                     0 at 0 type 2 Ok("0:1") FieldByteOffset
                 """,
-                "adapted kernel": f"Ok {adapted}, 85 10 00 00 ff ff ff ff, {end}, {end}",
-                "joined slots": "\n".join(["program p slots 4", load, "85 10 00 00 01 00 00 00", end, end]),
+                "types_relocated kernel": f"Ok {types_relocated}, 85 10 00 00 ff ff ff ff, {end}, {end}",
+                "linked slots": "\n".join(["program p slots 4", load, "85 10 00 00 01 00 00 00", end, end]),
             },
         )
     ]

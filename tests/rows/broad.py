@@ -2,7 +2,7 @@
 from rows.btf import ENUM, ENUM64, array, btf, datasec, pointer, prototype, struct_of, ty, typedef, variable, words
 from rows.case import Case
 from rows.core_sides import MOVE, TYPE_SIZE, moved, shown, type_parts
-from rows.declared_maps import NUMBERS, declaring, named, unexpected
+from rows.btf_defined_maps import NUMBERS, declaring, named, unexpected
 from rows.elf import BIG, EXIT, FUNCTION, OBJECT, PROGBITS, SECTION, File
 from rows.loaded_names import ROWS
 from rows.names import CGROUPS, NETWORK, PROBES
@@ -102,7 +102,7 @@ def said_of_programs():
         Case(
             "types of an unknown name",
             {"object": relocated(), "kernel": kernel},
-            {"adapted kernel": refused("tc"), "broadly adapted kernel": f"Ok {shown([moved(24)])}"},
+            {"types_relocated kernel": refused("tc"), "broadly types_relocated kernel": f"Ok {shown([moved(24)])}"},
         ),
     ]
 
@@ -123,15 +123,15 @@ def maps():
         ("an array of what is no pointer", [prototype(1)], 7, unexpected(1), unexpected(1)),
     ]
     rows = [
-        both(name, held_programs(*types, element=element), "declared_maps", given, broadly)
+        both(name, held_programs(*types, element=element), "btf_defined_maps", given, broadly)
         for name, types, element, given, broadly in programs
     ]
     one = declaring(*NUMBERS, prototype(1), pointer(7), array(8, 1), struct_of("", 8, ("values", 9, 0)), variable("m", 10), datasec(".maps", 11))
     spec = named("InvalidValuesSpec")
     unsaid = declaring(*NUMBERS, struct_of("", 8, ("type", 4, 0)), variable("m", 7), datasec(".maps", 8))
     alone = "map m in 3 symbol 1 type 1 key 0:0 value 0:0 entries 0 flags 0 extra 0 None"
-    rows.append(both("an array of one program", one, "declared_maps", spec, spec))
-    rows.append(both("a map without values", unsaid, "declared_maps", alone, alone))
+    rows.append(both("an array of one program", one, "btf_defined_maps", spec, spec))
+    rows.append(both("a map without values", unsaid, "btf_defined_maps", alone, alone))
     return rows
 
 
@@ -159,10 +159,10 @@ def extras():
         ("an extra of 64 bits with a sign", [wide(2**32 - 1, 2**32 - 1, flag=1)], 7, 2**64 - 1),
     ]
     # The wanted type of the stated reading is a pointer: what none points to is told by the type that it stands for, if any.
-    rows = [both(name, extra(*types, member=member), "declared_maps", unexpected(0), said(number)) for name, types, member, number in good]
-    rows += [both(name, extra(*types, member=member), "declared_maps", unexpected(0), unexpected(0)) for name, types, member in faulty]
-    rows.append(both("an extra of a named type", extra(enum(7), typedef("t", 7), member=8), "declared_maps", unexpected(7), said(7)))
-    rows.append(both("an extra of an array", extra(member=6), "declared_maps", said(64), said(64)))
+    rows = [both(name, extra(*types, member=member), "btf_defined_maps", unexpected(0), said(number)) for name, types, member, number in good]
+    rows += [both(name, extra(*types, member=member), "btf_defined_maps", unexpected(0), unexpected(0)) for name, types, member in faulty]
+    rows.append(both("an extra of a named type", extra(enum(7), typedef("t", 7), member=8), "btf_defined_maps", unexpected(7), said(7)))
+    rows.append(both("an extra of an array", extra(member=6), "btf_defined_maps", said(64), said(64)))
     return rows
 
 
@@ -181,7 +181,7 @@ def licenses():
         ("a license that has no end", b"GPL", missing, missing),
         ("a usual license", b"GPL\0", "[71, 80, 76] None", "[71, 80, 76] None"),
     ]
-    return [both(name, license(data), "terms", given, broadly) for name, data, given, broadly in rows]
+    return [both(name, license(data), "license_and_version", given, broadly) for name, data, given, broadly in rows]
 
 
 def orders():

@@ -20,14 +20,14 @@ def cases():
                     function on_wake at 4 0 offset 0 slots 13
                     function on_packet at 6 0 offset 0 slots 15
                 """,
-                "parsed terms": "[71, 80, 76] None",
+                "parsed license_and_version": "[71, 80, 76] None",
                 "parsed maps": """
                     map .bss type 2 key 4 value 8 entries 1 flags 0 None symbol None data [0, 0, 0, 0, 0, 0, 0, 0]
                     map .rodata type 2 key 4 value 4 entries 1 flags 128 None symbol None data [7, 0, 0, 0]
                     map counts type 1 key 4 value 8 entries 64 flags 0 ByName symbol Some(11) data []
                     map tables type 12 key 4 value 4 entries 8 flags 0 None symbol Some(14) data []
                 """,
-                "parsed declared_maps": """
+                "parsed btf_defined_maps": """
                     map counts in 9 symbol 11 type 1 key 4:14 value 8:24 entries 64 flags 0 extra 0 ByName
                     map tables in 9 symbol 14 type 12 key 4:0 value 4:0 entries 8 flags 0 extra 0 None
                     inner in 0 symbol 0 type 2 key 4:14 value 4:14 entries 4 flags 0 extra 0 None

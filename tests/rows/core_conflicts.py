@@ -17,7 +17,7 @@ from rows.core_sides import (
     VARIANT_EXISTS,
     VARIANT_VALUE,
     WIDE,
-    adapted,
+    types_relocated,
     beside,
     conflict,
     enum64_of,
@@ -72,7 +72,7 @@ def fields():
         row("fields at two places that exist", one_of(LOCAL, EXISTS, 2, "0:0"), elsewhere, differ),
         row("fields at two places of one size", one_of(LOCAL, SIZE, 2, "0:0"), elsewhere, differ),
         # At one place they may be of two sizes, where that isn't asked: the load goes by the first.
-        row("fields of two sizes at one place", both, larger, adapted(slot(0x61, 0x12, 4), slot(0xB7, 1, imm=1))),
+        row("fields of two sizes at one place", both, larger, types_relocated(slot(0x61, 0x12, 4), slot(0xB7, 1, imm=1))),
         row("two sizes of a field", one_of(unsigned, SIZE, 2, "0:0"), larger, refused(conflict("s", "s"))),
         # Bits that are not those of a whole byte count too.
         row(
@@ -104,7 +104,7 @@ def absent():
             ],
         ),
         learned("no type for its size and its id", S, [INT_4], (TYPE_SIZE, 2, "0", None), (TARGET_ID, 2, "0", None)),
-        row("no type for a wide load", nothing, [INT_4], adapted(POISON, POISON)),
+        row("no type for a wide load", nothing, [INT_4], types_relocated(POISON, POISON)),
     ]
 
 

@@ -9,7 +9,7 @@ from rows.core_sides import (
     POISON,
     S,
     WIDE,
-    adapted,
+    types_relocated,
     beside,
     conflict,
     numbers,
@@ -32,8 +32,8 @@ def moved_fields():
     # Behind these, `struct { void *b; }`, type 3, and `struct { void *b; int b; }`.
     start = [INT_4, pointer(0)]
     other, both = struct_of("", 8, ("b", 2, 0)), struct_of("", 12, ("b", 2, 0), ("b", 1, 64))
-    at = lambda offset: adapted(slot(0x61, 0x12, offset))
-    lost = adapted(POISON)
+    at = lambda offset: types_relocated(slot(0x61, 0x12, offset))
+    lost = types_relocated(POISON)
     return [
         beside(
             "a field that moved",
@@ -54,7 +54,7 @@ def moved_fields():
                 ("twice_inside", [*start, both, struct_of("s", 16, ("", 3, 0), ("b", 1, 96))], at(12)),
             ],
         ),
-        row("a field of no type in a wide load", one_of(S, OFFSET, 2, "0:1", *WIDE), [INT_4], adapted(POISON, POISON)),
+        row("a field of no type in a wide load", one_of(S, OFFSET, 2, "0:1", *WIDE), [INT_4], types_relocated(POISON, POISON)),
     ]
 
 
@@ -182,7 +182,7 @@ def indices():
 
 
 def needed():
-    """Names and types that can't be read, up to the member that is sought."""
+    """Names and types that can't be read, up to the member that is looked up."""
     struct = lambda *members: [INT_4, typedef("t", 2), struct_of("s", 8, *members)]
     b = ("b", 1, 32)
     inner = [INT_4, struct_of("", 4, (1000, 1, 0)), struct_of("s", 8, ("", 2, 0), (900, 1, 0))]

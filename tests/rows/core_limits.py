@@ -9,7 +9,7 @@ from rows.core_sides import (
     S,
     SIZE,
     TYPE_EXISTS,
-    adapted,
+    types_relocated,
     bad_slot,
     bad_string,
     beside,
@@ -143,7 +143,7 @@ def bits():
         row("an index past the last of an int", of("134217728"), number, refused(BAD_TYPE)),
         row("the last index of an int in a load", of("134217727", load), number, refused(bad_slot(), load)),
         # 8,191 ints of 4 bytes.
-        row("the last index for a load", of("8191", load), number, adapted(slot(0x61, 0x12, 32764))),
+        row("the last index for a load", of("8191", load), number, types_relocated(slot(0x61, 0x12, 32764))),
         row("an index past the last for a load", of("8192", load), number, refused(bad_slot(), load)),
         # The same of structs of eight bytes.
         learned("the last index of a struct", S, S, (OFFSET, 2, "67108863", 536870904)),

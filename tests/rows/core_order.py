@@ -13,7 +13,7 @@ from rows.core_sides import (
     TYPE_EXISTS,
     TYPE_SIZE,
     WIDE,
-    adapted,
+    types_relocated,
     bad_kind,
     bad_slot,
     bad_string,
@@ -45,17 +45,17 @@ def in_order():
     second = [(0, TYPE_SIZE, 2, "0"), (8, TYPE_SIZE, 3, "0")]
     wide = [*WIDE, NOTHING]
     return [
-        row("two sizes in one move", object_of(LOCAL, twice, [MOVE]), LOCAL, adapted(slot(0xB7, 1, imm=16))),
+        row("two sizes in one move", object_of(LOCAL, twice, [MOVE]), LOCAL, types_relocated(slot(0xB7, 1, imm=16))),
         # The first makes it a load of eight bytes, and the second leaves its size.
         row(
             "two fields in one load",
             object_of(small, [(0, OFFSET, 2, "0:0"), (0, OFFSET, 2, "0:1")], [LOAD]),
             large,
-            adapted(slot(0x79, 0x12, 4)),
+            types_relocated(slot(0x79, 0x12, 4)),
         ),
         # The slot has become a call, which carries nothing.
         row("a slot without a value and with one", object_of(LOCAL, poisoned, [MOVE]), [], refused(bad_slot(0, 1))),
-        row("a slot without a value twice", object_of(LOCAL, twice, [MOVE]), [], adapted(POISON)),
+        row("a slot without a value twice", object_of(LOCAL, twice, [MOVE]), [], types_relocated(POISON)),
         row(
             "the second slot of a wide load that fails",
             object_of(LOCAL, second, WIDE),
@@ -67,7 +67,7 @@ def in_order():
             "the second slot of a wide load",
             object_of(LOCAL, second, wide),
             LOCAL[1:],
-            adapted(slot(0x18, 1, imm=8), slot(0, imm=16), slot(0)),
+            types_relocated(slot(0x18, 1, imm=8), slot(0, imm=16), slot(0)),
         ),
     ]
 

@@ -4,7 +4,7 @@ Each relocation here asks for the size of the struct `s`, which is 24 in the ker
 """
 from rows.btf import btf, struct_of
 from rows.case import Case
-from rows.core_sides import MOVE, TYPE_SIZE, adapted, moved, refused, type_parts, unreadable
+from rows.core_sides import MOVE, TYPE_SIZE, types_relocated, moved, refused, type_parts, unreadable
 from rows.elf import EXIT, FUNCTION, File
 
 LOCAL = [struct_of("s", 8)]
@@ -23,7 +23,7 @@ def with_types(file, *sections):
 
 
 def place(name, data, gives):
-    return Case(name, {"object": data, "kernel": KERNEL}, {"adapted kernel": gives})
+    return Case(name, {"object": data, "kernel": KERNEL}, {"types_relocated kernel": gives})
 
 
 def one_program(*sections):
@@ -55,8 +55,8 @@ def sections():
     bare_types = File().code("kprobe/p", MOVE).symbol("p", FUNCTION, 3, 0, 8).data(".BTF", btf(*LOCAL))
     return [
         # Without types nothing is done; what lies in the section for instructions is not even read.
-        place("no types to adapt by", bare.data(".BTF.ext", b"\0").bytes(), adapted(MOVE)),
-        place("types and no relocations", bare_types.bytes(), adapted(MOVE)),
+        place("no types to relocate to", bare.data(".BTF.ext", b"\0").bytes(), adapted(MOVE)),
+        place("types and no relocations", bare_types.bytes(), types_relocated(MOVE)),
         # A section's name that can't be read: the section is named by where it stands.
         place(
             "relocations of a section without a name that can be read",
@@ -89,7 +89,7 @@ def sections():
         place(
             "two sections of relocations with one name",
             one_program(good, ("kprobe/p", asks(8))),
-            adapted(FOUND, FOUND),
+            types_relocated(FOUND, FOUND),
         ),
         place(
             "relocations of a section without functions",
@@ -107,7 +107,7 @@ def sections():
                 .symbol("q", FUNCTION, 4, 0, 8),
                 good,
             ),
-            adapted(MOVE, FOUND),
+            types_relocated(MOVE, FOUND),
         ),
     ]
 
@@ -120,7 +120,7 @@ def functions():
     uneven = lambda at: program_of(bytes(4) + 2 * MOVE + bytes(4), [("p", 4, 16)], at)
     return [
         # The function with the lowest address that has the slot, which is the second one of the first function.
-        place("a slot of two functions", program_of(2 * MOVE, both, 8), adapted(MOVE, FOUND, MOVE)),
+        place("a slot of two functions", program_of(2 * MOVE, both, 8), types_relocated(MOVE, FOUND, MOVE)),
         place("a slot behind the last function", program_of(2 * MOVE, both, 16), refused(lost, MOVE, MOVE, MOVE)),
         place("a slot before the first function", program_of(2 * MOVE, [("q", 8, 8)], 0), refused(lost, MOVE)),
         place("a slot between functions", program_of(3 * MOVE, [first, ("q", 16, 8)], 8), refused(lost, MOVE, MOVE)),
@@ -136,28 +136,28 @@ def functions():
                 .symbol("q", FUNCTION, 4, 0, 8),
                 ("kprobe/q", asks(0)),
             ),
-            adapted(MOVE, FOUND),
+            types_relocated(MOVE, FOUND),
         ),
         # The slot is counted from where the function begins.
-        place("a slot of the second function", text_of(0, 16), adapted(MOVE, MOVE, FOUND)),
-        place("a slot in a section with an address", text_of(256, 8), adapted(MOVE, FOUND, MOVE)),
+        place("a slot of the second function", text_of(0, 16), types_relocated(MOVE, MOVE, FOUND)),
+        place("a slot in a section with an address", text_of(256, 8), types_relocated(MOVE, FOUND, MOVE)),
         # `g` has the address 0, so its slots are shown first.
-        place("a slot in a section at the end of the addresses", text_of(2**64 - 8, 0), adapted(MOVE, MOVE, FOUND)),
+        place("a slot in a section at the end of the addresses", text_of(2**64 - 8, 0), types_relocated(MOVE, MOVE, FOUND)),
         # Divisions round down: 12 bytes are one slot and a half.
-        place("a place inside a slot", program_of(2 * MOVE, [("p", 0, 16)], 12), adapted(MOVE, FOUND)),
+        place("a place inside a slot", program_of(2 * MOVE, [("p", 0, 16)], 12), types_relocated(MOVE, FOUND)),
         # Two slots from byte 4 on are taken for slots 0 and 1 of the section, so for the bytes up to 15. Of these 4 to
         # 11 are in the function's first slot, and 12 to 15 in its second.
         place("a place before an uneven function", uneven(3), refused(lost, MOVE, MOVE)),
-        place("the first place of an uneven function", uneven(4), adapted(FOUND, MOVE)),
-        place("the last place in an uneven function's first slot", uneven(11), adapted(FOUND, MOVE)),
-        place("the first place in an uneven function's second slot", uneven(12), adapted(MOVE, FOUND)),
-        place("the last place of an uneven function", uneven(15), adapted(MOVE, FOUND)),
+        place("the first place of an uneven function", uneven(4), types_relocated(FOUND, MOVE)),
+        place("the last place in an uneven function's first slot", uneven(11), types_relocated(FOUND, MOVE)),
+        place("the first place in an uneven function's second slot", uneven(12), types_relocated(MOVE, FOUND)),
+        place("the last place of an uneven function", uneven(15), types_relocated(MOVE, FOUND)),
         place("a place behind an uneven function", uneven(16), refused(lost, MOVE, MOVE)),
         # A slot that no relocation is about stays.
         place(
             "slots that relocations are about and others",
             program_of(EXIT + MOVE + EXIT + MOVE, [("p", 0, 32)], 24, 8),
-            adapted(EXIT, FOUND, EXIT, FOUND),
+            types_relocated(EXIT, FOUND, EXIT, FOUND),
         ),
     ]
 

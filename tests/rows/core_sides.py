@@ -89,14 +89,14 @@ def shown(slots):
     return ", ".join(each.hex(" ") for each in slots)
 
 
-def adapted(*slots):
+def types_relocated(*slots):
     """What the slots are then."""
     return f"Ok {shown(slots)}"
 
 
 def numbers(*found):
     """Moves of these numbers."""
-    return adapted(*(moved(number) for number in found))
+    return types_relocated(*(moved(number) for number in found))
 
 
 def refused(fault, *slots, section="kprobe/p"):
@@ -108,7 +108,7 @@ def beside(name, data, kernels):
     """A case of an object beside kernels, of which each has a name, types, or the bytes of types, and what the object
     comes to."""
     files = {kernel: types if isinstance(types, bytes) else btf(*types) for kernel, types, _ in kernels}
-    return Case(name, {"object": data} | files, {f"adapted {kernel}": gives for kernel, _, gives in kernels})
+    return Case(name, {"object": data} | files, {f"types_relocated {kernel}": gives for kernel, _, gives in kernels})
 
 
 def row(name, data, types, gives):

@@ -12,7 +12,7 @@ from rows.core_sides import (
     UNSIGNED_4,
     VARIANT_VALUE,
     WIDE,
-    adapted,
+    types_relocated,
     bad_slot,
     beside,
     bit_struct,
@@ -49,13 +49,13 @@ def without_value():
     codes = [0x61, 0x62, 0x63, 0x04, 0x05, 0x06, 0xB7, 0x85, 0x20]
     every = sizes_in([full(code) for code in codes])
     return [
-        row("slots of each class without a value", every, [], adapted(*[POISON] * len(codes))),
-        row("a wide load without a value", size_in([*WIDE, EXIT]), [], adapted(POISON, POISON, EXIT)),
+        row("slots of each class without a value", every, [], types_relocated(*[POISON] * len(codes))),
+        row("a wide load without a value", size_in([*WIDE, EXIT]), [], types_relocated(POISON, POISON, EXIT)),
         # The slot behind it is no second slot by its code, but by its place.
-        row("a wide load without a value before a call", size_in([WIDE[0], CALL]), [], adapted(POISON, POISON)),
+        row("a wide load without a value before a call", size_in([WIDE[0], CALL]), [], types_relocated(POISON, POISON)),
         row("a wide load without a value and a second slot", size_in([WIDE[0]]), [], refused(no_slot(1, 1), WIDE[0])),
         # Other slots of the same class are one slot.
-        row("another load without a value", size_in([slot(0x20, 1), EXIT]), [], adapted(POISON, EXIT)),
+        row("another load without a value", size_in([slot(0x20, 1), EXIT]), [], types_relocated(POISON, EXIT)),
     ]
 
 
@@ -66,11 +66,11 @@ def immediates():
     every = sizes_in([slot(code, 3, 5, 6) for code in codes])
     move, add = slot(0xB7, 0x11), slot(0x0C, 0x10, imm=7)
     return [
-        row("immediates of arithmetic", every, kernel, adapted(*(slot(code, 3, 5, -2) for code in codes))),
+        row("immediates of arithmetic", every, kernel, types_relocated(*(slot(code, 3, 5, -2) for code in codes))),
         row("a move from a register", size_in([move], OFFSET), kernel, refused(bad_slot(), move)),
         row("a sum with a register", size_in([add]), kernel, refused(bad_slot(), add)),
         # What fails may have one.
-        row("a move from a register without a value", size_in([move]), [], adapted(POISON)),
+        row("a move from a register without a value", size_in([move]), [], types_relocated(POISON)),
     ]
 
 
@@ -86,7 +86,7 @@ def offsets():
         )
         for each in at(5)[:3]
     ]
-    return [row("offsets of loads and stores", sizes_in(at(5)), sized(32767), adapted(*at(32767))), *past]
+    return [row("offsets of loads and stores", sizes_in(at(5)), sized(32767), types_relocated(*at(32767))), *past]
 
 
 def other_sizes():
@@ -98,7 +98,7 @@ def other_sizes():
     slots = [slot(code, 0x12, 0, 7) for code in codes]
     every = object_of(local, [(8 * at, OFFSET, 2, "0:0") for at in range(len(codes))], slots)
     # Each code with its two bits of the size set.
-    coded = lambda *found: adapted(*(slot(code, 0x12, 8, 7) for code in found))
+    coded = lambda *found: types_relocated(*(slot(code, 0x12, 8, 7) for code in found))
     signed_local = [INT_4, struct_of("s", 4, ("a", 1, 0))]
     struct_local = [struct_of("", 4), struct_of("s", 4, ("a", 1, 0))]
     of_typedef = [unsigned(8), typedef("u64", 1), struct_of("s", 16, ("a", 2, 64))]
@@ -127,17 +127,17 @@ def other_sizes():
             "loads of fields with a sign",
             one_of(signed_local, OFFSET, 2, "0:0", load),
             [
-                ("same", kernel(INT_4), adapted(slot(0x61, 0x12, 8))),
+                ("same", kernel(INT_4), types_relocated(slot(0x61, 0x12, 8))),
                 ("larger", kernel(ty("", INT, 8, 0x01000040)), gone),
                 ("unsigned", kernel(unsigned(8)), gone),
-                ("unsigned_four", kernel(UNSIGNED_4), adapted(slot(0x61, 0x12, 8))),
+                ("unsigned_four", kernel(UNSIGNED_4), types_relocated(slot(0x61, 0x12, 8))),
             ],
         ),
         beside(
             "loads of structs",
             one_of(struct_local, OFFSET, 2, "0:0", load),
             [
-                ("same", kernel(ty("", STRUCT, 4)), adapted(slot(0x61, 0x12, 8))),
+                ("same", kernel(ty("", STRUCT, 4)), types_relocated(slot(0x61, 0x12, 8))),
                 ("larger", kernel(ty("", STRUCT, 8)), gone),
             ],
         ),
@@ -146,26 +146,26 @@ def other_sizes():
             "a load of a typedef",
             one_of([UNSIGNED_4, typedef("u32", 1), struct_of("s", 4, ("a", 2, 0))], OFFSET, 3, "0:0", load),
             of_typedef,
-            adapted(slot(0x79, 0x12, 8)),
+            types_relocated(slot(0x79, 0x12, 8)),
         ),
         row(
             "a load of a pointer",
             one_of([pointer(0), struct_of("s", 8, ("a", 1, 0))], OFFSET, 2, "0:0", slot(0x79, 0x12)),
             kernel(pointer(1)),
-            adapted(slot(0x79, 0x12, 8)),
+            types_relocated(slot(0x79, 0x12, 8)),
         ),
         # Structs of 8 and of 8, and of 12 bytes.
         beside(
             "a load of a whole struct",
             one_of(STRUCT_S, OFFSET, 1, "2", load),
-            [("same", sized(8), adapted(slot(0x61, 0x12, 16))), ("larger", sized(12), gone)],
+            [("same", sized(8), types_relocated(slot(0x61, 0x12, 16))), ("larger", sized(12), gone)],
         ),
         # Where the offset isn't asked, sizes don't matter.
         row(
             "what is no offset of a field in loads",
             object_of(local, [(0, SIZE, 2, "0:0"), (8, EXISTS, 2, "0:0")], [load, load]),
             kernel(unsigned(3)),
-            adapted(slot(0x61, 0x12, 3), slot(0x61, 0x12, 1)),
+            types_relocated(slot(0x61, 0x12, 3), slot(0x61, 0x12, 1)),
         ),
     ]
 
@@ -181,7 +181,7 @@ def bit_fields():
         row("a load of a bit field that was none", one_of(plain, OFFSET, 2, "0:0", load), field, gone),
         row("a load of a field that was a bit field", one_of(field, OFFSET, 2, "0:0", load), plain, gone),
         # The container has eight bytes there, and the code stays.
-        row("a load of a bit field", one_of(field, OFFSET, 2, "0:0", load), wide, adapted(slot(0x61, 0x12, 8))),
+        row("a load of a bit field", one_of(field, OFFSET, 2, "0:0", load), wide, types_relocated(slot(0x61, 0x12, 8))),
         row("the offset of a bit field that was none", one_of(plain, OFFSET, 2, "0:0"), field, numbers(4)),
     ]
 
@@ -194,10 +194,10 @@ def wide_loads():
     behind, high = slot(0xB7, 0x12, 3, 4), slot(0xB7, 0x12, 3, 7)
     return [
         # All else of both slots stays.
-        row("a wide load", value([slot(0x18, 0x31, 1, 2), behind]), kernel, adapted(slot(0x18, 0x31, 1, 9), high)),
-        row("another load", value([slot(0x20, 1), behind]), kernel, adapted(slot(0x20, 1, imm=9), high)),
+        row("a wide load", value([slot(0x18, 0x31, 1, 2), behind]), kernel, types_relocated(slot(0x18, 0x31, 1, 9), high)),
+        row("another load", value([slot(0x20, 1), behind]), kernel, types_relocated(slot(0x20, 1, imm=9), high)),
         row("another load at the end", value([slot(0x20, 1)]), kernel, refused(no_slot(1, 1), slot(0x20, 1))),
-        row("a slot of zeros", value([NOTHING, NOTHING]), kernel, adapted(slot(0, imm=9), slot(0, imm=7))),
+        row("a slot of zeros", value([NOTHING, NOTHING]), kernel, types_relocated(slot(0, imm=9), slot(0, imm=7))),
         # The number is that of the slot that lacks, and of the relocation.
         row(
             "a wide load at the end",

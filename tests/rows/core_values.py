@@ -21,7 +21,7 @@ from rows.core_sides import (
     VARIANT_EXISTS,
     VARIANT_VALUE,
     WIDE,
-    adapted,
+    types_relocated,
     bad_kind,
     beside,
     conflict,
@@ -103,19 +103,19 @@ def variant_values():
             "values of 32 bits",
             both,
             [
-                ("signed", [enum_of("e", ("A", 2**32 - 1), signed=1)], adapted(*halves(-1, -1), moved(-1))),
-                ("unsigned", [enum_of("e", ("A", 2**32 - 1))], adapted(*halves(-1, 0), moved(-1))),
-                ("positive", [enum_of("e", ("A", last), signed=1)], adapted(*halves(last, 0), moved(last))),
-                ("negative", [enum_of("e", ("A", last + 1), signed=1)], adapted(*halves(~last, -1), moved(~last))),
+                ("signed", [enum_of("e", ("A", 2**32 - 1), signed=1)], types_relocated(*halves(-1, -1), moved(-1))),
+                ("unsigned", [enum_of("e", ("A", 2**32 - 1))], types_relocated(*halves(-1, 0), moved(-1))),
+                ("positive", [enum_of("e", ("A", last), signed=1)], types_relocated(*halves(last, 0), moved(last))),
+                ("negative", [enum_of("e", ("A", last + 1), signed=1)], types_relocated(*halves(~last, -1), moved(~last))),
             ],
         ),
         beside(
             "values of 64 bits",
             wide,
             [
-                ("large", [enum64_of("f", ("A", 0x900000002))], adapted(*halves(2, 9))),
-                ("last", [enum64_of("f", ("A", 2**64 - 1))], adapted(*halves(-1, -1))),
-                ("small", [enum64_of("f", ("A", 2**32 - 1), signed=1)], adapted(*halves(-1, 0))),
+                ("large", [enum64_of("f", ("A", 0x900000002))], types_relocated(*halves(2, 9))),
+                ("last", [enum64_of("f", ("A", 2**64 - 1))], types_relocated(*halves(-1, -1))),
+                ("small", [enum64_of("f", ("A", 2**32 - 1), signed=1)], types_relocated(*halves(-1, 0))),
             ],
         ),
         learned("the low half of a value", local, [enum64_of("f", ("A", 0x900000002))], (VARIANT_VALUE, 2, "0", 2)),
@@ -140,7 +140,7 @@ def elements():
             (EXISTS, 3, "2", 1),
         ),
         # The load has the size and the type of an element.
-        row("a load of an element", one_of(local, OFFSET, 3, "0:0:1", LOAD), kernel, adapted(slot(0x79, 0x12, 16))),
+        row("a load of an element", one_of(local, OFFSET, 3, "0:0:1", LOAD), kernel, types_relocated(slot(0x79, 0x12, 16))),
     ] + [
         row(f"the {what} of an element", one_of(local, asked, 3, "0:0:1"), kernel, refused(bad_kind()))
         for what, asked in QUESTIONS[2:]

@@ -185,13 +185,13 @@ def lines():
 
 
 def whole_files():
-    """A file that is prepared, whose variable is sought behind a reader that may fail."""
+    """A file that is prepared, whose variable is looked up behind a reader that may fail."""
     seeking = variable_of_void("a", slots=[slot(0x18, 1), NOTHING], relocations=[(0, LOAD64)])
     unseeking = call_object()
     failed = f"Ksyms({FAILED})"
     return [
         Case(
-            "a file whose variable is sought in the lines",
+            "a file whose variable is looked up in the lines",
             {"object": seeking, "kallsyms": GOOD},
             {
                 "prepared_found": found(a=0x1000),
@@ -202,7 +202,7 @@ def whole_files():
             },
         ),
         Case(
-            "a file whose variable is sought in a text that is no text",
+            "a file whose variable is looked up in a text that is no text",
             {"object": seeking, "kallsyms": b"1000 D a\n\xff\n"},
             {"prepared_text": f"Ksyms(KallsymsAccessError({BAD_LINE}))"},
         ),

@@ -6,8 +6,8 @@ from rows.btf import btf, datasec, struct_of, variable
 from rows.case import Case
 from rows.core_sides import INT_4, OFFSET, S, one_of
 from rows.elf import CALL, CALL32, EXIT, LOAD64, NOTHING, call_by, changed
-from rows.joined import END, call, no_function, slots
-from rows.mapped import LOAD_8, referring
+from rows.linked import END, call, no_function, slots
+from rows.fds_written import LOAD_8, referring
 from rows.resolved import FAR, GLOBAL, LOAD, function_of, with_extern
 from rows.small_object import RELOCATION
 
@@ -41,7 +41,7 @@ def chosen():
                 "prepared calls": prepared(0, slots("p", call(1), END, END)),
                 # a name that the object lacks
                 "prepared maps m=7 calls": prepared(0, slots("p", call(1), END, END)),
-                "prepared types maps known_externs calls": prepared(0, slots("p", call(1), END, END)),
+                "prepared types maps externs_written calls": prepared(0, slots("p", call(1), END, END)),
             },
         ),
         # Without a usable relocation the call is of its own function.
@@ -121,7 +121,7 @@ def externs():
 
 
 def types():
-    """Functions that are adapted to a kernel's types, before all other passes."""
+    """Functions that are relocated to a kernel's types, before all other passes."""
     kernel = btf(INT_4, struct_of("s", 12, ("a", 1, 0), ("x", 1, 32), ("b", 1, 64)))
     no_path = (
         'Types(BtfRelocationError { section: "kprobe/p", error: InvalidAccessString'

@@ -6,7 +6,7 @@ import struct
 from make_call_object import call_object
 from rows.case import Case, outcome_lines
 from rows.elf import BIG, CALL, CALL32, EXIT, FUNCTION, LITTLE, LOAD64, NOTHING, File, changed
-from rows.joined import END, call, joins, slots
+from rows.linked import END, call, links, slots
 from rows.resolved import FAR, LOAD, variable_of_void
 from rows.small_object import KIND, SECTIONS
 
@@ -54,18 +54,18 @@ def of_parsing(case, gives):
             return
 
 
-# Of the files whose programs can be joined, the one that is refused for its maps before.
+# Of the files whose programs can be linked, the one that is refused for its maps before.
 NO_SYMBOL = "a relocation to a symbol past the last"
 
 
-def of_joining(case, gives):
-    """Programs that are joined with the functions that they reach, and those that can't be."""
+def of_linking_programs(case, gives):
+    """Programs that are linked with the functions that they reach, and those that can't be."""
     for action, text in gives.items():
-        if action == "joined slots" and case.name == NO_SYMBOL:
+        if action == "linked slots" and case.name == NO_SYMBOL:
             case.gives["link"] = refused("link", "maps: UnknownSymbol")
-        elif action == "joined slots":
+        elif action == "linked slots":
             case.gives["link"] = done(text)
-        if action == "joined functions":
+        if action == "linked functions":
             case.gives["link"] = refused("link", f"calls: {variant_in(text)}")
             case.gives["inspect"] = refused("inspect", f"calls: {variant_in(text)}")
 
@@ -92,7 +92,7 @@ MAPPED = {
 }
 
 
-def of_mapping(case, gives):
+def of_fds(case, gives):
     """Descriptors of maps."""
     printed = MAPPED.get(case.name)
     if isinstance(printed, list):
@@ -116,11 +116,11 @@ def of_resolving(case, gives):
             case.gives[with_types(case, "kernel")] = done("")
 
 
-def of_adapting(case, gives):
-    """Functions that are adapted to a kernel's types: the slots of a lone program, or the fault."""
+def of_type_relocation(case, gives):
+    """Functions that are relocated to a kernel's types: the slots of a lone program, or the fault."""
     for action, text in gives.items():
         words = action.split()
-        if words[0] != "adapted" or len(words) != 2:
+        if words[0] != "types_relocated" or len(words) != 2:
             continue
         fault = re.match(r"[^ ]*: (\w+)", text)
         if first_word(text) in PARSING:
@@ -140,10 +140,10 @@ def add_to(cases):
         gives = dict(case.gives)
         if "object" in case.files:
             of_parsing(case, gives)
-            of_joining(case, gives)
-            of_mapping(case, gives)
+            of_linking_programs(case, gives)
+            of_fds(case, gives)
             of_resolving(case, gives)
-            of_adapting(case, gives)
+            of_type_relocation(case, gives)
 
 
 def made_of(name, count, copies, references):
@@ -156,8 +156,8 @@ def made_of(name, count, copies, references):
 
 P = (0, 2, 3, 0, "p")
 
-# What the joined programs are made of, by the names of their rows.
-JOINED = {
+# What the linked programs are made of, by the names of their rows.
+LINKED = {
     "calls itself": made_of("p", 4, [P, (2, 2, 3, 0, "p")], [(0, 2, "call"), (2, 2, "call")]),
     "calls in turn": made_of(
         "p",
@@ -274,13 +274,13 @@ def externs():
 
 
 def parts():
-    """What joined programs are made of; a program by its name, beside others."""
+    """What linked programs are made of; a program by its name, beside others."""
     named = {"calls another program": "B", "two names of one function": "q"}
     cases = []
-    for name, data, _ in joins():
-        gives = {"inspect": done(JOINED[name])}
+    for name, data, _ in links():
+        gives = {"inspect": done(LINKED[name])}
         if name in named:
-            lines = outcome_lines(JOINED[name])
+            lines = outcome_lines(LINKED[name])
             at = lines.index(next(line for line in lines if line.startswith(f"program {named[name]} ")))
             gives[f"inspect program={named[name]}"] = done("\n".join(lines[at:]))
         cases.append(Case(f"{name}, its parts", data, gives))

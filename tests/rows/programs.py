@@ -35,7 +35,7 @@ def cases():
         Case(
             "a header alone",
             b"\x7fELF\x02\x01" + bytes(58),
-            {"parsed programs functions": "", "parsed terms": "[71, 80, 76] None"},
+            {"parsed programs functions": "", "parsed license_and_version": "[71, 80, 76] None"},
         ),
         Case("a program of a byte", sized(bytes(4), 1), {"parsed programs": "InvalidProgramCode"}),
         Case(

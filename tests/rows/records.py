@@ -1,8 +1,8 @@
-"""What type information says of functions and lines, as parsed and as joined."""
+"""What type information says of functions and lines, as parsed and as linked."""
 from rows.btf import btf, words
 from rows.case import Case
 from rows.elf import CALL, CALL32, EXIT, FUNCTION, NOTHING, File
-from rows.joined import program
+from rows.linked import program
 
 # The names of two sections, and where they stand in the strings.
 NAMES = b"\0kprobe/p\0.text\0"
@@ -96,12 +96,12 @@ def cases():
             "records that move with their function",
             recorded([EXIT], BOTH, [8]),
             {
-                "joined records": """
+                "linked records": """
                     records p of 8 and 16 bytes: 0 2 of 2, 0/21 1/21 2/21 of 3
                     records g of 8 and 16 bytes: of 1, of 1
                     records f of 8 and 16 bytes: 1 of 1, 1/21 of 1
                 """,
-                "joined slots": """
+                "linked slots": """
                     program p slots 3
                     85 10 00 00 01 00 00 00
                     95 00 00 00 00 00 00 00
@@ -113,7 +113,7 @@ def cases():
             "records of the program alone",
             recorded([EXIT], BOTH[:1], [8]),
             {
-                "joined records": f"""
+                "linked records": f"""
                     {refused("FunctionInfoMismatch")}
                     records p of 8 and 16 bytes: 0 of 1, 0/21 1/21 of 2
                     records g of 8 and 16 bytes: of 0, of 1
@@ -125,7 +125,7 @@ def cases():
             "a line before the first",
             recorded([NOTHING, EXIT], BOTH, [16, 8]),
             {
-                "joined records": f"""
+                "linked records": f"""
                     {refused("InvalidLineInfo")}
                     records p of 8 and 16 bytes: 0 of 1, 0/21 1/21 of 2
                     records g of 8 and 16 bytes: of 1, of 2

@@ -85,7 +85,7 @@ def cases():
             {"object": data, "kernel": KERNEL, "kallsyms": KALLSYMS},
             {
                 "parsed externs": externs(*[unknown] * 6),
-                f"mapped {words}": f"Ok(()) {slots(data, MAPPED)}",
+                f"fds_written {words}": f"Ok(()) {slots(data, MAPPED)}",
                 "resolved externs": f"Ok(())\n{found}",
                 "resolved slots": f"Ok(())\nOk(()) {slots(data, WRITTEN)}",
             },

@@ -73,7 +73,7 @@ def addresses():
 
 
 def types():
-    """Functions and variables that are sought in the kernel's types."""
+    """Functions and variables that are looked up in the kernel's types."""
     bar = with_extern("bar___v2", GLOBAL, INT, variable("bar___v2", 1), datasec(".ksyms", 2))
     return [
         resolved(
@@ -81,7 +81,7 @@ def types():
             {"object": function_of("foo___v2", GLOBAL), "kernel": btf(INT, prototype(0), function("foo", 2))},
             answers("Ok(())", "foo___v2 type 2 typed true weak false resolved true Some(3) None"),
         ),
-        # A variable is sought by its whole name.
+        # A variable is looked up by its whole name.
         resolved(
             "a variable by its whole name",
             {"object": bar, "kernel": btf(INT, variable("bar", 1))},
@@ -97,7 +97,7 @@ def types():
         ),
         # The lines are no UTF-8, and are not read.
         resolved(
-            "lines that nothing is sought in",
+            "lines that nothing is looked up in",
             {"object": function_of("f", WEAK), "kallsyms": b"\xff\n"},
             answers("Ok(())", "f type 2 typed true weak true resolved false None Some(0)"),
         ),

@@ -2,7 +2,7 @@
 import struct
 
 from make_call_object import call_object
-from rows import joining_reader, reader
+from rows import linking_reader, reader
 from rows.case import Case
 from rows.elf import changed
 
@@ -40,7 +40,7 @@ def cases():
                     section 1 kprobe/p
                 """,
                 # the usual license stands where a file has none
-                "parsed terms": "[71, 80, 76] None",
+                "parsed license_and_version": "[71, 80, 76] None",
                 # no part of it is an object
                 "prefixes 0 64": "64: ElfError(TooShort)",
                 "prefixes 64 616": "552: ElfError(BadSectionTable)",
@@ -48,9 +48,9 @@ def cases():
                 # nor does any of its bytes, set to 00 or ff, give anything but this
                 "bytes 0 616 0": reader.each_byte(call_object(), 0),
                 "bytes 0 616 255": reader.each_byte(call_object(), 255),
-                # nor where its programs are joined
-                "prepared_bytes 0 616 0": joining_reader.each_byte(call_object(), 0),
-                "prepared_bytes 0 616 255": joining_reader.each_byte(call_object(), 255),
+                # nor where its programs are linked
+                "prepared_bytes 0 616 0": linking_reader.each_byte(call_object(), 0),
+                "prepared_bytes 0 616 255": linking_reader.each_byte(call_object(), 255),
             },
         ),
         Case(
@@ -87,7 +87,7 @@ def cases():
                     function p at 1 0 offset 0 slots 0
                     {function}
                 """,
-                "joined slots": "program p slots 0",
+                "linked slots": "program p slots 0",
             },
         ),
         Case(
@@ -99,7 +99,7 @@ def cases():
                     function p at 1 8 offset 8 slots 1
                     {function}
                 """,
-                "joined slots": """
+                "linked slots": """
                     program p slots 1
                     95 00 00 00 00 00 00 00
                 """,
@@ -110,7 +110,7 @@ def cases():
             "a relocation to a symbol past the last",
             with_change(RELOCATION + 12, b"\x07"),
             {
-                "joined slots": """
+                "linked slots": """
                     program p slots 4
                     85 10 00 00 01 00 00 00
                     95 00 00 00 00 00 00 00

@@ -43,9 +43,9 @@ def read_lists(paths):
             if not line.strip() or line.startswith("#"):
                 continue
             cells = line.split("\t")
-            if cells[-1].startswith("#"):
-                cells.pop()
             want = {"all": 3, "crate": 4, "file": 4, "text": 4, "path": 3}.get(cells[0])
+            if want is not None and len(cells) == want + 1 and cells[-1].startswith("#"):
+                cells.pop()
             if want != len(cells):
                 sys.exit(f"{path}:{number}: {len(cells)} cells: {line!r}")
             lines.append((f"{os.path.basename(path)}:{number}", cells))

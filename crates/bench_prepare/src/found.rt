@@ -49,7 +49,7 @@ fn number(alloc: Global, answer: Result<u32, BtfError>) -> Result<String, AllocE
 
 /// A line on a type: its id, its name, the size, the id that it stands for, the lowest id of its kind and name, how
 /// many candidates there are and whether they are in order, and the type itself.
-fn described(
+fn type_line(
     alloc: Global,
     btf: &Btf,
     index: &TypeIndex,
@@ -73,7 +73,7 @@ fn described(
 pub fn print_last(rt: &HostRuntime, btf: &Btf, index: &TypeIndex) -> Result<(), BenchError> {
     let from = btf.types().len().saturating_sub(10);
     for (id, ty) in btf.types().iter().enumerate().skip(from) {
-        let text = described(rt.alloc(), btf, index, id as u32, ty)?;
+        let text = type_line(rt.alloc(), btf, index, id as u32, ty)?;
         println!(rt; "{text}")?;
     }
     Ok(())

@@ -19,9 +19,9 @@ module _ {E : Type 0} where
   test_of None = false
   test_of (Some row) = row.0
 
-  standing : Option E → Option (Bool × E)
-  standing None = None
-  standing (Some e) = Some (true, e)
+  row_of_fault : Option E → Option (Bool × E)
+  row_of_fault None = None
+  row_of_fault (Some e) = Some (true, e)
 
   clear_at : (table : List (Bool × E)) (k : ℕ) (row : Bool × E) → first_of table ≡ None → slice_get table k ≡ Some row → row.0 ≡ false
   unfolding test_of
@@ -31,14 +31,14 @@ module _ {E : Type 0} where
   clear_at ((false, e) ∷ table) (suc k) row none at = clear_at table k row none at
 
   first_table : (table : List (Bool × E)) (e : E) → first_of table ≡ Some e → IsFirstFault table e
-  unfolding test_of standing
+  unfolding test_of row_of_fault
   first_table [] e first = cc
-  first_table ((true, f) ∷ table) e first = record { place = 0; stands = ap standing first; none_before = λ k row below at. absurd (omega arith) }
+  first_table ((true, f) ∷ table) e first = record { index = 0; stands = ap row_of_fault first; none_before = λ k row below at. absurd (omega arith) }
   first_table ((false, f) ∷ table) e first =
       let rest = first_table table e first in
-      record { place = suc rest.place; stands = rest.stands; none_before = λ k row below at. before rest k row below at }
+      record { index = suc rest.index; stands = rest.stands; none_before = λ k row below at. before rest k row below at }
     where
-      before : (rest : IsFirstFault table e) (k : ℕ) (row : Bool × E) → k < suc rest.place → slice_get ((false, f) ∷ table) k ≡ Some row → row.0 ≡ false
+      before : (rest : IsFirstFault table e) (k : ℕ) (row : Bool × E) → k < suc rest.index → slice_get ((false, f) ∷ table) k ≡ Some row → row.0 ≡ false
       before rest zero row below at = sym (ap test_of at)
       before rest (suc k) row below at = rest.none_before k row (omega arith) at
 

@@ -6,7 +6,7 @@ pub mod Keyed
 pub mod Lists
 pub mod Mapped
 pub mod Maps
-pub mod Parts
+pub mod EntriesFrom
 pub mod Pointwise
 pub mod Ranges
 pub mod Sorted

@@ -11,35 +11,35 @@ use Rattle.std.specs.FinMap.{FinMap, IsAntisymmetric, from_entries, from_sorted,
 use Rattle.std.specs.FinMap.Entries.{below_all}
 use Rattle.std.proofs.lemmas.Map.Keys.{IsDistinct-from_sorted}
 use Rattle.ebpf_base.specs.Keyed.{put_all, last_at}
-use Rattle.ebpf_base.specs.Mapped.{map_entries, map_values}
+use Rattle.ebpf_base.specs.Mapped.{mapped_entries, map_values}
 use Rattle.ebpf_base.proofs.Keyed.{later_stands}
 use Rattle.ebpf_base.proofs.Sorted.{entries_rise}
 
 module _ {K V W : Type 0} (R : K → K → Ordering) (f : V → W) where
-  below_all-map_entries : (k : K) (es : List (K × V)) → below_all R k (map_entries f es) ≡ below_all R k es
-  below_all-map_entries k [] = refl
-  below_all-map_entries k (e ∷ es) = ap (λ b. is_lt (R k e.0) && b) (below_all-map_entries k es)
+  below_all-mapped_entries : (k : K) (es : List (K × V)) → below_all R k (mapped_entries f es) ≡ below_all R k es
+  below_all-mapped_entries k [] = refl
+  below_all-mapped_entries k (e ∷ es) = ap (λ b. is_lt (R k e.0) && b) (below_all-mapped_entries k es)
 
-  is_sorted-map_entries : (es : List (K × V)) → is_sorted R (map_entries f es) ≡ is_sorted R es
-  is_sorted-map_entries [] = refl
-  is_sorted-map_entries (e ∷ es) = λ i. below_all-map_entries e.0 es i && is_sorted-map_entries es i
+  is_sorted-mapped_entries : (es : List (K × V)) → is_sorted R (mapped_entries f es) ≡ is_sorted R es
+  is_sorted-mapped_entries [] = refl
+  is_sorted-mapped_entries (e ∷ es) = λ i. below_all-mapped_entries e.0 es i && is_sorted-mapped_entries es i
 
-  find-map_entries : (q : K) (es : List (K × V)) → find R q (map_entries f es) ≡ option_map f (find R q es)
-  find-map_entries q [] = refl
-  find-map_entries q (e ∷ es) =
-      elim (eq_by_cmp R q e.0) as (λ b. cond b (Some (f e.1)) (find R q (map_entries f es)) ≡ option_map f (cond b (Some e.1) (find R q es))) [
+  find-mapped_entries : (q : K) (es : List (K × V)) → find R q (mapped_entries f es) ≡ option_map f (find R q es)
+  find-mapped_entries q [] = refl
+  find-mapped_entries q (e ∷ es) =
+      elim (eq_by_cmp R q e.0) as (λ b. cond b (Some (f e.1)) (find R q (mapped_entries f es)) ≡ option_map f (cond b (Some e.1) (find R q es))) [
         | true ↦ refl
-        | false ↦ find-map_entries q es
+        | false ↦ find-mapped_entries q es
       ]
 
 module _ {K V W : Type 0} where
-  pub keys_of-map_entries : (f : V → W) (es : List (K × V)) → keys_of (map_entries f es) ≡ keys_of es
-  keys_of-map_entries f [] = refl
-  keys_of-map_entries f (e ∷ es) = ap (λ ks. e.0 ∷ ks) (keys_of-map_entries f es)
+  pub keys_of-mapped_entries : (f : V → W) (es : List (K × V)) → keys_of (mapped_entries f es) ≡ keys_of es
+  keys_of-mapped_entries f [] = refl
+  keys_of-mapped_entries f (e ∷ es) = ap (λ ks. e.0 ∷ ks) (keys_of-mapped_entries f es)
 
-  pub map_entries-same : (f g : V → W) → ((v : V) → f v ≡ g v) → (es : List (K × V)) → map_entries f es ≡ map_entries g es
-  map_entries-same f g h [] = refl
-  map_entries-same f g h (e ∷ es) = λ i. (e.0, h e.1 i) ∷ map_entries-same f g h es i
+  pub mapped_entries-same : (f g : V → W) → ((v : V) → f v ≡ g v) → (es : List (K × V)) → mapped_entries f es ≡ mapped_entries g es
+  mapped_entries-same f g h [] = refl
+  mapped_entries-same f g h (e ∷ es) = λ i. (e.0, h e.1 i) ∷ mapped_entries-same f g h es i
 
 module _ {V W : Type 0} (f : V → W) where
   is_some-option_map : (o : Option V) → is_some (option_map f o) ≡ is_some o
@@ -47,34 +47,34 @@ module _ {V W : Type 0} (f : V → W) where
   is_some-option_map (Some v) = refl
 
 module _ {K V W : Type 0} (f : V → W) where
-  length-map_entries : (es : List (K × V)) → length (map_entries f es) ≡ length es
-  length-map_entries [] = refl
-  length-map_entries (e ∷ es) = ap suc (length-map_entries es)
+  length-mapped_entries : (es : List (K × V)) → length (mapped_entries f es) ≡ length es
+  length-mapped_entries [] = refl
+  length-mapped_entries (e ∷ es) = ap suc (length-mapped_entries es)
 
 module _ {K V W : Type 0} {R : K → K → Ordering} (f : V → W) where
   -- the same keys in the same order, each with its value made anew
-  pub entries-map_values : (m : FinMap R V) → entries (map_values f m) ≡ map_entries f (entries m)
+  pub entries-map_values : (m : FinMap R V) → entries (map_values f m) ≡ mapped_entries f (entries m)
   unfolding map_values
-  entries-map_values m = entries-from_sorted R _ (subst T (sym (is_sorted-map_entries R f (entries m))) (entries_sorted m))
+  entries-map_values m = entries-from_sorted R _ (subst T (sym (is_sorted-mapped_entries R f (entries m))) (entries_sorted m))
 
   pub get-map_values : (m : FinMap R V) (q : K) → get (map_values f m) q ≡ option_map f (get m q)
   get-map_values m q =
       get-entries (map_values f m) q
       ∙ ap (find R q) (entries-map_values m)
-      ∙ find-map_entries R f q (entries m)
+      ∙ find-mapped_entries R f q (entries m)
       ∙ ap (option_map f) (sym (get-entries m q))
 
   pub keys-map_values : (m : FinMap R V) → keys_of (entries (map_values f m)) ≡ keys_of (entries m)
-  keys-map_values m = ap keys_of (entries-map_values m) ∙ keys_of-map_entries f (entries m)
+  keys-map_values m = ap keys_of (entries-map_values m) ∙ keys_of-mapped_entries f (entries m)
 
   pub has-map_values : (m : FinMap R V) (q : K) → is_some (get (map_values f m) q) ≡ is_some (get m q)
   has-map_values m q = ap is_some (get-map_values m q) ∙ is_some-option_map f (get m q)
 
   pub len-map_values : (m : FinMap R V) → len (map_values f m) ≡ len m
-  len-map_values m = len-entries (map_values f m) ∙ ap length (entries-map_values m) ∙ length-map_entries f (entries m) ∙ sym (len-entries m)
+  len-map_values m = len-entries (map_values f m) ∙ ap length (entries-map_values m) ∙ length-mapped_entries f (entries m) ∙ sym (len-entries m)
 
   -- it is the one map with these entries
-  pub map_values-from_entries : (m : FinMap R V) (n : FinMap R W) → entries n ≡ map_entries f (entries m) → n ≡ map_values f m
+  pub map_values-from_entries : (m : FinMap R V) (n : FinMap R W) → entries n ≡ mapped_entries f (entries m) → n ≡ map_values f m
   map_values-from_entries m n h = same_entries_map n (map_values f m) (h ∙ sym (entries-map_values m))
 
   module _ (o : IsTotalOrder R) (exact : IsAntisymmetric R) where
@@ -83,9 +83,9 @@ module _ {K V W : Type 0} {R : K → K → Ordering} (f : V → W) where
     map_values-from_get m n h = same_map o exact n (map_values f m) (λ q. h q ∙ sym (get-map_values m q))
 
     -- the map of entries made anew
-    pub map_values-view : (es : List (K × V)) → from_entries {R = R} (map_entries f es) ≡ map_values f (from_entries es)
+    pub map_values-view : (es : List (K × V)) → from_entries {R = R} (mapped_entries f es) ≡ map_values f (from_entries es)
     map_values-view es = map_values-from_get (from_entries es) _ (λ q.
-        get-from_entries o (map_entries f es) q ∙ find-map_entries R f q es ∙ ap (option_map f) (sym (get-from_entries o es q)))
+        get-from_entries o (mapped_entries f es) q ∙ find-mapped_entries R f q es ∙ ap (option_map f) (sym (get-from_entries o es q)))
 
     option_map-cond : (b : Bool) (v : V) (x : Option V) → cond b (Some (f v)) (option_map f x) ≡ option_map f (cond b (Some v) x)
     option_map-cond true v x = refl
@@ -101,29 +101,29 @@ module _ {K V W : Type 0} {R : K → K → Ordering} (f : V → W) where
 module _ {K V W : Type 0} {R : K → K → Ordering} where
   -- equal values make equal maps
   pub map_values-same : (f g : V → W) → ((v : V) → f v ≡ g v) → (m : FinMap R V) → map_values f m ≡ map_values g m
-  map_values-same f g h m = map_values-from_entries g m (map_values f m) (entries-map_values f m ∙ map_entries-same f g h (entries m))
+  map_values-same f g h m = map_values-from_entries g m (map_values f m) (entries-map_values f m ∙ mapped_entries-same f g h (entries m))
 
   -- also where only the values that the map has are equal
-  pub map_values-same_at : (f g : V → W) (m : FinMap R V) → map_entries f (entries m) ≡ map_entries g (entries m) → map_values f m ≡ map_values g m
+  pub map_values-same_at : (f g : V → W) (m : FinMap R V) → mapped_entries f (entries m) ≡ mapped_entries g (entries m) → map_values f m ≡ map_values g m
   map_values-same_at f g m h = map_values-from_entries g m (map_values f m) (entries-map_values f m ∙ h)
 
-map_entries-map_entries : {K U V W : Type 0} (g : V → W) (f : U → V) (es : List (K × U)) → map_entries g (map_entries f es) ≡ map_entries (λ v. g (f v)) es
-map_entries-map_entries g f [] = refl
-map_entries-map_entries g f (e ∷ es) = ap (λ fs. (e.0, g (f e.1)) ∷ fs) (map_entries-map_entries g f es)
+mapped_entries-mapped_entries : {K U V W : Type 0} (g : V → W) (f : U → V) (es : List (K × U)) → mapped_entries g (mapped_entries f es) ≡ mapped_entries (λ v. g (f v)) es
+mapped_entries-mapped_entries g f [] = refl
+mapped_entries-mapped_entries g f (e ∷ es) = ap (λ fs. (e.0, g (f e.1)) ∷ fs) (mapped_entries-mapped_entries g f es)
 
 -- one after the other, in one
 pub map_values-map_values : {K U V W : Type 0} {R : K → K → Ordering} (g : V → W) (f : U → V) (m : FinMap R U) → map_values g (map_values f m) ≡ map_values (λ v. g (f v)) m
-map_values-map_values g f m = map_values-from_entries (λ v. g (f v)) m _ (entries-map_values g (map_values f m) ∙ ap (map_entries g) (entries-map_values f m) ∙ map_entries-map_entries g f (entries m))
+map_values-map_values g f m = map_values-from_entries (λ v. g (f v)) m _ (entries-map_values g (map_values f m) ∙ ap (mapped_entries g) (entries-map_values f m) ∙ mapped_entries-mapped_entries g f (entries m))
 
 module _ {K V : Type 0} where
-  map_entries-identity : (es : List (K × V)) → map_entries (λ v. v) es ≡ es
-  map_entries-identity [] = refl
-  map_entries-identity (e ∷ es) = ap (λ fs. e ∷ fs) (map_entries-identity es)
+  mapped_entries-identity : (es : List (K × V)) → mapped_entries (λ v. v) es ≡ es
+  mapped_entries-identity [] = refl
+  mapped_entries-identity (e ∷ es) = ap (λ fs. e ∷ fs) (mapped_entries-identity es)
 
 module _ {K V : Type 0} {R : K → K → Ordering} where
   -- values that stay make the map that is there
   pub map_values-identity : (m : FinMap R V) → map_values (λ v. v) m ≡ m
-  map_values-identity m = same_entries_map _ m (entries-map_values (λ v. v) m ∙ map_entries-identity (entries m))
+  map_values-identity m = same_entries_map _ m (entries-map_values (λ v. v) m ∙ mapped_entries-identity (entries m))
 
   pub map_values-stay : (f : V → V) → ((v : V) → f v ≡ v) → (m : FinMap R V) → map_values f m ≡ m
   map_values-stay f h m = map_values-same f (λ v. v) h m ∙ map_values-identity m
@@ -157,11 +157,11 @@ or_none None = refl
 or_none (Some v) = refl
 
 -- the entries of a map, each made anew and put into a map one after the other
-pub put_all-map_values : {K V W : Type 0} {R : K → K → Ordering} → IsTotalOrder R → IsAntisymmetric R → (f : V → W) (m : FinMap R V) → put_all empty (map_entries f (entries m)) ≡ map_values f m
+pub put_all-map_values : {K V W : Type 0} {R : K → K → Ordering} → IsTotalOrder R → IsAntisymmetric R → (f : V → W) (m : FinMap R V) → put_all empty (mapped_entries f (entries m)) ≡ map_values f m
 put_all-map_values {R = R} o exact f m = map_values-from_get f o exact m _ (λ q.
-    later_stands o empty (map_entries f (entries m)) q
-    ∙ last_found o exact q (map_entries f (entries m)) (subst (λ ks. IsDistinct (eq_by_cmp R) ks) (sym (keys_of-map_entries f (entries m))) (IsDistinct-from_sorted R _ (entries_rise m))) (get empty q)
-    ∙ ap (option_or (find R q (map_entries f (entries m)))) (get-empty R q)
+    later_stands o empty (mapped_entries f (entries m)) q
+    ∙ last_found o exact q (mapped_entries f (entries m)) (subst (λ ks. IsDistinct (eq_by_cmp R) ks) (sym (keys_of-mapped_entries f (entries m))) (IsDistinct-from_sorted R _ (entries_rise m))) (get empty q)
+    ∙ ap (option_or (find R q (mapped_entries f (entries m)))) (get-empty R q)
     ∙ or_none _
-    ∙ find-map_entries R f q (entries m)
+    ∙ find-mapped_entries R f q (entries m)
     ∙ ap (option_map f) (sym (get-entries m q)))

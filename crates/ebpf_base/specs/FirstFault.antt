@@ -8,9 +8,9 @@ rows_of stages = flat_map (λ stage. stage) stages
 
 -- the error is that of a row that stands, and no row stands before it
 pub record IsFirstFault {E : Type 0} (table : List (Bool × E)) (error : E) : Type 0 where
-  pub place : ℕ
-  pub stands : slice_get table place ≡ Some (true, error)
-  pub none_before : (k : ℕ) (row : Bool × E) → k < place → slice_get table k ≡ Some row → row.0 ≡ false
+  pub index : ℕ
+  pub stands : slice_get table index ≡ Some (true, error)
+  pub none_before : (k : ℕ) (row : Bool × E) → k < index → slice_get table k ≡ Some row → row.0 ≡ false
 
 -- no row stands
 pub record IsClear {E : Type 0} (table : List (Bool × E)) : Type 0 where

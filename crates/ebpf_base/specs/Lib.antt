@@ -4,4 +4,4 @@ pub mod FirstFault
 pub mod Keyed
 pub mod Keys
 pub mod Mapped
-pub mod Parts
+pub mod EntriesFrom

@@ -6,12 +6,12 @@ use denote.Ref.{MutBor}
 use denote.Param.Members.{Shared}
 
 -- the entries, each with its value made anew
-abbrev pub map_entries : {K V W : Type 0} → (V → W) → List (K × V) → List (K × W)
-map_entries f entries = map (λ e. (e.0, f e.1)) entries
+abbrev pub mapped_entries : {K V W : Type 0} → (V → W) → List (K × V) → List (K × W)
+mapped_entries f entries = map (λ e. (e.0, f e.1)) entries
 
 -- the map with the same keys, each with its value made anew
 unfoldable pub map_values : {K V W : Type 0} {R : K → K → Ordering} → (V → W) → FinMap R V → FinMap R W
-map_values f m = from_sorted (map_entries f (entries m))
+map_values f m = from_sorted (mapped_entries f (entries m))
 
 module _ {F V : Type 0} (g : Shared F (MutBor V × Unit {0}) (Unit {0} × (MutBor V × Unit {0}))) (write : F) where
   -- a call of a closure at a `&mut` to v may leave w there
@@ -19,7 +19,7 @@ module _ {F V : Type 0} (g : Shared F (MutBor V × Unit {0}) (Unit {0} × (MutBo
     pub lent : MutBor V
     pub left : MutBor V
     pub before : lent.now ≡ v
-    pub met : g.post write (lent, tt) (tt, (left, tt))
+    pub post_holds : g.post write (lent, tt) (tt, (left, tt))
     pub after : left.now ≡ w
 
   -- each call leaves f of the value that was there

@@ -113,15 +113,15 @@ impl<V> ByIndex<V> {
         self.entries.iter()
     }
 
-    /// Puts a value in the place of the one at an index, which comes back. `Err` gives the value back
+    /// Replaces the value at an index, which comes back. `Err` gives the value back
     /// where none is there. No memory is taken.
     pub fn replace(&mut self, index: usize, value: V) -> Result<V, V>
         ensures { MatchOption (map.get self.old index) ((result ≡ Err value) × (self.new ≡ self.old)) (λ before. (result ≡ Ok before) × (self.new ≡ map.insert self.old index value)) }
     {
-        let Some(place) = self.entries.get_mut(&index) else {
+        let Some(stored) = self.entries.get_mut(&index) else {
             return Err(value);
         };
-        Ok(mem::replace(place, value))
+        Ok(mem::replace(stored, value))
     }
 
     /// Takes an index out, and gives the value that was there.

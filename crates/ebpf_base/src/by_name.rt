@@ -109,15 +109,15 @@ impl<V> ByName<V> {
         self.entries.iter()
     }
 
-    /// Puts a value in the place of the one at a name, which comes back. `Err` gives the value back
+    /// Replaces the value at a name, which comes back. `Err` gives the value back
     /// where none is there. No memory is taken.
     pub fn replace(&mut self, name: &str, value: V) -> Result<V, V>
         ensures { MatchOption (map.get self.old name.now) ((result ≡ Err value) × (self.new ≡ self.old)) (λ before. (result ≡ Ok before) × (self.new ≡ map.insert self.old name.now value)) }
     {
-        let Some(place) = self.entries.get_mut(name) else {
+        let Some(stored) = self.entries.get_mut(name) else {
             return Err(value);
         };
-        Ok(mem::replace(place, value))
+        Ok(mem::replace(stored, value))
     }
 
     /// Takes a name out, and gives the value that was there.

@@ -10,7 +10,7 @@ ghost use Rattle.std.specs.List.Sorted.{IsStrictlySortedBy};
 ghost use Rattle.std.specs.Map.{keys_of};
 ghost use Rattle.std.specs.Coded.{coded_ℕ};
 ghost use Rattle.std.specs.Ordering.{nat_cmp};
-ghost use Rattle.ebpf_base.specs.Parts.{entries_from};
+ghost use Rattle.ebpf_base.specs.EntriesFrom.{entries_from};
 ghost use Rattle.ebpf_base.specs.contracts.by_offset.ByOffset.{the_row};
 
 use std::alloc::{AllocError, Global};
@@ -120,15 +120,15 @@ impl<V> ByOffset<V> {
         self.entries.range(from..)
     }
 
-    /// Puts a value in the place of the one at a key, which comes back. `Err` gives the value back
+    /// Replaces the value at a key, which comes back. `Err` gives the value back
     /// where the key is not there. No memory is taken.
     pub fn replace(&mut self, key: u64, value: V) -> Result<V, V>
         ensures { MatchOption (map.get self.old key) ((result ≡ Err value) × (self.new ≡ self.old)) (λ before. (result ≡ Ok before) × (self.new ≡ map.insert self.old key value)) }
     {
-        let Some(place) = self.entries.get_mut(&key) else {
+        let Some(stored) = self.entries.get_mut(&key) else {
             return Err(value);
         };
-        Ok(mem::replace(place, value))
+        Ok(mem::replace(stored, value))
     }
 
     /// Takes a key out, and gives the value that was there.

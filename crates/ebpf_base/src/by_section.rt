@@ -111,15 +111,15 @@ impl<V> BySection<V> {
         self.entries.iter()
     }
 
-    /// Puts a value in the place of the one at a key, which comes back. `Err` gives the value back
+    /// Replaces the value at a key, which comes back. `Err` gives the value back
     /// where the key is not there. No memory is taken.
     pub fn replace(&mut self, key: usize, value: V) -> Result<V, V>
         ensures { MatchOption (map.get self.old key) ((result ≡ Err value) × (self.new ≡ self.old)) (λ before. (result ≡ Ok before) × (self.new ≡ map.insert self.old key value)) }
     {
-        let Some(place) = self.entries.get_mut(&key) else {
+        let Some(stored) = self.entries.get_mut(&key) else {
             return Err(value);
         };
-        Ok(mem::replace(place, value))
+        Ok(mem::replace(stored, value))
     }
 
     /// Takes a key out, and gives the value that was there.

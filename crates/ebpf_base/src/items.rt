@@ -85,14 +85,14 @@ impl<T> Items<T> {
         self.items.iter()
     }
 
-    /// The value at a place from 0 on.
+    /// The value at an index from 0 on.
     pub fn get(&self, at: usize) -> Option<&T>
         ensures { option_copied result ≡ slice_get self.now at }
     {
         self.items.get(at)
     }
 
-    /// The value at a place from 0 on, to be written. What is left there when the borrow ends is the value there.
+    /// The value at an index from 0 on, to be written. What is left there when the borrow ends is the value there.
     pub fn get_mut(&mut self, at: usize) -> Option<&mut T>
         ensures* writes_back { sem 𝓛 (LendsIf (the_row T.row) T.row self.entry result (slice_set self.old at) self.old) }
         ensures value { option_copied_mut result ≡ slice_get self.old at }
@@ -100,15 +100,15 @@ impl<T> Items<T> {
         self.items.get_mut(at)
     }
 
-    /// Puts a value in the place of the one at a place from 0 on, which comes back. `Err` gives the value back
+    /// Replaces the value at an index from 0 on, which comes back. `Err` gives the value back
     /// where none is there.
     pub fn replace(&mut self, at: usize, value: T) -> Result<T, T>
         ensures { MatchOption (slice_get self.old at) ((result ≡ Err value) × (self.new ≡ self.old)) (λ before. (result ≡ Ok before) × (self.new ≡ slice_set self.old at value)) }
     {
-        let Some(place) = self.items.get_mut(at) else {
+        let Some(stored) = self.items.get_mut(at) else {
             return Err(value);
         };
-        Ok(mem::replace(place, value))
+        Ok(mem::replace(stored, value))
     }
 
     /// The `Vec`, lent.

@@ -2,7 +2,7 @@
 use Rattle.std.proofs.Common.{◌≡◌, ◌==◌, ℕ, Bool, true, false, cond, Option, Some, None, refl, sym, ap, ◌∙◌, arith}
 use Rattle.std.proofs.lemmas.Bool.Decides.{nat_tests}
 use Rattle.ebpf_btf.specs.declared.kind.BtfKind.TheVariants as kinds
-use Rattle.ebpf_btf.specs.Format.{kind_in, kind_number_in}
+use Rattle.ebpf_btf.specs.Format.{info_kind, info_kind_number}
 use Rattle.ebpf_btf.specs.KindTables.{KindsByNumber, NumbersOfKinds}
 use Rattle.ebpf_btf.specs.Types.{kind_number}
 
@@ -19,9 +19,9 @@ in_table {K} n row there rest number kind has others is = by_test (n == row) ref
     by_test false e same = others same
 
 pub kinds_by_number : KindsByNumber
-unfolding kind_in kind_number
+unfolding info_kind kind_number
 kinds_by_number info kind is =
-    let n = kind_number_in info in
+    let n = info_kind_number info in
     (in_table n 1 kinds.Int _ kind_number kind refl
     (in_table n 2 kinds.Ptr _ kind_number kind refl
     (in_table n 3 kinds.Array _ kind_number kind refl
@@ -44,7 +44,7 @@ kinds_by_number info kind is =
     (λ (none : None ≡ Some kind). cc)))))))))))))))))))) is
 
 pub numbers_of_kinds : NumbersOfKinds
-unfolding kind_in kind_number
+unfolding info_kind kind_number
 numbers_of_kinds info kinds.Unknown some is = absurd (omega arith)
 numbers_of_kinds info kinds.Int some is = rw is refl
 numbers_of_kinds info kinds.Ptr some is = rw is refl

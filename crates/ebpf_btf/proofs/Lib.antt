@@ -8,6 +8,6 @@ pub mod LossyTexts
 pub mod NearTexts
 pub mod OneAfterOther
 pub mod ReadableOffsets
-pub mod RecordPlaces
+pub mod RecordRanges
 pub mod Spelling
 pub mod Texts

@@ -5,11 +5,11 @@ use Rattle.ebpf_btf.specs.declared.error.BtfError.{BtfError}
 use Rattle.ebpf_btf.specs.declared.error.BtfError.TheVariants.{UnexpectedBtfType, UnknownBtfType, MaximumTypeDepth}
 use Rattle.ebpf_btf.specs.declared.types.BtfType.{BtfType}
 use Rattle.ebpf_btf.specs.Next.{if_ok, if_some}
-use Rattle.ebpf_btf.specs.Steps.{type_at, modified, own_size, sized_by, repeats, times, resolved_from, size_from}
+use Rattle.ebpf_btf.specs.Steps.{type_at, modifier_type_id, own_size, sized_by, repeats, times, resolved_from, size_from}
 
 resolved_look : (k : ℕ) (types : List BtfType) (start id : ℕ) → k < 33
     → resolved_from (33 - k) types start id
-    ≡ if_ok (type_at types id) (λ t. if_some (modified t) (λ next. resolved_from (33 - (k + 1)) types start next) (Ok id))
+    ≡ if_ok (type_at types id) (λ t. if_some (modifier_type_id t) (λ next. resolved_from (33 - (k + 1)) types start next) (Ok id))
 unfolding resolved_from
 resolved_look k types start id below =
     let more : 33 - k ≡ suc (33 - (k + 1)) = omega arith in
@@ -20,11 +20,11 @@ pub resolved_unknown : (k : ℕ) (types : List BtfType) (start id : ℕ) → k <
 resolved_unknown k types start id below none = rw (resolved_look k types start id below, none) refl
 
 pub resolved_here : (k : ℕ) (types : List BtfType) (start id : ℕ) (t : BtfType) → k < 33 → slice_get types id ≡ Some t
-    → modified t ≡ None → resolved_from (33 - k) types start id ≡ Ok id
+    → modifier_type_id t ≡ None → resolved_from (33 - k) types start id ≡ Ok id
 resolved_here k types start id t below some last = rw (resolved_look k types start id below, some, last) refl
 
 pub resolved_next : (k : ℕ) (types : List BtfType) (start id : ℕ) (t : BtfType) (next : ℕ) → k < 33 → slice_get types id ≡ Some t
-    → modified t ≡ Some next → resolved_from (33 - k) types start id ≡ resolved_from (33 - (k + 1)) types start next
+    → modifier_type_id t ≡ Some next → resolved_from (33 - k) types start id ≡ resolved_from (33 - (k + 1)) types start next
 resolved_next k types start id t next below some follows = rw (resolved_look k types start id below, some, follows) refl
 
 pub resolved_over : (k : ℕ) (types : List BtfType) (start id : ℕ) → 33 ≤ k → resolved_from (33 - k) types start id ≡ Err (MaximumTypeDepth start)

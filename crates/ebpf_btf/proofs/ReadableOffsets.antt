@@ -17,8 +17,8 @@ readable xs = is_some (before_zero xs)
 abbrev front : List ℕ → ℕ
 front xs = prefix_len (λ b. not (b == 0)) xs
 
-by_place : (xs : List ℕ) → readable xs ≡ nat_lt (front xs) (length xs)
-by_place xs = by_test (nat_lt (front xs) (length xs))
+by_index : (xs : List ℕ) → readable xs ≡ nat_lt (front xs) (length xs)
+by_index xs = by_test (nat_lt (front xs) (length xs))
   where
     by_test : (b : Bool) → is_some (option_map (λ n. take n xs) (cond b (Some (front xs)) None)) ≡ b
     by_test true = refl
@@ -28,7 +28,7 @@ by_place xs = by_test (nat_lt (front xs) (length xs))
 passed : (x : ℕ) (xs : List ℕ) → (x == 0) ≡ false → readable (x ∷ xs) ≡ readable xs
 passed x xs some =
     let first : front (x ∷ xs) ≡ 1 + front xs = rw some refl in
-    by_place (x ∷ xs) ∙ ap (λ n. nat_lt n (suc (length xs))) first ∙ same (front xs) (length xs) ∙ sym (by_place xs)
+    by_index (x ∷ xs) ∙ ap (λ n. nat_lt n (suc (length xs))) first ∙ same (front xs) (length xs) ∙ sym (by_index xs)
   where
     same : (m n : ℕ) → nat_lt (1 + m) (suc n) ≡ nat_lt m n
     same m n = ⊎_elim (λ (less : m < n). grind (arith, nat_tests)) (λ (more : n ≤ m). grind (arith, nat_tests)) (cases_lt m n)
@@ -37,7 +37,7 @@ passed x xs some =
 ended : (x : ℕ) (xs : List ℕ) → (x == 0) ≡ true → readable (x ∷ xs) ≡ true
 ended x xs none =
     let first : front (x ∷ xs) ≡ 0 = rw none refl in
-    by_place (x ∷ xs) ∙ ap (λ n. nat_lt n (suc (length xs))) first ∙ (let test : nat_lt 0 (suc (length xs)) ≡ true = grind (arith, nat_tests) in test)
+    by_index (x ∷ xs) ∙ ap (λ n. nat_lt n (suc (length xs))) first ∙ (let test : nat_lt 0 (suc (length xs)) ≡ true = grind (arith, nat_tests) in test)
 
 -- ---- the last zero byte
 
@@ -63,7 +63,7 @@ one_here (x ∷ xs) zero (suc i) before inside none = by_first (one_here xs zero
     by_first rest true is = ended x xs is
     by_first rest false is = passed x xs is ∙ rest
 
--- no text can be read from a place on
+-- no text can be read from an offset on
 abbrev pub NoneFrom : List ℕ → ℕ → Type 0
 NoneFrom xs n = (offset : ℕ) → n ≤ offset → is_some (before_zero (drop offset xs)) ≡ false
 

@@ -10,70 +10,70 @@ use Rattle.ebpf_btf.specs.declared.kind.BtfKind.{BtfKind}
 use Rattle.ebpf_btf.specs.declared.kind.BtfKind.TheVariants as kinds
 use Rattle.ebpf_btf.specs.declared.types.BtfType.{BtfType}
 use Rattle.ebpf_btf.specs.declared.types.BtfType.TheVariants.{Unknown}
-use Rattle.ebpf_btf.specs.Format.{AreTypesAt, IsTypeAt, word, end_of, info_at, kind_in, spelled}
-use Rattle.ebpf_btf.specs.Reading.{Spells, header_fault, strings_in, type_before, types_end, types_from, types_in, types_start, up_to, with_front, with_strings, type_info_of}
+use Rattle.ebpf_btf.specs.Format.{AreTypesAt, IsTypeAt, word, end_of, info_at, info_kind, spelled}
+use Rattle.ebpf_btf.specs.Reading.{Spells, header_fault, strings_in, type_before, types_end, types_from, parsed_types, types_start, up_to, prepend_types, with_strings, type_info_of}
 use Rattle.ebpf_btf.specs.Next.{if_some}
 use Rattle.ebpf_btf.specs.TypeInfo.{TypeInfo}
 use Rattle.ebpf_btf.specs.Types.{kind_of}
 
 -- ---- one type
 
-kind_of_spelled : (o : Endianness) (bytes : List ℕ) (place : ℕ) (kind : BtfKind) → kind_of (spelled o bytes place kind) ≡ kind
+kind_of_spelled : (o : Endianness) (bytes : List ℕ) (offset : ℕ) (kind : BtfKind) → kind_of (spelled o bytes offset kind) ≡ kind
 unfolding kind_of spelled
-kind_of_spelled o bytes place kinds.Unknown = refl
-kind_of_spelled o bytes place kinds.Int = refl
-kind_of_spelled o bytes place kinds.Ptr = refl
-kind_of_spelled o bytes place kinds.Array = refl
-kind_of_spelled o bytes place kinds.Struct = refl
-kind_of_spelled o bytes place kinds.Union = refl
-kind_of_spelled o bytes place kinds.Enum = refl
-kind_of_spelled o bytes place kinds.Fwd = refl
-kind_of_spelled o bytes place kinds.Typedef = refl
-kind_of_spelled o bytes place kinds.Volatile = refl
-kind_of_spelled o bytes place kinds.Const = refl
-kind_of_spelled o bytes place kinds.Restrict = refl
-kind_of_spelled o bytes place kinds.Func = refl
-kind_of_spelled o bytes place kinds.FuncProto = refl
-kind_of_spelled o bytes place kinds.Var = refl
-kind_of_spelled o bytes place kinds.DataSec = refl
-kind_of_spelled o bytes place kinds.Float = refl
-kind_of_spelled o bytes place kinds.DeclTag = refl
-kind_of_spelled o bytes place kinds.TypeTag = refl
-kind_of_spelled o bytes place kinds.Enum64 = refl
+kind_of_spelled o bytes offset kinds.Unknown = refl
+kind_of_spelled o bytes offset kinds.Int = refl
+kind_of_spelled o bytes offset kinds.Ptr = refl
+kind_of_spelled o bytes offset kinds.Array = refl
+kind_of_spelled o bytes offset kinds.Struct = refl
+kind_of_spelled o bytes offset kinds.Union = refl
+kind_of_spelled o bytes offset kinds.Enum = refl
+kind_of_spelled o bytes offset kinds.Fwd = refl
+kind_of_spelled o bytes offset kinds.Typedef = refl
+kind_of_spelled o bytes offset kinds.Volatile = refl
+kind_of_spelled o bytes offset kinds.Const = refl
+kind_of_spelled o bytes offset kinds.Restrict = refl
+kind_of_spelled o bytes offset kinds.Func = refl
+kind_of_spelled o bytes offset kinds.FuncProto = refl
+kind_of_spelled o bytes offset kinds.Var = refl
+kind_of_spelled o bytes offset kinds.DataSec = refl
+kind_of_spelled o bytes offset kinds.Float = refl
+kind_of_spelled o bytes offset kinds.DeclTag = refl
+kind_of_spelled o bytes offset kinds.TypeTag = refl
+kind_of_spelled o bytes offset kinds.Enum64 = refl
 
 -- a type that is read is spelled so
-type_is : (o : Endianness) (bytes : List ℕ) (place end : ℕ) (t : BtfType) (next : ℕ)
-    → type_before o bytes place end ≡ Some (t, next) → IsTypeAt o bytes place next t × (next ≤ end)
+type_is : (o : Endianness) (bytes : List ℕ) (offset end : ℕ) (t : BtfType) (next : ℕ)
+    → type_before o bytes offset end ≡ Some (t, next) → IsTypeAt o bytes offset next t × (next ≤ end)
 unfolding type_before
-type_is o bytes place end t next here = by_head (nat_lt end (place + 12)) refl
+type_is o bytes offset end t next here = by_head (nat_lt end (offset + 12)) refl
   where
-    by_end : (kind : BtfKind) (b : Bool) → kind_in (info_at o bytes place) ≡ Some kind → nat_lt end (end_of o bytes place kind) ≡ b
-        → up_to o bytes place end kind ≡ Some (t, next) → IsTypeAt o bytes place next t × (next ≤ end)
+    by_end : (kind : BtfKind) (b : Bool) → info_kind (info_at o bytes offset) ≡ Some kind → nat_lt end (end_of o bytes offset kind) ≡ b
+        → up_to o bytes offset end kind ≡ Some (t, next) → IsTypeAt o bytes offset next t × (next ≤ end)
     by_end kind true is_kind past is = let none = rw past at is in cc
     by_end kind false is_kind past is =
-        let parts = some_pair_parts (spelled o bytes place kind) t (end_of o bytes place kind) next (rw past at is) in
-        let type : t ≡ spelled o bytes place kind = sym parts.0 in
-        let ends : next ≡ end_of o bytes place kind = sym parts.1 in
-        let k : kind_of t ≡ kind = ap kind_of type ∙ kind_of_spelled o bytes place kind in
+        let parts = some_pair_parts (spelled o bytes offset kind) t (end_of o bytes offset kind) next (rw past at is) in
+        let type : t ≡ spelled o bytes offset kind = sym parts.0 in
+        let ends : next ≡ end_of o bytes offset kind = sym parts.1 in
+        let k : kind_of t ≡ kind = ap kind_of type ∙ kind_of_spelled o bytes offset kind in
         (record { kind = rw k is_kind; words = rw k type; ends = rw k ends }, rw ends (grind (arith, nat_tests)))
 
-    by_kind : (k : Option BtfKind) → kind_in (info_at o bytes place) ≡ k
-        → if_some k (λ kind. up_to o bytes place end kind) None ≡ Some (t, next) → IsTypeAt o bytes place next t × (next ≤ end)
+    by_kind : (k : Option BtfKind) → info_kind (info_at o bytes offset) ≡ k
+        → if_some k (λ kind. up_to o bytes offset end kind) None ≡ Some (t, next) → IsTypeAt o bytes offset next t × (next ≤ end)
     by_kind None e is = cc
-    by_kind (Some kind) e is = by_end kind (nat_lt end (end_of o bytes place kind)) e refl is
+    by_kind (Some kind) e is = by_end kind (nat_lt end (end_of o bytes offset kind)) e refl is
 
-    by_head : (b : Bool) → nat_lt end (place + 12) ≡ b → IsTypeAt o bytes place next t × (next ≤ end)
+    by_head : (b : Bool) → nat_lt end (offset + 12) ≡ b → IsTypeAt o bytes offset next t × (next ≤ end)
     by_head true e = let none = rw e at here in cc
-    by_head false e = by_kind (kind_in (info_at o bytes place)) refl (rw e at here)
+    by_head false e = by_kind (info_kind (info_at o bytes offset)) refl (rw e at here)
 
 -- a type that is spelled so is read
-type_again : (o : Endianness) (bytes : List ℕ) (place end : ℕ) (t : BtfType) (next : ℕ)
-    → IsTypeAt o bytes place next t → next ≤ end → type_before o bytes place end ≡ Some (t, next)
+type_again : (o : Endianness) (bytes : List ℕ) (offset end : ℕ) (t : BtfType) (next : ℕ)
+    → IsTypeAt o bytes offset next t → next ≤ end → type_before o bytes offset end ≡ Some (t, next)
 unfolding type_before
-type_again o bytes place end t next is within =
-    let ends : next ≡ end_of o bytes place (kind_of t) = is.ends in
-    let head : nat_lt end (place + 12) ≡ false = grind (arith, nat_tests) in
-    let whole : nat_lt end (end_of o bytes place (kind_of t)) ≡ false = grind (arith, nat_tests) in
+type_again o bytes offset end t next is within =
+    let ends : next ≡ end_of o bytes offset (kind_of t) = is.ends in
+    let head : nat_lt end (offset + 12) ≡ false = grind (arith, nat_tests) in
+    let whole : nat_lt end (end_of o bytes offset (kind_of t)) ≡ false = grind (arith, nat_tests) in
     rw (head, is.kind, whole) (ap Some (same _ _ _ _ (sym is.words) (sym ends)))
   where
     same : (a b : BtfType) (m n : ℕ) → a ≡ b → m ≡ n → ◌≡◌ {A = BtfType × ℕ} (a, m) (b, n)
@@ -81,58 +81,58 @@ type_again o bytes place end t next is within =
 
 -- ---- types one after the other
 
-split_front : (t : BtfType) (rest : Option (List BtfType)) (ts : List BtfType) → with_front (t ∷ []) rest ≡ Some ts
+split_front : (t : BtfType) (rest : Option (List BtfType)) (ts : List BtfType) → prepend_types (t ∷ []) rest ≡ Some ts
     → (more : List BtfType) × (rest ≡ Some more) × (ts ≡ t ∷ more)
 split_front t None ts is = cc
 split_front t (Some more) ts is = (more, refl, cc)
 
-types_are : (n : ℕ) (o : Endianness) (bytes : List ℕ) (place end : ℕ) (ts : List BtfType)
-    → types_from n o bytes place end ≡ Some ts → AreTypesAt o bytes place end ts
+types_are : (n : ℕ) (o : Endianness) (bytes : List ℕ) (offset end : ℕ) (ts : List BtfType)
+    → types_from n o bytes offset end ≡ Some ts → AreTypesAt o bytes offset end ts
 unfolding types_from
-types_are zero o bytes place end ts is = by_end (place == end) refl
+types_are zero o bytes offset end ts is = by_end (offset == end) refl
   where
-    by_end : (b : Bool) → (place == end) ≡ b → AreTypesAt o bytes place end ts
+    by_end : (b : Bool) → (offset == end) ≡ b → AreTypesAt o bytes offset end ts
     by_end true e =
         let none : ts ≡ [] = cc (rw e at is) in
         rw none (grind (arith, nat_tests))
     by_end false e = let no = rw e at is in cc
-types_are (suc n) o bytes place end ts is =
-    by_end (λ next more. types_are n o bytes next end more) (place == end) refl
+types_are (suc n) o bytes offset end ts is =
+    by_end (λ next more. types_are n o bytes next end more) (offset == end) refl
   where
     Again : Type 0
     Again = (next : ℕ) (more : List BtfType) → types_from n o bytes next end ≡ Some more → AreTypesAt o bytes next end more
 
-    by_found : Again → (r : Option (BtfType × ℕ)) → type_before o bytes place end ≡ r
-        → if_some r (λ found. with_front (found.0 ∷ []) (types_from n o bytes found.1 end)) None ≡ Some ts → AreTypesAt o bytes place end ts
+    by_found : Again → (r : Option (BtfType × ℕ)) → type_before o bytes offset end ≡ r
+        → if_some r (λ found. prepend_types (found.0 ∷ []) (types_from n o bytes found.1 end)) None ≡ Some ts → AreTypesAt o bytes offset end ts
     by_found again None e same = cc
     by_found again (Some found) e same =
         let parts = split_front found.0 (types_from n o bytes found.1 end) ts same in
-        let first = type_is o bytes place end found.0 found.1 e in
+        let first = type_is o bytes offset end found.0 found.1 e in
         rw parts.2 (found.1, first.0, first.1, again found.1 parts.0 parts.1)
 
-    by_end : Again → (b : Bool) → (place == end) ≡ b → AreTypesAt o bytes place end ts
+    by_end : Again → (b : Bool) → (offset == end) ≡ b → AreTypesAt o bytes offset end ts
     by_end again true e =
         let none : ts ≡ [] = cc (rw e at is) in
         rw none (grind (arith, nat_tests))
-    by_end again false e = by_found again (type_before o bytes place end) refl (rw e at is)
+    by_end again false e = by_found again (type_before o bytes offset end) refl (rw e at is)
 
-types_again : (ts : List BtfType) (n : ℕ) (o : Endianness) (bytes : List ℕ) (place end : ℕ)
-    → AreTypesAt o bytes place end ts → end - place ≤ n → types_from n o bytes place end ≡ Some ts
+types_again : (ts : List BtfType) (n : ℕ) (o : Endianness) (bytes : List ℕ) (offset end : ℕ)
+    → AreTypesAt o bytes offset end ts → end - offset ≤ n → types_from n o bytes offset end ≡ Some ts
 unfolding types_from
-types_again [] zero o bytes place end are some =
-    let here : (place == end) ≡ true = grind (arith, nat_tests) in
+types_again [] zero o bytes offset end are some =
+    let here : (offset == end) ≡ true = grind (arith, nat_tests) in
     rw here refl
-types_again [] (suc n) o bytes place end are some =
-    let here : (place == end) ≡ true = grind (arith, nat_tests) in
+types_again [] (suc n) o bytes offset end are some =
+    let here : (offset == end) ≡ true = grind (arith, nat_tests) in
     rw here refl
-types_again (t ∷ ts) zero o bytes place end are some =
+types_again (t ∷ ts) zero o bytes offset end are some =
     let ends = are.1.ends in
     absurd (omega (arith, are.2))
-types_again (t ∷ ts) (suc n) o bytes place end are some =
+types_again (t ∷ ts) (suc n) o bytes offset end are some =
     let ends = are.1.ends in
     let within : are.0 ≤ end = are.2 in
-    let before : (place == end) ≡ false = grind (arith, nat_tests) in
-    let first = type_again o bytes place end t are.0 are.1 are.2 in
+    let before : (offset == end) ≡ false = grind (arith, nat_tests) in
+    let first = type_again o bytes offset end t are.0 are.1 are.2 in
     let rest = types_again ts n o bytes are.0 end are.3 (omega arith) in
     rw (before, first, rest) refl
 
@@ -143,11 +143,11 @@ unfolding types_end
 part_length o bytes = omega arith
 
 found_from : (o : Endianness) (bytes : List ℕ) (info : TypeInfo) → type_info_of o bytes ≡ Ok info → Spells o bytes info
-unfolding type_info_of types_in
+unfolding type_info_of parsed_types
 found_from o bytes info is = by_header (header_fault o bytes) refl
   where
-    by_types : (r : Option (List BtfType)) → types_in o bytes ≡ r → header_fault o bytes ≡ None
-        → with_strings o bytes (with_front (Unknown ∷ []) r) ≡ Ok info → Spells o bytes info
+    by_types : (r : Option (List BtfType)) → parsed_types o bytes ≡ r → header_fault o bytes ≡ None
+        → with_strings o bytes (prepend_types (Unknown ∷ []) r) ≡ Ok info → Spells o bytes info
     by_types None e sound same = cc
     by_types (Some ts) e sound same =
         let whole : info ≡ record { types = Unknown ∷ ts; strings = strings_in o bytes } = cc in
@@ -158,11 +158,11 @@ found_from o bytes info is = by_header (header_fault o bytes) refl
         })
 
     by_header : (h : Option BtfError) → header_fault o bytes ≡ h → Spells o bytes info
-    by_header None e = by_types (types_in o bytes) refl e (rw e at is)
+    by_header None e = by_types (parsed_types o bytes) refl e (rw e at is)
     by_header (Some fault) e = let no = rw e at is in cc
 
 again_from : (o : Endianness) (bytes : List ℕ) (info : TypeInfo) → Spells o bytes info → type_info_of o bytes ≡ Ok info
-unfolding type_info_of types_in
+unfolding type_info_of parsed_types
 again_from o bytes info is =
     let ts = is.types.0 in
     let all = types_again ts (word o bytes 12) o bytes (types_start o bytes) (types_end o bytes) is.types.2 (omega (arith, part_length o bytes)) in

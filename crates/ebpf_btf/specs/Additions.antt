@@ -18,5 +18,5 @@ abbrev pub only_first : TypeInfo → ℕ → ℕ → TypeInfo
 only_first info types strings = record { types = take types info.types; strings = take strings info.strings }
 
 -- an id or an offset is a number below 2 ^ 32
-abbrev pub number_fault : ℕ → Option BtfError
-number_fault n = if nat_lt n (2 ^ 32) then None else Some TooLarge
+abbrev pub too_large_fault : ℕ → Option BtfError
+too_large_fault n = if nat_lt n (2 ^ 32) then None else Some TooLarge

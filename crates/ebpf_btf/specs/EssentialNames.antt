@@ -9,9 +9,9 @@ abbrev pub flavor_mark : List ℕ
 flavor_mark = 95 ∷ 95 ∷ 95 ∷ []
 
 -- where the first three underscores in a row begin
-abbrev pub flavor_place : List ℕ → Option ℕ
-flavor_place name = find (λ n. starts_with nat_eq (drop n name) flavor_mark) (range_with_len 0 (length name))
+abbrev pub flavor_start : List ℕ → Option ℕ
+flavor_start name = find (λ n. starts_with nat_eq (drop n name) flavor_mark) (range_with_len 0 (length name))
 
 -- what stands before them, or the whole name
 unfoldable pub essential_name : List ℕ → List ℕ
-essential_name name = take (unwrap_or (flavor_place name) (length name)) name
+essential_name name = take (unwrap_or (flavor_start name) (length name)) name

@@ -17,42 +17,42 @@ use Rattle.ebpf_btf.specs.Numbers.{number_at}
 use Rattle.ebpf_btf.specs.Types.{kind_of}
 
 abbrev pub word : Endianness → List ℕ → ℕ → ℕ
-word order bytes place = number_at order 4 bytes place
+word order bytes offset = number_at order 4 bytes offset
 
 -- ---- the info word
 
--- how many members, variants, parameters or entries the type has
-unfoldable pub count_in : ℕ → ℕ
-count_in info = info % 2 ^ 16
+-- vlen: how many members, variants, parameters or entries the type has
+unfoldable pub info_vlen : ℕ → ℕ
+info_vlen info = info % 2 ^ 16
 
-unfoldable pub flag_in : ℕ → Bool
-flag_in info = info / 2 ^ 31 == 1
+unfoldable pub info_kind_flag : ℕ → Bool
+info_kind_flag info = info / 2 ^ 31 == 1
 
-abbrev pub kind_number_in : ℕ → ℕ
-kind_number_in info = info / 2 ^ 24 % 2 ^ 5
+abbrev pub info_kind_number : ℕ → ℕ
+info_kind_number info = info / 2 ^ 24 % 2 ^ 5
 
 -- the kind; there is none with the number 0, or past 19
-unfoldable pub kind_in : ℕ → Option BtfKind
-kind_in info =
-    if kind_number_in info == 1 then Some kinds.Int else
-    (if kind_number_in info == 2 then Some kinds.Ptr else
-    (if kind_number_in info == 3 then Some kinds.Array else
-    (if kind_number_in info == 4 then Some kinds.Struct else
-    (if kind_number_in info == 5 then Some kinds.Union else
-    (if kind_number_in info == 6 then Some kinds.Enum else
-    (if kind_number_in info == 7 then Some kinds.Fwd else
-    (if kind_number_in info == 8 then Some kinds.Typedef else
-    (if kind_number_in info == 9 then Some kinds.Volatile else
-    (if kind_number_in info == 10 then Some kinds.Const else
-    (if kind_number_in info == 11 then Some kinds.Restrict else
-    (if kind_number_in info == 12 then Some kinds.Func else
-    (if kind_number_in info == 13 then Some kinds.FuncProto else
-    (if kind_number_in info == 14 then Some kinds.Var else
-    (if kind_number_in info == 15 then Some kinds.DataSec else
-    (if kind_number_in info == 16 then Some kinds.Float else
-    (if kind_number_in info == 17 then Some kinds.DeclTag else
-    (if kind_number_in info == 18 then Some kinds.TypeTag else
-    (if kind_number_in info == 19 then Some kinds.Enum64 else None))))))))))))))))))
+unfoldable pub info_kind : ℕ → Option BtfKind
+info_kind info =
+    if info_kind_number info == 1 then Some kinds.Int else
+    (if info_kind_number info == 2 then Some kinds.Ptr else
+    (if info_kind_number info == 3 then Some kinds.Array else
+    (if info_kind_number info == 4 then Some kinds.Struct else
+    (if info_kind_number info == 5 then Some kinds.Union else
+    (if info_kind_number info == 6 then Some kinds.Enum else
+    (if info_kind_number info == 7 then Some kinds.Fwd else
+    (if info_kind_number info == 8 then Some kinds.Typedef else
+    (if info_kind_number info == 9 then Some kinds.Volatile else
+    (if info_kind_number info == 10 then Some kinds.Const else
+    (if info_kind_number info == 11 then Some kinds.Restrict else
+    (if info_kind_number info == 12 then Some kinds.Func else
+    (if info_kind_number info == 13 then Some kinds.FuncProto else
+    (if info_kind_number info == 14 then Some kinds.Var else
+    (if info_kind_number info == 15 then Some kinds.DataSec else
+    (if info_kind_number info == 16 then Some kinds.Float else
+    (if info_kind_number info == 17 then Some kinds.DeclTag else
+    (if info_kind_number info == 18 then Some kinds.TypeTag else
+    (if info_kind_number info == 19 then Some kinds.Enum64 else None))))))))))))))))))
 
 -- ---- the words of a kind
 
@@ -92,89 +92,89 @@ is_head kinds.Float = true
 is_head kinds.TypeTag = true
 is_head _ = false
 
--- n items of a size in bytes, one after the other from a place on
+-- n items of a size in bytes, one after the other from an offset on
 unfoldable pub items_at : {X : Type 0} → (ℕ → X) → ℕ → ℕ → ℕ → List X
-items_at item size place n = map (λ k. item (place + size * k)) (range_with_len 0 n)
+items_at item size offset n = map (λ k. item (offset + size * k)) (range_with_len 0 n)
 
 unfoldable pub member_at : Endianness → List ℕ → ℕ → BtfMember
-member_at order bytes place = record {
-  name_offset = word order bytes place;
-  btf_type = word order bytes (place + 4);
-  offset = word order bytes (place + 8);
+member_at order bytes offset = record {
+  name_offset = word order bytes offset;
+  btf_type = word order bytes (offset + 4);
+  offset = word order bytes (offset + 8);
 }
 
 unfoldable pub enum_at : Endianness → List ℕ → ℕ → BtfEnum
-enum_at order bytes place = record {
-  name_offset = word order bytes place;
-  value = word order bytes (place + 4);
+enum_at order bytes offset = record {
+  name_offset = word order bytes offset;
+  value = word order bytes (offset + 4);
 }
 
 unfoldable pub enum64_at : Endianness → List ℕ → ℕ → BtfEnum64
-enum64_at order bytes place = record {
-  name_offset = word order bytes place;
-  value_low = word order bytes (place + 4);
-  value_high = word order bytes (place + 8);
+enum64_at order bytes offset = record {
+  name_offset = word order bytes offset;
+  value_low = word order bytes (offset + 4);
+  value_high = word order bytes (offset + 8);
 }
 
 unfoldable pub param_at : Endianness → List ℕ → ℕ → BtfParam
-param_at order bytes place = record {
-  name_offset = word order bytes place;
-  btf_type = word order bytes (place + 4);
+param_at order bytes offset = record {
+  name_offset = word order bytes offset;
+  btf_type = word order bytes (offset + 4);
 }
 
 unfoldable pub entry_at : Endianness → List ℕ → ℕ → DataSecEntry
-entry_at order bytes place = record {
-  btf_type = word order bytes place;
-  offset = word order bytes (place + 4);
-  size = word order bytes (place + 8);
+entry_at order bytes offset = record {
+  btf_type = word order bytes offset;
+  offset = word order bytes (offset + 4);
+  size = word order bytes (offset + 8);
 }
 
 -- ---- a type
 
--- the info word of the type at a place
+-- the info word of the type at an offset
 abbrev pub info_at : Endianness → List ℕ → ℕ → ℕ
-info_at o bytes place = word o bytes (place + 4)
+info_at o bytes offset = word o bytes (offset + 4)
 
-abbrev pub count_at : Endianness → List ℕ → ℕ → ℕ
-count_at o bytes place = count_in (info_at o bytes place)
+abbrev pub vlen_at : Endianness → List ℕ → ℕ → ℕ
+vlen_at o bytes offset = info_vlen (info_at o bytes offset)
 
-abbrev pub flag_at : Endianness → List ℕ → ℕ → Bool
-flag_at o bytes place = flag_in (info_at o bytes place)
+abbrev pub kind_flag_at : Endianness → List ℕ → ℕ → Bool
+kind_flag_at o bytes offset = info_kind_flag (info_at o bytes offset)
 
--- the type of a kind that stands at a place
+-- the type of a kind that stands at an offset
 unfoldable pub spelled : Endianness → List ℕ → ℕ → BtfKind → BtfType
 spelled o bytes p kinds.Unknown = Unknown
 spelled o bytes p kinds.Int = Int (word o bytes p) (word o bytes (p + 8)) (word o bytes (p + 12))
 spelled o bytes p kinds.Ptr = Ptr (word o bytes p) (word o bytes (p + 8))
 spelled o bytes p kinds.Array = Array (word o bytes p) (word o bytes (p + 12)) (word o bytes (p + 16)) (word o bytes (p + 20))
-spelled o bytes p kinds.Struct = Struct (word o bytes p) (word o bytes (p + 8)) (flag_at o bytes p) (items_at (member_at o bytes) 12 (p + 12) (count_at o bytes p))
-spelled o bytes p kinds.Union = Union (word o bytes p) (word o bytes (p + 8)) (flag_at o bytes p) (items_at (member_at o bytes) 12 (p + 12) (count_at o bytes p)) None
-spelled o bytes p kinds.Enum = Enum (word o bytes p) (word o bytes (p + 8)) (flag_at o bytes p) (items_at (enum_at o bytes) 8 (p + 12) (count_at o bytes p))
-spelled o bytes p kinds.Fwd = Fwd (word o bytes p) (flag_at o bytes p)
+spelled o bytes p kinds.Struct = Struct (word o bytes p) (word o bytes (p + 8)) (kind_flag_at o bytes p) (items_at (member_at o bytes) 12 (p + 12) (vlen_at o bytes p))
+spelled o bytes p kinds.Union = Union (word o bytes p) (word o bytes (p + 8)) (kind_flag_at o bytes p) (items_at (member_at o bytes) 12 (p + 12) (vlen_at o bytes p)) None
+spelled o bytes p kinds.Enum = Enum (word o bytes p) (word o bytes (p + 8)) (kind_flag_at o bytes p) (items_at (enum_at o bytes) 8 (p + 12) (vlen_at o bytes p))
+spelled o bytes p kinds.Fwd = Fwd (word o bytes p) (kind_flag_at o bytes p)
 spelled o bytes p kinds.Typedef = Typedef (word o bytes p) (word o bytes (p + 8))
 spelled o bytes p kinds.Volatile = Volatile (word o bytes p) (word o bytes (p + 8))
 spelled o bytes p kinds.Const = Const (word o bytes p) (word o bytes (p + 8))
 spelled o bytes p kinds.Restrict = Restrict (word o bytes p) (word o bytes (p + 8))
 spelled o bytes p kinds.Func = Func (word o bytes p) (word o bytes (p + 8))
-spelled o bytes p kinds.FuncProto = FuncProto (word o bytes p) (word o bytes (p + 8)) (items_at (param_at o bytes) 8 (p + 12) (count_at o bytes p))
+spelled o bytes p kinds.FuncProto = FuncProto (word o bytes p) (word o bytes (p + 8)) (items_at (param_at o bytes) 8 (p + 12) (vlen_at o bytes p))
 spelled o bytes p kinds.Var = Var (word o bytes p) (word o bytes (p + 8)) (word o bytes (p + 12))
-spelled o bytes p kinds.DataSec = DataSec (word o bytes p) (word o bytes (p + 8)) (items_at (entry_at o bytes) 12 (p + 12) (count_at o bytes p))
+spelled o bytes p kinds.DataSec = DataSec (word o bytes p) (word o bytes (p + 8)) (items_at (entry_at o bytes) 12 (p + 12) (vlen_at o bytes p))
 spelled o bytes p kinds.Float = Float (word o bytes p) (word o bytes (p + 8))
 spelled o bytes p kinds.DeclTag = DeclTag (word o bytes p) (word o bytes (p + 8)) (word o bytes (p + 12))
 spelled o bytes p kinds.TypeTag = TypeTag (word o bytes p) (word o bytes (p + 8))
-spelled o bytes p kinds.Enum64 = Enum64 (word o bytes p) (word o bytes (p + 8)) (flag_at o bytes p) (items_at (enum64_at o bytes) 12 (p + 12) (count_at o bytes p))
+spelled o bytes p kinds.Enum64 = Enum64 (word o bytes p) (word o bytes (p + 8)) (kind_flag_at o bytes p) (items_at (enum64_at o bytes) 12 (p + 12) (vlen_at o bytes p))
 
--- where a type of a kind that begins at a place ends
+-- where a type of a kind that begins at an offset ends
 abbrev pub end_of : Endianness → List ℕ → ℕ → BtfKind → ℕ
-end_of o bytes place kind = place + 12 + 4 * further_words kind (count_at o bytes place)
+end_of o bytes offset kind = offset + 12 + 4 * further_words kind (vlen_at o bytes offset)
 
--- the bytes from a place up to an end are those of a type
-pub record IsTypeAt (o : Endianness) (bytes : List ℕ) (place end : ℕ) (t : BtfType) : Type 0 where
-  pub kind : kind_in (info_at o bytes place) ≡ Some (kind_of t)
-  pub words : t ≡ spelled o bytes place (kind_of t)
-  pub ends : end ≡ end_of o bytes place (kind_of t)
+-- the bytes from an offset up to an end are those of a type
+pub record IsTypeAt (o : Endianness) (bytes : List ℕ) (offset end : ℕ) (t : BtfType) : Type 0 where
+  pub kind : info_kind (info_at o bytes offset) ≡ Some (kind_of t)
+  pub words : t ≡ spelled o bytes offset (kind_of t)
+  pub ends : end ≡ end_of o bytes offset (kind_of t)
 
--- the bytes from a place up to an end are those of some types, one after the other
+-- the bytes from an offset up to an end are those of some types, one after the other
 abbrev pub AreTypesAt : Endianness → List ℕ → ℕ → ℕ → List BtfType → Type 0
-AreTypesAt o bytes place end [] = place ≡ end
-AreTypesAt o bytes place end (t ∷ ts) = (next : ℕ) × IsTypeAt o bytes place next t × (next ≤ end) × AreTypesAt o bytes next end ts
+AreTypesAt o bytes offset end [] = offset ≡ end
+AreTypesAt o bytes offset end (t ∷ ts) = (next : ℕ) × IsTypeAt o bytes offset next t × (next ≤ end) × AreTypesAt o bytes next end ts

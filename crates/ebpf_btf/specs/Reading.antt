@@ -8,7 +8,7 @@ use Rattle.ebpf_btf.specs.declared.error.BtfError.TheVariants.{InvalidHeader, In
 use Rattle.ebpf_btf.specs.declared.kind.BtfKind.{BtfKind}
 use Rattle.ebpf_btf.specs.declared.types.BtfType.{BtfType}
 use Rattle.ebpf_btf.specs.declared.types.BtfType.TheVariants.{Unknown}
-use Rattle.ebpf_btf.specs.Format.{AreTypesAt, word, info_at, kind_in, spelled, end_of}
+use Rattle.ebpf_btf.specs.Format.{AreTypesAt, word, info_at, info_kind, spelled, end_of}
 use Rattle.ebpf_btf.specs.Numbers.{number_at}
 use Rattle.ebpf_btf.specs.Next.{if_some}
 use Rattle.ebpf_btf.specs.TypeInfo.{TypeInfo}
@@ -58,31 +58,31 @@ pub record Spells (o : Endianness) (bytes : List ℕ) (info : TypeInfo) : Type 0
 
 -- ---- what is read
 
--- the type at a place, of a kind that is known, and the place after it, where that is not past the end
+-- the type at an offset, of a kind that is known, and the offset after it, where that is not past the end
 abbrev pub up_to : Endianness → List ℕ → ℕ → ℕ → BtfKind → Option (BtfType × ℕ)
-up_to o bytes place end kind =
-    if nat_lt end (end_of o bytes place kind) then None else Some (spelled o bytes place kind, end_of o bytes place kind)
+up_to o bytes offset end kind =
+    if nat_lt end (end_of o bytes offset kind) then None else Some (spelled o bytes offset kind, end_of o bytes offset kind)
 
--- the first type from a place up to an end, and the place after it; none where it is cut or of no kind
+-- the first type from an offset up to an end, and the offset after it; none where it is cut or of no kind
 unfoldable pub type_before : Endianness → List ℕ → ℕ → ℕ → Option (BtfType × ℕ)
-type_before o bytes place end =
-    if nat_lt end (place + 12) then None
-    else if_some (kind_in (info_at o bytes place)) (λ kind. up_to o bytes place end kind) None
+type_before o bytes offset end =
+    if nat_lt end (offset + 12) then None
+    else if_some (info_kind (info_at o bytes offset)) (λ kind. up_to o bytes offset end kind) None
 
 -- types that follow others
-abbrev pub with_front : List BtfType → Option (List BtfType) → Option (List BtfType)
-with_front front types = option_map (λ ts. front ++ ts) types
+abbrev pub prepend_types : List BtfType → Option (List BtfType) → Option (List BtfType)
+prepend_types front types = option_map (λ ts. front ++ ts) types
 
--- All types from a place up to an end, of which there are at most `left`.
+-- All types from an offset up to an end, of which there are at most `left`.
 unfoldable pub types_from : ℕ → Endianness → List ℕ → ℕ → ℕ → Option (List BtfType)
-types_from zero o bytes place end = if place == end then Some [] else None
-types_from (suc left) o bytes place end =
-    if place == end then Some []
-    else if_some (type_before o bytes place end) (λ found. with_front (found.0 ∷ []) (types_from left o bytes found.1 end)) None
+types_from zero o bytes offset end = if offset == end then Some [] else None
+types_from (suc left) o bytes offset end =
+    if offset == end then Some []
+    else if_some (type_before o bytes offset end) (λ found. prepend_types (found.0 ∷ []) (types_from left o bytes found.1 end)) None
 
 -- no more types than bytes stand in the part
-unfoldable pub types_in : Endianness → List ℕ → Option (List BtfType)
-types_in o bytes = types_from (word o bytes 12) o bytes (types_start o bytes) (types_end o bytes)
+unfoldable pub parsed_types : Endianness → List ℕ → Option (List BtfType)
+parsed_types o bytes = types_from (word o bytes 12) o bytes (types_start o bytes) (types_end o bytes)
 
 -- with void before the types, and the strings
 abbrev pub with_strings : Endianness → List ℕ → Option (List BtfType) → Result TypeInfo BtfError
@@ -91,4 +91,4 @@ with_strings o bytes (Some ts) = Ok (record { types = ts; strings = strings_in o
 
 -- the type information of some bytes, or their first fault
 unfoldable pub type_info_of : Endianness → List ℕ → Result TypeInfo BtfError
-type_info_of o bytes = if_some (header_fault o bytes) (λ e. Err e) (with_strings o bytes (with_front (Unknown ∷ []) (types_in o bytes)))
+type_info_of o bytes = if_some (header_fault o bytes) (λ e. Err e) (with_strings o bytes (prepend_types (Unknown ∷ []) (parsed_types o bytes)))

@@ -17,21 +17,21 @@ type_at types id = if_some (slice_get types id) (λ t. Ok t) (Err (UnknownBtfTyp
 
 -- ---- resolution
 
--- the id of the type that a TYPEDEF, VOLATILE, CONST, RESTRICT or TYPE_TAG stands for
-unfoldable pub modified : BtfType → Option ℕ
-modified (Typedef _ id) = Some id
-modified (Volatile _ id) = Some id
-modified (Const _ id) = Some id
-modified (Restrict _ id) = Some id
-modified (TypeTag _ id) = Some id
-modified _ = None
+-- the id of the type that a modifier (TYPEDEF, VOLATILE, CONST, RESTRICT or TYPE_TAG) is on
+unfoldable pub modifier_type_id : BtfType → Option ℕ
+modifier_type_id (Typedef _ id) = Some id
+modifier_type_id (Volatile _ id) = Some id
+modifier_type_id (Const _ id) = Some id
+modifier_type_id (Restrict _ id) = Some id
+modifier_type_id (TypeTag _ id) = Some id
+modifier_type_id _ = None
 
 -- the first type from an id on that stands for no other, where `left` types may be looked at
 unfoldable pub resolved_from : ℕ → List BtfType → ℕ → ℕ → Result ℕ BtfError
 resolved_from zero types start id = Err (MaximumTypeDepth start)
 resolved_from (suc left) types start id =
     if_ok (type_at types id) (λ t.
-    if_some (modified t) (λ next. resolved_from left types start next) (Ok id))
+    if_some (modifier_type_id t) (λ next. resolved_from left types start next) (Ok id))
 
 abbrev pub resolved : List BtfType → ℕ → Result ℕ BtfError
 resolved types id = resolved_from looks types id id
@@ -52,7 +52,7 @@ unfoldable pub sized_by : BtfType → Option ℕ
 sized_by (Var _ id _) = Some id
 sized_by (Func _ id) = Some id
 sized_by (Array _ id _ _) = Some id
-sized_by t = modified t
+sized_by t = modifier_type_id t
 
 -- how many of that type it has
 unfoldable pub repeats : BtfType → ℕ

@@ -7,7 +7,7 @@ use Rattle.ebpf_btf.specs.declared.error.BtfError.{BtfError}
 use Rattle.ebpf_btf.specs.declared.error.BtfError.TheVariants.{InvalidStringOffset}
 use Rattle.ebpf_btf.specs.declared.types.BtfType.{BtfType}
 use Rattle.ebpf_btf.specs.TypeInfo.{TypeInfo}
-use Rattle.ebpf_btf.specs.Types.{name_of, is_kind}
+use Rattle.ebpf_btf.specs.Types.{name_off, is_kind}
 use Rattle.ebpf_btf.specs.declared.kind.BtfKind.{BtfKind}
 use Rattle.ebpf_btf.specs.EssentialNames.{essential_name}
 use Rattle.ebpf_btf.specs.Next.{if_ok}
@@ -40,7 +40,7 @@ is_essential_name_at strings offset text = if_ok (text_at strings offset) (λ re
 
 -- the name of a type
 abbrev pub type_name : TypeInfo → BtfType → Result (List ℕ) BtfError
-type_name info t = text_at info.strings (name_of t)
+type_name info t = text_at info.strings (name_off t)
 
 -- whether a text was read and is this one
 abbrev pub is_text : List ℕ → Result (List ℕ) BtfError → Bool

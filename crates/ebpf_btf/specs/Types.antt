@@ -1,4 +1,4 @@
--- What types say of themselves (the kernel's Documentation/bpf/btf.rst, 2.2 "Type Encoding").
+-- The words of types (the kernel's Documentation/bpf/btf.rst, 2.2 "Type Encoding").
 use Rattle.std.specs.Prelude.{ℕ, ◌/◌, ◌%◌, ◌^◌, Bool, false, List, Option, Some, None, ◌==◌, if◌then◌else◌}
 use Rattle.ebpf_btf.specs.declared.array.BtfArray.{BtfArray}
 use Rattle.ebpf_btf.specs.declared.kind.BtfKind.{BtfKind}
@@ -57,27 +57,27 @@ abbrev pub is_kind : BtfKind → BtfType → Bool
 is_kind kind t = kind_number (kind_of t) == kind_number kind
 
 -- the offset of the name
-unfoldable pub name_of : BtfType → ℕ
-name_of Unknown = 0
-name_of (Fwd name _) = name
-name_of (Const name _) = name
-name_of (Volatile name _) = name
-name_of (Restrict name _) = name
-name_of (Ptr name _) = name
-name_of (Typedef name _) = name
-name_of (Func name _) = name
-name_of (Int name _ _) = name
-name_of (Float name _) = name
-name_of (Enum name _ _ _) = name
-name_of (Array name _ _ _) = name
-name_of (Struct name _ _ _) = name
-name_of (Union name _ _ _ _) = name
-name_of (FuncProto name _ _) = name
-name_of (Var name _ _) = name
-name_of (DataSec name _ _) = name
-name_of (DeclTag name _ _) = name
-name_of (TypeTag name _) = name
-name_of (Enum64 name _ _ _) = name
+unfoldable pub name_off : BtfType → ℕ
+name_off Unknown = 0
+name_off (Fwd name _) = name
+name_off (Const name _) = name
+name_off (Volatile name _) = name
+name_off (Restrict name _) = name
+name_off (Ptr name _) = name
+name_off (Typedef name _) = name
+name_off (Func name _) = name
+name_off (Int name _ _) = name
+name_off (Float name _) = name
+name_off (Enum name _ _ _) = name
+name_off (Array name _ _ _) = name
+name_off (Struct name _ _ _) = name
+name_off (Union name _ _ _ _) = name
+name_off (FuncProto name _ _) = name
+name_off (Var name _ _) = name
+name_off (DataSec name _ _) = name
+name_off (DeclTag name _ _) = name
+name_off (TypeTag name _) = name
+name_off (Enum64 name _ _ _) = name
 
 -- the size in bytes that a type states
 unfoldable pub size_word : BtfType → Option ℕ
@@ -90,7 +90,7 @@ size_word (Float _ size) = Some size
 size_word (DataSec _ size _) = Some size
 size_word _ = None
 
--- the id of the type that a type holds
+-- the id in the type word
 unfoldable pub type_word : BtfType → Option ℕ
 type_word (Ptr _ id) = Some id
 type_word (Typedef _ id) = Some id
@@ -115,11 +115,11 @@ has_bit_fields (Struct _ _ flag _) = flag
 has_bit_fields (Union _ _ flag _ _) = flag
 has_bit_fields _ = false
 
--- the place of a member in bits
+-- the bit offset of a member
 unfoldable pub bit_offset : BtfType → BtfMember → ℕ
 bit_offset t member = if has_bit_fields t then member.offset % 2 ^ 24 else member.offset
 
--- the size in bits of a member that is a bit field, else 0
+-- the bit field size of a member that is a bit field, else 0
 unfoldable pub bit_field_size : BtfType → BtfMember → ℕ
 bit_field_size t member = if has_bit_fields t then member.offset / 2 ^ 24 else 0
 

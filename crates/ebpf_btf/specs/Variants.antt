@@ -9,12 +9,12 @@ use Rattle.ebpf_btf.specs.declared.types.BtfType.TheVariants.{Enum, Enum64, Unio
 use Rattle.ebpf_btf.specs.declared.variants.BtfVariant.{BtfVariant}
 
 -- 32 bits as 64: the high ones are those of the sign
-abbrev pub widened : Bool → ℕ → ℕ
-widened signed value = if signed && nat_le (2 ^ 31) value then value + (2 ^ 64 - 2 ^ 32) else value
+abbrev pub sign_extended : Bool → ℕ → ℕ
+sign_extended signed value = if signed && nat_le (2 ^ 31) value then value + (2 ^ 64 - 2 ^ 32) else value
 
 -- of an ENUM
 abbrev pub variant_of_32 : Bool → BtfEnum → BtfVariant
-variant_of_32 signed v = record { name_offset = v.name_offset; value = widened signed v.value }
+variant_of_32 signed v = record { name_offset = v.name_offset; value = sign_extended signed v.value }
 
 -- of an ENUM64: the two halves of the value
 abbrev pub variant_of_64 : BtfEnum64 → BtfVariant

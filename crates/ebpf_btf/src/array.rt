@@ -5,7 +5,7 @@ ghost use Rattle.ebpf_btf.specs.Types.{array_of};
 
 use crate::types::BtfType;
 
-/// What an ARRAY says of its elements (`struct btf_array`).
+/// The elements of an ARRAY (`struct btf_array`).
 #[derive(Clone, Copy, Debug, PartialEq, Eq)]
 pub struct BtfArray {
     /// The id of the elements' type.

@@ -9,7 +9,7 @@ ghost use Rattle.ebpf_base.specs.Faults.{Refuses, fault_of};
 ghost use Rattle.ebpf_btf.specs.Memory.{is_memory};
 ghost use Rattle.ebpf_btf.specs.Strings.{AreReadableBelow, before_zero, text_at};
 ghost use Rattle.ebpf_btf.specs.TypeInfo.{no_types};
-ghost use Rattle.ebpf_btf.specs.Additions.{with_type, with_string, only_first, number_fault};
+ghost use Rattle.ebpf_btf.specs.Additions.{with_type, with_string, only_first, too_large_fault};
 ghost use Rattle.ebpf_btf.specs.declared.error.BtfError.TheVariants.{OutOfMemory, UnknownBtfType};
 ghost use Rattle.ebpf_btf.specs.declared.types.BtfType.TheVariants.{Unknown};
 
@@ -163,7 +163,7 @@ impl Btf {
     pub fn add_type(&mut self, ty: BtfType) -> Result<u32, BtfError>
         ensures id { IfOk result (λ id. id ≡ length self.old.types) }
         ensures added { OnOk result (self.new ≡ with_type self.old ty) }
-        ensures fault { Refuses is_memory result (number_fault (length self.old.types)) }
+        ensures fault { Refuses is_memory result (too_large_fault (length self.old.types)) }
         ensures unchanged { OnErr result (self.new ≡ self.old) }
     {
         let Ok(id) = u32::try_from(self.types.len()) else {
@@ -178,7 +178,7 @@ impl Btf {
     pub fn add_string(&mut self, text: &str) -> Result<u32, BtfError>
         ensures offset { IfOk result (λ offset. offset ≡ length self.old.strings) }
         ensures added { OnOk result (self.new ≡ with_string self.old text.now) }
-        ensures fault { Refuses is_memory result (number_fault (length self.old.strings)) }
+        ensures fault { Refuses is_memory result (too_large_fault (length self.old.strings)) }
         ensures unchanged { OnErr result (self.new ≡ self.old) }
     {
         let Ok(offset) = u32::try_from(self.strings.len()) else {

@@ -1,4 +1,4 @@
-//! What an enumeration of 64 bits held before it was made a UNION.
+//! The signedness and the variants of an enumeration of 64 bits that was made a UNION.
 
 ghost use Rattle.std.specs.Prelude.{◌≡◌, IfOk};
 ghost use Rattle.std.specs.Option.{option_copied};
@@ -9,7 +9,7 @@ use std::alloc::{AllocError, Global};
 use std::fmt;
 use std::marker::Model;
 
-/// What an enumeration of 64 bits held before it was made a UNION for an older kernel.
+/// The signedness and the variants of an enumeration of 64 bits that was made a UNION for an older kernel.
 #[derive(Debug, Drop)]
 pub struct Enum64Fallback {
     /// Whether the values are signed.
@@ -31,7 +31,7 @@ impl Model for UnionFallback {
 
     ghost Value = { Option Enum64Fallback };
 
-    ghost view = { λ b. option_map (λ held. held.value) b.contents };
+    ghost view = { λ b. option_map (λ fallback. fallback.value) b.contents };
 }
 
 impl UnionFallback {
@@ -41,7 +41,7 @@ impl UnionFallback {
     {
         Ok(UnionFallback {
             contents: match contents {
-                Some(held) => Some(Box::new(alloc, held)?),
+                Some(fallback) => Some(Box::new(alloc, fallback)?),
                 None => None,
             },
         })
@@ -52,7 +52,7 @@ impl UnionFallback {
         ensures { option_copied result ≡ self.now }
     {
         match &self.contents {
-            Some(held) => Some(&**held),
+            Some(fallback) => Some(&**fallback),
             None => None,
         }
     }

@@ -2,41 +2,41 @@
 
 ghost use Rattle.std.specs.Prelude.{◌≡◌, ◌≤◌, ◌∷◌, length, drop, nat_eq, is_some, IfSome};
 ghost use Rattle.std.specs.List.{starts_with};
-ghost use Rattle.ebpf_btf.specs.EssentialNames.{essential_name, flavor_mark, flavor_place};
+ghost use Rattle.ebpf_btf.specs.EssentialNames.{essential_name, flavor_mark, flavor_start};
 
-/// Whether three underscores stand at a place.
-fn is_flavor_at(name: &[u8], place: usize) -> bool
-    requires { place ≤ length name.now }
-    ensures { result ≡ starts_with nat_eq (drop place name.now) flavor_mark }
+/// Whether three underscores stand at an index.
+fn is_flavor_at(name: &[u8], index: usize) -> bool
+    requires { index ≤ length name.now }
+    ensures { result ≡ starts_with nat_eq (drop index name.now) flavor_mark }
 {
-    name[place..].starts_with(b"___")
+    name[index..].starts_with(b"___")
 }
 
 /// Where the first three underscores in a row begin. Where the last of three bytes is no underscore none begin at any
 /// of the three, so two of three bytes are not looked at.
-fn flavor_place(name: &[u8]) -> Option<usize>
-    ensures first { result ≡ flavor_place name.now }
-    ensures inside { IfSome result (λ place. place ≤ length name.now) }
+fn flavor_start(name: &[u8]) -> Option<usize>
+    ensures first { result ≡ flavor_start name.now }
+    ensures inside { IfSome result (λ index. index ≤ length name.now) }
 {
-    let mut place = 0;
-    while name.len() - place > 2 {
-        if name[place + 2] != b'_' {
-            place += 3;
+    let mut index = 0;
+    while name.len() - index > 2 {
+        if name[index + 2] != b'_' {
+            index += 3;
             continue;
         }
-        if is_flavor_at(name, place) {
-            return Some(place);
+        if is_flavor_at(name, index) {
+            return Some(index);
         }
-        place += 1;
+        index += 1;
     }
     None
 }
 
 /// Whether a name has three underscores in a row.
 pub fn has_flavor(name: &[u8]) -> bool
-    ensures { result ≡ is_some (flavor_place name.now) }
+    ensures { result ≡ is_some (flavor_start name.now) }
 {
-    flavor_place(name).is_some()
+    flavor_start(name).is_some()
 }
 
 /// What stands before the first three underscores in a row, or the whole name.
@@ -44,8 +44,8 @@ pub fn has_flavor(name: &[u8]) -> bool
 pub fn essential_name(name: &[u8]) -> &[u8]
     ensures { result.now ≡ essential_name name.now }
 {
-    match flavor_place(name) {
-        Some(place) => &name[..place],
+    match flavor_start(name) {
+        Some(index) => &name[..index],
         None => name,
     }
 }

@@ -13,11 +13,11 @@ impl Row for BtfMember {
     ghost row_at = { member_at };
 
     #[tactic(auto, unfolding(crate::specs::Format::member_at))]
-    fn read(order: Endianness, bytes: &[u8], place: usize) -> BtfMember {
+    fn read(order: Endianness, bytes: &[u8], offset: usize) -> BtfMember {
         BtfMember {
-            name_offset: read_u32(order, bytes, place),
-            btf_type: read_u32(order, bytes, place + 4),
-            offset: read_u32(order, bytes, place + 8),
+            name_offset: read_u32(order, bytes, offset),
+            btf_type: read_u32(order, bytes, offset + 4),
+            offset: read_u32(order, bytes, offset + 8),
         }
     }
 }
@@ -28,10 +28,10 @@ impl Row for BtfEnum {
     ghost row_at = { enum_at };
 
     #[tactic(auto, unfolding(crate::specs::Format::enum_at))]
-    fn read(order: Endianness, bytes: &[u8], place: usize) -> BtfEnum {
+    fn read(order: Endianness, bytes: &[u8], offset: usize) -> BtfEnum {
         BtfEnum {
-            name_offset: read_u32(order, bytes, place),
-            value: read_u32(order, bytes, place + 4),
+            name_offset: read_u32(order, bytes, offset),
+            value: read_u32(order, bytes, offset + 4),
         }
     }
 }
@@ -42,11 +42,11 @@ impl Row for BtfEnum64 {
     ghost row_at = { enum64_at };
 
     #[tactic(auto, unfolding(crate::specs::Format::enum64_at))]
-    fn read(order: Endianness, bytes: &[u8], place: usize) -> BtfEnum64 {
+    fn read(order: Endianness, bytes: &[u8], offset: usize) -> BtfEnum64 {
         BtfEnum64 {
-            name_offset: read_u32(order, bytes, place),
-            value_low: read_u32(order, bytes, place + 4),
-            value_high: read_u32(order, bytes, place + 8),
+            name_offset: read_u32(order, bytes, offset),
+            value_low: read_u32(order, bytes, offset + 4),
+            value_high: read_u32(order, bytes, offset + 8),
         }
     }
 }
@@ -57,10 +57,10 @@ impl Row for BtfParam {
     ghost row_at = { param_at };
 
     #[tactic(auto, unfolding(crate::specs::Format::param_at))]
-    fn read(order: Endianness, bytes: &[u8], place: usize) -> BtfParam {
+    fn read(order: Endianness, bytes: &[u8], offset: usize) -> BtfParam {
         BtfParam {
-            name_offset: read_u32(order, bytes, place),
-            btf_type: read_u32(order, bytes, place + 4),
+            name_offset: read_u32(order, bytes, offset),
+            btf_type: read_u32(order, bytes, offset + 4),
         }
     }
 }
@@ -71,11 +71,11 @@ impl Row for DataSecEntry {
     ghost row_at = { entry_at };
 
     #[tactic(auto, unfolding(crate::specs::Format::entry_at))]
-    fn read(order: Endianness, bytes: &[u8], place: usize) -> DataSecEntry {
+    fn read(order: Endianness, bytes: &[u8], offset: usize) -> DataSecEntry {
         DataSecEntry {
-            btf_type: read_u32(order, bytes, place),
-            offset: read_u32(order, bytes, place + 4),
-            size: read_u32(order, bytes, place + 8),
+            btf_type: read_u32(order, bytes, offset),
+            offset: read_u32(order, bytes, offset + 4),
+            size: read_u32(order, bytes, offset + 8),
         }
     }
 }

@@ -7,8 +7,8 @@ pub struct BtfMember {
     pub name_offset: u32,
     /// The id of the member's type.
     pub btf_type: u32,
-    /// The place of the member in bits. Where the `kind_flag` of the type is set, the 24 low bits have the
-    /// place, and the 8 high bits the size of a bit field.
+    /// The bit offset of the member. Where the `kind_flag` of the type is set, the 24 low bits have the
+    /// bit offset, and the 8 high bits the bit field size.
     pub offset: u32,
 }
 
@@ -46,7 +46,7 @@ pub struct BtfParam {
 pub struct DataSecEntry {
     /// The id of the variable's type.
     pub btf_type: u32,
-    /// The place in the section, in bytes.
+    /// The offset in the section, in bytes.
     pub offset: u32,
     /// The size in bytes.
     pub size: u32,

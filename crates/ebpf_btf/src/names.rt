@@ -46,9 +46,9 @@ impl Btf {
     pub fn is_name_at(&self, offset: u32, text: &str) -> Result<bool, BtfError>
         ensures { result ≡ is_name_at self.now.strings offset text.now }
     {
-        let place = offset as usize;
-        if place >= self.readable() {
-            return Err(BtfError::InvalidStringOffset { offset: place });
+        let start = offset as usize;
+        if start >= self.readable() {
+            return Err(BtfError::InvalidStringOffset { offset: start });
         }
         Ok(is_text_at(self.strings(), offset, text))
     }

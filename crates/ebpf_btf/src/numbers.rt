@@ -1,4 +1,4 @@
-//! Numbers at places of a file, in either byte order.
+//! Numbers at offsets of a file, in either byte order.
 
 ghost use Rattle.std.specs.Prelude.{◌≡◌, ◌+◌, ◌≤◌, length};
 ghost use Rattle.ebpf_btf.specs.Numbers.{number_at};
@@ -6,39 +6,39 @@ ghost use Rattle.ebpf_btf.specs.Numbers.{number_at};
 use crate::endianness::Endianness;
 use byteorder::{BigEndian, ByteOrder, LittleEndian};
 
-/// The number in the two bytes from `place` on.
+/// The number in the two bytes from `offset` on.
 #[tactic(auto, unfolding(crate::specs::Numbers::number_at))]
-pub fn read_u16(order: Endianness, bytes: &[u8], place: usize) -> u16
-    requires { place + 2 ≤ length bytes.now }
-    ensures { result ≡ number_at order 2 bytes.now place }
+pub fn read_u16(order: Endianness, bytes: &[u8], offset: usize) -> u16
+    requires { offset + 2 ≤ length bytes.now }
+    ensures { result ≡ number_at order 2 bytes.now offset }
 {
-    let field = &bytes[place..];
+    let field = &bytes[offset..];
     match order {
         Endianness::Little => LittleEndian::read_u16(field),
         Endianness::Big => BigEndian::read_u16(field),
     }
 }
 
-/// The number in the four bytes from `place` on.
+/// The number in the four bytes from `offset` on.
 #[tactic(auto, unfolding(crate::specs::Numbers::number_at))]
-pub fn read_u32(order: Endianness, bytes: &[u8], place: usize) -> u32
-    requires { place + 4 ≤ length bytes.now }
-    ensures { result ≡ number_at order 4 bytes.now place }
+pub fn read_u32(order: Endianness, bytes: &[u8], offset: usize) -> u32
+    requires { offset + 4 ≤ length bytes.now }
+    ensures { result ≡ number_at order 4 bytes.now offset }
 {
-    let field = &bytes[place..];
+    let field = &bytes[offset..];
     match order {
         Endianness::Little => LittleEndian::read_u32(field),
         Endianness::Big => BigEndian::read_u32(field),
     }
 }
 
-/// The number in the eight bytes from `place` on.
+/// The number in the eight bytes from `offset` on.
 #[tactic(auto, unfolding(crate::specs::Numbers::number_at))]
-pub fn read_u64(order: Endianness, bytes: &[u8], place: usize) -> u64
-    requires { place + 8 ≤ length bytes.now }
-    ensures { result ≡ number_at order 8 bytes.now place }
+pub fn read_u64(order: Endianness, bytes: &[u8], offset: usize) -> u64
+    requires { offset + 8 ≤ length bytes.now }
+    ensures { result ≡ number_at order 8 bytes.now offset }
 {
-    let field = &bytes[place..];
+    let field = &bytes[offset..];
     match order {
         Endianness::Little => LittleEndian::read_u64(field),
         Endianness::Big => BigEndian::read_u64(field),

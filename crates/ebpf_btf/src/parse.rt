@@ -4,7 +4,7 @@ ghost use Rattle.std.specs.Prelude.{◌≡◌, ◌+◌, ◌-◌, ◌<◌, ◌≤
 ghost use Rattle.std.specs.Option.{ok_or};
 ghost use Rattle.ebpf_base.specs.Faults.{Gives, fault_of};
 ghost use Rattle.ebpf_btf.specs.Memory.{is_memory};
-ghost use Rattle.ebpf_btf.specs.Reading.{Spells, header_fault, types_start, types_end, strings_start, strings_end, types_from, types_in, type_info_of, with_front};
+ghost use Rattle.ebpf_btf.specs.Reading.{Spells, header_fault, types_start, types_end, strings_start, strings_end, types_from, parsed_types, type_info_of, prepend_types};
 ghost use Rattle.ebpf_btf.specs.TypeInfo.{TypeInfo};
 ghost use Rattle.ebpf_btf.specs.declared.error.BtfError.TheVariants.{InvalidTypeInfo};
 ghost use Rattle.ebpf_btf.specs.declared.types.BtfType.TheVariants.{Unknown};
@@ -29,7 +29,7 @@ const USUAL_LENGTH: usize = 24;
 
 /// Where the two parts stand.
 #[derive(Clone, Copy)]
-struct Parts {
+struct PartRanges {
     types_start: usize,
     types_end: usize,
     strings_start: usize,
@@ -38,7 +38,7 @@ struct Parts {
 
 /// Where the two parts stand, which are inside the bytes.
 #[tactic(auto, unfolding(crate::specs::Reading::header_fault, crate::specs::Reading::header_length, crate::specs::Reading::magic, crate::specs::Reading::types_start, crate::specs::Reading::types_end, crate::specs::Reading::strings_start, crate::specs::Reading::strings_end))]
-fn read_header(order: Endianness, bytes: &[u8]) -> Result<Parts, BtfError>
+fn read_header(order: Endianness, bytes: &[u8]) -> Result<PartRanges, BtfError>
     ensures fault { fault_of result ≡ header_fault order bytes.now }
     ensures types { IfOk result (λ p. (p.types_start ≡ types_start order bytes.now) × (p.types_end ≡ types_end order bytes.now)) }
     ensures strings { IfOk result (λ p. (p.strings_start ≡ strings_start order bytes.now) × (p.strings_end ≡ strings_end order bytes.now)) }
@@ -60,7 +60,7 @@ fn read_header(order: Endianness, bytes: &[u8]) -> Result<Parts, BtfError>
     if types_end > bytes.len() || strings_end > bytes.len() {
         return Err(BtfError::InvalidHeader);
     }
-    Ok(Parts {
+    Ok(PartRanges {
         types_start,
         types_end,
         strings_start,
@@ -79,24 +79,24 @@ fn read_types(
 ) -> Result<Items<BtfType>, BtfError>
     requires order { start ≤ end }
     requires inside { end ≤ length bytes.now }
-    ensures types { Gives is_memory result (ok_or (with_front (Unknown ∷ []) (types_from (end - start) order bytes.now start end)) InvalidTypeInfo) }
+    ensures types { Gives is_memory result (ok_or (prepend_types (Unknown ∷ []) (types_from (end - start) order bytes.now start end)) InvalidTypeInfo) }
     ensures few { IfOk result (λ types. length types + start ≤ end + 1) }
     ensures void { IfOk result (λ types. slice_get types 0 ≡ Some Unknown) }
 {
     let mut types = Vec::with_capacity(alloc, 1 + (end - start) / USUAL_LENGTH)?;
     types.push(BtfType::Unknown)?;
-    let mut place = start;
-    while place < end {
+    let mut offset = start;
+    while offset < end {
         types.reserve(1)?;
-        let (ty, next) = read_type(alloc, order, bytes, place, end)?;
+        let (ty, next) = read_type(alloc, order, bytes, offset, end)?;
         types.push_reserved(ty);
-        place = next;
+        offset = next;
     }
     Ok(Items::from_vec(types))
 }
 
 /// The two parts, read.
-#[tactic(auto, unfolding(crate::specs::Reading::type_info_of, crate::specs::Reading::types_in, crate::specs::Reading::strings_in), using(crate::proofs::Spelling::part_length))]
+#[tactic(auto, unfolding(crate::specs::Reading::type_info_of, crate::specs::Reading::parsed_types, crate::specs::Reading::strings_in), using(crate::proofs::Spelling::part_length))]
 fn read_parts(alloc: Global, order: Endianness, bytes: &[u8]) -> Result<Btf, BtfError>
     ensures { Gives is_memory result (type_info_of order bytes.now) }
 {

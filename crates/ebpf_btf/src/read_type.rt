@@ -5,7 +5,7 @@ ghost use Rattle.std.specs.Bool.{OnTrue};
 ghost use Rattle.std.specs.Option.{ok_or};
 ghost use Rattle.ebpf_base.specs.Faults.{Gives};
 ghost use Rattle.ebpf_btf.specs.Memory.{is_memory};
-ghost use Rattle.ebpf_btf.specs.Format.{kind_in, flag_in, count_in, further_words, has_list, is_head, end_of, spelled};
+ghost use Rattle.ebpf_btf.specs.Format.{info_kind, info_kind_flag, info_vlen, further_words, has_list, is_head, end_of, spelled};
 ghost use Rattle.ebpf_btf.specs.Reading.{type_before};
 ghost use Rattle.ebpf_btf.specs.declared.error.BtfError.TheVariants.{InvalidTypeInfo};
 
@@ -29,9 +29,9 @@ const TWO_WORDS: usize = 8;
 const THREE_WORDS: usize = 12;
 
 /// The kind that an info word has in bits 24 to 28; None of the number 0 and past 19.
-#[tactic(auto, unfolding(crate::specs::Format::kind_in))]
-fn kind_in(info: u32) -> Option<BtfKind>
-    ensures { result ≡ kind_in info }
+#[tactic(auto, unfolding(crate::specs::Format::info_kind))]
+fn info_kind(info: u32) -> Option<BtfKind>
+    ensures { result ≡ info_kind info }
 {
     match (info >> 24) & 0x1f {
         1 => Some(BtfKind::Int),
@@ -57,19 +57,19 @@ fn kind_in(info: u32) -> Option<BtfKind>
     }
 }
 
-/// How many members, variants, parameters or entries an info word states in bits 0 to 15.
-#[tactic(auto, unfolding(crate::specs::Format::count_in))]
-fn count_in(info: u32) -> usize
-    ensures count { result ≡ count_in info }
+/// The vlen of an info word, bits 0 to 15: how many members, variants, parameters or entries there are.
+#[tactic(auto, unfolding(crate::specs::Format::info_vlen))]
+fn info_vlen(info: u32) -> usize
+    ensures count { result ≡ info_vlen info }
     ensures few { result ≤ 65535 }
 {
     (info & 0xffff) as usize
 }
 
 /// The kind_flag of an info word, bit 31.
-#[tactic(auto, unfolding(crate::specs::Format::flag_in))]
-fn flag_in(info: u32) -> bool
-    ensures { result ≡ flag_in info }
+#[tactic(auto, unfolding(crate::specs::Format::info_kind_flag))]
+fn info_kind_flag(info: u32) -> bool
+    ensures { result ≡ info_kind_flag info }
 {
     info >> 31 == 1
 }
@@ -109,16 +109,16 @@ fn is_head(kind: BtfKind) -> bool
     )
 }
 
-/// The type of such a kind that stands at a place. All of them are written in one way, so that no jump is made for
+/// The type of such a kind that stands at an offset. All of them are written in one way, so that no jump is made for
 /// the most of a kernel's types.
 #[tactic(auto, unfolding(crate::specs::Format::spelled))]
-fn read_head(order: Endianness, bytes: &[u8], place: usize, kind: BtfKind) -> BtfType
+fn read_head(order: Endianness, bytes: &[u8], offset: usize, kind: BtfKind) -> BtfType
     requires head { is_head kind ≡ true }
-    requires whole { place + 12 ≤ length bytes.now }
-    ensures { result ≡ spelled order bytes.now place kind }
+    requires whole { offset + 12 ≤ length bytes.now }
+    ensures { result ≡ spelled order bytes.now offset kind }
 {
-    let name_offset = read_u32(order, bytes, place);
-    let size = read_u32(order, bytes, place + 8);
+    let name_offset = read_u32(order, bytes, offset);
+    let size = read_u32(order, bytes, offset + 8);
     let btf_type = size;
     match kind {
         BtfKind::Ptr => BtfType::Ptr {
@@ -153,66 +153,66 @@ fn read_head(order: Endianness, bytes: &[u8], place: usize, kind: BtfKind) -> Bt
     }
 }
 
-/// The type of another kind without a list that stands at a place.
+/// The type of another kind without a list that stands at an offset.
 #[tactic(auto, unfolding(crate::specs::Format::spelled, crate::specs::Format::further_words))]
-fn read_plain(order: Endianness, bytes: &[u8], place: usize, kind: BtfKind) -> BtfType
+fn read_plain(order: Endianness, bytes: &[u8], offset: usize, kind: BtfKind) -> BtfType
     requires plain { has_list kind ≡ false }
     requires more { is_head kind ≡ false }
-    requires whole { end_of order bytes.now place kind ≤ length bytes.now }
-    ensures { result ≡ spelled order bytes.now place kind }
+    requires whole { end_of order bytes.now offset kind ≤ length bytes.now }
+    ensures { result ≡ spelled order bytes.now offset kind }
 {
-    let name_offset = read_u32(order, bytes, place);
-    let size = read_u32(order, bytes, place + 8);
+    let name_offset = read_u32(order, bytes, offset);
+    let size = read_u32(order, bytes, offset + 8);
     let btf_type = size;
     match kind {
         BtfKind::Fwd => BtfType::Fwd {
             name_offset,
-            kind_flag: flag_in(read_u32(order, bytes, place + 4)),
+            kind_flag: info_kind_flag(read_u32(order, bytes, offset + 4)),
         },
         BtfKind::Int => BtfType::Int {
             name_offset,
             size,
-            int_data: read_u32(order, bytes, place + 12),
+            int_data: read_u32(order, bytes, offset + 12),
         },
         BtfKind::Var => BtfType::Var {
             name_offset,
             btf_type,
-            linkage: read_u32(order, bytes, place + 12),
+            linkage: read_u32(order, bytes, offset + 12),
         },
         BtfKind::DeclTag => BtfType::DeclTag {
             name_offset,
             btf_type,
-            component_index: read_u32(order, bytes, place + 12),
+            component_index: read_u32(order, bytes, offset + 12),
         },
         BtfKind::Array => BtfType::Array {
             name_offset,
-            element_type: read_u32(order, bytes, place + 12),
-            index_type: read_u32(order, bytes, place + 16),
-            len: read_u32(order, bytes, place + 20),
+            element_type: read_u32(order, bytes, offset + 12),
+            index_type: read_u32(order, bytes, offset + 16),
+            len: read_u32(order, bytes, offset + 20),
         },
         _ => BtfType::Unknown,
     }
 }
 
-/// The type of a kind with more than the first three words that stands at a place.
+/// The type of a kind with more than the first three words that stands at an offset.
 #[tactic(auto, unfolding(crate::specs::Format::spelled, crate::specs::Format::further_words))]
 fn read_kind(
     alloc: Global,
     order: Endianness,
     bytes: &[u8],
-    place: usize,
+    offset: usize,
     kind: BtfKind,
 ) -> Result<BtfType, AllocError>
     requires more { is_head kind ≡ false }
-    requires whole { end_of order bytes.now place kind ≤ length bytes.now }
-    ensures { IfOk result (λ t. t ≡ spelled order bytes.now place kind) }
+    requires whole { end_of order bytes.now offset kind ≤ length bytes.now }
+    ensures { IfOk result (λ t. t ≡ spelled order bytes.now offset kind) }
 {
-    let name_offset = read_u32(order, bytes, place);
-    let info = read_u32(order, bytes, place + 4);
-    let size = read_u32(order, bytes, place + 8);
-    let kind_flag = flag_in(info);
-    let count = count_in(info);
-    let list = place + HEAD_LENGTH;
+    let name_offset = read_u32(order, bytes, offset);
+    let info = read_u32(order, bytes, offset + 4);
+    let size = read_u32(order, bytes, offset + 8);
+    let kind_flag = info_kind_flag(info);
+    let count = info_vlen(info);
+    let list = offset + HEAD_LENGTH;
     match kind {
         BtfKind::Struct => Ok(BtfType::Struct {
             name_offset,
@@ -252,39 +252,39 @@ fn read_kind(
             size,
             entries: read_rows(alloc, order, bytes, list, THREE_WORDS, count)?,
         }),
-        _ => Ok(read_plain(order, bytes, place, kind)),
+        _ => Ok(read_plain(order, bytes, offset, kind)),
     }
 }
 
-/// The first type from a place on, and the place after it. `InvalidTypeInfo` where it goes past the end or has
+/// The first type from an offset on, and the offset after it. `InvalidTypeInfo` where it goes past the end or has
 /// no known kind.
 #[tactic(auto, unfolding(crate::specs::Reading::type_before))]
 pub fn read_type(
     alloc: Global,
     order: Endianness,
     bytes: &[u8],
-    place: usize,
+    offset: usize,
     end: usize,
 ) -> Result<(BtfType, usize), BtfError>
-    requires before { place ≤ end }
+    requires before { offset ≤ end }
     requires inside { end ≤ length bytes.now }
-    ensures found { Gives is_memory result (ok_or (type_before order bytes.now place end) InvalidTypeInfo) }
-    ensures next { IfOk result (λ found. (place + 12 ≤ found.1) × (found.1 ≤ end)) }
+    ensures found { Gives is_memory result (ok_or (type_before order bytes.now offset end) InvalidTypeInfo) }
+    ensures next { IfOk result (λ found. (offset + 12 ≤ found.1) × (found.1 ≤ end)) }
 {
-    if end - place < HEAD_LENGTH {
+    if end - offset < HEAD_LENGTH {
         return Err(BtfError::InvalidTypeInfo);
     }
-    let info = read_u32(order, bytes, place + 4);
-    let Some(kind) = kind_in(info) else {
+    let info = read_u32(order, bytes, offset + 4);
+    let Some(kind) = info_kind(info) else {
         return Err(BtfError::InvalidTypeInfo);
     };
     if is_head(kind) {
-        return Ok((read_head(order, bytes, place, kind), place + HEAD_LENGTH));
+        return Ok((read_head(order, bytes, offset, kind), offset + HEAD_LENGTH));
     }
-    let next = place + HEAD_LENGTH + 4 * further_words(kind, count_in(info));
+    let next = offset + HEAD_LENGTH + 4 * further_words(kind, info_vlen(info));
     if next > end {
         return Err(BtfError::InvalidTypeInfo);
     }
-    let ty = read_kind(alloc, order, bytes, place, kind)?;
+    let ty = read_kind(alloc, order, bytes, offset, kind)?;
     Ok((ty, next))
 }

@@ -13,32 +13,32 @@ pub trait Row {
     /// The least number of bytes that a row has.
     ghost least: { ℕ };
 
-    /// What the bytes from a place on spell.
+    /// What the bytes from an offset on spell.
     ghost row_at: { Endianness → List ℕ → ℕ → Self };
 
-    /// What is read of the row at a place.
-    fn read(order: Endianness, bytes: &[u8], place: usize) -> Self
-        requires { place + least ≤ length bytes.now }
-        ensures { result ≡ row_at order bytes.now place };
+    /// What is read of the row at an offset.
+    fn read(order: Endianness, bytes: &[u8], offset: usize) -> Self
+        requires { offset + least ≤ length bytes.now }
+        ensures { result ≡ row_at order bytes.now offset };
 }
 
-/// The rows from a place on, `count` of them, each `size` bytes after the one before.
-#[tactic(auto, using(crate::proofs::InOrder::items_none, crate::proofs::InOrder::items_more, crate::proofs::RecordPlaces::record_inside))]
+/// The rows from an offset on, `count` of them, each `size` bytes after the one before.
+#[tactic(auto, using(crate::proofs::InOrder::items_none, crate::proofs::InOrder::items_more, crate::proofs::RecordRanges::record_inside))]
 pub fn read_rows<R: Row + Drop>(
     alloc: Global,
     order: Endianness,
     bytes: &[u8],
-    place: usize,
+    offset: usize,
     size: usize,
     count: usize,
 ) -> Result<Items<R>, AllocError>
-    requires whole { place + size * count ≤ length bytes.now }
+    requires whole { offset + size * count ≤ length bytes.now }
     requires long { 0 < count → R.least ≤ size }
-    ensures { IfOk result (λ items. items ≡ items_at (R.row_at order bytes.now) size place count) }
+    ensures { IfOk result (λ items. items ≡ items_at (R.row_at order bytes.now) size offset count) }
 {
     let mut items = Vec::with_capacity(alloc, count)?;
     for k in 0..count {
-        items.push_reserved(R::read(order, bytes, place + size * k));
+        items.push_reserved(R::read(order, bytes, offset + size * k));
     }
     Ok(Items::from_vec(items))
 }

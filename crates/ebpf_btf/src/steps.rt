@@ -1,7 +1,7 @@
 //! Types that stand for others, and sizes.
 
 ghost use Rattle.std.specs.Prelude.{◌≡◌, ◌<◌, ◌^◌, IfOk};
-ghost use Rattle.ebpf_btf.specs.Steps.{modified, own_size, sized_by, repeats, times, resolved, resolved_type, size_of};
+ghost use Rattle.ebpf_btf.specs.Steps.{modifier_type_id, own_size, sized_by, repeats, times, resolved, resolved_type, size_of};
 ghost use Rattle.ebpf_btf.specs.Next.{lent};
 
 use crate::btf::Btf;
@@ -14,10 +14,10 @@ const LOOKS: u32 = 33;
 /// The size of a pointer in bytes.
 const POINTER_SIZE: u32 = 8;
 
-/// The id of the type that a TYPEDEF, VOLATILE, CONST, RESTRICT or TYPE_TAG stands for.
-#[tactic(auto, unfolding(crate::specs::Steps::modified))]
-fn modified(ty: &BtfType) -> Option<u32>
-    ensures { result ≡ modified ty.now }
+/// The id of the type that a modifier (TYPEDEF, VOLATILE, CONST, RESTRICT or TYPE_TAG) is on.
+#[tactic(auto, unfolding(crate::specs::Steps::modifier_type_id))]
+fn modifier_type_id(ty: &BtfType) -> Option<u32>
+    ensures { result ≡ modifier_type_id ty.now }
 {
     match ty {
         BtfType::Typedef { btf_type, .. }
@@ -48,7 +48,7 @@ fn sized_by(ty: &BtfType) -> Option<u32>
     match ty {
         BtfType::Var { btf_type, .. } | BtfType::Func { btf_type, .. } => Some(*btf_type),
         BtfType::Array { element_type, .. } => Some(*element_type),
-        _ => modified(ty),
+        _ => modifier_type_id(ty),
     }
 }
 
@@ -82,7 +82,7 @@ impl Btf {
         let mut reached = type_id;
         for _look in 0..LOOKS {
             let ty = self.type_by_id(reached)?;
-            let Some(next) = modified(ty) else {
+            let Some(next) = modifier_type_id(ty) else {
                 return Ok(reached);
             };
             reached = next;

@@ -15,8 +15,8 @@ use crate::lossy::reads_as;
 use std::alloc::{AllocError, Global};
 use std::borrow::CowStr;
 
-/// The place of the first zero byte.
-pub fn zero_place(bytes: &[u8]) -> Option<usize>
+/// The index of the first zero byte.
+pub fn first_zero(bytes: &[u8]) -> Option<usize>
     ensures { result ≡ position (λ b. b == 0) bytes.now }
 {
     bytes.iter().position(|b| *b == 0)
@@ -26,7 +26,7 @@ pub fn zero_place(bytes: &[u8]) -> Option<usize>
 fn before_zero(bytes: &[u8]) -> Option<&[u8]>
     ensures { option_copied result ≡ before_zero bytes.now }
 {
-    match zero_place(bytes) {
+    match first_zero(bytes) {
         Some(end) => Some(&bytes[..end]),
         None => None,
     }
@@ -50,13 +50,13 @@ pub fn read_bytes(strings: &[u8], offset: u32) -> Result<&[u8], BtfError>
     ensures found { option_copied (result_ok result) ≡ before_zero (drop offset strings.now) }
     ensures fault { IfErr result (λ e. text_at strings.now offset ≡ Err e) }
 {
-    let place = offset as usize;
-    if place > strings.len() {
-        return Err(BtfError::InvalidStringOffset { offset: place });
+    let start = offset as usize;
+    if start > strings.len() {
+        return Err(BtfError::InvalidStringOffset { offset: start });
     }
-    match before_zero(&strings[place..]) {
+    match before_zero(&strings[start..]) {
         Some(bytes) => Ok(bytes),
-        None => Err(BtfError::InvalidStringOffset { offset: place }),
+        None => Err(BtfError::InvalidStringOffset { offset: start }),
     }
 }
 
@@ -75,11 +75,11 @@ fn first_bytes(bytes: &[u8], count: usize) -> &[u8]
 pub fn near_bytes(strings: &[u8], offset: u32, longest: usize) -> &[u8]
     ensures { result.now ≡ take (longest + 1) (drop offset strings.now) }
 {
-    let place = offset as usize;
-    if place >= strings.len() {
+    let start = offset as usize;
+    if start >= strings.len() {
         return &[];
     }
-    let from = &strings[place..];
+    let from = &strings[start..];
     if from.len() <= longest {
         return from;
     }
@@ -92,11 +92,11 @@ pub fn near_bytes(strings: &[u8], offset: u32, longest: usize) -> &[u8]
 pub fn is_text_at(strings: &[u8], offset: u32, text: &str) -> bool
     ensures { result ≡ is_text text.now (text_at strings.now offset) }
 {
-    let place = offset as usize;
-    if place > strings.len() {
+    let start = offset as usize;
+    if start > strings.len() {
         return false;
     }
-    match before_zero(first_bytes(&strings[place..], text.len() + 1)) {
+    match before_zero(first_bytes(&strings[start..], text.len() + 1)) {
         Some(bytes) => reads_as(bytes, text.as_bytes()),
         None => false,
     }

@@ -2,7 +2,7 @@
 
 ghost use Rattle.std.specs.Prelude.{◌≡◌};
 ghost use Rattle.std.specs.Option.{option_copied};
-ghost use Rattle.ebpf_btf.specs.Types.{kind_of, name_of, size_word, type_word, members_of, has_bit_fields, bit_offset, bit_field_size, is_signed};
+ghost use Rattle.ebpf_btf.specs.Types.{kind_of, name_off, size_word, type_word, members_of, has_bit_fields, bit_offset, bit_field_size, is_signed};
 
 use crate::fallback::UnionFallback;
 use crate::kind::BtfKind;
@@ -163,9 +163,9 @@ impl BtfType {
     }
 
     /// The offset of the name in the strings; 0 of `Unknown`.
-    #[tactic(auto, unfolding(crate::specs::Types::name_of))]
+    #[tactic(auto, unfolding(crate::specs::Types::name_off))]
     pub fn name_offset(&self) -> u32
-        ensures { result ≡ name_of self.now }
+        ensures { result ≡ name_off self.now }
     {
         match self {
             BtfType::Unknown => 0,
@@ -252,7 +252,7 @@ impl BtfType {
         }
     }
 
-    /// The place in bits of a member of this type: with `kind_flag` the 24 low bits of its offset, else the
+    /// The bit offset of a member of this type: with `kind_flag` the 24 low bits of its offset, else the
     /// offset.
     #[tactic(auto, unfolding(crate::specs::Types::bit_offset))]
     pub fn member_bit_offset(&self, member: &BtfMember) -> u32
@@ -265,7 +265,7 @@ impl BtfType {
         }
     }
 
-    /// The size in bits of a member of this type that is a bit field: with `kind_flag` the 8 high bits of its
+    /// The bit field size of a member of this type: with `kind_flag` the 8 high bits of its
     /// offset, else 0. It is 0 of a member that is no bit field.
     #[tactic(auto, unfolding(crate::specs::Types::bit_field_size))]
     pub fn member_bit_field_size(&self, member: &BtfMember) -> u32

@@ -2,7 +2,7 @@
 
 ghost use Rattle.std.specs.Prelude.{◌≡◌, length, map, option_map, slice_get};
 ghost use Rattle.std.specs.Option.{option_and_then};
-ghost use Rattle.ebpf_btf.specs.Variants.{variant_of_32, variant_of_64, variant_of_fallback, variants_of, widened};
+ghost use Rattle.ebpf_btf.specs.Variants.{variant_of_32, variant_of_64, variant_of_fallback, variants_of, sign_extended};
 
 use crate::fallback::Enum64Fallback;
 use crate::members::{BtfEnum, BtfEnum64, Enum64VariantFallback};
@@ -18,8 +18,8 @@ pub struct BtfVariant {
 }
 
 /// 32 bits as 64, the high ones being those of the sign.
-fn widened(signed: bool, value: u32) -> u64
-    ensures { result ≡ widened signed value }
+fn sign_extended(signed: bool, value: u32) -> u64
+    ensures { result ≡ sign_extended signed value }
 {
     if signed && value >= 0x8000_0000 {
         u64::from(value) + 0xffff_ffff_0000_0000
@@ -34,7 +34,7 @@ fn variant_of_32(signed: bool, variant: BtfEnum) -> BtfVariant
 {
     BtfVariant {
         name_offset: variant.name_offset,
-        value: widened(signed, variant.value),
+        value: sign_extended(signed, variant.value),
     }
 }
 
@@ -58,7 +58,7 @@ fn variant_of_fallback(variant: Enum64VariantFallback) -> BtfVariant
     }
 }
 
-/// The variant at a place of an enumeration that was made a UNION.
+/// The variant at an index of an enumeration that was made a UNION.
 fn fallback_variant(fallback: &Enum64Fallback, index: usize) -> Option<BtfVariant>
     ensures { result ≡ slice_get (map variant_of_fallback fallback.now.variants) index }
 {
@@ -83,7 +83,7 @@ impl BtfType {
         }
     }
 
-    /// The variant at a place, from 0, of an ENUM, an ENUM64 or a UNION that was an enumeration of 64 bits. None
+    /// The variant at an index, from 0, of an ENUM, an ENUM64 or a UNION that was an enumeration of 64 bits. None
     /// where there are not so many, and of other types.
     #[tactic(auto, unfolding(crate::specs::Variants::variants_of))]
     pub fn variant(&self, index: usize) -> Option<BtfVariant>

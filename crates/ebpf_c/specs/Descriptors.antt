@@ -2,9 +2,9 @@
 use Rattle.std.specs.Prelude.{◌≡◌, ℕ, ◌+◌, List, length, take, drop, nat_le, Bool, true, Option, Some, None, option_map, is_some, MatchBool, if◌then◌else◌}
 use Rattle.std.specs.List.{filter_map, list_all}
 use Rattle.std.specs.Str.{is_utf8}
-use Rattle.ebpf_object.specs.Stages.{described, describing_fault}
+use Rattle.ebpf_object.specs.Stages.{fds_written, fds_fault}
 use Rattle.ebpf_object.specs.StageFaults.{Wrapped}
-use Rattle.ebpf_object.specs.Prepared.{Refuses}
+use Rattle.ebpf_object.specs.Prepared.{RefusesPreparing}
 use Rattle.ebpf_object.specs.Steps.{Descriptor}
 use Rattle.ebpf_object.specs.declared.object.Object.{Object}
 use Rattle.ebpf_object.specs.declared.prepare_error.PrepareError.TheVariants.{Maps}
@@ -39,12 +39,12 @@ abbrev pub NamesFirst : List ebpf_descriptor → List ℕ → (Refusal → Type 
 NamesFirst rows text Why r = MatchBool (have_names text rows) (Why r) (r ≡ plain BAD_NAME)
 
 -- written into the slots that refer to the maps, each of which can take its descriptor
-pub record HasDescribed (rows : List ebpf_descriptor) (text : List ℕ) (old new : Object) : Type 0 where
+pub record HasWrittenMapFds (rows : List ebpf_descriptor) (text : List ℕ) (old new : Object) : Type 0 where
   pub named : have_names text rows ≡ true
-  pub sound : describing_fault (Some (descriptors_in text rows)) old ≡ None
-  pub is : new ≡ described (Some (descriptors_in text rows)) old
+  pub sound : fds_fault (Some (descriptors_in text rows)) old ≡ None
+  pub is : new ≡ fds_written (Some (descriptors_in text rows)) old
 
 -- they can't be written
-abbrev pub CannotDescribe : List ebpf_descriptor → List ℕ → Object → Refusal → Type 0
-CannotDescribe rows text o =
-    NamesFirst rows text (IsRefusal (Refuses (Wrapped Maps (λ e. describing_fault (Some (descriptors_in text rows)) o ≡ Some e))) prepare_refusal)
+abbrev pub CannotWriteMapFds : List ebpf_descriptor → List ℕ → Object → Refusal → Type 0
+CannotWriteMapFds rows text o =
+    NamesFirst rows text (IsRefusal (RefusesPreparing (Wrapped Maps (λ e. fds_fault (Some (descriptors_in text rows)) o ≡ Some e))) prepare_refusal)

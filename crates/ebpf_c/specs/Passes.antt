@@ -1,15 +1,15 @@
 -- What a pass over an object leaves of it, and why it refuses.
 use Rattle.std.specs.Prelude.{◌≡◌, ◌⊎◌, ⊤, ℕ, List, [], Option, Some, None, Ok, Err, MatchBool}
 use Rattle.ebpf_btf.specs.TypeInfo.{TypeInfo}
-use Rattle.ebpf_core_relo.specs.Answers as adapting
+use Rattle.ebpf_core_relo.specs.Answers as relocating_types
 use Rattle.ebpf_ksyms.specs.Faults as resolving
 use Rattle.ebpf_ksyms.specs.Texts.{IsRefusedBy, IsResolvedBy}
-use Rattle.ebpf_object.specs.AdaptedSlots.{adapted_slots, AreAdapted}
-use Rattle.ebpf_object.specs.Joined.{linkable_of, programs_in_order, AreJoined}
+use Rattle.ebpf_object.specs.RelocatedSlots.{relocated_slots, AreRelocatedToTypes}
+use Rattle.ebpf_object.specs.LinkedPrograms.{linkable_of, programs_in_order, ProgramsAreLinked}
 use Rattle.ebpf_object.specs.TextSections.{has_function_in}
 use Rattle.ebpf_object.specs.WrittenSlots.{with_externs, externs_fault}
 use Rattle.ebpf_object.specs.declared.object.Object.{Object}
-use Rattle.ebpf_reloc.specs.Linking.{IsFirstFault}
+use Rattle.ebpf_reloc.specs.Linking.{IsFirstRefusal}
 use Rattle.ebpf_reloc.specs.Memory as relocating
 use Rattle.ebpf_c.specs.Handles.{IsRefusal}
 use Rattle.ebpf_c.specs.Numbers.{ksyms_refusal, slot_refusal, types_refusal}
@@ -18,25 +18,25 @@ use Rattle.ebpf_c.specs.declared.refusal.Refusal.{Refusal}
 
 -- ---- types
 
--- adapted to a kernel whose types the bytes spell; all else of the object is as before
-pub record HasAdapted (bytes : List ℕ) (old new : Object) : Type 0 where
+-- relocated to a kernel whose types the bytes spell; all else of the object is as before
+pub record HasRelocatedTypes (bytes : List ℕ) (old new : Object) : Type 0 where
   pub target : TypeInfo
   pub spelled : types_in bytes ≡ Ok target
-  pub adapted : AreAdapted old target new.functions
+  pub relocated : AreRelocatedToTypes old target new.functions
   pub others_stay : new ≡ record old { functions = new.functions }
 
 -- a record can't be applied
 pub record HasBadRecord (bytes : List ℕ) (o : Object) (r : Refusal) : Type 0 where
   pub target : TypeInfo
   pub spelled : types_in bytes ≡ Ok target
-  pub refusal : IsRefusal (λ e. MatchBool (adapting.is_memory_at e) (e.section ≡ []) (adapted_slots o target ≡ Err (adapting.told_at e))) types_refusal r
+  pub refusal : IsRefusal (λ e. MatchBool (relocating_types.is_memory_at e) (e.section ≡ []) (relocated_slots o target ≡ Err (relocating_types.without_texts_at e))) types_refusal r
 
-abbrev pub CannotAdapt : List ℕ → Object → Refusal → Type 0
-CannotAdapt bytes o r = CannotRead bytes r ⊎ HasBadRecord bytes o r
+abbrev pub CannotRelocateTypes : List ℕ → Object → Refusal → Type 0
+CannotRelocateTypes bytes o r = CannotRead bytes r ⊎ HasBadRecord bytes o r
 
 -- ---- externs
 
--- sought in the types that the bytes spell, if there are any, and in the text of a kernel's symbols; all else is as before
+-- looked up in the types that the bytes spell, if there are any, and in the text of a kernel's symbols; all else is as before
 pub record HasResolved (bytes symbols : List ℕ) (old new : Object) : Type 0 where
   pub kernel : Option TypeInfo
   pub spelled : types_if bytes ≡ Ok kernel
@@ -56,18 +56,18 @@ CannotResolve bytes symbols o r = CannotReadIf bytes r ⊎ HasLostExtern bytes s
 abbrev pub CannotWriteExterns : Object → Refusal → Type 0
 CannotWriteExterns o = IsRefusal (λ e. MatchBool (relocating.is_memory_at e) ⊤ (externs_fault o ≡ Some e)) (slot_refusal 500)
 
--- written into the slots that refer to them, each of which can take what is known
+-- written into the slots that refer to them, each of which can take its extern
 pub record HasWrittenExterns (old new : Object) : Type 0 where
   pub sound : externs_fault old ≡ None
   pub is : new ≡ with_externs old
 
 -- ---- calls
 
--- each program joined with the functions that it reaches; all else is as before
-pub record HasJoined (old new : Object) : Type 0 where
-  pub joined : AreJoined (linkable_of old (has_function_in old.functions)) (programs_in_order old.programs) new.functions
+-- each program linked with the functions that it reaches; all else is as before
+pub record HasLinked (old new : Object) : Type 0 where
+  pub linked : ProgramsAreLinked (linkable_of old (has_function_in old.functions)) (programs_in_order old.programs) new.functions
   pub others_stay : new ≡ record old { functions = new.functions }
 
--- a program can't be joined
-abbrev pub CannotJoin : Object → Refusal → Type 0
-CannotJoin o = IsRefusal (λ e. MatchBool (relocating.is_memory_at e) ⊤ (IsFirstFault (linkable_of o (has_function_in o.functions)) (programs_in_order o.programs) e)) (slot_refusal 600)
+-- a program can't be linked
+abbrev pub CannotLink : Object → Refusal → Type 0
+CannotLink o = IsRefusal (λ e. MatchBool (relocating.is_memory_at e) ⊤ (IsFirstRefusal (linkable_of o (has_function_in o.functions)) (programs_in_order o.programs) e)) (slot_refusal 600)

@@ -5,7 +5,7 @@ use Rattle.ebpf_ksyms.specs.Sources.{Text}
 use Rattle.ebpf_object.specs.Headline.{Headline}
 use Rattle.ebpf_object.specs.KeptParts.{KeepsOthers}
 use Rattle.ebpf_object.specs.Objects.{object_of}
-use Rattle.ebpf_object.specs.Prepared.{IsFirstFault, Refuses}
+use Rattle.ebpf_object.specs.Prepared.{IsFirstFault, RefusesPreparing}
 use Rattle.ebpf_object.specs.Steps.{Chosen}
 use Rattle.ebpf_object.specs.declared.object.Object.{Object}
 use Rattle.ebpf_c.specs.Descriptors.{descriptors_in, have_names, NamesFirst}
@@ -49,7 +49,7 @@ pub record HasPrepared (given : Given) (o : Object) : Type 0 where
 pub record HasFault (given : Given) (r : Refusal) : Type 0 where
   pub kernel : Option TypeInfo
   pub spelled : types_if given.types ≡ Ok kernel
-  pub refusal : IsRefusal (Refuses (IsFirstFault (all_passes given kernel) (Text given.symbols) Stated given.file)) prepare_refusal r
+  pub refusal : IsRefusal (RefusesPreparing (IsFirstFault (all_passes given kernel) (Text given.symbols) Stated given.file)) prepare_refusal r
 
 -- the names are looked at first, then the types are read, then come the stages
 abbrev pub CannotPrepare : Given → Refusal → Type 0

@@ -34,18 +34,18 @@ or_number number f (Some x) = Ok (f x)
 
 -- ---- lists of named things
 
-abbrev pub programs_of : Object → Listed ebpf_program
-programs_of o = listed (program_row o.functions (entries o.section_infos)) o.programs
+abbrev pub program_list : Object → Listed ebpf_program
+program_list o = listed (program_row o.functions (entries o.section_infos)) o.programs
 
-abbrev pub maps_of : Object → Listed ebpf_map
-maps_of o = listed map_row o.maps
+abbrev pub map_list : Object → Listed ebpf_map
+map_list o = listed map_row o.maps
 
-abbrev pub externs_of : Object → Listed ebpf_extern
-externs_of o = listed extern_row o.externs
+abbrev pub extern_list : Object → Listed ebpf_extern
+extern_list o = listed extern_row o.externs
 
 -- of two sections with one name the later one
-abbrev pub sections_of : Object → Listed ebpf_section
-sections_of o = listed section_row o.section_infos
+abbrev pub section_list : Object → Listed ebpf_section
+section_list o = listed section_row o.section_infos
 
 -- ---- what a program has, as it stands
 
@@ -83,14 +83,14 @@ license_of o = Ok o.license
 
 -- ---- the same of a handle, whose object may be none
 
-abbrev pub programs_in : Option Object → Result (Listed ebpf_program) ℕ
-programs_in = of_open (λ o. Ok (programs_of o))
+abbrev pub program_list_in : Option Object → Result (Listed ebpf_program) ℕ
+program_list_in = of_open (λ o. Ok (program_list o))
 
-abbrev pub maps_in : Option Object → Result (Listed ebpf_map) ℕ
-maps_in = of_open (λ o. Ok (maps_of o))
+abbrev pub map_list_in : Option Object → Result (Listed ebpf_map) ℕ
+map_list_in = of_open (λ o. Ok (map_list o))
 
-abbrev pub externs_in : Option Object → Result (Listed ebpf_extern) ℕ
-externs_in = of_open (λ o. Ok (externs_of o))
+abbrev pub extern_list_in : Option Object → Result (Listed ebpf_extern) ℕ
+extern_list_in = of_open (λ o. Ok (extern_list o))
 
-abbrev pub sections_in : Option Object → Result (Listed ebpf_section) ℕ
-sections_in = of_open (λ o. Ok (sections_of o))
+abbrev pub section_list_in : Option Object → Result (Listed ebpf_section) ℕ
+section_list_in = of_open (λ o. Ok (section_list o))

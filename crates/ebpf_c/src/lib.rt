@@ -1,10 +1,10 @@
 //! What C calls.
 #![tactic(auto)]
 
-mod adapting;
+mod relocating_types;
 mod buffers;
 mod codes;
-mod describing;
+mod writing_map_fds;
 mod descriptors;
 mod entries;
 mod externs;
@@ -13,7 +13,7 @@ mod file_fault;
 mod flags;
 mod handle;
 mod info;
-mod joining;
+mod linking;
 mod ksyms_refusal;
 mod list_calls;
 mod listing;

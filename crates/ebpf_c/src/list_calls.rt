@@ -2,7 +2,7 @@
 
 ghost use Rattle.std.specs.Prelude.{◌≡◌, Ok};
 ghost use Rattle.ebpf_c.specs.Answers.{answer_listed, counts_of, filled_rows, filled_text, or_memory};
-ghost use Rattle.ebpf_c.specs.Reads.{externs_in, maps_in, programs_in, programs_of, sections_in};
+ghost use Rattle.ebpf_c.specs.Reads.{extern_list_in, map_list_in, program_list_in, program_list, section_list_in};
 
 use crate::buffers::ebpf_counts;
 use crate::codes::{CLOSED, MEMORY};
@@ -24,10 +24,10 @@ fn write_programs(
     text: &mut [u8],
     counts: &mut ebpf_counts,
 ) -> u32
-    ensures answer { result ≡ answer_listed (or_memory result (Ok (programs_of object.now))) rows.old text.old }
-    ensures rows { rows.new ≡ filled_rows (or_memory result (Ok (programs_of object.now))) rows.old text.old }
-    ensures text { text.new ≡ filled_text (or_memory result (Ok (programs_of object.now))) rows.old text.old }
-    ensures counts { counts.new ≡ counts_of (or_memory result (Ok (programs_of object.now))) counts.old }
+    ensures answer { result ≡ answer_listed (or_memory result (Ok (program_list object.now))) rows.old text.old }
+    ensures rows { rows.new ≡ filled_rows (or_memory result (Ok (program_list object.now))) rows.old text.old }
+    ensures text { text.new ≡ filled_text (or_memory result (Ok (program_list object.now))) rows.old text.old }
+    ensures counts { counts.new ≡ counts_of (or_memory result (Ok (program_list object.now))) counts.old }
 {
     let Ok(sections) = entries_of(alloc, &object.section_infos) else {
         return MEMORY;
@@ -54,10 +54,10 @@ pub extern "C" fn ebpf_programs(
     counts: &mut ebpf_counts,
 ) -> u32
     ensures stays { handle.new.object ≡ handle.old.object }
-    ensures answer { result ≡ answer_listed (or_memory result (programs_in handle.old.object)) rows.old text.old }
-    ensures rows { rows.new ≡ filled_rows (or_memory result (programs_in handle.old.object)) rows.old text.old }
-    ensures text { text.new ≡ filled_text (or_memory result (programs_in handle.old.object)) rows.old text.old }
-    ensures counts { counts.new ≡ counts_of (or_memory result (programs_in handle.old.object)) counts.old }
+    ensures answer { result ≡ answer_listed (or_memory result (program_list_in handle.old.object)) rows.old text.old }
+    ensures rows { rows.new ≡ filled_rows (or_memory result (program_list_in handle.old.object)) rows.old text.old }
+    ensures text { text.new ≡ filled_text (or_memory result (program_list_in handle.old.object)) rows.old text.old }
+    ensures counts { counts.new ≡ counts_of (or_memory result (program_list_in handle.old.object)) counts.old }
 {
     let Some(object) = handle.take(alloc) else {
         return CLOSED;
@@ -82,10 +82,10 @@ pub extern "C" fn ebpf_maps(
     counts: &mut ebpf_counts,
 ) -> u32
     ensures stays { handle.new.object ≡ handle.old.object }
-    ensures answer { result ≡ answer_listed (or_memory result (maps_in handle.old.object)) rows.old text.old }
-    ensures rows { rows.new ≡ filled_rows (or_memory result (maps_in handle.old.object)) rows.old text.old }
-    ensures text { text.new ≡ filled_text (or_memory result (maps_in handle.old.object)) rows.old text.old }
-    ensures counts { counts.new ≡ counts_of (or_memory result (maps_in handle.old.object)) counts.old }
+    ensures answer { result ≡ answer_listed (or_memory result (map_list_in handle.old.object)) rows.old text.old }
+    ensures rows { rows.new ≡ filled_rows (or_memory result (map_list_in handle.old.object)) rows.old text.old }
+    ensures text { text.new ≡ filled_text (or_memory result (map_list_in handle.old.object)) rows.old text.old }
+    ensures counts { counts.new ≡ counts_of (or_memory result (map_list_in handle.old.object)) counts.old }
 {
     let Some(object) = handle.take(alloc) else {
         return CLOSED;
@@ -110,10 +110,10 @@ pub extern "C" fn ebpf_externs(
     counts: &mut ebpf_counts,
 ) -> u32
     ensures stays { handle.new.object ≡ handle.old.object }
-    ensures answer { result ≡ answer_listed (or_memory result (externs_in handle.old.object)) rows.old text.old }
-    ensures rows { rows.new ≡ filled_rows (or_memory result (externs_in handle.old.object)) rows.old text.old }
-    ensures text { text.new ≡ filled_text (or_memory result (externs_in handle.old.object)) rows.old text.old }
-    ensures counts { counts.new ≡ counts_of (or_memory result (externs_in handle.old.object)) counts.old }
+    ensures answer { result ≡ answer_listed (or_memory result (extern_list_in handle.old.object)) rows.old text.old }
+    ensures rows { rows.new ≡ filled_rows (or_memory result (extern_list_in handle.old.object)) rows.old text.old }
+    ensures text { text.new ≡ filled_text (or_memory result (extern_list_in handle.old.object)) rows.old text.old }
+    ensures counts { counts.new ≡ counts_of (or_memory result (extern_list_in handle.old.object)) counts.old }
 {
     let Some(object) = handle.take(alloc) else {
         return CLOSED;
@@ -138,10 +138,10 @@ pub extern "C" fn ebpf_sections(
     counts: &mut ebpf_counts,
 ) -> u32
     ensures stays { handle.new.object ≡ handle.old.object }
-    ensures answer { result ≡ answer_listed (or_memory result (sections_in handle.old.object)) rows.old text.old }
-    ensures rows { rows.new ≡ filled_rows (or_memory result (sections_in handle.old.object)) rows.old text.old }
-    ensures text { text.new ≡ filled_text (or_memory result (sections_in handle.old.object)) rows.old text.old }
-    ensures counts { counts.new ≡ counts_of (or_memory result (sections_in handle.old.object)) counts.old }
+    ensures answer { result ≡ answer_listed (or_memory result (section_list_in handle.old.object)) rows.old text.old }
+    ensures rows { rows.new ≡ filled_rows (or_memory result (section_list_in handle.old.object)) rows.old text.old }
+    ensures text { text.new ≡ filled_text (or_memory result (section_list_in handle.old.object)) rows.old text.old }
+    ensures counts { counts.new ≡ counts_of (or_memory result (section_list_in handle.old.object)) counts.old }
 {
     let Some(object) = handle.take(alloc) else {
         return CLOSED;

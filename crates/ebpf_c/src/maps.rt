@@ -10,7 +10,7 @@ use crate::listing::Row;
 use ebpf_parts::EbpfSectionKind;
 use ebpf_parts::maps::{Map, PinningType};
 
-/// What is said of a map, each number as the kernel takes it.
+/// The attributes of a map, each number as the kernel takes it.
 #[repr(C)]
 #[derive(Clone, Copy)]
 pub struct ebpf_map_shape {
@@ -50,9 +50,9 @@ pub struct ebpf_map {
     pub section_kind: u32,
     /// 1 where it is a map of maps, else 0.
     pub has_inner: u32,
-    /// What is said of it.
+    /// Its attributes.
     pub shape: ebpf_map_shape,
-    /// What is said of the maps that it holds, all zero where it is no map of maps.
+    /// The attributes of the maps that it holds, all zero where it is no map of maps.
     pub inner: ebpf_map_shape,
 }
 
@@ -118,7 +118,7 @@ fn shape_of(map: &Map) -> ebpf_map_shape
     }
 }
 
-/// What is said of a map, all zero where there is none.
+/// The attributes of a map, all zero where there is none.
 fn shape_if(map: Option<&Map>) -> ebpf_map_shape
     ensures { result ≡ shape_if (option_copied map.entry) }
 {

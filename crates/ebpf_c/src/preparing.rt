@@ -82,9 +82,9 @@ fn prepare_box(
     }
 }
 
-/// Opens the object of a file, and runs the passes over it: functions are adapted to a kernel's types, descriptors of
-/// maps are written, externs are found and written, programs are joined with the functions that they reach. Where there
-/// are no bytes of types, functions are not adapted, and externs are sought in the symbols alone. What the handle held
+/// Opens the object of a file, and runs the passes over it: functions are relocated to a kernel's types, descriptors of
+/// maps are written, externs are found and written, programs are linked with the functions that they reach. Where there
+/// are no bytes of types, functions are not relocated, and externs are looked up in the symbols alone. What the handle held
 /// before is closed.
 ///
 /// # Answers

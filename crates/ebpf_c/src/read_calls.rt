@@ -134,7 +134,7 @@ pub extern "C" fn ebpf_slots(
     number
 }
 
-/// Writes what is said of a program's functions, by slot, and how many records that are.
+/// Writes a program's func info, by slot, and how many records that are.
 ///
 /// # Answers
 ///
@@ -160,7 +160,7 @@ pub extern "C" fn ebpf_func_infos(
     number
 }
 
-/// Writes what is said of a program's lines, by slot, and how many records that are.
+/// Writes a program's line info, by slot, and how many records that are.
 ///
 /// # Answers
 ///

@@ -38,7 +38,7 @@ pub fn slots_of<'a>(object: &'a Object, name: &[u8]) -> Result<&'a [bpf_insn], u
     }
 }
 
-/// What is said of that program's functions, by slot.
+/// That program's func info, by slot.
 pub fn func_infos_of<'a>(object: &'a Object, name: &[u8]) -> Result<&'a [bpf_func_info], u32>
     ensures { found_list result ≡ func_infos_of name.now object.now }
 {
@@ -48,7 +48,7 @@ pub fn func_infos_of<'a>(object: &'a Object, name: &[u8]) -> Result<&'a [bpf_fun
     }
 }
 
-/// What is said of that program's lines, by slot.
+/// That program's line info, by slot.
 pub fn line_infos_of<'a>(object: &'a Object, name: &[u8]) -> Result<&'a [bpf_line_info], u32>
     ensures { found_list result ≡ line_infos_of name.now object.now }
 {

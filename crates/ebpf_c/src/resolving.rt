@@ -68,7 +68,7 @@ pub extern "C" fn ebpf_resolve_externs(
     answered(answer, about, about_len)
 }
 
-/// Writes what is known of the externs of an object into the slots that refer to them.
+/// Writes the externs of an object into the slots that refer to them.
 fn write_externs(object: &mut Object) -> Result<(), Refusal>
     ensures ok { OnOk result (HasWrittenExterns object.old object.new) }
     ensures unchanged { OnErr result (object.new ≡ object.old) }
@@ -81,7 +81,7 @@ fn write_externs(object: &mut Object) -> Result<(), Refusal>
     }
 }
 
-/// Writes what is known of the externs of what a handle holds into the slots that refer to them.
+/// Writes the externs of what a handle holds into the slots that refer to them.
 ///
 /// # Answers
 ///

@@ -1,4 +1,4 @@
-//! Why functions can't be adapted to a kernel's types.
+//! Why functions can't be relocated to a kernel's types.
 
 ghost use Rattle.std.specs.Prelude.{◌≡◌, ◌<◌};
 ghost use Rattle.ebpf_c.specs.Numbers.{record_number, types_refusal};

@@ -30,14 +30,14 @@ zero_later x xs other = rw other (by_test (nat_lt (front xs) (length xs)) refl)
 none_left : before_zero [] ≡ None
 none_left = refl
 
--- what is left to say of a name, where the bytes before a place have no zero byte and no three underscores, and end
+-- what is left of an essential name, where the bytes before an index have no zero byte and no three underscores, and end
 -- in so many underscores
-abbrev pub told : List ℕ → ℕ → ℕ → Option (List ℕ)
-told bytes place marks = option_map (λ tail. take (place - marks) bytes ++ essential_name (replicate marks 95 ++ tail)) (before_zero (drop place bytes))
+abbrev pub scanned_name : List ℕ → ℕ → ℕ → Option (List ℕ)
+scanned_name bytes index marks = option_map (λ tail. take (index - marks) bytes ++ essential_name (replicate marks 95 ++ tail)) (before_zero (drop index bytes))
 
--- the bytes before a place end in so many underscores
+-- the bytes before an index end in so many underscores
 abbrev pub EndsIn : List ℕ → ℕ → ℕ → Type 0
-EndsIn bytes place marks = take (place - marks) bytes ++ replicate marks 95 ≡ take place bytes
+EndsIn bytes index marks = take (index - marks) bytes ++ replicate marks 95 ≡ take index bytes
 
 same_map : (f g : List ℕ → List ℕ) (o : Option (List ℕ)) → ((t : List ℕ) → f t ≡ g t) → option_map f o ≡ option_map g o
 same_map f g None same = refl
@@ -47,18 +47,18 @@ map_twice : (f g : List ℕ → List ℕ) (o : Option (List ℕ)) → option_map
 map_twice f g None = refl
 map_twice f g (Some t) = refl
 
-byte_at : (bytes : List ℕ) (place : ℕ) → place < length bytes → drop place bytes ≡ get_or bytes place 0 ∷ drop (place + 1) bytes
-byte_at bytes place inside = drop_more bytes place 0 inside
+byte_at : (bytes : List ℕ) (index : ℕ) → index < length bytes → drop index bytes ≡ get_or bytes index 0 ∷ drop (index + 1) bytes
+byte_at bytes index inside = drop_more bytes index 0 inside
 
 -- what is left at a byte that is not zero
-told_byte : (bytes : List ℕ) (place marks : ℕ) → place < length bytes → (get_or bytes place 0 == 0) ≡ false
-    → told bytes place marks ≡ option_map (λ tail. take (place - marks) bytes ++ essential_name (replicate marks 95 ++ (get_or bytes place 0 ∷ tail))) (before_zero (drop (place + 1) bytes))
-told_byte bytes place marks inside other =
-    let F : List ℕ → List ℕ = λ tail. take (place - marks) bytes ++ essential_name (replicate marks 95 ++ tail) in
-    let x = get_or bytes place 0 in
-    ap (λ xs. option_map F (before_zero xs)) (byte_at bytes place inside)
-    ∙ ap (option_map F) (zero_later x (drop (place + 1) bytes) other)
-    ∙ map_twice F (λ t. x ∷ t) (before_zero (drop (place + 1) bytes))
+scanned_byte : (bytes : List ℕ) (index marks : ℕ) → index < length bytes → (get_or bytes index 0 == 0) ≡ false
+    → scanned_name bytes index marks ≡ option_map (λ tail. take (index - marks) bytes ++ essential_name (replicate marks 95 ++ (get_or bytes index 0 ∷ tail))) (before_zero (drop (index + 1) bytes))
+scanned_byte bytes index marks inside other =
+    let F : List ℕ → List ℕ = λ tail. take (index - marks) bytes ++ essential_name (replicate marks 95 ++ tail) in
+    let x = get_or bytes index 0 in
+    ap (λ xs. option_map F (before_zero xs)) (byte_at bytes index inside)
+    ∙ ap (option_map F) (zero_later x (drop (index + 1) bytes) other)
+    ∙ map_twice F (λ t. x ∷ t) (before_zero (drop (index + 1) bytes))
 
 closed : (b c : Bool) → c ≡ false → (b && (c && true)) ≡ false
 closed true c e = rw e refl
@@ -83,91 +83,91 @@ essential_marks (suc (suc (suc marks))) few = absurd (omega arith)
 -- ---- the steps
 
 -- a byte that is neither zero nor an underscore
-pub told_other : (bytes : List ℕ) (place marks : ℕ) → place < length bytes → marks ≤ 2 → EndsIn bytes place marks
-    → (get_or bytes place 0 == 0) ≡ false → nat_eq 95 (get_or bytes place 0) ≡ false → told bytes (place + 1) 0 ≡ told bytes place marks
-told_other bytes place marks inside few ends other byte = sym (told_byte bytes place marks inside other ∙ same_map _ _ (before_zero (drop (place + 1) bytes)) each)
+pub scanned_other : (bytes : List ℕ) (index marks : ℕ) → index < length bytes → marks ≤ 2 → EndsIn bytes index marks
+    → (get_or bytes index 0 == 0) ≡ false → nat_eq 95 (get_or bytes index 0) ≡ false → scanned_name bytes (index + 1) 0 ≡ scanned_name bytes index marks
+scanned_other bytes index marks inside few ends other byte = sym (scanned_byte bytes index marks inside other ∙ same_map _ _ (before_zero (drop (index + 1) bytes)) each)
   where
-    each : (tail : List ℕ) → take (place - marks) bytes ++ essential_name (replicate marks 95 ++ (get_or bytes place 0 ∷ tail)) ≡ take (place + 1 - 0) bytes ++ essential_name tail
+    each : (tail : List ℕ) → take (index - marks) bytes ++ essential_name (replicate marks 95 ++ (get_or bytes index 0 ∷ tail)) ≡ take (index + 1 - 0) bytes ++ essential_name tail
     each tail =
-        let x = get_or bytes place 0 in
-        let front_to : take (place + 1 - 0) bytes ≡ take place bytes ++ x ∷ [] = ap (λ n. take n bytes) (omega arith) ∙ take_more bytes place 0 inside in
-        ap (λ name. take (place - marks) bytes ++ name) (essential_other marks x tail few byte)
-        ∙ sym (append_assoc (take (place - marks) bytes) (replicate marks 95) (x ∷ essential_name tail))
+        let x = get_or bytes index 0 in
+        let front_to : take (index + 1 - 0) bytes ≡ take index bytes ++ x ∷ [] = ap (λ n. take n bytes) (omega arith) ∙ take_more bytes index 0 inside in
+        ap (λ name. take (index - marks) bytes ++ name) (essential_other marks x tail few byte)
+        ∙ sym (append_assoc (take (index - marks) bytes) (replicate marks 95) (x ∷ essential_name tail))
         ∙ ap (λ f. f ++ (x ∷ essential_name tail)) ends
-        ∙ sym (append_assoc (take place bytes) (x ∷ []) (essential_name tail))
+        ∙ sym (append_assoc (take index bytes) (x ∷ []) (essential_name tail))
         ∙ ap (λ f. f ++ essential_name tail) (sym front_to)
 
 -- an underscore that is the first or the second in a row
-pub told_mark : (bytes : List ℕ) (place marks : ℕ) → place < length bytes → marks ≤ place → marks ≤ 1 → get_or bytes place 0 ≡ 95 → told bytes (place + 1) (marks + 1) ≡ told bytes place marks
-told_mark bytes place marks inside low few byte =
-    let other : (get_or bytes place 0 == 0) ≡ false = grind (arith, nat_tests) in
-    sym (told_byte bytes place marks inside other ∙ same_map _ _ (before_zero (drop (place + 1) bytes)) each)
+pub scanned_mark : (bytes : List ℕ) (index marks : ℕ) → index < length bytes → marks ≤ index → marks ≤ 1 → get_or bytes index 0 ≡ 95 → scanned_name bytes (index + 1) (marks + 1) ≡ scanned_name bytes index marks
+scanned_mark bytes index marks inside low few byte =
+    let other : (get_or bytes index 0 == 0) ≡ false = grind (arith, nat_tests) in
+    sym (scanned_byte bytes index marks inside other ∙ same_map _ _ (before_zero (drop (index + 1) bytes)) each)
   where
     more : (n : ℕ) (tail : List ℕ) → replicate n 95 ++ (95 ∷ tail) ≡ replicate (suc n) 95 ++ tail
     more zero tail = refl
     more (suc n) tail = ap (λ t. 95 ∷ t) (more n tail)
 
-    each : (tail : List ℕ) → take (place - marks) bytes ++ essential_name (replicate marks 95 ++ (get_or bytes place 0 ∷ tail)) ≡ take (place + 1 - (marks + 1)) bytes ++ essential_name (replicate (marks + 1) 95 ++ tail)
+    each : (tail : List ℕ) → take (index - marks) bytes ++ essential_name (replicate marks 95 ++ (get_or bytes index 0 ∷ tail)) ≡ take (index + 1 - (marks + 1)) bytes ++ essential_name (replicate (marks + 1) 95 ++ tail)
     each tail =
-        let same : place - marks ≡ place + 1 - (marks + 1) = omega arith in
-        ap (λ x. take (place - marks) bytes ++ essential_name (replicate marks 95 ++ (x ∷ tail))) byte
-        ∙ ap (λ t. take (place - marks) bytes ++ essential_name t) (more marks tail)
-        ∙ ap (λ n. take (place - marks) bytes ++ essential_name (replicate n 95 ++ tail)) (sym (add-one marks))
+        let same : index - marks ≡ index + 1 - (marks + 1) = omega arith in
+        ap (λ x. take (index - marks) bytes ++ essential_name (replicate marks 95 ++ (x ∷ tail))) byte
+        ∙ ap (λ t. take (index - marks) bytes ++ essential_name t) (more marks tail)
+        ∙ ap (λ n. take (index - marks) bytes ++ essential_name (replicate n 95 ++ tail)) (sym (add-one marks))
         ∙ ap (λ n. take n bytes ++ essential_name (replicate (marks + 1) 95 ++ tail)) same
 
 -- the third
-pub told_third : (bytes : List ℕ) (place : ℕ) → place < length bytes → get_or bytes place 0 ≡ 95 → told bytes place 2 ≡ option_map (λ tail. take (place - 2) bytes) (before_zero (drop (place + 1) bytes))
-told_third bytes place inside byte =
-    let other : (get_or bytes place 0 == 0) ≡ false = grind (arith, nat_tests) in
-    told_byte bytes place 2 inside other ∙ same_map _ _ (before_zero (drop (place + 1) bytes)) each
+pub scanned_third : (bytes : List ℕ) (index : ℕ) → index < length bytes → get_or bytes index 0 ≡ 95 → scanned_name bytes index 2 ≡ option_map (λ tail. take (index - 2) bytes) (before_zero (drop (index + 1) bytes))
+scanned_third bytes index inside byte =
+    let other : (get_or bytes index 0 == 0) ≡ false = grind (arith, nat_tests) in
+    scanned_byte bytes index 2 inside other ∙ same_map _ _ (before_zero (drop (index + 1) bytes)) each
   where
-    each : (tail : List ℕ) → take (place - 2) bytes ++ essential_name (95 ∷ 95 ∷ (get_or bytes place 0 ∷ tail)) ≡ take (place - 2) bytes
-    each tail = ap (λ x. take (place - 2) bytes ++ essential_name (95 ∷ 95 ∷ (x ∷ tail))) byte ∙ ap (λ name. take (place - 2) bytes ++ name) (essential_step 95 (95 ∷ 95 ∷ tail)) ∙ append-nil (take (place - 2) bytes)
+    each : (tail : List ℕ) → take (index - 2) bytes ++ essential_name (95 ∷ 95 ∷ (get_or bytes index 0 ∷ tail)) ≡ take (index - 2) bytes
+    each tail = ap (λ x. take (index - 2) bytes ++ essential_name (95 ∷ 95 ∷ (x ∷ tail))) byte ∙ ap (λ name. take (index - 2) bytes ++ name) (essential_step 95 (95 ∷ 95 ∷ tail)) ∙ append-nil (take (index - 2) bytes)
 
 -- the zero byte
-pub told_zero : (bytes : List ℕ) (place marks : ℕ) → place < length bytes → marks ≤ 2 → EndsIn bytes place marks → get_or bytes place 0 ≡ 0 → told bytes place marks ≡ Some (take place bytes)
-told_zero bytes place marks inside few ends byte =
-    let F : List ℕ → List ℕ = λ tail. take (place - marks) bytes ++ essential_name (replicate marks 95 ++ tail) in
-    ap (λ xs. option_map F (before_zero xs)) (byte_at bytes place inside ∙ ap (λ x. x ∷ drop (place + 1) bytes) byte)
-    ∙ ap (option_map F) (zero_first (drop (place + 1) bytes))
-    ∙ ap Some (ap (λ t. take (place - marks) bytes ++ essential_name t) (append-nil (replicate marks 95)) ∙ ap (λ name. take (place - marks) bytes ++ name) (essential_marks marks few) ∙ ends)
+pub scanned_zero : (bytes : List ℕ) (index marks : ℕ) → index < length bytes → marks ≤ 2 → EndsIn bytes index marks → get_or bytes index 0 ≡ 0 → scanned_name bytes index marks ≡ Some (take index bytes)
+scanned_zero bytes index marks inside few ends byte =
+    let F : List ℕ → List ℕ = λ tail. take (index - marks) bytes ++ essential_name (replicate marks 95 ++ tail) in
+    ap (λ xs. option_map F (before_zero xs)) (byte_at bytes index inside ∙ ap (λ x. x ∷ drop (index + 1) bytes) byte)
+    ∙ ap (option_map F) (zero_first (drop (index + 1) bytes))
+    ∙ ap Some (ap (λ t. take (index - marks) bytes ++ essential_name t) (append-nil (replicate marks 95)) ∙ ap (λ name. take (index - marks) bytes ++ name) (essential_marks marks few) ∙ ends)
 
-pub told_end : (bytes : List ℕ) (place marks : ℕ) → length bytes ≤ place → told bytes place marks ≡ None
-told_end bytes place marks past =
-    ap (λ xs. option_map (λ tail. take (place - marks) bytes ++ essential_name (replicate marks 95 ++ tail)) (before_zero xs)) (drop_all place bytes past)
+pub scanned_end : (bytes : List ℕ) (index marks : ℕ) → length bytes ≤ index → scanned_name bytes index marks ≡ None
+scanned_end bytes index marks past =
+    ap (λ xs. option_map (λ tail. take (index - marks) bytes ++ essential_name (replicate marks 95 ++ tail)) (before_zero xs)) (drop_all index bytes past)
 
--- ---- all of it at one place
+-- ---- all of it at one index
 
-pub record IsTold (bytes : List ℕ) (place marks : ℕ) (all : Option (List ℕ)) : Type 0 where
+pub record IsScanned (bytes : List ℕ) (index marks : ℕ) (all : Option (List ℕ)) : Type 0 where
   pub few : marks ≤ 2
-  pub low : marks ≤ place
-  pub ends : EndsIn bytes place marks
-  pub rest : told bytes place marks ≡ all
+  pub low : marks ≤ index
+  pub ends : EndsIn bytes index marks
+  pub rest : scanned_name bytes index marks ≡ all
 
-pub told_start : (bytes : List ℕ) → IsTold bytes 0 0 (option_map essential_name (before_zero bytes))
-told_start bytes = record { few = omega arith; low = omega arith; ends = refl; rest = refl }
+pub scanned_start : (bytes : List ℕ) → IsScanned bytes 0 0 (option_map essential_name (before_zero bytes))
+scanned_start bytes = record { few = omega arith; low = omega arith; ends = refl; rest = refl }
 
-pub told_step : (bytes : List ℕ) (place marks next : ℕ) (all : Option (List ℕ)) → place < length bytes → IsTold bytes place marks all
-    → ((get_or bytes place 0 ≡ 0) → ⊥) → ((marks ≡ 2) → (get_or bytes place 0 ≡ 95) → ⊥) → next ≡ cond (get_or bytes place 0 == 95) (marks + 1) 0
-    → IsTold bytes (place + 1) next all
-told_step bytes place marks next all inside is other third after = by_byte (get_or bytes place 0 == 95) refl after
+pub scanned_step : (bytes : List ℕ) (index marks next : ℕ) (all : Option (List ℕ)) → index < length bytes → IsScanned bytes index marks all
+    → ((get_or bytes index 0 ≡ 0) → ⊥) → ((marks ≡ 2) → (get_or bytes index 0 ≡ 95) → ⊥) → next ≡ cond (get_or bytes index 0 == 95) (marks + 1) 0
+    → IsScanned bytes (index + 1) next all
+scanned_step bytes index marks next all inside is other third after = by_byte (get_or bytes index 0 == 95) refl after
   where
-    by_byte : (b : Bool) → (get_or bytes place 0 == 95) ≡ b → next ≡ cond b (marks + 1) 0 → IsTold bytes (place + 1) next all
+    by_byte : (b : Bool) → (get_or bytes index 0 == 95) ≡ b → next ≡ cond b (marks + 1) 0 → IsScanned bytes (index + 1) next all
     by_byte true e same =
-        let byte : get_or bytes place 0 ≡ 95 = grind (arith, nat_tests) in
+        let byte : get_or bytes index 0 ≡ 95 = grind (arith, nat_tests) in
         let few : marks ≤ 1 = ⊎_elim (λ (low : marks < 2). omega arith) (λ (high : 2 ≤ marks). let up = is.few in absurd (third (omega arith) byte)) (cases_lt marks 2) in
         let under = is.low in
-        let front_to : take (place + 1) bytes ≡ take place bytes ++ 95 ∷ [] = take_more bytes place 0 inside ∙ ap (λ x. take place bytes ++ x ∷ []) byte in
-        let back : place + 1 - (marks + 1) ≡ place - marks = omega arith in
-        let ends : EndsIn bytes (place + 1) (marks + 1) =
+        let front_to : take (index + 1) bytes ≡ take index bytes ++ 95 ∷ [] = take_more bytes index 0 inside ∙ ap (λ x. take index bytes ++ x ∷ []) byte in
+        let back : index + 1 - (marks + 1) ≡ index - marks = omega arith in
+        let ends : EndsIn bytes (index + 1) (marks + 1) =
         ap (λ n. take n bytes ++ replicate (marks + 1) 95) back
-        ∙ ap (λ xs. take (place - marks) bytes ++ xs) (sym (replicate_more marks 95))
-        ∙ sym (append_assoc (take (place - marks) bytes) (replicate marks 95) (95 ∷ []))
+        ∙ ap (λ xs. take (index - marks) bytes ++ xs) (sym (replicate_more marks 95))
+        ∙ sym (append_assoc (take (index - marks) bytes) (replicate marks 95) (95 ∷ []))
         ∙ ap (λ xs. xs ++ 95 ∷ []) is.ends ∙ sym front_to in
-        subst (λ n. IsTold bytes (place + 1) n all) (sym same)
-        (record { few = omega arith; low = omega arith; ends = ends; rest = told_mark bytes place marks inside is.low few byte ∙ is.rest })
+        subst (λ n. IsScanned bytes (index + 1) n all) (sym same)
+        (record { few = omega arith; low = omega arith; ends = ends; rest = scanned_mark bytes index marks inside is.low few byte ∙ is.rest })
     by_byte false e same =
-        let zero_test : (get_or bytes place 0 == 0) ≡ false = ⊎_elim (λ (none : get_or bytes place 0 ≡ 0). absurd (other none)) (λ (some : (get_or bytes place 0 ≡ 0) → ⊥). grind (arith, nat_tests)) (cases_eq (get_or bytes place 0) 0) in
-        let mark_test : nat_eq 95 (get_or bytes place 0) ≡ false = grind (arith, nat_tests) in
-        subst (λ n. IsTold bytes (place + 1) n all) (sym same)
-        (record { few = omega arith; low = omega arith; ends = append-nil (take (place + 1 - 0) bytes) ∙ ap (λ n. take n bytes) (omega arith); rest = told_other bytes place marks inside is.few is.ends zero_test mark_test ∙ is.rest })
+        let zero_test : (get_or bytes index 0 == 0) ≡ false = ⊎_elim (λ (none : get_or bytes index 0 ≡ 0). absurd (other none)) (λ (some : (get_or bytes index 0 ≡ 0) → ⊥). grind (arith, nat_tests)) (cases_eq (get_or bytes index 0) 0) in
+        let mark_test : nat_eq 95 (get_or bytes index 0) ≡ false = grind (arith, nat_tests) in
+        subst (λ n. IsScanned bytes (index + 1) n all) (sym same)
+        (record { few = omega arith; low = omega arith; ends = append-nil (take (index + 1 - 0) bytes) ∙ ap (λ n. take n bytes) (omega arith); rest = scanned_other bytes index marks inside is.few is.ends zero_test mark_test ∙ is.rest })

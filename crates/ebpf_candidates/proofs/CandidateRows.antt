@@ -21,7 +21,7 @@ use Rattle.ebpf_candidates.specs.Candidates.{candidates, is_candidate}
 use Rattle.ebpf_btf.specs.EssentialNames.{essential_name}
 use Rattle.ebpf_btf.specs.Strings.{type_name}
 use Rattle.ebpf_btf.specs.TypeInfo.{TypeInfo}
-use Rattle.ebpf_candidates.specs.TypeRows.{Key, is_before, key_cmp, key_hash, named_row, place_cmp, place_of, place_total, readable_name, rows, rows_from, sought}
+use Rattle.ebpf_candidates.specs.TypeRows.{TypeKey, is_before, type_key_cmp, type_key_hash, named_row, row_key_cmp, row_key, row_key_total, readable_name, rows, type_rows_from, search_key}
 use Rattle.ebpf_btf.specs.Types.{kind_number, kind_of, is_kind}
 use Rattle.ebpf_candidates.proofs.RowRange.{filter_sorted}
 
@@ -33,7 +33,7 @@ is_eq-then Greater b = refl
 is_eq-nat : (m n : ℕ) → is_eq (nat_cmp m n) ≡ (m == n)
 is_eq-nat m n = sym (unsigned_ties m n)
 
-is_eq-key : (a b : Key) → is_eq (key_cmp a b) ≡ ((a.kind == b.kind) && bytes_eq a.name b.name)
+is_eq-key : (a b : TypeKey) → is_eq (type_key_cmp a b) ≡ ((a.kind == b.kind) && bytes_eq a.name b.name)
 is_eq-key a b =
     is_eq-then (nat_cmp a.kind b.kind) (text_cmp a.name b.name) ∙ ap (λ p. p && is_eq (text_cmp a.name b.name)) (is_eq-nat a.kind b.kind)
     ∙ ap (λ p. (a.kind == b.kind) && p) (sym (texts_ties a.name b.name))
@@ -43,28 +43,28 @@ never true = refl
 never false = refl
 
 -- equal kinds and names have one hash
-same_hash : (k l : ℕ) (a b : List ℕ) → ((key_hash k a == key_hash l b) && ((k == l) && bytes_eq a b)) ≡ ((k == l) && bytes_eq a b)
+same_hash : (k l : ℕ) (a b : List ℕ) → ((type_key_hash k a == type_key_hash l b) && ((k == l) && bytes_eq a b)) ≡ ((k == l) && bytes_eq a b)
 same_hash k l a b = by_kinds (k == l) refl (bytes_eq a b) refl
   where
-    by_kinds : (p : Bool) → (k == l) ≡ p → (q : Bool) → bytes_eq a b ≡ q → ((key_hash k a == key_hash l b) && (p && q)) ≡ (p && q)
+    by_kinds : (p : Bool) → (k == l) ≡ p → (q : Bool) → bytes_eq a b ≡ q → ((type_key_hash k a == type_key_hash l b) && (p && q)) ≡ (p && q)
     by_kinds true d true e =
         let names : a ≡ b = (bytes_eq-Decides a b).0 e in
         let kinds : k ≡ l = grind (arith, nat_tests) in
-        let hash : key_hash k a ≡ key_hash l b = λ i. key_hash (kinds i) (names i) in
-        let yes : (key_hash k a == key_hash l b) ≡ true = grind (arith, nat_tests) in
+        let hash : type_key_hash k a ≡ type_key_hash l b = λ i. type_key_hash (kinds i) (names i) in
+        let yes : (type_key_hash k a == type_key_hash l b) ≡ true = grind (arith, nat_tests) in
         rw yes refl
-    by_kinds true d false e = never (key_hash k a == key_hash l b)
-    by_kinds false d q e = never (key_hash k a == key_hash l b)
+    by_kinds true d false e = never (type_key_hash k a == type_key_hash l b)
+    by_kinds false d q e = never (type_key_hash k a == type_key_hash l b)
 
--- a place is the one that is sought where its kind and name are
-is_sought : (kind other : ℕ) (name text : List ℕ)
-    → is_eq (place_cmp (key_hash kind text, record { kind = kind; name = text }) (sought other name)) ≡ ((kind == other) && bytes_eq text name)
-is_sought kind other name text =
-    let mine : Key = record { kind = kind; name = text } in
-    let theirs : Key = record { kind = other; name = name } in
-    is_eq-then (nat_cmp (key_hash kind text) (key_hash other name)) (key_cmp mine theirs)
-    ∙ ap (λ p. p && is_eq (key_cmp mine theirs)) (is_eq-nat (key_hash kind text) (key_hash other name))
-    ∙ ap (λ p. (key_hash kind text == key_hash other name) && p) (is_eq-key mine theirs)
+-- a row key is the wanted one where its kind and name are
+is_search_key : (kind other : ℕ) (name text : List ℕ)
+    → is_eq (row_key_cmp (type_key_hash kind text, record { kind = kind; name = text }) (search_key other name)) ≡ ((kind == other) && bytes_eq text name)
+is_search_key kind other name text =
+    let mine : TypeKey = record { kind = kind; name = text } in
+    let theirs : TypeKey = record { kind = other; name = name } in
+    is_eq-then (nat_cmp (type_key_hash kind text) (type_key_hash other name)) (type_key_cmp mine theirs)
+    ∙ ap (λ p. p && is_eq (type_key_cmp mine theirs)) (is_eq-nat (type_key_hash kind text) (type_key_hash other name))
+    ∙ ap (λ p. (type_key_hash kind text == type_key_hash other name) && p) (is_eq-key mine theirs)
     ∙ same_hash kind other text name
 
 cond_step : (b c : Bool) (r : TypeRow) (rest : List TypeRow) (e : ℕ × BtfType) (others : List (ℕ × BtfType)) → b ≡ c → r.id ≡ e.0
@@ -89,20 +89,20 @@ drop_front (suc id) (x ∷ xs) t ts is = drop_front id xs t ts is
 -- the rows with a kind and an essential name are those of the candidates
 module _ (info : TypeInfo) (kind : BtfKind) (name : List ℕ) (first : ℕ) (others : List ℕ) (named : essential_name name ≡ first ∷ others) where
   abbrev has : TypeRow → Bool
-  has r = is_eq (place_cmp (place_of info r) (sought (kind_number kind) (first ∷ others)))
+  has r = is_eq (row_key_cmp (row_key info r) (search_key (kind_number kind) (first ∷ others)))
 
   abbrev Same : ℕ → List BtfType → Type 0
-  Same id ts = map (λ r. r.id) (filter has (rows_from info id ts)) ≡ map (λ e. e.0) (filter (λ e. is_candidate info kind name e.1) (enumerate_from id ts))
+  Same id ts = map (λ r. r.id) (filter has (type_rows_from info id ts)) ≡ map (λ e. e.0) (filter (λ e. is_candidate info kind name e.1) (enumerate_from id ts))
 
   -- of a type whose name was read
   by_text : (id : ℕ) (t : BtfType) (ts : List BtfType) (text : List ℕ) → slice_get info.types id ≡ Some t → type_name info t ≡ Ok text → Same (id + 1) ts
       → (essential : List ℕ) → essential_name text ≡ essential → Same id (t ∷ ts)
   by_text id t ts text here is rest [] e = rw (is, e, named, never (is_kind kind t)) rest
   by_text id t ts text here is rest (x ∷ xs) e =
-      let row : TypeRow = record { hash = key_hash (kind_number (kind_of t)) (x ∷ xs); id = id } in
-      let place : place_of info row ≡ (key_hash (kind_number (kind_of t)) (x ∷ xs), record { kind = kind_number (kind_of t); name = x ∷ xs }) = rw (here, is, e) refl in
+      let row : TypeRow = record { hash = type_key_hash (kind_number (kind_of t)) (x ∷ xs); id = id } in
+      let wanted : row_key info row ≡ (type_key_hash (kind_number (kind_of t)) (x ∷ xs), record { kind = kind_number (kind_of t); name = x ∷ xs }) = rw (here, is, e) refl in
       let test : has row ≡ (is_kind kind t && bytes_eq (x ∷ xs) (first ∷ others)) =
-      ap (λ p. is_eq (place_cmp p (sought (kind_number kind) (first ∷ others)))) place ∙ is_sought (kind_number (kind_of t)) (kind_number kind) (first ∷ others) (x ∷ xs) in
+      ap (λ p. is_eq (row_key_cmp p (search_key (kind_number kind) (first ∷ others)))) wanted ∙ is_search_key (kind_number (kind_of t)) (kind_number kind) (first ∷ others) (x ∷ xs) in
       rw (is, e, named) (cond_step (has row) _ row _ (id, t) _ test refl rest)
 
   by_name : (id : ℕ) (t : BtfType) (ts : List BtfType) → slice_get info.types id ≡ Some t → Same (id + 1) ts
@@ -118,13 +118,13 @@ module _ (info : TypeInfo) (kind : BtfKind) (name : List ℕ) (first : ℕ) (oth
 -- the ids of the part of the sorted rows that has the key
 pub candidates_found : (info : TypeInfo) (kind : BtfKind) (name : List ℕ) (sorted : List TypeRow) (ids : List ℕ) (low high number : ℕ) (first : ℕ) (others : List ℕ)
     → number ≡ kind_number kind → essential_name name ≡ first ∷ others → IsStableBy (is_before info) (rows info) sorted → ids ≡ map (λ r. r.id) sorted
-    → filter (λ r. is_eq (place_cmp (place_of info r) (sought number (first ∷ others)))) sorted ≡ slice_range sorted low high
+    → filter (λ r. is_eq (row_key_cmp (row_key info r) (search_key number (first ∷ others)))) sorted ≡ slice_range sorted low high
     → take (high - low) (drop low ids) ≡ candidates info kind name
 candidates_found info kind name sorted ids low high number first others same_kind named stable same_ids part =
-    let k = sought (kind_number kind) (first ∷ others) in
-    let there : filter (λ r. is_eq (place_cmp (place_of info r) k)) sorted ≡ slice_range sorted low high = rw (← same_kind) part in
-    let sorting : filter (λ r. is_eq (place_cmp (place_of info r) k)) sorted ≡ filter (λ r. is_eq (place_cmp (place_of info r) k)) (rows info) =
-    filter_sorted place_total (place_of info) (rows info) sorted k stable in
+    let k = search_key (kind_number kind) (first ∷ others) in
+    let there : filter (λ r. is_eq (row_key_cmp (row_key info r) k)) sorted ≡ slice_range sorted low high = rw (← same_kind) part in
+    let sorting : filter (λ r. is_eq (row_key_cmp (row_key info r) k)) sorted ≡ filter (λ r. is_eq (row_key_cmp (row_key info r) k)) (rows info) =
+    filter_sorted row_key_total (row_key info) (rows info) sorted k stable in
     rw same_ids (
     ap (take (high - low)) (drop-map (λ (r : TypeRow). r.id) low sorted)
     ∙ take-map (λ (r : TypeRow). r.id) (high - low) (drop low sorted)
@@ -134,7 +134,7 @@ candidates_found info kind name sorted ids low high number first others same_kin
 -- the same of a text that is not empty
 pub candidates_named : (info : TypeInfo) (kind : BtfKind) (name : List ℕ) (sorted : List TypeRow) (ids : List ℕ) (low high number : ℕ) (text : List ℕ)
     → number ≡ kind_number kind → text ≡ essential_name name → ((text ≡ []) → ⊥) → IsStableBy (is_before info) (rows info) sorted → ids ≡ map (λ r. r.id) sorted
-    → filter (λ r. is_eq (place_cmp (place_of info r) (sought number text))) sorted ≡ slice_range sorted low high
+    → filter (λ r. is_eq (row_key_cmp (row_key info r) (search_key number text))) sorted ≡ slice_range sorted low high
     → take (high - low) (drop low ids) ≡ candidates info kind name
 candidates_named info kind name sorted ids low high number [] same_kind named some stable same_ids part = absurd (some refl)
 candidates_named info kind name sorted ids low high number (x ∷ xs) same_kind named some stable same_ids part =
@@ -148,14 +148,14 @@ absent f (Some x) r is missing = absurd (missing x refl)
 
 -- a type without a row is passed over
 pub rows_skip : (info : TypeInfo) (types : List BtfType) (i : ℕ) (t : BtfType) → drop i types ≡ t ∷ drop (i + 1) types
-    → named_row (kind_number (kind_of t)) i (readable_name info t) ≡ None → rows_from info (i + 1) (drop (i + 1) types) ≡ rows_from info i (drop i types)
+    → named_row (kind_number (kind_of t)) i (readable_name info t) ≡ None → type_rows_from info (i + 1) (drop (i + 1) types) ≡ type_rows_from info i (drop i types)
 rows_skip info types i t here none = rw (here, none) refl
 
 -- and a row is the next
 pub rows_more : (info : TypeInfo) (types : List BtfType) (i : ℕ) (t : BtfType) (front : List TypeRow) (row : TypeRow) → drop i types ≡ t ∷ drop (i + 1) types
-    → named_row (kind_number (kind_of t)) i (readable_name info t) ≡ Some row → (front ++ row ∷ []) ++ rows_from info (i + 1) (drop (i + 1) types) ≡ front ++ rows_from info i (drop i types)
-rows_more info types i t front row here some = rw (here, some) (append_assoc front (row ∷ []) (rows_from info (i + 1) (drop (i + 1) types)))
+    → named_row (kind_number (kind_of t)) i (readable_name info t) ≡ Some row → (front ++ row ∷ []) ++ type_rows_from info (i + 1) (drop (i + 1) types) ≡ front ++ type_rows_from info i (drop i types)
+rows_more info types i t front row here some = rw (here, some) (append_assoc front (row ∷ []) (type_rows_from info (i + 1) (drop (i + 1) types)))
 
-pub named : (kind i : ℕ) (name : List ℕ) → ((name ≡ []) → ⊥) → named_row kind i (Some name) ≡ Some (record { hash = key_hash kind name; id = i })
+pub named : (kind i : ℕ) (name : List ℕ) → ((name ≡ []) → ⊥) → named_row kind i (Some name) ≡ Some (record { hash = type_key_hash kind name; id = i })
 named kind i [] some = absurd (some refl)
 named kind i (x ∷ xs) some = refl

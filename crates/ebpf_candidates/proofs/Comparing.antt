@@ -9,49 +9,49 @@ use Rattle.ebpf_btf.specs.declared.members.BtfParam.{BtfParam}
 use Rattle.ebpf_candidates.specs.declared.pair.Pair.{Pair}
 use Rattle.ebpf_btf.specs.declared.types.BtfType.{BtfType}
 use Rattle.ebpf_btf.specs.Steps.{resolved_type}
-use Rattle.ebpf_candidates.specs.Comparisons.{compared, held_alike, if_alike, params_alike, parts_alike}
-use Rattle.ebpf_candidates.specs.Compatibility.{agree, both, held, held_pair, if_resolved, pair_of, params_of}
+use Rattle.ebpf_candidates.specs.Comparisons.{compared_from, inner_alike, if_alike, params_alike, parts_alike}
+use Rattle.ebpf_candidates.specs.Compatibility.{shallow_alike, both, inner_type_id, inner_pair, if_resolved, pair_of, params_of}
 
 -- ---- a pair
 
 -- no level is left
 pub compared_deep : (levels : ℕ) (local target : List BtfType) (root left : ℕ) (pair : Pair) → levels ≡ 0
-    → compared levels local target root left pair ≡ Err (MaximumTypeDepth root)
-unfolding compared
+    → compared_from levels local target root left pair ≡ Err (MaximumTypeDepth root)
+unfolding compared_from
 compared_deep levels local target root left pair none = rw none refl
 
 compared_full_at : (levels : ℕ) (local target : List BtfType) (root : ℕ) (pair : Pair)
-    → compared levels local target root zero pair ≡ Err (MaximumTypeDepth root)
-unfolding compared
+    → compared_from levels local target root zero pair ≡ Err (MaximumTypeDepth root)
+unfolding compared_from
 compared_full_at zero local target root pair = refl
 compared_full_at (suc levels) local target root pair = refl
 
 -- no pair is left
 pub compared_full : (levels : ℕ) (local target : List BtfType) (root left : ℕ) (pair : Pair) → left ≡ 0
-    → compared levels local target root left pair ≡ Err (MaximumTypeDepth root)
+    → compared_from levels local target root left pair ≡ Err (MaximumTypeDepth root)
 compared_full levels local target root left pair none = rw none (compared_full_at levels local target root pair)
 
 -- a level and a pair are left, and so many without them
 module _ (levels : ℕ) (local target : List BtfType) (root left : ℕ) (pair : Pair) (n m : ℕ) (deep : levels ≡ suc n) (many : left ≡ suc m) where
-  compared_look : compared levels local target root left pair
-      ≡ if_resolved local target pair (λ a b. if agree a b then parts_alike (compared n local target root) m a b else Ok Different)
-  unfolding compared
+  compared_look : compared_from levels local target root left pair
+      ≡ if_resolved local target pair (λ a b. if shallow_alike a b then parts_alike (compared_from n local target root) m a b else Ok Different)
+  unfolding compared_from
   compared_look = rw (deep, many) refl
 
   pub compared_local_fault : (e : BtfError) → resolved_type local pair.local ≡ Err e
-      → compared levels local target root left pair ≡ Err e
+      → compared_from levels local target root left pair ≡ Err e
   compared_local_fault e fault = rw (compared_look, fault) refl
 
   pub compared_target_fault : (a : BtfType) (e : BtfError) → resolved_type local pair.local ≡ Ok a → resolved_type target pair.target ≡ Err e
-      → compared levels local target root left pair ≡ Err e
+      → compared_from levels local target root left pair ≡ Err e
   compared_target_fault a e one fault = rw (compared_look, one, fault) refl
 
   pub compared_different : (a b : BtfType) → resolved_type local pair.local ≡ Ok a → resolved_type target pair.target ≡ Ok b
-      → agree a b ≡ false → compared levels local target root left pair ≡ Ok Different
+      → shallow_alike a b ≡ false → compared_from levels local target root left pair ≡ Ok Different
   compared_different a b one other differ = rw (compared_look, one, other, differ) refl
 
   pub compared_parts : (a b : BtfType) → resolved_type local pair.local ≡ Ok a → resolved_type target pair.target ≡ Ok b
-      → agree a b ≡ true → compared levels local target root left pair ≡ parts_alike (compared n local target root) m a b
+      → shallow_alike a b ≡ true → compared_from levels local target root left pair ≡ parts_alike (compared_from n local target root) m a b
   compared_parts a b one other same = rw (compared_look, one, other, same) refl
 
 -- ---- the parameters that are left
@@ -59,32 +59,32 @@ module _ (levels : ℕ) (local target : List BtfType) (root left : ℕ) (pair : 
 -- what they come to, and then what the two types hold, where so many levels are left
 abbrev pub rest_alike : ℕ → List BtfType → List BtfType → ℕ → ℕ → BtfType → BtfType → List BtfParam → List BtfParam → Result Verdict BtfError
 rest_alike n local target root left a b xs ys =
-    if_alike (params_alike (compared n local target root) left (zip xs ys)) (λ rest. held_alike (compared n local target root) rest a b)
+    if_alike (params_alike (compared_from n local target root) left (zip xs ys)) (λ rest. inner_alike (compared_from n local target root) rest a b)
 
 module _ (n : ℕ) (local target : List BtfType) (root left : ℕ) (a b : BtfType) (xs ys : List BtfParam) where
   -- all of them
   pub rest_all : xs ≡ params_of a → ys ≡ params_of b
-      → rest_alike n local target root left a b xs ys ≡ parts_alike (compared n local target root) left a b
+      → rest_alike n local target root left a b xs ys ≡ parts_alike (compared_from n local target root) left a b
   rest_all first second = rw (first, second) refl
 
   -- the first of them
   rest_first : (x y : BtfParam) (us vs : List BtfParam) → xs ≡ x ∷ us → ys ≡ y ∷ vs
       → rest_alike n local target root left a b xs ys
-      ≡ if_alike (if_alike (compared n local target root left (pair_of x.btf_type y.btf_type)) (λ rest. params_alike (compared n local target root) rest (zip us vs))) (λ rest. held_alike (compared n local target root) rest a b)
+      ≡ if_alike (if_alike (compared_from n local target root left (pair_of x.btf_type y.btf_type)) (λ rest. params_alike (compared_from n local target root) rest (zip us vs))) (λ rest. inner_alike (compared_from n local target root) rest a b)
   rest_first x y us vs first second = rw (first, second) refl
 
   pub rest_fault : (x y : BtfParam) (us vs : List BtfParam) (e : BtfError) → xs ≡ x ∷ us → ys ≡ y ∷ vs
-      → compared n local target root left (pair_of x.btf_type y.btf_type) ≡ Err e
+      → compared_from n local target root left (pair_of x.btf_type y.btf_type) ≡ Err e
       → rest_alike n local target root left a b xs ys ≡ Err e
   rest_fault x y us vs e first second fault = rw (rest_first x y us vs first second, fault) refl
 
   pub rest_different : (x y : BtfParam) (us vs : List BtfParam) → xs ≡ x ∷ us → ys ≡ y ∷ vs
-      → compared n local target root left (pair_of x.btf_type y.btf_type) ≡ Ok Different
+      → compared_from n local target root left (pair_of x.btf_type y.btf_type) ≡ Ok Different
       → rest_alike n local target root left a b xs ys ≡ Ok Different
   rest_different x y us vs first second differ = rw (rest_first x y us vs first second, differ) refl
 
   pub rest_next : (x y : BtfParam) (us vs : List BtfParam) (rest : ℕ) → xs ≡ x ∷ us → ys ≡ y ∷ vs
-      → compared n local target root left (pair_of x.btf_type y.btf_type) ≡ Ok (Alike rest)
+      → compared_from n local target root left (pair_of x.btf_type y.btf_type) ≡ Ok (Alike rest)
       → rest_alike n local target root left a b xs ys ≡ rest_alike n local target root rest a b us vs
   rest_next x y us vs rest first second same = rw (rest_first x y us vs first second, same) refl
 
@@ -93,17 +93,17 @@ module _ (n : ℕ) (local target : List BtfType) (root left : ℕ) (a b : BtfTyp
   zip_none (z ∷ zs) = refl
 
   -- none of them
-  rest_past : (xs ≡ []) ⊎ (ys ≡ []) → rest_alike n local target root left a b xs ys ≡ held_alike (compared n local target root) left a b
+  rest_past : (xs ≡ []) ⊎ (ys ≡ []) → rest_alike n local target root left a b xs ys ≡ inner_alike (compared_from n local target root) left a b
   rest_past (inl none) = rw none refl
   rest_past (inr none) = rw (none, zip_none xs) refl
 
-  -- none of them, and the types of a pair are held, or none
-  module _ (p q : Option ℕ) (m : Option Pair) (past : (xs ≡ []) ⊎ (ys ≡ [])) (one : p ≡ held a) (other : q ≡ held b) (pair : m ≡ both p q) where
-    held_is : held_pair a b ≡ m
-    held_is = sym (pair ∙ rw (one, other) refl)
+  -- none of them, and an inner pair is there, or none
+  module _ (p q : Option ℕ) (m : Option Pair) (past : (xs ≡ []) ⊎ (ys ≡ [])) (one : p ≡ inner_type_id a) (other : q ≡ inner_type_id b) (pair : m ≡ both p q) where
+    inner_is : inner_pair a b ≡ m
+    inner_is = sym (pair ∙ rw (one, other) refl)
 
-    pub rest_held : (next : Pair) → m ≡ Some next → rest_alike n local target root left a b xs ys ≡ compared n local target root left next
-    rest_held next some = rest_past past ∙ rw (held_is ∙ some) refl
+    pub rest_inner : (next : Pair) → m ≡ Some next → rest_alike n local target root left a b xs ys ≡ compared_from n local target root left next
+    rest_inner next some = rest_past past ∙ rw (inner_is ∙ some) refl
 
     pub rest_none : m ≡ None → rest_alike n local target root left a b xs ys ≡ Ok (Alike left)
-    rest_none none = rest_past past ∙ rw (held_is ∙ none) refl
+    rest_none none = rest_past past ∙ rw (inner_is ∙ none) refl

@@ -11,8 +11,8 @@ use Rattle.ebpf_btf.specs.declared.error.BtfError.TheVariants.{MaximumTypeDepth}
 use Rattle.ebpf_btf.specs.declared.members.BtfParam.{BtfParam}
 use Rattle.ebpf_candidates.specs.declared.pair.Pair.{Pair}
 use Rattle.ebpf_btf.specs.declared.types.BtfType.{BtfType}
-use Rattle.ebpf_candidates.specs.Comparisons.{Comparison, compared, held_alike, if_alike, is_alike, params_alike, parts_alike}
-use Rattle.ebpf_candidates.specs.Compatibility.{agree, first_end, found_from, held_pair, held_pairs, pair_of, pairs_or_none, params_of}
+use Rattle.ebpf_candidates.specs.Comparisons.{Comparison, compared_from, inner_alike, if_alike, is_alike, params_alike, parts_alike}
+use Rattle.ebpf_candidates.specs.Compatibility.{shallow_alike, first_end, found_from, inner_pair, inner_pairs, pair_of, pairs_or_none, params_of}
 use Rattle.ebpf_btf.specs.Next.{if_ok, if_some}
 use Rattle.ebpf_btf.specs.Steps.{resolved_type}
 
@@ -52,58 +52,58 @@ same_after (Ok (Alike left)) f g same = same left
 same_after (Ok Different) f g same = refl
 same_after (Err e) f g same = refl
 
--- a comparison of pairs that is told by what is found at them
-module _ (compare : Comparison) (found : Pair → List Found) (past : BtfError) (told : (left : ℕ) (pair : Pair) → compare left pair ≡ run left past (found pair)) where
+-- a comparison of pairs that is the run over what is found at them
+module _ (compare : Comparison) (found : Pair → List Found) (past : BtfError) (runs : (left : ℕ) (pair : Pair) → compare left pair ≡ run left past (found pair)) where
   abbrev types_of : BtfParam × BtfParam → Pair
   types_of p = pair_of p.0.btf_type p.1.btf_type
 
-  params_told : (left : ℕ) (ps : List (BtfParam × BtfParam)) → params_alike compare left ps ≡ run left past (flat_map found (map types_of ps))
-  params_told left [] = refl
-  params_told left (p ∷ ps) =
-      ap (λ r. if_alike r (λ rest. params_alike compare rest ps)) (told left (types_of p))
-      ∙ same_after (run left past (found (types_of p))) (λ rest. params_alike compare rest ps) (λ rest. run rest past (flat_map found (map types_of ps))) (λ rest. params_told rest ps)
+  params_run : (left : ℕ) (ps : List (BtfParam × BtfParam)) → params_alike compare left ps ≡ run left past (flat_map found (map types_of ps))
+  params_run left [] = refl
+  params_run left (p ∷ ps) =
+      ap (λ r. if_alike r (λ rest. params_alike compare rest ps)) (runs left (types_of p))
+      ∙ same_after (run left past (found (types_of p))) (λ rest. params_alike compare rest ps) (λ rest. run rest past (flat_map found (map types_of ps))) (λ rest. params_run rest ps)
       ∙ sym (run_append left past (found (types_of p)) (flat_map found (map types_of ps)))
 
-  held_told : (left : ℕ) (pair : Option Pair)
+  inner_runs : (left : ℕ) (pair : Option Pair)
       → if_some pair (λ p. compare left p) (Ok (Alike left)) ≡ run left past (flat_map found (if_some pair (λ p. p ∷ []) []))
-  held_told left None = refl
-  held_told left (Some p) = told left p ∙ ap (run left past) (sym (append-nil (found p)))
+  inner_runs left None = refl
+  inner_runs left (Some p) = runs left p ∙ ap (run left past) (sym (append-nil (found p)))
 
-  parts_told : (left : ℕ) (a b : BtfType) → parts_alike compare left a b ≡ run left past (flat_map found (held_pairs a b))
-  parts_told left a b =
+  parts_run : (left : ℕ) (a b : BtfType) → parts_alike compare left a b ≡ run left past (flat_map found (inner_pairs a b))
+  parts_run left a b =
       let ps : List (BtfParam × BtfParam) = zip (params_of a) (params_of b) in
-      let hs : List Pair = if_some (held_pair a b) (λ p. p ∷ []) [] in
-      ap (λ r. if_alike r (λ rest. held_alike compare rest a b)) (params_told left ps)
-      ∙ same_after (run left past (flat_map found (map types_of ps))) (λ rest. held_alike compare rest a b) (λ rest. run rest past (flat_map found hs)) (λ rest. held_told rest (held_pair a b))
+      let hs : List Pair = if_some (inner_pair a b) (λ p. p ∷ []) [] in
+      ap (λ r. if_alike r (λ rest. inner_alike compare rest a b)) (params_run left ps)
+      ∙ same_after (run left past (flat_map found (map types_of ps))) (λ rest. inner_alike compare rest a b) (λ rest. run rest past (flat_map found hs)) (λ rest. inner_runs rest (inner_pair a b))
       ∙ sym (run_append left past (flat_map found (map types_of ps)) (flat_map found hs))
       ∙ ap (run left past) (sym (flat_map-append found (map types_of ps) hs))
 
-  agreed_told : (left : ℕ) (a b : BtfType) (same : Bool)
-      → (if same then parts_alike compare left a b else Ok Different) ≡ step (Ok same) (run left past (flat_map found (held_pairs a b)))
-  agreed_told left a b true = parts_told left a b
-  agreed_told left a b false = refl
+  agreed_runs : (left : ℕ) (a b : BtfType) (same : Bool)
+      → (if same then parts_alike compare left a b else Ok Different) ≡ step (Ok same) (run left past (flat_map found (inner_pairs a b)))
+  agreed_runs left a b true = parts_run left a b
+  agreed_runs left a b false = refl
 
-  pair_told : (left : ℕ) (one other : Result BtfType BtfError)
-      → if_ok one (λ a. if_ok other (λ b. if agree a b then parts_alike compare left a b else Ok Different))
-      ≡ step (if_ok one (λ a. if_ok other (λ b. Ok (agree a b)))) (run left past (flat_map found (pairs_or_none (if_ok one (λ a. if_ok other (λ b. Ok (held_pairs a b)))))))
-  pair_told left (Ok a) (Ok b) = agreed_told left a b (agree a b)
-  pair_told left (Ok a) (Err e) = refl
-  pair_told left (Err e) other = refl
+  pair_runs : (left : ℕ) (one other : Result BtfType BtfError)
+      → if_ok one (λ a. if_ok other (λ b. if shallow_alike a b then parts_alike compare left a b else Ok Different))
+      ≡ step (if_ok one (λ a. if_ok other (λ b. Ok (shallow_alike a b)))) (run left past (flat_map found (pairs_or_none (if_ok one (λ a. if_ok other (λ b. Ok (inner_pairs a b)))))))
+  pair_runs left (Ok a) (Ok b) = agreed_runs left a b (shallow_alike a b)
+  pair_runs left (Ok a) (Err e) = refl
+  pair_runs left (Err e) other = refl
 
 compared_run : (levels : ℕ) (local target : List BtfType) (root left : ℕ) (pair : Pair)
-    → compared levels local target root left pair ≡ run left (MaximumTypeDepth root) (found_from levels local target root pair)
-unfolding compared found_from
+    → compared_from levels local target root left pair ≡ run left (MaximumTypeDepth root) (found_from levels local target root pair)
+unfolding compared_from found_from
 compared_run zero local target root zero pair = refl
 compared_run zero local target root (suc left) pair = refl
 compared_run (suc levels) local target root zero pair = refl
 compared_run (suc levels) local target root (suc left) pair =
-    pair_told (compared levels local target root) (found_from levels local target root) (MaximumTypeDepth root)
+    pair_runs (compared_from levels local target root) (found_from levels local target root) (MaximumTypeDepth root)
     (λ rest next. compared_run levels local target root rest next)
     left (resolved_type local pair.local) (resolved_type target pair.target)
 
 -- what a comparison comes to
 pub compared_found : (levels : ℕ) (local target : List BtfType) (root left : ℕ) (pair : Pair) (r : Result Verdict BtfError)
-    → r ≡ compared levels local target root left pair
+    → r ≡ compared_from levels local target root left pair
     → is_alike r ≡ first_end left (MaximumTypeDepth root) (found_from levels local target root pair)
 compared_found levels local target root left pair r is =
     ap is_alike (is ∙ compared_run levels local target root left pair) ∙ run_end left (MaximumTypeDepth root) (found_from levels local target root pair)

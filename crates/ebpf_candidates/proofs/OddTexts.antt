@@ -20,7 +20,7 @@ use Rattle.ebpf_btf.specs.EssentialNames.{essential_name}
 use Rattle.ebpf_btf.specs.Strings.{before_zero, text_at, text_or_fault}
 use Rattle.ebpf_candidates.specs.TypeRows.{readable_name}
 use Rattle.ebpf_btf.specs.TypeInfo.{TypeInfo}
-use Rattle.ebpf_btf.specs.Types.{name_of}
+use Rattle.ebpf_btf.specs.Types.{name_off}
 
 pub odd_utf8 : (bytes : List ℕ) → IsUtf8 bytes → odd_text bytes ≡ None
 odd_utf8 bytes utf8 = rw (is_utf8-from_IsUtf8 bytes utf8) refl
@@ -47,21 +47,21 @@ odd_none bytes is = by_test (is_utf8 bytes) refl is
     by_test false e same = cc
 
 -- a name that is not odd is read as it stands
-pub readable_plain : (info : TypeInfo) (t : BtfType) → odd_name info t ≡ None → option_map essential_name (before_zero (drop (name_of t) info.strings)) ≡ readable_name info t
+pub readable_plain : (info : TypeInfo) (t : BtfType) → odd_name info t ≡ None → option_map essential_name (before_zero (drop (name_off t) info.strings)) ≡ readable_name info t
 unfolding text_at
-readable_plain info t plain = by_bytes (before_zero (drop (name_of t) info.strings)) plain
+readable_plain info t plain = by_bytes (before_zero (drop (name_off t) info.strings)) plain
   where
-    by_bytes : (o : Option (List ℕ)) → if_some o odd_text None ≡ None → option_map essential_name o ≡ option_map essential_name (result_ok (text_or_fault (name_of t) o))
+    by_bytes : (o : Option (List ℕ)) → if_some o odd_text None ≡ None → option_map essential_name o ≡ option_map essential_name (result_ok (text_or_fault (name_off t) o))
     by_bytes None same = refl
     by_bytes (Some bytes) same = ap (λ text. Some (essential_name text)) (sym (odd_none bytes same))
 
 -- no name in strings of ASCII is odd
 odd_between : (strings : List ℕ) (offset : ℕ) → All (λ b. b < 128) strings → if_some (before_zero (drop offset strings)) odd_text None ≡ None
-odd_between strings offset ascii = by_place (position (λ b. b == 0) (drop offset strings))
+odd_between strings offset ascii = by_index (position (λ b. b == 0) (drop offset strings))
   where
-    by_place : (o : Option ℕ) → if_some (option_map (λ n. take n (drop offset strings)) o) odd_text None ≡ None
-    by_place None = refl
-    by_place (Some n) =
+    by_index : (o : Option ℕ) → if_some (option_map (λ n. take n (drop offset strings)) o) odd_text None ≡ None
+    by_index None = refl
+    by_index (Some n) =
         odd_utf8 (take n (drop offset strings))
         (IsUtf8-from_ascii (take n (drop offset strings)) (IsAscii-take (drop offset strings) n (IsAscii-drop strings offset (IsAscii-from_all strings ascii))))
 
@@ -70,11 +70,11 @@ odd_ascii info id ascii = by_type (slice_get info.types id)
   where
     by_type : (o : Option _) → if_some o (odd_name info) None ≡ None
     by_type None = refl
-    by_type (Some t) = odd_between info.strings (name_of t) ascii
+    by_type (Some t) = odd_between info.strings (name_off t) ascii
 
 -- ---- gathered one after the other
 
--- those of the types below a place
+-- those of the types below an index
 abbrev pub odd_below : TypeInfo → ℕ → ℕ → Option (List ℕ)
 odd_below info k n = cond (nat_lt n k) (odd_at info n) None
 

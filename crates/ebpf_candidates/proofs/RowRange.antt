@@ -9,7 +9,7 @@ use Rattle.std.specs.declared.cmp.Ordering.{Ordering}
 use Rattle.std.specs.declared.cmp.Ordering.TheVariants.{Less, Equal, Greater}
 use denote.Param.Members.{Mut}
 use denote.Ref.{Bor}
-use Rattle.ebpf_candidates.specs.TypeRows.{Below, NotAbove}
+use Rattle.ebpf_candidates.specs.TypeRows.{IsLowerBound, IsUpperBound}
 use Rattle.std.proofs.Common.{ltb, leb, ⊎_elim}
 use Rattle.std.proofs.lemmas.Bool.{cases_lt}
 use Rattle.std.proofs.lemmas.Cmp.{alike_right}
@@ -79,14 +79,14 @@ not_both Equal e f = cc
 not_both Greater e f = cc
 
 -- what is below ends before what is not above
-pub ends_in_order : {X : Type 0} (c : X → Ordering) (xs : List X) (low high : ℕ) → low ≤ length xs → Below c xs low → NotAbove c xs high → low ≤ high
+pub ends_in_order : {X : Type 0} (c : X → Ordering) (xs : List X) (low high : ℕ) → low ≤ length xs → IsLowerBound c xs low → IsUpperBound c xs high → low ≤ high
 ends_in_order c [] low high inside below upto = omega arith
 ends_in_order c (x ∷ xs) low high inside below upto =
     ⊎_elim (λ less. absurd (not_both (c (get_or (x ∷ xs) high x)) (below.0 high x (omega arith) less) (upto.1 high x (omega arith) (omega arith)))) (λ more. more) (cases_lt high low)
 
 -- what has the key stands between the two
 pub filter_between : {X : Type 0} (c : X → Ordering) (xs : List X) (low high : ℕ) → low ≤ high → high ≤ length xs
-    → Below c xs low → NotAbove c xs high → filter (λ y. is_eq (c y)) xs ≡ take (high - low) (drop low xs)
+    → IsLowerBound c xs low → IsUpperBound c xs high → filter (λ y. is_eq (c y)) xs ≡ take (high - low) (drop low xs)
 filter_between c xs low high order inside below upto =
     filter_part (λ y. is_eq (c y)) xs low (high - low)
     (λ k d a b. not_eq_below _ (below.0 k d a b))

@@ -10,12 +10,12 @@ use Rattle.ebpf_btf.specs.declared.error.BtfError.TheVariants.{InvalidStringOffs
 use Rattle.ebpf_btf.specs.declared.kind.BtfKind.{BtfKind}
 use Rattle.ebpf_btf.specs.declared.types.BtfType.{BtfType}
 use Rattle.ebpf_candidates.specs.declared.unreadable.UnreadableName.{UnreadableName}
-use Rattle.ebpf_candidates.specs.Candidates.{candidates_fault, candidates_of_both_fault, name_fault}
+use Rattle.ebpf_candidates.specs.Candidates.{candidates_fault, candidates_of_both_fault, type_name_fault}
 use Rattle.ebpf_btf.specs.EssentialNames.{essential_name}
 use Rattle.ebpf_btf.specs.Strings.{before_zero, text_at, text_or_fault, type_name}
 use Rattle.ebpf_btf.specs.TypeInfo.{TypeInfo}
-use Rattle.ebpf_candidates.specs.TypeRows.{lower, readable_name, unread, unreadable_fault, unreadable_from, unreadable_name}
-use Rattle.ebpf_btf.specs.Types.{is_kind, kind_number, kind_of, name_of}
+use Rattle.ebpf_candidates.specs.TypeRows.{lower, readable_name, unread, unreadable_name_fault, unreadable_from, unreadable_name}
+use Rattle.ebpf_btf.specs.Types.{is_kind, kind_number, kind_of, name_off}
 
 or_else_assoc : {E : Type 0} (a b c : Option E) → or_else (or_else a b) c ≡ or_else a (or_else b c)
 or_else_assoc None b c = refl
@@ -56,7 +56,7 @@ unreadable_none info t none = by_name (result_ok (type_name info t)) none
 -- and one that can't be is kept, where it is the first of its kind
 pub unread_more : (info : TypeInfo) (kind : BtfKind) (types : List BtfType) (i : ℕ) (t : BtfType) (old new all : Option UnreadableName)
     → drop i types ≡ t ∷ drop (i + 1) types → result_ok (type_name info t) ≡ None
-    → new ≡ or_else old (if kind_number (kind_of t) == kind_number kind then Some (record { id = i; offset = name_of t }) else None)
+    → new ≡ or_else old (if kind_number (kind_of t) == kind_number kind then Some (record { id = i; offset = name_off t }) else None)
     → or_else old (unreadable_from info kind i (drop i types)) ≡ all
     → or_else new (unreadable_from info kind (i + 1) (drop (i + 1) types)) ≡ all
 unread_more info kind types i t old new all here none kept before = by_name (type_name info t) refl none
@@ -65,7 +65,7 @@ unread_more info kind types i t old new all here none kept before = by_name (typ
         → or_else new (unreadable_from info kind (i + 1) (drop (i + 1) types)) ≡ all
     by_name (Ok read) is same = cc
     by_name (Err e) is same =
-        let first : unreadable_name info kind i t ≡ (if is_kind kind t then Some (record { id = i; offset = name_of t }) else None) = rw is refl in
+        let first : unreadable_name info kind i t ≡ (if is_kind kind t then Some (record { id = i; offset = name_off t }) else None) = rw is refl in
         let later = unreadable_from info kind (i + 1) (drop (i + 1) types) in
         ap (λ o. or_else o later) (kept ∙ ap (or_else old) (sym first))
         ∙ or_else_assoc old (unreadable_name info kind i t) later
@@ -74,39 +74,39 @@ unread_more info kind types i t old new all here none kept before = by_name (typ
 
 -- ---- their faults
 
-text_fault : (strings : List ℕ) (offset : ℕ) (id : ℕ) (t : BtfType) → name_of t ≡ offset
-    → fault_of (text_at strings offset) ≡ unreadable_fault (unread id t (text_at strings offset))
+text_fault : (strings : List ℕ) (offset : ℕ) (id : ℕ) (t : BtfType) → name_off t ≡ offset
+    → fault_of (text_at strings offset) ≡ unreadable_name_fault (unread id t (text_at strings offset))
 unfolding text_at
 text_fault strings offset id t name = by_bytes (before_zero (drop offset strings))
   where
-    by_bytes : (b : Option (List ℕ)) → fault_of (text_or_fault offset b) ≡ unreadable_fault (unread id t (text_or_fault offset b))
+    by_bytes : (b : Option (List ℕ)) → fault_of (text_or_fault offset b) ≡ unreadable_name_fault (unread id t (text_or_fault offset b))
     by_bytes None = ap (λ n. Some (InvalidStringOffset n)) (sym name)
     by_bytes (Some bytes) = refl
 
-one_fault : (info : TypeInfo) (kind : BtfKind) (id : ℕ) (t : BtfType) → name_fault info kind t ≡ unreadable_fault (unreadable_name info kind id t)
+one_fault : (info : TypeInfo) (kind : BtfKind) (id : ℕ) (t : BtfType) → type_name_fault info kind t ≡ unreadable_name_fault (unreadable_name info kind id t)
 one_fault info kind id t = by_kind (is_kind kind t)
   where
-    by_kind : (b : Bool) → cond b (fault_of (type_name info t)) None ≡ unreadable_fault (cond b (unread id t (type_name info t)) None)
-    by_kind true = text_fault info.strings (name_of t) id t refl
+    by_kind : (b : Bool) → cond b (fault_of (type_name info t)) None ≡ unreadable_name_fault (cond b (unread id t (type_name info t)) None)
+    by_kind true = text_fault info.strings (name_off t) id t refl
     by_kind false = refl
 
-fault_or_else : (a b : Option UnreadableName) → unreadable_fault (or_else a b) ≡ or_else (unreadable_fault a) (unreadable_fault b)
+fault_or_else : (a b : Option UnreadableName) → unreadable_name_fault (or_else a b) ≡ or_else (unreadable_name_fault a) (unreadable_name_fault b)
 fault_or_else None b = refl
 fault_or_else (Some n) b = refl
 
 -- of one kind
-faults_from : (info : TypeInfo) (kind : BtfKind) (id : ℕ) (types : List BtfType) → first_some (name_fault info kind) types ≡ unreadable_fault (unreadable_from info kind id types)
+faults_from : (info : TypeInfo) (kind : BtfKind) (id : ℕ) (types : List BtfType) → first_some (type_name_fault info kind) types ≡ unreadable_name_fault (unreadable_from info kind id types)
 faults_from info kind id [] = refl
 faults_from info kind id (t ∷ types) =
     (λ i. or_else (one_fault info kind id t i) (faults_from info kind (id + 1) types i))
     ∙ sym (fault_or_else (unreadable_name info kind id t) (unreadable_from info kind (id + 1) types))
 
-pub fault_of_kind : (info : TypeInfo) (kind : BtfKind) → candidates_fault info kind ≡ unreadable_fault (unreadable_from info kind 0 info.types)
+pub fault_of_kind : (info : TypeInfo) (kind : BtfKind) → candidates_fault info kind ≡ unreadable_name_fault (unreadable_from info kind 0 info.types)
 fault_of_kind info kind = faults_from info kind 0 info.types
 
 -- ---- of two kinds
 
--- ids are those of the places
+-- ids are the indices
 unread_id : (info : TypeInfo) (kind : BtfKind) (id : ℕ) (t : BtfType) (n : UnreadableName) → unreadable_name info kind id t ≡ Some n → n.id ≡ id
 unread_id info kind id t n is = by_kind (is_kind kind t) (type_name info t) is
   where
@@ -156,17 +156,17 @@ lower_from info first second id (t ∷ types) =
     (lower_from info first second (id + 1) types)
 
 both_from : (info : TypeInfo) (first second : BtfKind) (id : ℕ) (types : List BtfType)
-    → first_some (λ t. or_else (name_fault info first t) (name_fault info second t)) types
-    ≡ unreadable_fault (first_some (λ e. or_else (unreadable_name info first e.0 e.1) (unreadable_name info second e.0 e.1)) (enumerate_from id types))
+    → first_some (λ t. or_else (type_name_fault info first t) (type_name_fault info second t)) types
+    ≡ unreadable_name_fault (first_some (λ e. or_else (unreadable_name info first e.0 e.1) (unreadable_name info second e.0 e.1)) (enumerate_from id types))
 both_from info first second id [] = refl
 both_from info first second id (t ∷ types) =
     let a = unreadable_name info first id t in
     let b = unreadable_name info second id t in
     let later = first_some (λ e. or_else (unreadable_name info first e.0 e.1) (unreadable_name info second e.0 e.1)) (enumerate_from (id + 1) types) in
     (λ i. or_else (or_else (one_fault info first id t i) (one_fault info second id t i)) (both_from info first second (id + 1) types i))
-    ∙ ap (λ o. or_else o (unreadable_fault later)) (sym (fault_or_else a b))
+    ∙ ap (λ o. or_else o (unreadable_name_fault later)) (sym (fault_or_else a b))
     ∙ sym (fault_or_else (or_else a b) later)
 
 pub fault_of_kinds : (info : TypeInfo) (first second : BtfKind)
-    → candidates_of_both_fault info first second ≡ unreadable_fault (lower (unreadable_from info first 0 info.types) (unreadable_from info second 0 info.types))
-fault_of_kinds info first second = both_from info first second 0 info.types ∙ ap unreadable_fault (sym (lower_from info first second 0 info.types))
+    → candidates_of_both_fault info first second ≡ unreadable_name_fault (lower (unreadable_from info first 0 info.types) (unreadable_from info second 0 info.types))
+fault_of_kinds info first second = both_from info first second 0 info.types ∙ ap unreadable_name_fault (sym (lower_from info first second 0 info.types))

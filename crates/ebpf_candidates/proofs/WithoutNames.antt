@@ -13,8 +13,8 @@ use Rattle.ebpf_candidates.specs.TypeRows.{readable_name}
 use Rattle.ebpf_btf.specs.Types.{is_kind, kind_number, kind_of}
 
 -- the ids that are left
-abbrev pub nameless_from : TypeInfo → BtfKind → ℕ → List BtfType → List ℕ
-nameless_from info kind id types = ids_from (is_candidate info kind []) id types
+abbrev pub anonymous_from : TypeInfo → BtfKind → ℕ → List BtfType → List ℕ
+anonymous_from info kind id types = ids_from (is_candidate info kind []) id types
 
 no_name : essential_name [] ≡ []
 unfolding essential_name
@@ -43,8 +43,8 @@ is_none None = false
 is_none (Some []) = true
 is_none (Some (x ∷ xs)) = false
 
-is_nameless : (info : TypeInfo) (kind : BtfKind) (t : BtfType) → is_candidate info kind [] t ≡ (is_kind kind t && is_none (readable_name info t))
-is_nameless info kind t = by_name (type_name info t) refl
+is_anonymous : (info : TypeInfo) (kind : BtfKind) (t : BtfType) → is_candidate info kind [] t ≡ (is_kind kind t && is_none (readable_name info t))
+is_anonymous info kind t = by_name (type_name info t) refl
   where
     by_text : (text : List ℕ) (essential : List ℕ) → essential_name text ≡ essential → type_name info t ≡ Ok text → is_candidate info kind [] t ≡ (is_kind kind t && is_none (readable_name info t))
     by_text text [] e is = rw (is, e, no_name) refl
@@ -59,10 +59,10 @@ has_name o [] is some = absurd (some refl)
 has_name o (x ∷ xs) is some = ap is_none is
 
 -- a type that has a name, or one that can't be read, is passed over
-pub nameless_skip : (info : TypeInfo) (kind : BtfKind) (types : List BtfType) (i : ℕ) (t : BtfType) → drop i types ≡ t ∷ drop (i + 1) types
-    → is_none (readable_name info t) ≡ false → nameless_from info kind (i + 1) (drop (i + 1) types) ≡ nameless_from info kind i (drop i types)
-nameless_skip info kind types i t here other =
-    let test : is_candidate info kind [] t ≡ false = is_nameless info kind t ∙ ap (λ b. is_kind kind t && b) other ∙ never (is_kind kind t) in
+pub anonymous_skip : (info : TypeInfo) (kind : BtfKind) (types : List BtfType) (i : ℕ) (t : BtfType) → drop i types ≡ t ∷ drop (i + 1) types
+    → is_none (readable_name info t) ≡ false → anonymous_from info kind (i + 1) (drop (i + 1) types) ≡ anonymous_from info kind i (drop i types)
+anonymous_skip info kind types i t here other =
+    let test : is_candidate info kind [] t ≡ false = is_anonymous info kind t ∙ ap (λ b. is_kind kind t && b) other ∙ never (is_kind kind t) in
     rw (here, test) refl
 
 first_id : (b : Bool) (e : ℕ × BtfType) (es : List (ℕ × BtfType)) → map (λ x. x.0) (cond b (e ∷ es) es) ≡ cond b (e.0 ∷ map (λ x. x.0) es) (map (λ x. x.0) es)
@@ -74,13 +74,13 @@ put_first true old i rest = append_assoc old (i ∷ []) rest
 put_first false old i rest = ap (λ ids. ids ++ rest) (append-nil old)
 
 -- one without a name is the next of its kind
-pub nameless_more : (info : TypeInfo) (kind : BtfKind) (types : List BtfType) (i : ℕ) (t : BtfType) (old new all : List ℕ) → drop i types ≡ t ∷ drop (i + 1) types
+pub anonymous_more : (info : TypeInfo) (kind : BtfKind) (types : List BtfType) (i : ℕ) (t : BtfType) (old new all : List ℕ) → drop i types ≡ t ∷ drop (i + 1) types
     → readable_name info t ≡ Some [] → new ≡ old ++ (if kind_number (kind_of t) == kind_number kind then i ∷ [] else [])
-    → old ++ nameless_from info kind i (drop i types) ≡ all → new ++ nameless_from info kind (i + 1) (drop (i + 1) types) ≡ all
-nameless_more info kind types i t old new all here none is before =
-    let test : is_candidate info kind [] t ≡ is_kind kind t = is_nameless info kind t ∙ ap (λ o. is_kind kind t && is_none o) none ∙ always (is_kind kind t) in
-    let rest = nameless_from info kind (i + 1) (drop (i + 1) types) in
-    let left : nameless_from info kind i (drop i types) ≡ cond (is_kind kind t) (i ∷ rest) rest = rw (here, test) (first_id (is_kind kind t) (i, t) _) in
+    → old ++ anonymous_from info kind i (drop i types) ≡ all → new ++ anonymous_from info kind (i + 1) (drop (i + 1) types) ≡ all
+anonymous_more info kind types i t old new all here none is before =
+    let test : is_candidate info kind [] t ≡ is_kind kind t = is_anonymous info kind t ∙ ap (λ o. is_kind kind t && is_none o) none ∙ always (is_kind kind t) in
+    let rest = anonymous_from info kind (i + 1) (drop (i + 1) types) in
+    let left : anonymous_from info kind i (drop i types) ≡ cond (is_kind kind t) (i ∷ rest) rest = rw (here, test) (first_id (is_kind kind t) (i, t) _) in
     ap (λ ids. ids ++ rest) is ∙ put_first (is_kind kind t) old i rest ∙ ap (λ ids. old ++ ids) (sym left) ∙ before
 
 -- candidates of a name without an essential part
@@ -92,5 +92,5 @@ module _ (info : TypeInfo) (kind : BtfKind) (name : List ℕ) (none : essential_
       by_name (Ok text) is = rw (is, none, no_name) refl
       by_name (Err e) is = rw is refl
 
-  pub nameless_found : candidates info kind [] ≡ candidates info kind name
-  nameless_found = λ i. ids_from (λ t. same_test t i) 0 info.types
+  pub anonymous_found : candidates info kind [] ≡ candidates info kind name
+  anonymous_found = λ i. ids_from (λ t. same_test t i) 0 info.types

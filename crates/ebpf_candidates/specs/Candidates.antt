@@ -31,12 +31,12 @@ abbrev pub candidates : TypeInfo → BtfKind → List ℕ → List ℕ
 candidates info kind name = ids_from (is_candidate info kind name) 0 info.types
 
 -- the fault of a type's name, where the type is of a kind
-abbrev pub name_fault : TypeInfo → BtfKind → BtfType → Option BtfError
-name_fault info kind t = if is_kind kind t then fault_of (type_name info t) else None
+abbrev pub type_name_fault : TypeInfo → BtfKind → BtfType → Option BtfError
+type_name_fault info kind t = if is_kind kind t then fault_of (type_name info t) else None
 
 -- the name fault of the lowest id of a kind whose name can't be read
 abbrev pub candidates_fault : TypeInfo → BtfKind → Option BtfError
-candidates_fault info kind = first_some (name_fault info kind) info.types
+candidates_fault info kind = first_some (type_name_fault info kind) info.types
 
 -- ---- of two kinds
 
@@ -46,7 +46,7 @@ candidates_of_both info first second name = ids_from (λ t. is_candidate info fi
 
 -- the name fault of the lowest id of either kind whose name can't be read
 abbrev pub candidates_of_both_fault : TypeInfo → BtfKind → BtfKind → Option BtfError
-candidates_of_both_fault info first second = first_some (λ t. or_else (name_fault info first t) (name_fault info second t)) info.types
+candidates_of_both_fault info first second = first_some (λ t. or_else (type_name_fault info first t) (type_name_fault info second t)) info.types
 
 -- ---- what holds of them
 

@@ -8,7 +8,7 @@ use Rattle.ebpf_btf.specs.declared.error.BtfError.TheVariants.{MaximumTypeDepth}
 use Rattle.ebpf_btf.specs.declared.members.BtfParam.{BtfParam}
 use Rattle.ebpf_candidates.specs.declared.pair.Pair.{Pair}
 use Rattle.ebpf_btf.specs.declared.types.BtfType.{BtfType}
-use Rattle.ebpf_candidates.specs.Compatibility.{agree, held_pair, if_resolved, pair_of, params_of}
+use Rattle.ebpf_candidates.specs.Compatibility.{shallow_alike, inner_pair, if_resolved, pair_of, params_of}
 use Rattle.ebpf_btf.specs.Next.{if_some}
 
 -- what follows where types are alike, with the number of pairs that may still be met
@@ -27,23 +27,23 @@ params_alike compare left [] = Ok (Alike left)
 params_alike compare left (p ∷ ps) =
     if_alike (compare left (pair_of p.0.btf_type p.1.btf_type)) (λ rest. params_alike compare rest ps)
 
--- the types that two types hold
-abbrev pub held_alike : Comparison → ℕ → BtfType → BtfType → Result Verdict BtfError
-held_alike compare left a b =
-    if_some (held_pair a b) (λ pair. compare left pair) (Ok (Alike left))
+-- the inner types of two types
+abbrev pub inner_alike : Comparison → ℕ → BtfType → BtfType → Result Verdict BtfError
+inner_alike compare left a b =
+    if_some (inner_pair a b) (λ pair. compare left pair) (Ok (Alike left))
 
 -- all types below two types that agree: the parameters first
 abbrev pub parts_alike : Comparison → ℕ → BtfType → BtfType → Result Verdict BtfError
 parts_alike compare left a b =
-    if_alike (params_alike compare left (zip (params_of a) (params_of b))) (λ rest. held_alike compare rest a b)
+    if_alike (params_alike compare left (zip (params_of a) (params_of b))) (λ rest. inner_alike compare rest a b)
 
 -- A pair and all below it, depth first, up to the first that differs. There may be so many levels and so many pairs.
-unfoldable pub compared : ℕ → List BtfType → List BtfType → ℕ → Comparison
-compared zero local target root left pair = Err (MaximumTypeDepth root)
-compared (suc levels) local target root zero pair = Err (MaximumTypeDepth root)
-compared (suc levels) local target root (suc left) pair =
+unfoldable pub compared_from : ℕ → List BtfType → List BtfType → ℕ → Comparison
+compared_from zero local target root left pair = Err (MaximumTypeDepth root)
+compared_from (suc levels) local target root zero pair = Err (MaximumTypeDepth root)
+compared_from (suc levels) local target root (suc left) pair =
     if_resolved local target pair (λ a b.
-    if agree a b then parts_alike (compared levels local target root) left a b else Ok Different)
+    if shallow_alike a b then parts_alike (compared_from levels local target root) left a b else Ok Different)
 
 -- whether a comparison found no difference
 abbrev pub is_alike : Result Verdict BtfError → Result Bool BtfError

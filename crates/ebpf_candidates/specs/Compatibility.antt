@@ -131,29 +131,29 @@ unfoldable pub params_of : BtfType → List BtfParam
 params_of (FuncProto _ _ params) = params
 params_of _ = []
 
--- the type that a PTR, an ARRAY or a FUNC_PROTO holds: what it points to, its elements, its result
-unfoldable pub held : BtfType → Option ℕ
-held (Ptr _ id) = Some id
-held (Array _ id _ _) = Some id
-held (FuncProto _ id _) = Some id
-held _ = None
+-- the inner type of a PTR, an ARRAY or a FUNC_PROTO: what it points to, its elements, its result
+unfoldable pub inner_type_id : BtfType → Option ℕ
+inner_type_id (Ptr _ id) = Some id
+inner_type_id (Array _ id _ _) = Some id
+inner_type_id (FuncProto _ id _) = Some id
+inner_type_id _ = None
 
-abbrev pub held_pair : BtfType → BtfType → Option Pair
-held_pair a b = both (held a) (held b)
+abbrev pub inner_pair : BtfType → BtfType → Option Pair
+inner_pair a b = both (inner_type_id a) (inner_type_id b)
 
--- whether two types are alike, those that they hold aside
-abbrev pub agree : BtfType → BtfType → Bool
-agree a b = same_kind a b && is_compared (kind_of a) && both_begin_at_0 a b && length (params_of a) == length (params_of b)
+-- whether two types are alike, their inner types aside
+abbrev pub shallow_alike : BtfType → BtfType → Bool
+shallow_alike a b = same_kind a b && is_compared (kind_of a) && both_begin_at_0 a b && length (params_of a) == length (params_of b)
 
--- whether the two types of a pair are alike, those that they hold aside
+-- whether the two types of a pair are alike, their inner types aside
 abbrev pub alike_at : List BtfType → List BtfType → Pair → Result Bool BtfError
-alike_at local target pair = if_resolved local target pair (λ a b. Ok (agree a b))
+alike_at local target pair = if_resolved local target pair (λ a b. Ok (shallow_alike a b))
 
--- the pairs that two types hold: of their parameters in order, and then of what both hold
-abbrev pub held_pairs : BtfType → BtfType → List Pair
-held_pairs a b =
+-- the pairs inside two types: of their parameters in order, and then of their inner types
+abbrev pub inner_pairs : BtfType → BtfType → List Pair
+inner_pairs a b =
     map (λ (p : BtfParam × BtfParam). pair_of p.0.btf_type p.1.btf_type) (zip (params_of a) (params_of b))
-    ++ if_some (held_pair a b) (λ pair. pair ∷ []) []
+    ++ if_some (inner_pair a b) (λ pair. pair ∷ []) []
 
 abbrev pub pairs_or_none : Result (List Pair) BtfError → List Pair
 pairs_or_none (Ok pairs) = pairs
@@ -161,7 +161,7 @@ pairs_or_none (Err e) = []
 
 -- the pairs that a pair leads to
 abbrev pub pairs_below : List BtfType → List BtfType → Pair → List Pair
-pairs_below local target pair = pairs_or_none (if_resolved local target pair (λ a b. Ok (held_pairs a b)))
+pairs_below local target pair = pairs_or_none (if_resolved local target pair (λ a b. Ok (inner_pairs a b)))
 
 -- What is found at a pair and at all below it, in depth-first order. There may be so many levels.
 unfoldable pub found_from : ℕ → List BtfType → List BtfType → ℕ → Pair → List (Result Bool BtfError)

@@ -1,8 +1,8 @@
 //! Whether a type stands for another.
 
 ghost use Rattle.std.specs.Prelude.{◌≡◌, IfOk, Ok};
-ghost use Rattle.ebpf_candidates.specs.Comparisons.{compared, is_alike};
-ghost use Rattle.ebpf_candidates.specs.Compatibility.{agree, first_end, found_from, held, is_compared, params_of, type_levels, type_pairs, types_compatible};
+ghost use Rattle.ebpf_candidates.specs.Comparisons.{compared_from, is_alike};
+ghost use Rattle.ebpf_candidates.specs.Compatibility.{shallow_alike, first_end, found_from, inner_type_id, is_compared, params_of, type_levels, type_pairs, types_compatible};
 ghost use Rattle.ebpf_btf.specs.declared.error.BtfError.TheVariants.{MaximumTypeDepth};
 
 use crate::pair::{Pair, both, both_begin_at_0, same_kind};
@@ -61,10 +61,10 @@ fn params_of(ty: &BtfType) -> &[BtfParam]
     }
 }
 
-/// The type that a PTR, an ARRAY or a FUNC_PROTO holds: what it points to, its elements, its result.
-#[tactic(auto, unfolding(crate::specs::Compatibility::held))]
-fn held(ty: &BtfType) -> Option<u32>
-    ensures { result ≡ held ty.now }
+/// The inner type of a PTR, an ARRAY or a FUNC_PROTO: what it points to, its elements, its result.
+#[tactic(auto, unfolding(crate::specs::Compatibility::inner_type_id))]
+fn inner_type_id(ty: &BtfType) -> Option<u32>
+    ensures { result ≡ inner_type_id ty.now }
 {
     match ty {
         BtfType::Ptr { btf_type, .. } | BtfType::FuncProto { btf_type, .. } => Some(*btf_type),
@@ -73,9 +73,9 @@ fn held(ty: &BtfType) -> Option<u32>
     }
 }
 
-/// Whether two types are alike, those that they hold aside.
-fn agree(local: &BtfType, target: &BtfType) -> bool
-    ensures { result ≡ agree local.now target.now }
+/// Whether two types are alike, their inner types aside.
+fn shallow_alike(local: &BtfType, target: &BtfType) -> bool
+    ensures { result ≡ shallow_alike local.now target.now }
 {
     same_kind(local, target)
         && is_compared(local.kind())
@@ -86,7 +86,7 @@ fn agree(local: &BtfType, target: &BtfType) -> bool
 /// Compares a pair and all below it, depth first, up to the first that differs. So many levels there may be, and so
 /// many pairs be met.
 fn compare(sides: Sides<'_>, levels: u32, left: u32, pair: Pair) -> Result<Verdict, BtfError>
-    ensures { result ≡ compared levels sides.entry.local.now.types sides.entry.target.now.types sides.entry.root left pair }
+    ensures { result ≡ compared_from levels sides.entry.local.now.types sides.entry.target.now.types sides.entry.root left pair }
 {
     if levels == 0 || left == 0 {
         return Err(BtfError::MaximumTypeDepth {
@@ -95,7 +95,7 @@ fn compare(sides: Sides<'_>, levels: u32, left: u32, pair: Pair) -> Result<Verdi
     }
     let local = sides.local.resolved_type(pair.local)?;
     let target = sides.target.resolved_type(pair.target)?;
-    if !agree(local, target) {
+    if !shallow_alike(local, target) {
         return Ok(Verdict::Different);
     }
     let mut left = left - 1;
@@ -109,7 +109,7 @@ fn compare(sides: Sides<'_>, levels: u32, left: u32, pair: Pair) -> Result<Verdi
             Verdict::Different => return Ok(Verdict::Different),
         }
     }
-    match both(held(local), held(target)) {
+    match both(inner_type_id(local), inner_type_id(target)) {
         Some(types) => compare(sides, levels - 1, left, types),
         None => Ok(Verdict::Alike { left }),
     }

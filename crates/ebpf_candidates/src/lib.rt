@@ -3,11 +3,11 @@
 
 mod compatible_fields;
 mod compatible_types;
-mod joined_ids;
+mod id_union;
 mod kinds;
 pub mod laws;
 mod name_looks;
-mod nameless;
+mod anonymous;
 mod pair;
 mod type_index;
 mod type_names;

@@ -6,8 +6,8 @@ ghost use Rattle.std.specs.Option.{option_copied};
 ghost use Rattle.ebpf_btf.specs.EssentialNames.{essential_name};
 ghost use Rattle.ebpf_btf.specs.Strings.{before_zero};
 
-/// The place of the first zero byte.
-fn zero_place(bytes: &[u8]) -> Option<usize>
+/// The index of the first zero byte.
+fn first_zero(bytes: &[u8]) -> Option<usize>
     ensures { result ≡ position (λ b. b == 0) bytes.now }
 {
     bytes.iter().position(|b| *b == 0)
@@ -21,14 +21,14 @@ fn marks_after(marks: usize, byte: u8) -> usize
     if byte == b'_' { marks + 1 } else { 0 }
 }
 
-/// What stands before three underscores, the third of which is at a place, where a zero byte follows.
-fn before_marks(bytes: &[u8], place: usize) -> Option<&[u8]>
-    requires third { 2 ≤ place }
-    requires inside { place < length bytes.now }
-    ensures { option_copied result ≡ option_map (λ _. take (place - 2) bytes.now) (before_zero (drop (place + 1) bytes.now)) }
+/// What stands before three underscores, the third of which is at an index, where a zero byte follows.
+fn before_marks(bytes: &[u8], index: usize) -> Option<&[u8]>
+    requires third { 2 ≤ index }
+    requires inside { index < length bytes.now }
+    ensures { option_copied result ≡ option_map (λ _. take (index - 2) bytes.now) (before_zero (drop (index + 1) bytes.now)) }
 {
-    match zero_place(&bytes[place + 1..]) {
-        Some(_) => Some(&bytes[..place - 2]),
+    match first_zero(&bytes[index + 1..]) {
+        Some(_) => Some(&bytes[..index - 2]),
         None => None,
     }
 }
@@ -38,13 +38,13 @@ fn essential_before_zero(bytes: &[u8]) -> Option<&[u8]>
     ensures { option_copied result ≡ option_map essential_name (before_zero bytes.now) }
 {
     let mut marks = 0;
-    for place in 0..bytes.len() {
-        let byte = bytes[place];
+    for index in 0..bytes.len() {
+        let byte = bytes[index];
         if byte == 0 {
-            return Some(&bytes[..place]);
+            return Some(&bytes[..index]);
         }
         if marks == 2 && byte == b'_' {
-            return before_marks(bytes, place);
+            return before_marks(bytes, index);
         }
         marks = marks_after(marks, byte);
     }
@@ -55,9 +55,9 @@ fn essential_before_zero(bytes: &[u8]) -> Option<&[u8]>
 pub fn essential_at(strings: &[u8], offset: u32) -> Option<&[u8]>
     ensures { option_copied result ≡ option_map essential_name (before_zero (drop offset strings.now)) }
 {
-    let place = offset as usize;
-    if place > strings.len() {
+    let index = offset as usize;
+    if index > strings.len() {
         return None;
     }
-    essential_before_zero(&strings[place..])
+    essential_before_zero(&strings[index..])
 }

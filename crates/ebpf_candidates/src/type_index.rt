@@ -10,11 +10,11 @@ ghost use Rattle.ebpf_btf.specs.Types.{kind_number};
 ghost use Rattle.ebpf_btf.specs.declared.error.BtfError.TheVariants.{OutOfMemory};
 ghost use Rattle.ebpf_btf.specs.declared.kind.BtfKind.{BtfKind};
 
-use crate::joined_ids::union;
+use crate::id_union::union;
 use crate::kinds::{KINDS, kind_number};
-use crate::nameless::{NamelessTypes, add_nameless, no_nameless_types};
+use crate::anonymous::{AnonymousTypes, add_anonymous, no_anonymous_types};
 use crate::type_names::TypeNames;
-use crate::type_row::{TypeRow, key_hash, order_of_rows, places_of};
+use crate::type_row::{TypeRow, type_key_hash, order_of_rows, row_range};
 use crate::unreadable::{UnreadableName, UnreadableNames, keep_first, lower};
 use ebpf_btf::{Btf, BtfError, BtfKind, essential_name};
 use std::alloc::{AllocError, Global};
@@ -24,7 +24,7 @@ use std::marker::Model;
 #[derive(Drop)]
 struct Found {
     rows: Vec<TypeRow>,
-    nameless: NamelessTypes,
+    anonymous: AnonymousTypes,
     unreadable: UnreadableNames,
 }
 
@@ -32,12 +32,12 @@ struct Found {
 /// that can't be read.
 fn read_rows(alloc: Global, names: &TypeNames<'_>) -> Result<Found, AllocError>
     ensures rows { IfOk result (λ found. found.rows.items ≡ rows names.now) }
-    ensures nameless { IfOk result (λ found. (kind : BtfKind) → slice_index_or found.nameless.items (kind_number kind) [] ≡ candidates names.now kind []) }
+    ensures anonymous { IfOk result (λ found. (kind : BtfKind) → slice_index_or found.anonymous.items (kind_number kind) [] ≡ candidates names.now kind []) }
     ensures unread { IfOk result (λ found. (kind : BtfKind) → slice_index_or found.unreadable (kind_number kind) None ≡ unreadable_from names.now kind 0 names.now.types) }
-    ensures kinds { IfOk result (λ found. (length found.nameless.items ≡ 20) × (length found.unreadable ≡ 20)) }
+    ensures kinds { IfOk result (λ found. (length found.anonymous.items ≡ 20) × (length found.unreadable ≡ 20)) }
 {
     let mut rows = Vec::new(alloc);
-    let mut nameless = no_nameless_types(alloc)?;
+    let mut anonymous = no_anonymous_types(alloc)?;
     let mut unreadable: UnreadableNames = [None; KINDS];
     for (id, ty) in names.btf().types().iter().enumerate() {
         let Some(name) = names.name(id, ty) else {
@@ -49,17 +49,17 @@ fn read_rows(alloc: Global, names: &TypeNames<'_>) -> Result<Found, AllocError>
             continue;
         };
         if name.is_empty() {
-            add_nameless(&mut nameless, ty.kind(), id as u32)?;
+            add_anonymous(&mut anonymous, ty.kind(), id as u32)?;
             continue;
         }
         rows.push(TypeRow {
-            hash: key_hash(kind_number(ty.kind()), name),
+            hash: type_key_hash(kind_number(ty.kind()), name),
             id: id as u32,
         })?;
     }
     Ok(Found {
         rows,
-        nameless,
+        anonymous,
         unreadable,
     })
 }
@@ -94,7 +94,7 @@ pub struct TypeIndex<'a> {
     names: TypeNames<'a>,
     rows: Vec<TypeRow>,
     ids: Vec<u32>,
-    nameless: NamelessTypes,
+    anonymous: AnonymousTypes,
     unreadable: UnreadableNames,
 }
 
@@ -106,7 +106,7 @@ impl<'a> Model for TypeIndex<'a> {
 
     ghost view = { λ x. x.names };
 
-    ghost invariant = { λ x. IsIndex x.names x.rows.items x.ids.items x.nameless.items x.unreadable };
+    ghost invariant = { λ x. IsIndex x.names x.rows.items x.ids.items x.anonymous.items x.unreadable };
 }
 
 impl<'a> TypeIndex<'a> {
@@ -119,7 +119,7 @@ impl<'a> TypeIndex<'a> {
         let names = TypeNames::new(alloc, btf)?;
         let Found {
             mut rows,
-            nameless,
+            anonymous,
             unreadable,
         } = read_rows(alloc, &names)?;
         sort_rows(&names, &mut rows)?;
@@ -128,7 +128,7 @@ impl<'a> TypeIndex<'a> {
             names,
             rows,
             ids,
-            nameless,
+            anonymous,
             unreadable,
         })
     }
@@ -154,9 +154,9 @@ impl<'a> TypeIndex<'a> {
         let number = kind_number(kind);
         let name = essential_name(name.as_bytes());
         if name.is_empty() {
-            return self.nameless[number as usize].as_slice();
+            return self.anonymous[number as usize].as_slice();
         }
-        let (start, end) = places_of(&self.names, &self.rows, number, name);
+        let (start, end) = row_range(&self.names, &self.rows, number, name);
         &self.ids[start..end]
     }
 

@@ -5,7 +5,7 @@ ghost use Rattle.std.specs.Bool.{OnTrue};
 ghost use Rattle.std.specs.FinMap.{get};
 ghost use Rattle.std.specs.Option.{option_copied};
 ghost use Rattle.ebpf_candidates.specs.OddNames.{odd_at, odd_name};
-ghost use Rattle.ebpf_candidates.specs.TypeRows.{key_at, readable_name};
+ghost use Rattle.ebpf_candidates.specs.TypeRows.{type_key_at, readable_name};
 
 use crate::kinds::kind_number;
 use crate::name_looks::essential_at;
@@ -14,7 +14,7 @@ use ebpf_btf::{Btf, BtfType, essential_name};
 use std::alloc::{AllocError, Global};
 use std::marker::Model;
 
-/// Whether all bytes are below 128. The greatest is sought, which takes less time than a test of each.
+/// Whether all bytes are below 128. The greatest is looked for, which takes less time than a test of each.
 fn is_ascii(bytes: &[u8]) -> bool
     ensures { OnTrue result (All (λ b. b < 128) bytes.now) }
 {
@@ -126,9 +126,9 @@ impl<'a> TypeNames<'a> {
     }
 
     /// The number of the kind and the essential name of the type with an id.
-    pub fn key(&self, id: u32) -> (u8, &[u8])
-        ensures kind { result.0 ≡ (key_at self.now id).kind }
-        ensures name { result.1.now ≡ (key_at self.now id).name }
+    pub fn type_key(&self, id: u32) -> (u8, &[u8])
+        ensures kind { result.0 ≡ (type_key_at self.now id).kind }
+        ensures name { result.1.now ≡ (type_key_at self.now id).name }
     {
         let Some(ty) = self.btf.types().get(id as usize) else {
             return (0, &[]);
@@ -144,7 +144,7 @@ impl<'a> TypeNames<'a> {
     /// compared.
     #[tactic(auto, using(crate::proofs::OneName::same_key))]
     pub fn is_one_name(&self, left: u32, right: u32) -> bool
-        ensures { OnTrue result (key_at self.now left ≡ key_at self.now right) }
+        ensures { OnTrue result (type_key_at self.now left ≡ type_key_at self.now right) }
     {
         let types = self.btf.types();
         let (Some(left), Some(right)) = (types.get(left as usize), types.get(right as usize)) else {

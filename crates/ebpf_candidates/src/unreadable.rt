@@ -40,9 +40,9 @@ pub fn keep_first(names: &mut UnreadableNames, kind: BtfKind, name: UnreadableNa
     ensures first { (k : BtfKind) → slice_index_or names.new (kind_number k) None
         ≡ or_else (slice_index_or names.old (kind_number k) None) (if kind_number kind == kind_number k then Some name else None) }
 {
-    let place = kind_number(kind) as usize;
-    if names[place].is_none() {
-        names[place] = Some(name);
+    let index = kind_number(kind) as usize;
+    if names[index].is_none() {
+        names[index] = Some(name);
     }
 }
 

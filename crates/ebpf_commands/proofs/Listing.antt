@@ -9,15 +9,15 @@ use Rattle.std.specs.Str.{bytes_eq}
 use Rattle.ebpf_base.proofs.TextMaps.{text_exact}
 use Rattle.ebpf_base.specs.Keys.{text_cmp}
 use Rattle.ebpf_commands.proofs.Refusing.{nothing}
-use Rattle.ebpf_commands.specs.Failures.{is_outside, Stands}
-use Rattle.ebpf_commands.specs.Linked.{IsLinked}
-use Rattle.ebpf_commands.specs.Listed.{HasInspected, report_named, LacksAskedReport}
+use Rattle.ebpf_commands.specs.Failures.{is_outside, IsFailureOf}
+use Rattle.ebpf_commands.specs.Linked.{IsFileLinked}
+use Rattle.ebpf_commands.specs.Listed.{HasInspected, report_named, LacksNamedReport}
 use Rattle.ebpf_commands.specs.declared.failure.Failure.{Failure}
 use Rattle.ebpf_commands.specs.declared.failure.Failure.TheVariants.{CannotRead, Btf, Preparing, NoProgram, CannotWrite, Memory}
 use Rattle.ebpf_inspect.specs.Inspected.{AreReports}
 use Rattle.ebpf_inspect.specs.declared.report.ProgramReport.{ProgramReport}
 use Rattle.ebpf_ksyms.specs.Sources.{Source}
-use Rattle.ebpf_object.specs.Joined.{with_name, programs_in_order}
+use Rattle.ebpf_object.specs.LinkedPrograms.{program_value, programs_in_order}
 use Rattle.ebpf_object.specs.declared.object.Object.{Object}
 use Rattle.ebpf_parsing.proofs.LastEntries.{equal}
 use Rattle.ebpf_parsing.specs.declared.program.Program.{Program}
@@ -50,7 +50,7 @@ module _ {X : Type 0} (first : X) (rest : Option X) where
 
 module _ (d o : Object) (name : List ℕ) (p : Program) where
   abbrev programs_of : List (List ℕ × Program) → List ProgramValue
-  programs_of es = map (λ e. with_name e.0 e.1) es
+  programs_of es = map (λ e. program_value e.0 e.1) es
 
   reported : (es : List (List ℕ × Program)) (rs : List ProgramReport) → find text_cmp name es ≡ Some p → AreReports d o (programs_of es) rs → report_named rs name ≡ None → ⊥
   reported [] rs is each lacks = none-some p is
@@ -75,10 +75,10 @@ module _ (file : List ℕ) (btf : Option (List ℕ)) (lines : Source) (rs : List
   abbrev o : Object
   o = inspected.inspected.linked
 
-  linked : IsLinked file btf lines o
+  linked : IsFileLinked file btf lines o
   linked = record { types = inspected.types; kernel = inspected.kernel; headline = inspected.inspected.headline }
 
-  named : (name : List ℕ) (f : Failure) → MatchBool (is_outside f) ⊤ (LacksAskedReport rs (Some name) f) → MatchBool (is_outside f) ⊤ (Stands file btf lines (Some name) f)
+  named : (name : List ℕ) (f : Failure) → MatchBool (is_outside f) ⊤ (LacksNamedReport rs (Some name) f) → MatchBool (is_outside f) ⊤ (IsFailureOf file btf lines (Some name) f)
   named name (NoProgram missing) h =
       (o, linked, ap Some (sym h.0), subst (λ (n : List ℕ). get o.programs n ≡ None) (sym h.0) (no_program _ o rs inspected.inspected.each name h.1))
   named name (CannotRead path) h = absurd h
@@ -87,6 +87,6 @@ module _ (file : List ℕ) (btf : Option (List ℕ)) (lines : Source) (rs : List
   named name CannotWrite h = h
   named name Memory h = h
 
-  pub lacking : (asked : Option (List ℕ)) (f : Failure) → MatchBool (is_outside f) ⊤ (LacksAskedReport rs asked f) → MatchBool (is_outside f) ⊤ (Stands file btf lines asked f)
+  pub lacking : (default_passes : Option (List ℕ)) (f : Failure) → MatchBool (is_outside f) ⊤ (LacksNamedReport rs default_passes f) → MatchBool (is_outside f) ⊤ (IsFailureOf file btf lines default_passes f)
   lacking None f h = nothing (is_outside f) _ h
   lacking (Some name) f h = named name f h

@@ -4,16 +4,16 @@ use Rattle.std.proofs.lemmas.Option.{none-some}
 use Rattle.std.specs.Prelude.{⊤, MatchBool, MatchOption, IsSome}
 use Rattle.std.specs.FinMap.{FinMap, get}
 use Rattle.ebpf_commands.specs.Done.{HasPrinted}
-use Rattle.ebpf_commands.specs.Failures.{is_outside, Stands, LacksAsked, CannotPrepare}
-use Rattle.ebpf_commands.specs.Linked.{IsLinked}
-use Rattle.ebpf_commands.specs.Printed.{function_of, function_named}
+use Rattle.ebpf_commands.specs.Failures.{is_outside, IsFailureOf, LacksNamed, IsPreparingFailure}
+use Rattle.ebpf_commands.specs.Linked.{IsFileLinked}
+use Rattle.ebpf_commands.specs.Printed.{program_function_of, function_named}
 use Rattle.ebpf_commands.specs.declared.failure.Failure.{Failure}
 use Rattle.ebpf_commands.specs.declared.failure.Failure.TheVariants.{CannotRead, Btf, Preparing, NoProgram, CannotWrite, Memory}
 use Rattle.ebpf_ksyms.specs.Sources.{Source}
 use Rattle.ebpf_object.specs.Headline.{ProgramsAreWhole}
 use Rattle.ebpf_object.specs.declared.object.Object.{Object}
 use Rattle.ebpf_parsing.specs.declared.program.Program.{Program}
-use Rattle.ebpf_reloc.specs.Places.{LinkableValue}
+use Rattle.ebpf_reloc.specs.SlotTargets.{LinkableValue}
 
 -- nothing is refused by what can't be
 pub nothing : (b : Bool) (F : Type 0) → MatchBool b ⊤ ⊥ → MatchBool b ⊤ F
@@ -27,23 +27,23 @@ untouched false F h = h
 
 -- a program has a function
 module _ (parts : LinkableValue) (o : Object) (whole : ProgramsAreWhole parts o) (name : List ℕ) where
-  without : (p : Option Program) → get o.programs name ≡ p → function_of o p ≡ None → p ≡ None
+  without : (p : Option Program) → get o.programs name ≡ p → program_function_of o p ≡ None → p ≡ None
   without None is lacks = refl
   without (Some program) is lacks = let g = whole name program is in absurd (none-some g.0 (sym lacks ∙ g.1))
 
   pub no_program : function_named o name ≡ None → get o.programs name ≡ None
   no_program lacks = without (get o.programs name) refl lacks
 
-some_of : (o : Object) (p : Option Program) → IsSome (function_of o p) → IsSome p
+some_of : (o : Object) (p : Option Program) → IsSome (program_function_of o p) → IsSome p
 some_of o None h = h
 some_of o (Some program) h = refl
 
-pub there : (o : Object) (asked : Option (List ℕ)) → MatchOption asked ⊤ (λ name. IsSome (function_named o name)) → MatchOption asked ⊤ (λ name. IsSome (get o.programs name))
+pub there : (o : Object) (default_passes : Option (List ℕ)) → MatchOption default_passes ⊤ (λ name. IsSome (function_named o name)) → MatchOption default_passes ⊤ (λ name. IsSome (get o.programs name))
 there o None h = h
 there o (Some name) h = some_of o (get o.programs name) h
 
-module _ (file : List ℕ) (btf : Option (List ℕ)) (lines : Source) (o : Object) (linked : IsLinked file btf lines o) where
-  named : (name : List ℕ) (f : Failure) → MatchBool (is_outside f) ⊤ (LacksAsked o (Some name) f) → MatchBool (is_outside f) ⊤ (Stands file btf lines (Some name) f)
+module _ (file : List ℕ) (btf : Option (List ℕ)) (lines : Source) (o : Object) (linked : IsFileLinked file btf lines o) where
+  named : (name : List ℕ) (f : Failure) → MatchBool (is_outside f) ⊤ (LacksNamed o (Some name) f) → MatchBool (is_outside f) ⊤ (IsFailureOf file btf lines (Some name) f)
   named name (NoProgram absent) h =
       (o, linked, ap Some (sym h.0), subst (λ (n : List ℕ). get o.programs n ≡ None) (sym h.0) (no_program _ o (linked.headline.finished.programs _ refl) name h.1))
   named name (CannotRead path) h = absurd h
@@ -52,6 +52,6 @@ module _ (file : List ℕ) (btf : Option (List ℕ)) (lines : Source) (o : Objec
   named name CannotWrite h = h
   named name Memory h = h
 
-  pub lacking : (asked : Option (List ℕ)) (f : Failure) → MatchBool (is_outside f) ⊤ (LacksAsked o asked f) → MatchBool (is_outside f) ⊤ (Stands file btf lines asked f)
+  pub lacking : (default_passes : Option (List ℕ)) (f : Failure) → MatchBool (is_outside f) ⊤ (LacksNamed o default_passes f) → MatchBool (is_outside f) ⊤ (IsFailureOf file btf lines default_passes f)
   lacking None f h = nothing (is_outside f) _ h
   lacking (Some name) f h = named name f h

@@ -2,8 +2,8 @@
 use Rattle.std.specs.Prelude.{ℕ, Bool, true, false, List, [], ◌∷◌, Option, Some, None, nat_eq, if◌then◌else◌, codes}
 use Rattle.std.specs.List.{starts_with}
 use Rattle.std.specs.Str.{bytes_eq}
-use Rattle.ebpf_commands.specs.declared.arguments.Place.{Place}
-use Rattle.ebpf_commands.specs.declared.arguments.Place.TheVariants.{File, Btf, Kallsyms, Program}
+use Rattle.ebpf_commands.specs.declared.arguments.ArgumentKind.{ArgumentKind}
+use Rattle.ebpf_commands.specs.declared.arguments.ArgumentKind.TheVariants.{File, Btf, Kallsyms, Program}
 use Rattle.ebpf_commands.specs.declared.arguments.Words.{Words}
 use Rattle.ebpf_commands.specs.declared.arguments.WordsError.{WordsError}
 use Rattle.ebpf_commands.specs.declared.arguments.WordsError.TheVariants.{Usage, OutOfMemory}
@@ -13,7 +13,7 @@ is_memory OutOfMemory = true
 is_memory Usage = false
 
 -- the option that a word is
-abbrev pub option_of : List ℕ → Option Place
+abbrev pub option_of : List ℕ → Option ArgumentKind
 option_of word =
     if bytes_eq word (codes "--btf") then Some Btf else
     (if bytes_eq word (codes "--kallsyms") then Some Kallsyms else
@@ -24,22 +24,22 @@ has_dashes word = starts_with nat_eq word (codes "--")
 
 -- an argument: what it is for, and its text
 abbrev pub Argument : Type 0
-Argument = Place × List ℕ
+Argument = ArgumentKind × List ℕ
 
-abbrev pub with_front : Argument → Option (List Argument) → Option (List Argument)
-with_front argument None = None
-with_front argument (Some others) = Some (argument ∷ others)
+abbrev pub with_first_argument : Argument → Option (List Argument) → Option (List Argument)
+with_first_argument argument None = None
+with_first_argument argument (Some others) = Some (argument ∷ others)
 
 -- What words are after an option that waits for its text, or after none. An option takes the word behind it
 -- whatever it is, and has one; no other word begins with two dashes; each other word is a file.
-abbrev pub arguments : Option Place → List (List ℕ) → Option (List Argument)
+abbrev pub arguments : Option ArgumentKind → List (List ℕ) → Option (List Argument)
 arguments None [] = Some []
 arguments (Some place) [] = None
-arguments (Some place) (word ∷ words) = with_front (place, word) (arguments None words)
+arguments (Some place) (word ∷ words) = with_first_argument (place, word) (arguments None words)
 arguments None (word ∷ words) =
     elim (option_of word) [
       | Some place ↦ arguments (Some place) words
-      | None ↦ if has_dashes word then None else with_front (File, word) (arguments None words)
+      | None ↦ if has_dashes word then None else with_first_argument (File, word) (arguments None words)
     ]
 
 -- the texts that stand for each
@@ -64,16 +64,16 @@ put found (Kallsyms, text) = set_once found.kallsyms (record found { kallsyms = 
 put found (Program, text) = set_once found.program (record found { program = Some text })
 
 -- arguments in their places, each at most once
-abbrev pub put_all : FoundValue → List Argument → Option FoundValue
-put_all found [] = Some found
-put_all found (argument ∷ others) = elim (put found argument) [ Some next ↦ put_all next others | None ↦ None ]
+abbrev pub put_each : FoundValue → List Argument → Option FoundValue
+put_each found [] = Some found
+put_each found (argument ∷ others) = elim (put found argument) [ Some next ↦ put_each next others | None ↦ None ]
 
 abbrev pub put_arguments : FoundValue → Option (List Argument) → Option FoundValue
 put_arguments found None = None
-put_arguments found (Some list) = put_all found list
+put_arguments found (Some list) = put_each found list
 
-abbrev pub found_in : List (List ℕ) → Option FoundValue
-found_in words = put_arguments nothing (arguments None words)
+abbrev pub texts_in : List (List ℕ) → Option FoundValue
+texts_in words = put_arguments nothing (arguments None words)
 
 -- there is a file
 abbrev pub with_file : FoundValue → Option (List ℕ) → Option Words
@@ -86,7 +86,7 @@ words_in (Some found) = with_file found found.file
 
 -- what words ask for, where they are as the line says
 abbrev pub words_of : List (List ℕ) → Option Words
-words_of words = words_in (found_in words)
+words_of words = words_in (texts_in words)
 
 abbrev pub usage_without : Option Words → Option WordsError
 usage_without None = Some Usage

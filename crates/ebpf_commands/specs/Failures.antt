@@ -3,7 +3,7 @@ use Rattle.std.specs.Prelude.{◌≡◌, ⊤, ℕ, Bool, true, false, List, Opti
 use Rattle.std.specs.FinMap.{get}
 use Rattle.ebpf_btf.specs.Memory as types
 use Rattle.ebpf_btf.specs.TypeInfo.{TypeInfo}
-use Rattle.ebpf_commands.specs.Linked.{kernel_types, asked, IsLinked}
+use Rattle.ebpf_commands.specs.Linked.{kernel_types, default_passes, IsFileLinked}
 use Rattle.ebpf_commands.specs.Printed.{function_named}
 use Rattle.ebpf_commands.specs.declared.failure.Failure.{Failure}
 use Rattle.ebpf_commands.specs.declared.failure.Failure.TheVariants.{CannotRead, Btf, Preparing, NoProgram, CannotWrite, Memory}
@@ -34,23 +34,23 @@ abbrev pub Lacks : Object → List ℕ → Failure → Type 0
 Lacks o name (NoProgram absent) = (absent.now ≡ name) × (function_named o name ≡ None)
 Lacks o name _ = ⊥
 
-abbrev pub LacksAsked : Object → Option (List ℕ) → Failure → Type 0
-LacksAsked o None f = ⊥
-LacksAsked o (Some name) f = Lacks o name f
+abbrev pub LacksNamed : Object → Option (List ℕ) → Failure → Type 0
+LacksNamed o None f = ⊥
+LacksNamed o (Some name) f = Lacks o name f
 
 -- preparing a file with these passes has this first fault
-abbrev pub CannotPrepare : Chosen → Source → List ℕ → Failure → Type 0
-CannotPrepare steps lines file (Preparing e) = IsFirstFault steps lines Stated file e
-CannotPrepare steps lines file _ = ⊥
+abbrev pub IsPreparingFailure : Chosen → Source → List ℕ → Failure → Type 0
+IsPreparingFailure steps lines file (Preparing e) = IsFirstFault steps lines Stated file e
+IsPreparingFailure steps lines file _ = ⊥
 
 -- What a refusal says of the files is so: the kernel's types can't be read, or, where they can, preparing the file has
 -- this first fault, or, where it has none, no program has the name.
-abbrev pub Stands : List ℕ → Option (List ℕ) → Source → Option (List ℕ) → Failure → Type 0
-Stands file btf lines program (Btf e) = kernel_types btf ≡ Err e
-Stands file btf lines program (Preparing e) =
-    (kernel : Option TypeInfo) × (kernel_types btf ≡ Ok kernel) × IsFirstFault (asked kernel (object_of file).maps) lines Stated file e
-Stands file btf lines program (NoProgram name) =
-    (o : Object) × IsLinked file btf lines o × (program ≡ Some name.now) × (get o.programs name.now ≡ None)
-Stands file btf lines program (CannotRead path) = ⊥
-Stands file btf lines program CannotWrite = ⊥
-Stands file btf lines program Memory = ⊥
+abbrev pub IsFailureOf : List ℕ → Option (List ℕ) → Source → Option (List ℕ) → Failure → Type 0
+IsFailureOf file btf lines program (Btf e) = kernel_types btf ≡ Err e
+IsFailureOf file btf lines program (Preparing e) =
+    (kernel : Option TypeInfo) × (kernel_types btf ≡ Ok kernel) × IsFirstFault (default_passes kernel (object_of file).maps) lines Stated file e
+IsFailureOf file btf lines program (NoProgram name) =
+    (o : Object) × IsFileLinked file btf lines o × (program ≡ Some name.now) × (get o.programs name.now ≡ None)
+IsFailureOf file btf lines program (CannotRead path) = ⊥
+IsFailureOf file btf lines program CannotWrite = ⊥
+IsFailureOf file btf lines program Memory = ⊥

@@ -30,26 +30,26 @@ abbrev pub following : ℤ → ℤ
 following n = saturate_signed w32 (n +ℤ pos 1)
 
 -- names with descriptors, from the number behind one on
-abbrev pub numbered : ℤ → List (List ℕ) → List Descriptor
-numbered n [] = []
-numbered n (name ∷ names) = (name, following n) ∷ numbered (following n) names
+abbrev pub with_descriptors : ℤ → List (List ℕ) → List Descriptor
+with_descriptors n [] = []
+with_descriptors n (name ∷ names) = (name, following n) ∷ with_descriptors (following n) names
 
 -- All passes, types where the kernel's are known; the maps of these names have the descriptors 1, 2, .. in order.
-abbrev pub asked_of : Option TypeInfo → List (List ℕ) → Chosen
-asked_of types names = record {
+abbrev pub default_passes_of : Option TypeInfo → List (List ℕ) → Chosen
+default_passes_of types names = record {
   target = types;
-  descriptors = Some (numbered (pos 0) names);
+  descriptors = Some (with_descriptors (pos 0) names);
   kernel = Some types;
   externs = true;
   calls = true;
 }
 
 -- the same of maps, in byte order of their names
-abbrev pub asked : Option TypeInfo → FinMap text_cmp Map → Chosen
-asked types maps = asked_of types (keys_of (entries maps))
+abbrev pub default_passes : Option TypeInfo → FinMap text_cmp Map → Chosen
+default_passes types maps = default_passes_of types (keys_of (entries maps))
 
 -- the object of a file after all passes
-pub record IsLinked (file : List ℕ) (btf : Option (List ℕ)) (lines : Source) (o : Object) : Type 0 where
+pub record IsFileLinked (file : List ℕ) (btf : Option (List ℕ)) (lines : Source) (o : Object) : Type 0 where
   pub types : Option TypeInfo
   pub kernel : kernel_types btf ≡ Ok types
-  pub headline : Headline (asked types (object_of file).maps) lines Stated file o
+  pub headline : Headline (default_passes types (object_of file).maps) lines Stated file o

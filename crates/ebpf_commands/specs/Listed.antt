@@ -5,7 +5,7 @@ use Rattle.std.specs.Io.KnownBytes.{Appends}
 use Rattle.std.specs.List.{flat_map, find}
 use Rattle.std.specs.Str.{bytes_eq}
 use Rattle.ebpf_btf.specs.TypeInfo.{TypeInfo}
-use Rattle.ebpf_commands.specs.Linked.{kernel_types, asked}
+use Rattle.ebpf_commands.specs.Linked.{kernel_types, default_passes}
 use Rattle.ebpf_commands.specs.Printed.{head_line}
 use Rattle.ebpf_commands.specs.declared.failure.Failure.{Failure}
 use Rattle.ebpf_commands.specs.declared.failure.Failure.TheVariants.{NoProgram}
@@ -39,9 +39,9 @@ reference_line r = codes "ref " ++ decimal r.place ++ codes " " ++ decimal r.bas
 abbrev pub report_text : ProgramReport → List ℕ
 report_text r = head_line r.name r.slots ++ flat_map copy_line r.copies ++ flat_map reference_line r.references
 
-abbrev pub text_if : Option ProgramReport → List ℕ
-text_if None = []
-text_if (Some r) = report_text r
+abbrev pub report_text_if : Option ProgramReport → List ℕ
+report_text_if None = []
+report_text_if (Some r) = report_text r
 
 -- the report of a name
 abbrev pub report_named : List ProgramReport → List ℕ → Option ProgramReport
@@ -49,7 +49,7 @@ report_named reports name = find (λ r. bytes_eq r.name name) reports
 
 -- the program of a name, or all in the order of the reports
 abbrev pub listed : List ProgramReport → Option (List ℕ) → List ℕ
-listed reports (Some name) = text_if (report_named reports name)
+listed reports (Some name) = report_text_if (report_named reports name)
 listed reports None = flat_map report_text reports
 
 -- ---- a run
@@ -58,9 +58,9 @@ listed reports None = flat_map report_text reports
 pub record HasInspected (file : List ℕ) (btf : Option (List ℕ)) (lines : Source) (reports : List ProgramReport) : Type 0 where
   pub types : Option TypeInfo
   pub kernel : kernel_types btf ≡ Ok types
-  pub inspected : IsInspected (asked types (object_of file).maps) lines Stated file reports
+  pub inspected : IsInspected (default_passes types (object_of file).maps) lines Stated file reports
 
--- The file is inspected, it has the program that is asked for, and the writer, whose bytes were these before and are
+-- The file is inspected, it has the program that is named, and the writer, whose bytes were these before and are
 -- these now, has got the lines of that program or of all.
 pub record HasListed (file : List ℕ) (btf : Option (List ℕ)) (lines : Source) (program : Option (List ℕ)) (before now : Option (List ℕ)) : Type 0 where
   pub reports : List ProgramReport
@@ -73,6 +73,6 @@ abbrev pub LacksReport : List ProgramReport → List ℕ → Failure → Type 0
 LacksReport reports name (NoProgram absent) = (absent.now ≡ name) × (report_named reports name ≡ None)
 LacksReport reports name _ = ⊥
 
-abbrev pub LacksAskedReport : List ProgramReport → Option (List ℕ) → Failure → Type 0
-LacksAskedReport reports None f = ⊥
-LacksAskedReport reports (Some name) f = LacksReport reports name f
+abbrev pub LacksNamedReport : List ProgramReport → Option (List ℕ) → Failure → Type 0
+LacksNamedReport reports None f = ⊥
+LacksNamedReport reports (Some name) f = LacksReport reports name f

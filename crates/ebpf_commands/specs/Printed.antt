@@ -4,7 +4,7 @@ use Rattle.std.specs.FinMap.{get, entries}
 use Rattle.std.specs.Fmt.{decimal}
 use Rattle.std.specs.List.{flat_map}
 use Rattle.std.specs.Map.{keys_of}
-use Rattle.ebpf_object.specs.Headline.{key_of}
+use Rattle.ebpf_object.specs.Headline.{key_of_program}
 use Rattle.ebpf_object.specs.declared.object.Object.{Object}
 use Rattle.ebpf_parsing.specs.declared.program.Program.{Program}
 use Rattle.ebpf_parts.specs.Slots.{slot_bytes}
@@ -18,13 +18,13 @@ abbrev pub hex_digit : ℕ → ℕ
 hex_digit n = if nat_lt n 10 then 48 + n else 87 + n
 
 -- bytes as numbers of base 16 with two digits, with single spaces between them, and a line end
-abbrev pub line_of : List ℕ → List ℕ
-line_of [] = 10 ∷ []
-line_of (b ∷ []) = hex_digit (b / 16) ∷ hex_digit (b % 16) ∷ 10 ∷ []
-line_of (b ∷ c ∷ bs) = hex_digit (b / 16) ∷ hex_digit (b % 16) ∷ 32 ∷ line_of (c ∷ bs)
+abbrev pub hex_line : List ℕ → List ℕ
+hex_line [] = 10 ∷ []
+hex_line (b ∷ []) = hex_digit (b / 16) ∷ hex_digit (b % 16) ∷ 10 ∷ []
+hex_line (b ∷ c ∷ bs) = hex_digit (b / 16) ∷ hex_digit (b % 16) ∷ 32 ∷ hex_line (c ∷ bs)
 
 abbrev pub slot_line : bpf_insn → List ℕ
-slot_line slot = line_of (slot_bytes slot)
+slot_line slot = hex_line (slot_bytes slot)
 
 -- `program NAME slots N`
 abbrev pub head_line : List ℕ → List bpf_insn → List ℕ
@@ -36,13 +36,13 @@ program_text name slots = head_line name slots ++ flat_map slot_line slots
 
 -- ---- an object
 
-abbrev pub function_of : Object → Option Program → Option Function
-function_of o None = None
-function_of o (Some program) = get o.functions (key_of program)
+abbrev pub program_function_of : Object → Option Program → Option Function
+program_function_of o None = None
+program_function_of o (Some program) = get o.functions (key_of_program program)
 
 -- the function of the program of a name
 abbrev pub function_named : Object → List ℕ → Option Function
-function_named o name = function_of o (get o.programs name)
+function_named o name = program_function_of o (get o.programs name)
 
 abbrev pub text_of : List ℕ → Option Function → List ℕ
 text_of name None = []

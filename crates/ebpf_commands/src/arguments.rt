@@ -3,7 +3,7 @@
 ghost use Rattle.std.specs.Prelude.{◌≡◌, IfOk, IfErr, Some, None, true, map, string_bytes};
 ghost use Rattle.std.specs.Option.{option_copied};
 ghost use Rattle.ebpf_base.specs.Faults.{Refuses};
-ghost use Rattle.ebpf_commands.specs.Arguments.{FoundValue, nothing, option_of, has_dashes, put, found_in, words_of, words_fault, is_memory};
+ghost use Rattle.ebpf_commands.specs.Arguments.{FoundValue, nothing, option_of, has_dashes, put, texts_in, words_of, words_fault, is_memory};
 
 use ebpf_base::Text;
 use std::alloc::{AllocError, Global};
@@ -58,7 +58,7 @@ impl From<AllocError> for WordsError {
 
 /// What an argument is for.
 #[derive(Clone, Copy, Debug, PartialEq, Eq)]
-enum Place {
+enum ArgumentKind {
     File,
     Btf,
     Kallsyms,
@@ -66,13 +66,13 @@ enum Place {
 }
 
 /// The option that a word is.
-fn option_of(word: &str) -> Option<Place>
+fn option_of(word: &str) -> Option<ArgumentKind>
     ensures { result ≡ option_of word.now }
 {
     match word {
-        "--btf" => Some(Place::Btf),
-        "--kallsyms" => Some(Place::Kallsyms),
-        "--program" => Some(Place::Program),
+        "--btf" => Some(ArgumentKind::Btf),
+        "--kallsyms" => Some(ArgumentKind::Kallsyms),
+        "--program" => Some(ArgumentKind::Program),
         _ => None,
     }
 }
@@ -112,18 +112,18 @@ impl<'a> Found<'a> {
 
     /// Puts a text in a place that has none yet.
     #[tactic(auto, unfolding(crate::specs::Arguments::put))]
-    fn put(self, place: Place, text: &'a str) -> Option<Found<'a>>
+    fn put(self, place: ArgumentKind, text: &'a str) -> Option<Found<'a>>
         ensures { result ≡ put self.entry (place, text.entry.now) }
     {
         let text = Some(text);
         match place {
-            Place::File if self.file.is_none() => Some(Found { file: text, ..self }),
-            Place::Btf if self.btf.is_none() => Some(Found { btf: text, ..self }),
-            Place::Kallsyms if self.kallsyms.is_none() => Some(Found {
+            ArgumentKind::File if self.file.is_none() => Some(Found { file: text, ..self }),
+            ArgumentKind::Btf if self.btf.is_none() => Some(Found { btf: text, ..self }),
+            ArgumentKind::Kallsyms if self.kallsyms.is_none() => Some(Found {
                 kallsyms: text,
                 ..self
             }),
-            Place::Program if self.program.is_none() => Some(Found {
+            ArgumentKind::Program if self.program.is_none() => Some(Found {
                 program: text,
                 ..self
             }),
@@ -134,7 +134,7 @@ impl<'a> Found<'a> {
 
 /// The texts that words give.
 fn find_texts(words: &[String]) -> Option<Found<'_>>
-    ensures { result ≡ found_in (map string_bytes words.now) }
+    ensures { result ≡ texts_in (map string_bytes words.now) }
 {
     let mut found = Found::nothing();
     let mut waits = None;
@@ -152,7 +152,7 @@ fn find_texts(words: &[String]) -> Option<Found<'_>>
         if has_dashes(text) {
             return None;
         }
-        found = found.put(Place::File, text)?;
+        found = found.put(ArgumentKind::File, text)?;
     }
     if waits.is_some() {
         return None;
@@ -178,7 +178,7 @@ fn copied(alloc: Global, text: Option<&str>) -> Result<Option<Text>, WordsError>
 /// `Usage` where there is no file or a second one, an option twice or without the word behind it, or
 /// another word that begins with `--`. `OutOfMemory` only where memory was refused.
 pub fn read_words(alloc: Global, words: &[String]) -> Result<Words, WordsError>
-    ensures words { IfOk result (λ asked. words_of (map string_bytes words.now) ≡ Some asked) }
+    ensures words { IfOk result (λ default_passes. words_of (map string_bytes words.now) ≡ Some default_passes) }
     ensures fault { Refuses is_memory result (words_fault (map string_bytes words.now)) }
 {
     let Some(found) = find_texts(words) else {

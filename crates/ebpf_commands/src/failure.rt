@@ -3,7 +3,7 @@
 ghost use Rattle.std.specs.Prelude.{◌≡◌};
 
 use crate::variants::{
-    variant_of_adapting, variant_of_parsing, variant_of_relocation, variant_of_resolving,
+    variant_of_type_relocation, variant_of_parsing, variant_of_relocation, variant_of_resolving,
     variant_of_types,
 };
 use ebpf_btf::BtfError;
@@ -32,7 +32,7 @@ pub enum Failure<'a> {
 fn write_stage<W: fmt::Write>(error: &PrepareError, f: &mut fmt::Formatter<W>) -> fmt::Result {
     let (stage, variant) = match error {
         PrepareError::Parse(error) => ("parse", variant_of_parsing(error)),
-        PrepareError::Types(refusal) => ("types", variant_of_adapting(&refusal.error)),
+        PrepareError::Types(refusal) => ("types", variant_of_type_relocation(&refusal.error)),
         PrepareError::Maps(refusal) => ("maps", variant_of_relocation(&refusal.error)),
         PrepareError::Ksyms(error) => ("ksyms", variant_of_resolving(error)),
         PrepareError::Externs(refusal) => ("externs", variant_of_relocation(&refusal.error)),

@@ -3,9 +3,9 @@
 ghost use Rattle.std.specs.Prelude.{◌≡◌, ◌≤◌, ⊤, ℕ, List, true, Some, None, IfOk, IfErr, OnOk, IsSome, MatchBool, MatchOption};
 ghost use Rattle.std.specs.Io.KnownBytes.{Appends};
 ghost use Rattle.std.specs.Option.{option_copied};
-ghost use Rattle.ebpf_commands.specs.Failures.{is_outside, is_writers, Stands, CannotPrepare};
-ghost use Rattle.ebpf_commands.specs.Linked.{asked};
-ghost use Rattle.ebpf_commands.specs.Listed.{report_named, listed, HasInspected, HasListed, LacksReport, LacksAskedReport};
+ghost use Rattle.ebpf_commands.specs.Failures.{is_outside, is_writers, IsFailureOf, IsPreparingFailure};
+ghost use Rattle.ebpf_commands.specs.Linked.{default_passes};
+ghost use Rattle.ebpf_commands.specs.Listed.{report_named, listed, HasInspected, HasListed, LacksReport, LacksNamedReport};
 ghost use Rattle.ebpf_inspect.specs.Inspected.{IsInspected};
 ghost use Rattle.ebpf_object.specs.Prepared.{IsParsed};
 ghost use Rattle.ebpf_parts.specs.declared.reading.Reading.TheVariants.{Stated};
@@ -13,7 +13,7 @@ ghost use Rattle.ebpf_parts.specs.declared.reading.Reading.TheVariants.{Stated};
 use crate::arguments::Words;
 use crate::failure::{Failure, report};
 use crate::link::finish;
-use crate::preparation::{all_passes, map_names, numbered, read_types};
+use crate::preparation::{all_passes, map_names, with_descriptors, read_types};
 use crate::report_text::write_report;
 use ebpf_base::Items;
 use ebpf_btf::Btf;
@@ -65,7 +65,7 @@ fn write_all<W: Write>(reports: &[ProgramReport], out: &mut W) -> Result<(), Fai
     Ok(())
 }
 
-/// Writes what is asked for: the report of the program of a name, or all.
+/// Writes what is wanted: the report of the program of a name, or all.
 fn write_reports<'a, W: Write>(
     reports: &[ProgramReport],
     program: Option<&'a str>,
@@ -73,7 +73,7 @@ fn write_reports<'a, W: Write>(
 ) -> Result<(), Failure<'a>>
     ensures text { OnOk result (Appends (W.contents out.old) (W.contents out.new) (listed reports.now (option_copied program.entry))) }
     ensures there { OnOk result (MatchOption (option_copied program.entry) ⊤ (λ name. IsSome (report_named reports.now name))) }
-    ensures refused { IfErr result (λ f. MatchBool (is_outside f) ⊤ (LacksAskedReport reports.now (option_copied program.entry) f)) }
+    ensures refused { IfErr result (λ f. MatchBool (is_outside f) ⊤ (LacksNamedReport reports.now (option_copied program.entry) f)) }
     ensures untouched { IfErr result (λ f. MatchBool (is_writers f) ⊤ (out.new ≡ out.old)) }
 {
     match program {
@@ -82,7 +82,7 @@ fn write_reports<'a, W: Write>(
     }
 }
 
-/// Writes what is asked for, and hands all on.
+/// Writes what is wanted, and hands all on.
 #[tactic(auto, using(crate::proofs::Appending::kept))]
 fn print_listed<'a, W: Write>(
     reports: &[ProgramReport],
@@ -91,7 +91,7 @@ fn print_listed<'a, W: Write>(
 ) -> Result<(), Failure<'a>>
     ensures text { OnOk result (Appends (W.contents out.old) (W.contents out.new) (listed reports.now (option_copied program.entry))) }
     ensures there { OnOk result (MatchOption (option_copied program.entry) ⊤ (λ name. IsSome (report_named reports.now name))) }
-    ensures refused { IfErr result (λ f. MatchBool (is_outside f) ⊤ (LacksAskedReport reports.now (option_copied program.entry) f)) }
+    ensures refused { IfErr result (λ f. MatchBool (is_outside f) ⊤ (LacksNamedReport reports.now (option_copied program.entry) f)) }
     ensures untouched { IfErr result (λ f. MatchBool (is_writers f) ⊤ (out.new ≡ out.old)) }
 {
     match write_reports(reports, program, out) {
@@ -112,13 +112,13 @@ fn inspect_all<K: SymbolSource>(
     types: Option<&Btf>,
     kallsyms: K,
 ) -> Result<Items<ProgramReport>, Failure<'static>>
-    ensures inspected { (file : List ℕ) → IsParsed Stated file object → IfOk result (IsInspected (asked (option_copied types.entry) object.maps) (K.source kallsyms) Stated file) }
-    ensures refused { (file : List ℕ) → IsParsed Stated file object → IfErr result (λ f. MatchBool (is_outside f) ⊤ (CannotPrepare (asked (option_copied types.entry) object.maps) (K.source kallsyms) file f)) }
+    ensures inspected { (file : List ℕ) → IsParsed Stated file object → IfOk result (IsInspected (default_passes (option_copied types.entry) object.maps) (K.source kallsyms) Stated file) }
+    ensures refused { (file : List ℕ) → IsParsed Stated file object → IfErr result (λ f. MatchBool (is_outside f) ⊤ (IsPreparingFailure (default_passes (option_copied types.entry) object.maps) (K.source kallsyms) file f)) }
 {
     let Ok(names) = map_names(alloc, &object) else {
         return Err(Failure::Memory);
     };
-    let Ok(descriptors) = numbered(alloc, names.as_slice()) else {
+    let Ok(descriptors) = with_descriptors(alloc, names.as_slice()) else {
         return Err(Failure::Memory);
     };
     match inspect_object(alloc, object, &all_passes(types, &descriptors), kallsyms) {
@@ -135,7 +135,7 @@ fn inspected<K: SymbolSource>(
     kallsyms: K,
 ) -> Result<Items<ProgramReport>, Failure<'static>>
     ensures inspected { IfOk result (HasInspected file.now (option_copied btf.entry) (K.source kallsyms)) }
-    ensures refused { IfErr result (λ f. MatchBool (is_outside f) ⊤ (Stands file.now (option_copied btf.entry) (K.source kallsyms) None f)) }
+    ensures refused { IfErr result (λ f. MatchBool (is_outside f) ⊤ (IsFailureOf file.now (option_copied btf.entry) (K.source kallsyms) None f)) }
 {
     let types = match read_types(alloc, btf) {
         Ok(types) => types,
@@ -148,7 +148,7 @@ fn inspected<K: SymbolSource>(
     inspect_all(alloc, object, types.as_ref(), kallsyms)
 }
 
-/// Inspects a file after all passes, and writes what the programs that are asked for are made of.
+/// Inspects a file after all passes, and writes what the programs that are wanted are made of.
 ///
 /// # Errors
 ///
@@ -165,7 +165,7 @@ pub fn print_reports<'a, K: SymbolSource, W: Write>(
     out: &mut W,
 ) -> Result<(), Failure<'a>>
     ensures done { OnOk result (HasListed file.now (option_copied btf.entry) (K.source kallsyms) (option_copied program.entry) (W.contents out.old) (W.contents out.new)) }
-    ensures refused { IfErr result (λ f. MatchBool (is_outside f) ⊤ (Stands file.now (option_copied btf.entry) (K.source kallsyms) (option_copied program.entry) f)) }
+    ensures refused { IfErr result (λ f. MatchBool (is_outside f) ⊤ (IsFailureOf file.now (option_copied btf.entry) (K.source kallsyms) (option_copied program.entry) f)) }
     ensures untouched { IfErr result (λ f. MatchBool (is_writers f) ⊤ (out.new ≡ out.old)) }
 {
     let reports = match inspected(alloc, file, btf, kallsyms) {

@@ -8,14 +8,14 @@ ghost use Rattle.ebpf_base.specs.Keys.{lent_bytes};
 ghost use Rattle.ebpf_object.specs.Headline.{Headline};
 ghost use Rattle.ebpf_object.specs.Prepared.{IsParsed};
 ghost use Rattle.ebpf_commands.specs.Done.{HasPrinted};
-ghost use Rattle.ebpf_commands.specs.Failures.{is_outside, is_writers, Stands, Lacks, LacksAsked, CannotPrepare};
-ghost use Rattle.ebpf_commands.specs.Linked.{asked, IsLinked};
+ghost use Rattle.ebpf_commands.specs.Failures.{is_outside, is_writers, IsFailureOf, Lacks, LacksNamed, IsPreparingFailure};
+ghost use Rattle.ebpf_commands.specs.Linked.{default_passes, IsFileLinked};
 ghost use Rattle.ebpf_commands.specs.Printed.{function_named, lines_of, printed};
 ghost use Rattle.ebpf_parts.specs.declared.reading.Reading.TheVariants.{Stated};
 
 use crate::arguments::Words;
 use crate::failure::{Failure, report};
-use crate::preparation::{all_passes, map_names, numbered, read_types};
+use crate::preparation::{all_passes, map_names, with_descriptors, read_types};
 use crate::program_text::write_program;
 use ebpf_btf::Btf;
 use ebpf_object::Object;
@@ -79,7 +79,7 @@ fn write_all<W: Write>(alloc: Global, object: &Object, out: &mut W) -> Result<()
     write_each(object, &names, out)
 }
 
-/// Writes what is asked for: the program of a name, or all.
+/// Writes what is wanted: the program of a name, or all.
 fn write_programs<'a, W: Write>(
     alloc: Global,
     object: &Object,
@@ -88,7 +88,7 @@ fn write_programs<'a, W: Write>(
 ) -> Result<(), Failure<'a>>
     ensures text { OnOk result (Appends (W.contents out.old) (W.contents out.new) (printed object.now (option_copied program.entry))) }
     ensures there { OnOk result (MatchOption (option_copied program.entry) ⊤ (λ name. IsSome (function_named object.now name))) }
-    ensures refused { IfErr result (λ f. MatchBool (is_outside f) ⊤ (LacksAsked object.now (option_copied program.entry) f)) }
+    ensures refused { IfErr result (λ f. MatchBool (is_outside f) ⊤ (LacksNamed object.now (option_copied program.entry) f)) }
     ensures untouched { IfErr result (λ f. MatchBool (is_writers f) ⊤ (out.new ≡ out.old)) }
 {
     match program {
@@ -109,7 +109,7 @@ pub fn finish<W: Write>(out: &mut W) -> Result<(), Failure<'static>>
     }
 }
 
-/// Writes what is asked for, and hands all on.
+/// Writes what is wanted, and hands all on.
 #[tactic(auto, using(crate::proofs::Appending::kept))]
 fn print_object<'a, W: Write>(
     alloc: Global,
@@ -119,7 +119,7 @@ fn print_object<'a, W: Write>(
 ) -> Result<(), Failure<'a>>
     ensures text { OnOk result (Appends (W.contents out.old) (W.contents out.new) (printed object.now (option_copied program.entry))) }
     ensures there { OnOk result (MatchOption (option_copied program.entry) ⊤ (λ name. IsSome (function_named object.now name))) }
-    ensures refused { IfErr result (λ f. MatchBool (is_outside f) ⊤ (LacksAsked object.now (option_copied program.entry) f)) }
+    ensures refused { IfErr result (λ f. MatchBool (is_outside f) ⊤ (LacksNamed object.now (option_copied program.entry) f)) }
     ensures untouched { IfErr result (λ f. MatchBool (is_writers f) ⊤ (out.new ≡ out.old)) }
 {
     match write_programs(alloc, object, program, out) {
@@ -139,13 +139,13 @@ pub fn prepare_all<K: SymbolSource>(
     types: Option<&Btf>,
     kallsyms: K,
 ) -> Result<Object, Failure<'static>>
-    ensures headline { (file : List ℕ) → IsParsed Stated file object → IfOk result (Headline (asked (option_copied types.entry) object.maps) (K.source kallsyms) Stated file) }
-    ensures refused { (file : List ℕ) → IsParsed Stated file object → IfErr result (λ f. MatchBool (is_outside f) ⊤ (CannotPrepare (asked (option_copied types.entry) object.maps) (K.source kallsyms) file f)) }
+    ensures headline { (file : List ℕ) → IsParsed Stated file object → IfOk result (Headline (default_passes (option_copied types.entry) object.maps) (K.source kallsyms) Stated file) }
+    ensures refused { (file : List ℕ) → IsParsed Stated file object → IfErr result (λ f. MatchBool (is_outside f) ⊤ (IsPreparingFailure (default_passes (option_copied types.entry) object.maps) (K.source kallsyms) file f)) }
 {
     let Ok(names) = map_names(alloc, &object) else {
         return Err(Failure::Memory);
     };
-    let Ok(descriptors) = numbered(alloc, names.as_slice()) else {
+    let Ok(descriptors) = with_descriptors(alloc, names.as_slice()) else {
         return Err(Failure::Memory);
     };
     match prepare_object(alloc, object, &all_passes(types, &descriptors), kallsyms) {
@@ -161,8 +161,8 @@ fn prepared<K: SymbolSource>(
     btf: Option<&[u8]>,
     kallsyms: K,
 ) -> Result<Object, Failure<'static>>
-    ensures linked { IfOk result (IsLinked file.now (option_copied btf.entry) (K.source kallsyms)) }
-    ensures refused { IfErr result (λ f. MatchBool (is_outside f) ⊤ (Stands file.now (option_copied btf.entry) (K.source kallsyms) None f)) }
+    ensures linked { IfOk result (IsFileLinked file.now (option_copied btf.entry) (K.source kallsyms)) }
+    ensures refused { IfErr result (λ f. MatchBool (is_outside f) ⊤ (IsFailureOf file.now (option_copied btf.entry) (K.source kallsyms) None f)) }
 {
     let types = match read_types(alloc, btf) {
         Ok(types) => types,
@@ -175,7 +175,7 @@ fn prepared<K: SymbolSource>(
     prepare_all(alloc, object, types.as_ref(), kallsyms)
 }
 
-/// Prepares the object of a file with all passes, and writes the programs that are asked for.
+/// Prepares the object of a file with all passes, and writes the programs that are wanted.
 ///
 /// # Errors
 ///
@@ -192,7 +192,7 @@ pub fn print_programs<'a, K: SymbolSource, W: Write>(
     out: &mut W,
 ) -> Result<(), Failure<'a>>
     ensures done { OnOk result (HasPrinted file.now (option_copied btf.entry) (K.source kallsyms) (option_copied program.entry) (W.contents out.old) (W.contents out.new)) }
-    ensures refused { IfErr result (λ f. MatchBool (is_outside f) ⊤ (Stands file.now (option_copied btf.entry) (K.source kallsyms) (option_copied program.entry) f)) }
+    ensures refused { IfErr result (λ f. MatchBool (is_outside f) ⊤ (IsFailureOf file.now (option_copied btf.entry) (K.source kallsyms) (option_copied program.entry) f)) }
     ensures untouched { IfErr result (λ f. MatchBool (is_writers f) ⊤ (out.new ≡ out.old)) }
 {
     let object = match prepared(alloc, file, btf, kallsyms) {
@@ -207,8 +207,8 @@ pub fn print_programs<'a, K: SymbolSource, W: Write>(
 
 /// Prepares an object and prints its programs, all in byte order of their names or the one that `words` names.
 /// `btf` has the kernel's types, little endian, where they are known, and `kallsyms` the lines of the kernel's
-/// symbols. Functions are adapted to the types where they are known, the object's own maps have the descriptors 1 and
-/// on in byte order of their names, externs are resolved and written, and programs are joined with the functions that
+/// symbols. Functions are relocated to the types where they are known, the object's own maps have the descriptors 1 and
+/// on in byte order of their names, externs are resolved and written, and programs are linked with the functions that
 /// they reach. It gives the status: 0, or 1 with one line on `err`, the failure that `print_programs` gives.
 pub fn run_link<K: SymbolSource, O: Write, E: Write>(
     alloc: Global,

@@ -91,8 +91,8 @@ pub fn variant_of_resolving(error: &KsymsError) -> &'static str {
     }
 }
 
-/// The name of an error of adapting functions to a kernel's types.
-pub fn variant_of_adapting(error: &CoreError) -> &'static str {
+/// The name of an error of relocating functions to a kernel's types.
+pub fn variant_of_type_relocation(error: &CoreError) -> &'static str {
     match error {
         CoreError::SectionNotFound => "SectionNotFound",
         CoreError::FunctionNotFound => "FunctionNotFound",

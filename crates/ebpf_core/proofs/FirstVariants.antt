@@ -5,7 +5,7 @@ use Rattle.ebpf_btf.specs.Strings.{is_essential_name_at}
 use Rattle.ebpf_btf.specs.TypeInfo.{TypeInfo}
 use Rattle.ebpf_btf.specs.declared.error.BtfError.{BtfError}
 use Rattle.ebpf_btf.specs.declared.variants.BtfVariant.{BtfVariant}
-use Rattle.ebpf_core.specs.FirstVariants.{AreOthers, FirstVariantIs, Met, Unread, Absent}
+use Rattle.ebpf_core.specs.FirstVariants.{AreOthers, FirstVariantIs, HasName, Unread, Absent}
 use Rattle.ebpf_core.specs.Matches.{first_variant}
 use Rattle.ebpf_core.proofs.VariantSteps.{first_fault, first_here, first_none, first_on}
 
@@ -28,13 +28,13 @@ module _ (info : TypeInfo) (name : List ℕ) where
 
   passed : (v : BtfVariant) (vs : List BtfVariant) (a : Result (Option ℕ) BtfError) → same_at v ≡ Ok false → FirstVariantIs info name vs a
       → FirstVariantIs info name (v ∷ vs) a
-  passed v vs _ is (Met n w at met others) = Met (suc n) w at met (one_before v vs n is others)
+  passed v vs _ is (HasName n w at named_here others) = HasName (suc n) w at named_here (one_before v vs n is others)
   passed v vs _ is (Unread n w e at fault others) = Unread (suc n) w e at fault (one_before v vs n is others)
   passed v vs _ is (Absent others) = Absent (one_before v vs (length vs) is others)
 
   first_by : (v : BtfVariant) (vs : List BtfVariant) (same : Result Bool BtfError) → same_at v ≡ same → FirstVariantIs info name vs (first_variant info name vs)
       → FirstVariantIs info name (v ∷ vs) (first_variant info name (v ∷ vs))
-  first_by v vs (Ok true) is rest = subst (FirstVariantIs info name (v ∷ vs)) (sym (first_here info name v vs is)) (Met 0 v refl is (none_before (v ∷ vs)))
+  first_by v vs (Ok true) is rest = subst (FirstVariantIs info name (v ∷ vs)) (sym (first_here info name v vs is)) (HasName 0 v refl is (none_before (v ∷ vs)))
   first_by v vs (Ok false) is rest = subst (FirstVariantIs info name (v ∷ vs)) (sym (first_on info name v vs is)) (passed v vs _ is rest)
   first_by v vs (Err e) is rest = subst (FirstVariantIs info name (v ∷ vs)) (sym (first_fault info name v vs e is)) (Unread 0 v e refl is (none_before (v ∷ vs)))
 
@@ -44,13 +44,13 @@ module _ (info : TypeInfo) (name : List ℕ) where
 
   -- ---- to the equation
 
-  met_at : (vs : List BtfVariant) (n : ℕ) (v : BtfVariant) → slice_get vs n ≡ Some v → same_at v ≡ Ok true → AreOthers info name vs n
+  named_at : (vs : List BtfVariant) (n : ℕ) (v : BtfVariant) → slice_get vs n ≡ Some v → same_at v ≡ Ok true → AreOthers info name vs n
       → first_variant info name vs ≡ Ok (Some v.value)
-  met_at [] n v at is others = cc
-  met_at (w ∷ vs) zero v at is others =
+  named_at [] n v at is others = cc
+  named_at (w ∷ vs) zero v at is others =
       first_here info name w vs (ap same_at (same_Some _ _ at) ∙ is) ∙ ap (λ (x : BtfVariant). Ok (Some x.value)) (same_Some _ _ at)
-  met_at (w ∷ vs) (suc n) v at is others =
-      first_on info name w vs (others 0 w (omega arith) refl) ∙ met_at vs n v at is (one_less w vs n others)
+  named_at (w ∷ vs) (suc n) v at is others =
+      first_on info name w vs (others 0 w (omega arith) refl) ∙ named_at vs n v at is (one_less w vs n others)
 
   unread_at : (vs : List BtfVariant) (n : ℕ) (v : BtfVariant) (e : BtfError) → slice_get vs n ≡ Some v → same_at v ≡ Err e → AreOthers info name vs n
       → first_variant info name vs ≡ Err e
@@ -64,6 +64,6 @@ module _ (info : TypeInfo) (name : List ℕ) where
   absent (w ∷ vs) others = first_on info name w vs (others 0 w (omega arith) refl) ∙ absent vs (one_less w vs (length vs) others)
 
   pub one_first : (vs : List BtfVariant) (a : Result (Option ℕ) BtfError) → FirstVariantIs info name vs a → a ≡ first_variant info name vs
-  one_first vs _ (Met n v at is others) = sym (met_at vs n v at is others)
+  one_first vs _ (HasName n v at is others) = sym (named_at vs n v at is others)
   one_first vs _ (Unread n v e at is others) = sym (unread_at vs n v e at is others)
   one_first vs _ (Absent others) = sym (absent vs others)

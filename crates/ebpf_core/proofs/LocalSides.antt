@@ -8,23 +8,23 @@ use Rattle.ebpf_btf.specs.declared.types.BtfType.{BtfType}
 use Rattle.ebpf_ext.specs.declared.relocation.Relocation.{Relocation}
 use Rattle.ebpf_core.specs.AccessStrings.{access_parts}
 use Rattle.ebpf_core.specs.Answers.{if_ok, of_types}
-use Rattle.ebpf_core.specs.LocalPaths.{field_path, local_path, part_step, path_for, to_element, variant_path, walked}
+use Rattle.ebpf_core.specs.LocalPaths.{field_path, local_path, part_step, path_for, spot_at_element, variant_path, spot_after}
 use Rattle.ebpf_core.specs.LocalSides.{FieldLeads, NoPart, NoRoot, NoField, ToField, IsRead, LocalPathLeads, OfType, NoType, OfVariant, OfField, LocalSideIs, NoLocalType, NoName, NoString, NoParts, NotResolved, NoPath, Led, PartsLead, Arrived, Refused, Onward}
-use Rattle.ebpf_core.specs.Subjects.{subject_of}
+use Rattle.ebpf_core.specs.RelocationBases.{basis_of}
 use Rattle.ebpf_core.specs.declared.error.RelocationError.{RelocationError}
 use Rattle.ebpf_core.specs.declared.local_walk.LocalSpot.{LocalSpot}
 use Rattle.ebpf_core.specs.declared.paths.LocalPath.{LocalPath}
 use Rattle.ebpf_core.specs.declared.paths.NamedPath.{NamedPath}
 use Rattle.ebpf_core.specs.declared.paths.NamedPath.TheVariants as paths
-use Rattle.ebpf_core.specs.declared.subject.Subject.{Subject}
-use Rattle.ebpf_core.specs.declared.subject.Subject.TheVariants as subjects
+use Rattle.ebpf_core.specs.declared.relocation_basis.RelocationBasis.{RelocationBasis}
+use Rattle.ebpf_core.specs.declared.relocation_basis.RelocationBasis.TheVariants as bases
 use Rattle.ebpf_core.proofs.WalkSteps.{walked_none, walked_on}
 
 -- ---- the parts of an access string
 
 module _ (info : TypeInfo) (number : ℕ) (access : List ℕ) where
   abbrev walk : List ℕ → LocalSpot → Result LocalSpot RelocationError
-  walk = walked info number access
+  walk = spot_after info number access
 
   lead_on : (part : ℕ) (parts : List ℕ) (from : LocalSpot) (r : Result LocalSpot RelocationError) → part_step info number access from part ≡ r
       → ((next : LocalSpot) → PartsLead info number access parts next (walk parts next)) → PartsLead info number access (part ∷ parts) from (if_ok r (walk parts))
@@ -54,12 +54,12 @@ module _ (info : TypeInfo) (number : ℕ) (access : List ℕ) where
   abbrev from_root : List ℕ → Result LocalSpot RelocationError → Result NamedPath RelocationError
   from_root parts r = if_ok r (λ start. to_field (walk parts start))
 
-  field_end : (id root : ℕ) (parts : List ℕ) (start : LocalSpot) (r : Result LocalSpot RelocationError) → to_element info [] 0 id root ≡ Ok start
+  field_end : (id root : ℕ) (parts : List ℕ) (start : LocalSpot) (r : Result LocalSpot RelocationError) → spot_at_element info [] 0 id root ≡ Ok start
       → PartsLead info number access parts start r → FieldLeads info number access id (root ∷ parts) (to_field r)
   field_end id root parts start (Ok end) is way = ToField root parts start end is way
   field_end id root parts start (Err e) is way = NoField root parts start e is way
 
-  field_from : (id root : ℕ) (parts : List ℕ) (r : Result LocalSpot RelocationError) → to_element info [] 0 id root ≡ r
+  field_from : (id root : ℕ) (parts : List ℕ) (r : Result LocalSpot RelocationError) → spot_at_element info [] 0 id root ≡ r
       → FieldLeads info number access id (root ∷ parts) (from_root parts r)
   field_from id root parts (Ok start) is = field_end id root parts start (walk parts start) is (parts_lead parts start)
   field_from id root parts (Err e) is = NoRoot root parts e is
@@ -67,9 +67,9 @@ module _ (info : TypeInfo) (number : ℕ) (access : List ℕ) where
   field_leads : (id : ℕ) (parts : List ℕ) → FieldLeads info number access id parts (field_path info number access id parts)
   unfolding field_path
   field_leads id [] = NoPart
-  field_leads id (root ∷ parts) = field_from id root parts (to_element info [] 0 id root) refl
+  field_leads id (root ∷ parts) = field_from id root parts (spot_at_element info [] 0 id root) refl
 
-  field_by : (id root : ℕ) (parts : List ℕ) (r : Result LocalSpot RelocationError) → to_element info [] 0 id root ≡ r
+  field_by : (id root : ℕ) (parts : List ℕ) (r : Result LocalSpot RelocationError) → spot_at_element info [] 0 id root ≡ r
       → field_path info number access id (root ∷ parts) ≡ from_root parts r
   unfolding field_path
   field_by id root parts r is = ap (from_root parts) is
@@ -85,29 +85,29 @@ module _ (info : TypeInfo) (number : ℕ) (access : List ℕ) where
 
 module _ (info : TypeInfo) (r : Relocation) where
   module _ (access : List ℕ) (id : ℕ) (parts : List ℕ) where
-    abbrev by_subject : Subject → Result NamedPath RelocationError
-    by_subject s = path_for info r.number access id parts s
+    abbrev by_basis : RelocationBasis → Result NamedPath RelocationError
+    by_basis s = path_for info r.number access id parts s
 
     abbrev of_variant : Result BtfType TypeError → Result NamedPath RelocationError
     of_variant x = if_ok (of_types x) (λ t. variant_path info r.number access t parts)
 
-    variant_leads : (x : Result BtfType TypeError) → subject_of r.kind ≡ subjects.Variant → type_at info.types id ≡ x → LocalPathLeads info r access id parts (of_variant x)
+    variant_leads : (x : Result BtfType TypeError) → basis_of r.kind ≡ bases.Variant → type_at info.types id ≡ x → LocalPathLeads info r access id parts (of_variant x)
     variant_leads (Ok t) of is = OfVariant t of is
     variant_leads (Err e) of is = NoType e of is
 
-    leads_by : (s : Subject) → subject_of r.kind ≡ s → LocalPathLeads info r access id parts (by_subject s)
-    leads_by subjects.WholeType of = OfType of
-    leads_by subjects.Variant of = variant_leads (type_at info.types id) of refl
-    leads_by subjects.Field of = OfField (field_path info r.number access id parts) of (field_leads info r.number access id parts)
+    leads_by : (s : RelocationBasis) → basis_of r.kind ≡ s → LocalPathLeads info r access id parts (by_basis s)
+    leads_by bases.WholeType of = OfType of
+    leads_by bases.Variant of = variant_leads (type_at info.types id) of refl
+    leads_by bases.Field of = OfField (field_path info r.number access id parts) of (field_leads info r.number access id parts)
 
-    path_leads : LocalPathLeads info r access id parts (by_subject (subject_of r.kind))
-    path_leads = leads_by (subject_of r.kind) refl
+    path_leads : LocalPathLeads info r access id parts (by_basis (basis_of r.kind))
+    path_leads = leads_by (basis_of r.kind) refl
 
-    one_path : {a : Result NamedPath RelocationError} → LocalPathLeads info r access id parts a → a ≡ by_subject (subject_of r.kind)
-    one_path (OfType of) = sym (ap by_subject of)
-    one_path (NoType e of is) = sym (ap by_subject of ∙ ap of_variant is)
-    one_path (OfVariant t of is) = sym (ap by_subject of ∙ ap of_variant is)
-    one_path (OfField a of way) = one_field info r.number access way ∙ sym (ap by_subject of)
+    one_path : {a : Result NamedPath RelocationError} → LocalPathLeads info r access id parts a → a ≡ by_basis (basis_of r.kind)
+    one_path (OfType of) = sym (ap by_basis of)
+    one_path (NoType e of is) = sym (ap by_basis of ∙ ap of_variant is)
+    one_path (OfVariant t of is) = sym (ap by_basis of ∙ ap of_variant is)
+    one_path (OfField a of way) = one_field info r.number access way ∙ sym (ap by_basis of)
 
   -- ---- the local side
 
@@ -115,7 +115,7 @@ module _ (info : TypeInfo) (r : Relocation) where
   with_path name x = if_ok x (λ path. Ok (record { type_name = name; path = path }))
 
   abbrev pub with_id : List ℕ → List ℕ → List ℕ → Result ℕ TypeError → Result LocalPath RelocationError
-  with_id name access parts x = if_ok (of_types x) (λ id. with_path name (path_for info r.number access id parts (subject_of r.kind)))
+  with_id name access parts x = if_ok (of_types x) (λ id. with_path name (path_for info r.number access id parts (basis_of r.kind)))
 
   abbrev pub with_parts : List ℕ → List ℕ → Result (List ℕ) RelocationError → Result LocalPath RelocationError
   with_parts name access x = if_ok x (λ parts. with_id name access parts (resolved info.types r.type_id))
@@ -147,7 +147,7 @@ module _ (info : TypeInfo) (r : Relocation) where
   access_side : (t : BtfType) (name : List ℕ) (x : Result (List ℕ) TypeError) → type_at info.types r.type_id ≡ Ok t → type_name info t ≡ Ok name
       → text_at info.strings r.access_str_off ≡ x → LocalSideIs info r (with_access name x)
   access_side t name (Ok access) there named is =
-      parts_side name access (access_parts name access) (record { type = t; there = there; named = named; said = is }) refl
+      parts_side name access (access_parts name access) (record { type = t; there = there; named = named; access_is = is }) refl
   access_side t name (Err e) there named is = NoString t name e there named is
 
   name_side : (t : BtfType) (x : Result (List ℕ) TypeError) → type_at info.types r.type_id ≡ Ok t → type_name info t ≡ x → LocalSideIs info r (with_name x)
@@ -177,7 +177,7 @@ module _ (info : TypeInfo) (r : Relocation) where
 
   by_parts : (name access : List ℕ) (x : Result (List ℕ) RelocationError) → IsRead info r name access → access_parts name access ≡ x
       → local_path info r ≡ with_parts name access x
-  by_parts name access x read is = by_access read.type name (Ok access) read.there read.named read.said ∙ ap (with_parts name access) is
+  by_parts name access x read is = by_access read.type name (Ok access) read.there read.named read.access_is ∙ ap (with_parts name access) is
 
   by_id : (name access parts : List ℕ) (x : Result ℕ TypeError) → IsRead info r name access → access_parts name access ≡ Ok parts
       → resolved info.types r.type_id ≡ x → local_path info r ≡ with_id name access parts x

@@ -6,7 +6,7 @@ use Rattle.ebpf_base.specs.Faults.{Gives}
 use Rattle.ebpf_btf.specs.Memory as types
 use Rattle.ebpf_btf.specs.declared.error.BtfError.{BtfError as TypeError}
 use Rattle.ebpf_core.specs.declared.error.RelocationError.{RelocationError}
-use Rattle.ebpf_core.specs.Answers.{Tells, TellsSo, of_type_error, of_types, if_ok, told}
+use Rattle.ebpf_core.specs.Answers.{Tells, TellsSo, of_type_error, of_types, if_ok, without_texts}
 use Rattle.ebpf_core.specs.Matches.{by_place}
 use Rattle.ebpf_core.specs.Memory.{is_memory}
 use Rattle.ebpf_core.specs.declared.matches.Found.{Found}
@@ -18,7 +18,7 @@ use Rattle.ebpf_places.specs.declared.places.Place.{Place}
 
 -- what is stated of an error is stated of what follows it
 module _ {X Y : Type 0} (e : RelocationError) (one : Result X RelocationError) where
-  through : (b : Bool) (next : X → Result Y RelocationError) → MatchBool b ⊤ (one ≡ Err (told e)) → MatchBool b ⊤ (if_ok one next ≡ Err (told e))
+  through : (b : Bool) (next : X → Result Y RelocationError) → MatchBool b ⊤ (one ≡ Err (without_texts e)) → MatchBool b ⊤ (if_ok one next ≡ Err (without_texts e))
   through true next h = tt
   through false next h = ap (λ r. if_ok r next) h
 
@@ -45,11 +45,11 @@ module _ {X Y : Type 0} (e : TypeError) (one : Result X TypeError) where
 
 -- what is stated of an error in one place is stated of it in another, where the one's fault is the other's
 module _ {X Y : Type 0} (e : RelocationError) (one : Result X RelocationError) (other : Result Y RelocationError) where
-  led : (b : Bool) → (one ≡ Err (told e) → other ≡ Err (told e)) → MatchBool b ⊤ (one ≡ Err (told e)) → MatchBool b ⊤ (other ≡ Err (told e))
+  led : (b : Bool) → (one ≡ Err (without_texts e) → other ≡ Err (without_texts e)) → MatchBool b ⊤ (one ≡ Err (without_texts e)) → MatchBool b ⊤ (other ≡ Err (without_texts e))
   led true to h = tt
   led false to h = to h
 
-  pub also : (one ≡ Err (told e) → other ≡ Err (told e)) → Tells {X = X} (Err e) one → Tells {X = Y} (Err e) other
+  pub also : (one ≡ Err (without_texts e) → other ≡ Err (without_texts e)) → Tells {X = X} (Err e) one → Tells {X = Y} (Err e) other
   also to h = led (is_memory e) to h
 
 -- the error that a call hands on
@@ -58,18 +58,18 @@ handed (Ok x) e is = absurd is
 handed (Err f) e is = ap Err is
 
 pub refused_by : {X Y : Type 0} (e : RelocationError) (one : Result X RelocationError) (r other : Result Y RelocationError) → IsErrAnd r (λ f. f ≡ e)
-    → (one ≡ Err (told e) → other ≡ Err (told e)) → Tells {X = X} (Err e) one → Tells r other
+    → (one ≡ Err (without_texts e) → other ≡ Err (without_texts e)) → Tells {X = X} (Err e) one → Tells r other
 refused_by e one r other is to h = rw (handed r e is) (also e one other to h)
 
 -- what holds of the stated answer holds of the one that is given, memory and texts for people aside
 module _ {X : Type 0} (Holds : Result X RelocationError → Type 0) where
-  held_so : (b : Bool) (e : RelocationError) (stated : Result X RelocationError) → MatchBool b ⊤ (stated ≡ Err (told e)) → Holds stated → MatchBool b ⊤ (Holds (Err (told e)))
+  held_so : (b : Bool) (e : RelocationError) (stated : Result X RelocationError) → MatchBool b ⊤ (stated ≡ Err (without_texts e)) → Holds stated → MatchBool b ⊤ (Holds (Err (without_texts e)))
   held_so true e stated is holds = tt
   held_so false e stated is holds = subst Holds is holds
 
-  pub told_so : (r stated : Result X RelocationError) → Tells r stated → Holds stated → TellsSo r Holds
-  told_so (Ok x) stated is holds = subst Holds is holds
-  told_so (Err e) stated is holds = held_so (is_memory e) e stated is holds
+  pub without_texts_so : (r stated : Result X RelocationError) → Tells r stated → Holds stated → TellsSo r Holds
+  without_texts_so (Ok x) stated is holds = subst Holds is holds
+  without_texts_so (Err e) stated is holds = held_so (is_memory e) e stated is holds
 
 -- ---- places
 

@@ -6,13 +6,13 @@ use Rattle.std.proofs.lemmas.Option.{same_Some}
 use Rattle.ebpf_btf.specs.TypeInfo.{TypeInfo}
 use Rattle.ebpf_btf.specs.declared.error.BtfError.{BtfError as TypeError}
 use Rattle.ebpf_ext.specs.declared.relocation.Relocation.{Relocation}
-use Rattle.ebpf_core.specs.Answers.{FirstFails, Tells, each, if_ok, of_types, told}
+use Rattle.ebpf_core.specs.Answers.{FirstFails, Tells, each, if_ok, of_types, without_texts}
 use Rattle.ebpf_core.specs.LocalPaths.{local_path}
 use Rattle.ebpf_core.specs.LocalSides.{LocalSideIs}
-use Rattle.ebpf_core.specs.Matches.{found_in, match_in, match_of, matches, name_at}
+use Rattle.ebpf_core.specs.Matches.{found_at_candidate, match_in, match_of, matches, type_name_at}
 use Rattle.ebpf_core.specs.Memory.{is_memory}
-use Rattle.ebpf_core.specs.Outcomes.{agree, concluded, differing_names, local_loaded, match_value, outcome_among, settled}
-use Rattle.ebpf_core.specs.Refused.{AreInConflict, Nameless, Differing, AmongIsRefused, Matching, LocalField, Values, Conflict, OutcomeIsRefused, LocalSide, Candidates, Among}
+use Rattle.ebpf_core.specs.Outcomes.{values_agree, concluded, differing_names, local_loaded, match_value, outcome_among, agreed_outcome}
+use Rattle.ebpf_core.specs.Refused.{AreInConflict, Unreadable, Differing, AmongIsRefused, Matching, LocalField, Values, Conflict, OutcomeIsRefused, LocalSide, Candidates, Among}
 use Rattle.ebpf_core.specs.Searches.{candidates_for, is_local, itself, outcome_of}
 use Rattle.ebpf_core.specs.declared.error.RelocationError.{RelocationError}
 use Rattle.ebpf_core.specs.declared.field.LoadedField.{LoadedField}
@@ -109,15 +109,15 @@ module _ {A X Y E : Type 0} (f : A → Result X E) (g : A → Result Y E) (to : 
 
 module _ (target : TypeInfo) (name : List ℕ) (loaded : Option LoadedField) where
   abbrev named : MatchValue → Result (List ℕ) RelocationError
-  named v = of_types (name_at target v.candidate)
+  named v = of_types (type_name_at target v.candidate)
 
   conflict_by : (first : MatchValue) (others : List MatchValue) (fault : RelocationError) (r : Result (List (List ℕ)) RelocationError)
-      → differing_names target first others ≡ r → if_ok r (settled name loaded first) ≡ Err fault → AreInConflict target name (first ∷ others) fault
+      → differing_names target first others ≡ r → if_ok r (agreed_outcome name loaded first) ≡ Err fault → AreInConflict target name (first ∷ others) fault
   conflict_by first others fault (Ok []) is e = cc
   conflict_by first others fault (Ok (other ∷ more)) is e =
       subst (AreInConflict target name (first ∷ others)) (same_err _ _ e) (Differing first others other more is)
   conflict_by first others fault (Err g) is e =
-      Nameless first others fault (each_fails named (filter (λ v. not (agree first v)) others) fault (is ∙ ap Err (same_err _ _ e)))
+      Unreadable first others fault (each_fails named (filter (λ v. not (values_agree first v)) others) fault (is ∙ ap Err (same_err _ _ e)))
 
   conflict : (kind : _) (values : List MatchValue) (fault : RelocationError) → concluded target name kind loaded values ≡ Err fault → AreInConflict target name values fault
   unfolding concluded
@@ -126,16 +126,16 @@ module _ (target : TypeInfo) (name : List ℕ) (loaded : Option LoadedField) whe
 
   conflict_refuses : (kind : _) {values : List MatchValue} {fault : RelocationError} → AreInConflict target name values fault → concluded target name kind loaded values ≡ Err fault
   unfolding concluded
-  conflict_refuses kind (Nameless first others fault h) =
-      ap (λ (r : Result (List (List ℕ)) RelocationError). if_ok r (settled name loaded first)) (fails_each named (filter (λ v. not (agree first v)) others) fault h)
+  conflict_refuses kind (Unreadable first others fault h) =
+      ap (λ (r : Result (List (List ℕ)) RelocationError). if_ok r (agreed_outcome name loaded first)) (fails_each named (filter (λ v. not (values_agree first v)) others) fault h)
   conflict_refuses kind (Differing first others other more is) =
-      ap (λ (r : Result (List (List ℕ)) RelocationError). if_ok r (settled name loaded first)) is
+      ap (λ (r : Result (List (List ℕ)) RelocationError). if_ok r (agreed_outcome name loaded first)) is
 
 -- ---- over candidates
 
 module _ (local target : TypeInfo) (r : Relocation) (path : LocalPath) (ids : List ℕ) where
   abbrev finds : ℕ → Result (Option Found) RelocationError
-  finds = found_in local target r.type_id path.path
+  finds = found_at_candidate local target r.type_id path.path
 
   abbrev with_values : Option LoadedField → Result (List MatchValue) RelocationError → Result Outcome RelocationError
   with_values loaded x = if_ok x (concluded target path.type_name r.kind loaded)
@@ -167,16 +167,16 @@ module _ (local target : TypeInfo) (r : Relocation) (path : LocalPath) (ids : Li
   by_values : (found : List Match) (loaded : Option LoadedField) (x : Result (List MatchValue) RelocationError) (fault : RelocationError)
       → matches local target r.type_id path.path ids ≡ Ok found → local_loaded local r path.path ≡ Ok loaded
       → each (match_value target r.kind) found ≡ x → with_values loaded x ≡ Err fault → AmongIsRefused local target r path ids fault
-  by_values found loaded (Ok values) fault met is given e =
-      Conflict found loaded values fault met is given (conflict target path.type_name loaded r.kind values fault e)
-  by_values found loaded (Err g) fault met is given e =
-      Values found loaded fault met is (each_fails (match_value target r.kind) found fault (given ∙ ap Err (same_err _ _ e)))
+  by_values found loaded (Ok values) fault matches_are is given e =
+      Conflict found loaded values fault matches_are is given (conflict target path.type_name loaded r.kind values fault e)
+  by_values found loaded (Err g) fault matches_are is given e =
+      Values found loaded fault matches_are is (each_fails (match_value target r.kind) found fault (given ∙ ap Err (same_err _ _ e)))
 
   by_loaded : (found : List Match) (x : Result (Option LoadedField) RelocationError) (fault : RelocationError)
       → matches local target r.type_id path.path ids ≡ Ok found → local_loaded local r path.path ≡ x → with_loaded found x ≡ Err fault
       → AmongIsRefused local target r path ids fault
-  by_loaded found (Ok loaded) fault met is e = by_values found loaded (each (match_value target r.kind) found) fault met is refl e
-  by_loaded found (Err g) fault met is e = LocalField found fault met (is ∙ ap Err (same_err _ _ e))
+  by_loaded found (Ok loaded) fault matches_are is e = by_values found loaded (each (match_value target r.kind) found) fault matches_are is refl e
+  by_loaded found (Err g) fault matches_are is e = LocalField found fault matches_are (is ∙ ap Err (same_err _ _ e))
 
   by_matches : (x : Result (List Match) RelocationError) (fault : RelocationError) → matches local target r.type_id path.path ids ≡ x
       → with_matches x ≡ Err fault → AmongIsRefused local target r path ids fault
@@ -187,20 +187,20 @@ module _ (local target : TypeInfo) (r : Relocation) (path : LocalPath) (ids : Li
   unfolding outcome_among
   among_first fault e = by_matches (matches local target r.type_id path.path ids) fault refl e
 
-  met : (x : Result (List Match) RelocationError) → matches local target r.type_id path.path ids ≡ x → outcome_among local target r path ids ≡ with_matches x
+  matches_are : (x : Result (List Match) RelocationError) → matches local target r.type_id path.path ids ≡ x → outcome_among local target r path ids ≡ with_matches x
   unfolding outcome_among
-  met x is = ap with_matches is
+  matches_are x is = ap with_matches is
 
   then_loaded : (found : List Match) (x : Result (Option LoadedField) RelocationError) → matches local target r.type_id path.path ids ≡ Ok found
       → local_loaded local r path.path ≡ x → outcome_among local target r path ids ≡ with_loaded found x
-  then_loaded found x is given = met (Ok found) is ∙ ap (with_loaded found) given
+  then_loaded found x is given = matches_are (Ok found) is ∙ ap (with_loaded found) given
 
   then_values : (found : List Match) (loaded : Option LoadedField) (x : Result (List MatchValue) RelocationError) → matches local target r.type_id path.path ids ≡ Ok found
       → local_loaded local r path.path ≡ Ok loaded → each (match_value target r.kind) found ≡ x → outcome_among local target r path ids ≡ with_values loaded x
   then_values found loaded x is given all = then_loaded found (Ok loaded) is given ∙ ap (with_values loaded) all
 
   pub among_refuses : (fault : RelocationError) → AmongIsRefused local target r path ids fault → outcome_among local target r path ids ≡ Err fault
-  among_refuses _ (Matching fault h) = met (Err fault) (matching_refuses fault h)
+  among_refuses _ (Matching fault h) = matches_are (Err fault) (matching_refuses fault h)
   among_refuses _ (LocalField found fault is given) = then_loaded found (Err fault) is given
   among_refuses _ (Values found loaded fault is given h) = then_values found loaded (Err fault) is given (fails_each (match_value target r.kind) found fault h)
   among_refuses _ (Conflict found loaded values fault is given all h) =
@@ -255,12 +255,12 @@ module _ (local target : TypeInfo) (r : Relocation) where
   outcome_refuses _ (Candidates path e side other given) = by_ids path (Err e) side other given
   outcome_refuses _ (Among path ids fault side other given h) = by_ids path (Ok ids) side other given ∙ among_refuses local target r path ids fault h
 
--- what a stated fault is, the one that is told is too
+-- what a stated fault is, the one without texts is too
 module _ {Y : Type 0} (P : RelocationError → Type 0) (stated : Result Y RelocationError) (to : (fault : RelocationError) → stated ≡ Err fault → P fault) where
-  told_by : (b : Bool) (e : RelocationError) → MatchBool b ⊤ (stated ≡ Err (told e)) → MatchBool b ⊤ (P (told e))
-  told_by true e is = tt
-  told_by false e is = to (told e) is
+  without_texts_by : (b : Bool) (e : RelocationError) → MatchBool b ⊤ (stated ≡ Err (without_texts e)) → MatchBool b ⊤ (P (without_texts e))
+  without_texts_by true e is = tt
+  without_texts_by false e is = to (without_texts e) is
 
-  pub refused_so : (r : Result Y RelocationError) → Tells r stated → IfErr r (λ e. MatchBool (is_memory e) ⊤ (P (told e)))
+  pub refused_so : (r : Result Y RelocationError) → Tells r stated → IfErr r (λ e. MatchBool (is_memory e) ⊤ (P (without_texts e)))
   refused_so (Ok x) h = tt
-  refused_so (Err e) h = told_by (is_memory e) e h
+  refused_so (Err e) h = without_texts_by (is_memory e) e h

@@ -6,7 +6,7 @@ use Rattle.ebpf_ext.specs.declared.relocation.Relocation.{Relocation}
 use Rattle.ebpf_core.specs.declared.error.RelocationError.{RelocationError}
 use Rattle.ebpf_core.specs.declared.outcome.Outcome.{Outcome}
 use Rattle.ebpf_core.specs.declared.paths.LocalPath.{LocalPath}
-use Rattle.ebpf_core.specs.Answers.{Tells, if_ok, of_types, told}
+use Rattle.ebpf_core.specs.Answers.{Tells, if_ok, of_types, without_texts}
 use Rattle.ebpf_core.specs.LocalPaths.{local_path}
 use Rattle.ebpf_core.specs.Outcomes.{outcome_among}
 use Rattle.ebpf_core.specs.Searches.{candidates_for, is_local, itself, outcome_of}
@@ -35,7 +35,7 @@ module _ (local target : TypeInfo) (r : Relocation) where
         → Tells {X = LocalPath} (Err e) (local_path local r) → Tells answer (stated s)
     path_refused e answer is given =
         subst (λ (t : Sides). Tells answer (stated t)) view
-        (refused_by e (local_path local r) answer (outcome_of local target r) is (path_fault (told e)) given)
+        (refused_by e (local_path local r) answer (outcome_of local target r) is (path_fault (without_texts e)) given)
 
     pub local_itself : (path : LocalPath) → local_path local r ≡ Ok path → is_local r.kind ≡ true → stated s ≡ Ok (itself r.type_id)
     local_itself path is here = subst (λ (t : Sides). stated t ≡ Ok (itself r.type_id)) view (local_given path is here)

@@ -9,7 +9,7 @@ use Rattle.ebpf_btf.specs.declared.variants.BtfVariant.{BtfVariant}
 use Rattle.ebpf_btf.specs.Strings.{is_essential_name_at}
 use Rattle.ebpf_btf.specs.TypeInfo.{TypeInfo}
 use Rattle.ebpf_base.specs.Faults.{first_some, or_else}
-use Rattle.ebpf_core.specs.Matches.{first_variant, variant_answer, variant_sought}
+use Rattle.ebpf_core.specs.Matches.{first_variant, variant_answer, named_variant_answer}
 use Rattle.ebpf_core.proofs.Lists.{rest_more}
 
 -- ---- the variants that are left
@@ -45,7 +45,7 @@ all_passed (Some vs) i past = drop_all i vs past
 module _ (info : TypeInfo) (name : List ℕ) where
   -- what the first variant answers, or those behind it
   abbrev led_by : Result Bool BtfError → BtfVariant → List BtfVariant → Result (Option ℕ) BtfError
-  led_by same v vs = unwrap_or (or_else (variant_answer v.value same) (first_some (variant_sought info name) vs)) (Ok None)
+  led_by same v vs = unwrap_or (or_else (variant_answer v.value same) (first_some (named_variant_answer info name) vs)) (Ok None)
 
   first_by : (v : BtfVariant) (vs : List BtfVariant) (same : Result Bool BtfError) → is_essential_name_at info.strings v.name_offset name ≡ same
       → first_variant info name (v ∷ vs) ≡ led_by same v vs
@@ -75,9 +75,9 @@ module _ (info : TypeInfo) (name : List ℕ) where
           → first_variant info name (drop i (listed o)) ≡ first_variant info name (drop (i + 1) (listed o))
       variant_passed is = ap (first_variant info name) (some_left o i v here) ∙ first_on v (drop (i + 1) (listed o)) is
 
-      pub variant_met : is_essential_name_at info.strings v.name_offset name ≡ Ok true
+      pub variant_has_name : is_essential_name_at info.strings v.name_offset name ≡ Ok true
           → first_variant info name (drop i (listed o)) ≡ Ok (Some v.value)
-      variant_met is = ap (first_variant info name) (some_left o i v here) ∙ first_here v (drop (i + 1) (listed o)) is
+      variant_has_name is = ap (first_variant info name) (some_left o i v here) ∙ first_here v (drop (i + 1) (listed o)) is
 
       pub variant_fault : (e : BtfError) → is_essential_name_at info.strings v.name_offset name ≡ Err e
           → first_variant info name (drop i (listed o)) ≡ Err e

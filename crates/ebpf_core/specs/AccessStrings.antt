@@ -23,8 +23,8 @@ all_of (None ∷ xs) = None
 all_of (Some x ∷ xs) = option_map (λ ys. x ∷ ys) (all_of xs)
 
 -- the parts of an access string, where each piece between its colons is one
-abbrev pub parts_of : List ℕ → Option (List ℕ)
-parts_of access = all_of (map part_of (slice_split (λ b. b == 58) access))
+abbrev pub access_parts_of : List ℕ → Option (List ℕ)
+access_parts_of access = all_of (map part_of (slice_split (λ b. b == 58) access))
 
 -- how many parts there may be
 abbrev pub most_parts : ℕ
@@ -33,6 +33,6 @@ most_parts = 64
 -- the parts, of which there may be so many; the faults speak of the local type's name and of the string
 abbrev pub access_parts : List ℕ → List ℕ → Result (List ℕ) RelocationError
 access_parts type_name access =
-    if_some (parts_of access)
+    if_some (access_parts_of access)
     (λ parts. if nat_le (length parts) most_parts then Ok parts else Err (MaximumNestingLevelReached type_name))
     (Err (InvalidAccessString access))

@@ -7,21 +7,21 @@ use Rattle.ebpf_core.specs.declared.error.RelocationError.TheVariants as errors
 use Rattle.ebpf_core.specs.Memory.{is_memory}
 
 -- an error with such texts empty
-abbrev pub told : RelocationError → RelocationError
-told (errors.InvalidAccessIndex path spec index len error) = errors.InvalidAccessIndex [] spec index len []
-told (errors.InvalidRelocationKindForType number kind type_kind error) = errors.InvalidRelocationKindForType number [] [] []
-told (errors.InvalidInstruction number index error) = errors.InvalidInstruction number index []
-told e = e
+abbrev pub without_texts : RelocationError → RelocationError
+without_texts (errors.InvalidAccessIndex path spec index len error) = errors.InvalidAccessIndex [] spec index len []
+without_texts (errors.InvalidRelocationKindForType number kind type_kind error) = errors.InvalidRelocationKindForType number [] [] []
+without_texts (errors.InvalidInstruction number index error) = errors.InvalidInstruction number index []
+without_texts e = e
 
 -- The call answers as stated, such texts aside, or with a want of memory.
 abbrev pub Tells : {X : Type 0} → Result X RelocationError → Result X RelocationError → Type 0
 Tells (Ok x) stated = stated ≡ Ok x
-Tells (Err e) stated = MatchBool (is_memory e) ⊤ (stated ≡ Err (told e))
+Tells (Err e) stated = MatchBool (is_memory e) ⊤ (stated ≡ Err (without_texts e))
 
--- What is said of an answer holds of this one, such texts aside, unless it is a want of memory.
+-- What holds of the stated answer holds of this one, such texts aside, unless it is a want of memory.
 abbrev pub TellsSo : {X : Type 0} → Result X RelocationError → (Result X RelocationError → Type 0) → Type 0
 TellsSo (Ok x) Holds = Holds (Ok x)
-TellsSo (Err e) Holds = MatchBool (is_memory e) ⊤ (Holds (Err (told e)))
+TellsSo (Err e) Holds = MatchBool (is_memory e) ⊤ (Holds (Err (without_texts e)))
 
 -- a fault of types as a fault of a record
 abbrev pub of_type_error : BtfError → RelocationError

@@ -14,8 +14,8 @@ abbrev pub aligned : ℕ → ℕ → ℕ
 aligned bit size = bit / 8 / size * size
 
 -- whether that container has all bits of a field, which are `width` from the bit on
-abbrev pub holds : ℕ → ℕ → ℕ → Bool
-holds bit width size = nat_le (bit + width) ((aligned bit size + size) * 8)
+abbrev pub container_holds : ℕ → ℕ → ℕ → Bool
+container_holds bit width size = nat_le (bit + width) ((aligned bit size + size) * 8)
 
 -- the size of a field's type, and that size doubled
 abbrev pub doubled_sizes : ℕ → List ℕ
@@ -23,7 +23,7 @@ doubled_sizes size = size ∷ size * 2 ∷ size * 4 ∷ size * 8 ∷ []
 
 -- whether one of these sizes is that of a container: a size is doubled while it is below 8
 abbrev pub is_container : ℕ → ℕ → ℕ → ℕ → Bool
-is_container bit width size doubled = (doubled == size || nat_lt doubled 16) && holds bit width doubled
+is_container bit width size doubled = (doubled == size || nat_lt doubled 16) && container_holds bit width doubled
 
 -- the size of the smallest container that holds a field whose type has a size; none holds one of a type of no bytes
 unfoldable pub container : ℕ → ℕ → ℕ → Option ℕ

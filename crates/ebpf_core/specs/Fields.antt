@@ -31,8 +31,8 @@ class_of (Ptr name id) = Pointer
 class_of (Int name size bits) = if is_signed (Int name size bits) then Other else UnsignedInt
 class_of _ = Other
 
-abbrev pub loaded_as : BtfType → ℕ → LoadedField
-loaded_as t size = record { size = size; class = class_of t }
+abbrev pub loaded_field : BtfType → ℕ → LoadedField
+loaded_field t size = record { size = size; class = class_of t }
 
 -- by how much a number of so many bits is shifted, so that 64 remain
 abbrev pub shift : ℕ → Result ℕ BtfError
@@ -46,21 +46,21 @@ by_types (Err e) = Err (Types e)
 -- ---- a member
 
 -- the extent of a member, and what is loaded where it is no bit field
-abbrev pub laid : BtfType → BtfMember → ℕ → BtfType → Result ℕ BtfError → Result (Extent × Option LoadedField) BtfError
-laid parent member bits t size =
+abbrev pub member_extent : BtfType → BtfMember → ℕ → BtfType → Result ℕ BtfError → Result (Extent × Option LoadedField) BtfError
+member_extent parent member bits t size =
     if bit_field_size parent member == 0
-    then if_ok size (λ bytes. Ok (plain_extent bits bytes, Some (loaded_as t bytes)))
+    then if_ok size (λ bytes. Ok (plain_extent bits bytes, Some (loaded_field t bytes)))
     else if_ok (bit_field_extent bits (bit_field_size parent member) (size_word t)) (λ extent. Ok (extent, None))
 
 -- what a kind asks of a member: of the first byte, the loaded bytes, the sign, or by how much the loaded bytes are
 -- shifted left and then right in 64 bits
-abbrev pub asked : RelocationKind → Bool → ℕ → Extent → Result ℕ BtfError
-asked FieldByteOffset signed bits extent = Ok extent.start
-asked FieldByteSize signed bits extent = Ok extent.size
-asked FieldSigned signed bits extent = Ok (if signed then 1 else 0)
-asked FieldLShift64 signed bits extent = shift (bits - extent.start * 8 + extent.width)
-asked FieldRShift64 signed bits extent = shift extent.width
-asked _ signed bits extent = Ok 1
+abbrev pub member_number : RelocationKind → Bool → ℕ → Extent → Result ℕ BtfError
+member_number FieldByteOffset signed bits extent = Ok extent.start
+member_number FieldByteSize signed bits extent = Ok extent.size
+member_number FieldSigned signed bits extent = Ok (if signed then 1 else 0)
+member_number FieldLShift64 signed bits extent = shift (bits - extent.start * 8 + extent.width)
+member_number FieldRShift64 signed bits extent = shift extent.width
+member_number _ signed bits extent = Ok 1
 
 -- what is loaded matters where the offset is asked
 abbrev pub value_with : RelocationKind → ℕ → Option LoadedField → FieldValue
@@ -72,32 +72,32 @@ unfoldable pub member_value : TypeInfo → RelocationKind → ℕ → BtfType �
 member_value info kind bits parent member =
     if_ok (resolved info.types member.btf_type) (λ id.
     if_ok (type_at info.types id) (λ t.
-    if_ok (laid parent member bits t (size_of info.types id)) (λ place.
-    if_ok (asked kind (is_signed t) bits place.0) (λ number. Ok (value_with kind number place.1)))))
+    if_ok (member_extent parent member bits t (size_of info.types id)) (λ place.
+    if_ok (member_number kind (is_signed t) bits place.0) (λ number. Ok (value_with kind number place.1)))))
 
 -- ---- an element
 
 -- of an element only the first byte and the size are asked
 abbrev pub element_value : TypeInfo → RelocationKind → ℕ → ℕ → Result FieldValue FieldFault
 element_value info FieldByteOffset bits id =
-    by_types (if_ok (size_of info.types id) (λ size. if_ok (resolved_type info.types id) (λ t. Ok (value_with FieldByteOffset (bits / 8) (Some (loaded_as t size))))))
+    by_types (if_ok (size_of info.types id) (λ size. if_ok (resolved_type info.types id) (λ t. Ok (value_with FieldByteOffset (bits / 8) (Some (loaded_field t size))))))
 element_value info FieldByteSize bits id = by_types (if_ok (size_of info.types id) (λ size. Ok (value_with FieldByteSize size None)))
 element_value info _ bits id = Err OfElement
 
 -- ---- a place
 
-abbrev pub member_at : BtfType → ℕ → Option BtfMember
-member_at t index = option_and_then (λ members. slice_get members index) (members_of t)
+abbrev pub member_with_index : BtfType → ℕ → Option BtfMember
+member_with_index t index = option_and_then (λ members. slice_get members index) (members_of t)
 
 abbrev pub value_of_member : TypeInfo → RelocationKind → ℕ → ℕ → ℕ → Result FieldValue BtfError
 value_of_member info kind bits parent index =
-    if_ok (type_at info.types parent) (λ t. if_some (member_at t index) (member_value info kind bits t) (Err InvalidTypeInfo))
+    if_ok (type_at info.types parent) (λ t. if_some (member_with_index t index) (member_value info kind bits t) (Err InvalidTypeInfo))
 
-abbrev pub value_at : TypeInfo → RelocationKind → ℕ → PlaceEnd → Result FieldValue FieldFault
-value_at info kind bits (Element id) = element_value info kind bits id
-value_at info kind bits (Member parent index) = by_types (value_of_member info kind bits parent index)
+abbrev pub place_end_value : TypeInfo → RelocationKind → ℕ → PlaceEnd → Result FieldValue FieldFault
+place_end_value info kind bits (Element id) = element_value info kind bits id
+place_end_value info kind bits (Member parent index) = by_types (value_of_member info kind bits parent index)
 
 -- what a kind asks of the field at a place; that it is there is a 1
 unfoldable pub field_value : TypeInfo → RelocationKind → Place → Result FieldValue FieldFault
 field_value info FieldExists place = Ok (value_with FieldExists 1 None)
-field_value info kind place = value_at info kind place.bits place.end
+field_value info kind place = place_end_value info kind place.bits place.end

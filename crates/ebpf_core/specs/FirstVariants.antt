@@ -13,7 +13,7 @@ AreOthers info name vs n =
 -- The value of the first variant of a name is this: at variant n the search stops, since it has the name or can't be
 -- read; or there is none.
 pub data FirstVariantIs (info : TypeInfo) (name : List ℕ) (vs : List BtfVariant) : Result (Option ℕ) TypeError → Type 0 where
-  Met : (n : ℕ) (v : BtfVariant) → slice_get vs n ≡ Some v → is_essential_name_at info.strings v.name_offset name ≡ Ok true
+  HasName : (n : ℕ) (v : BtfVariant) → slice_get vs n ≡ Some v → is_essential_name_at info.strings v.name_offset name ≡ Ok true
       → AreOthers info name vs n → FirstVariantIs info name vs (Ok (Some v.value))
   Unread : (n : ℕ) (v : BtfVariant) (e : TypeError) → slice_get vs n ≡ Some v → is_essential_name_at info.strings v.name_offset name ≡ Err e
       → AreOthers info name vs n → FirstVariantIs info name vs (Err e)

@@ -4,7 +4,7 @@ use Rattle.ebpf_btf.specs.TypeInfo.{TypeInfo}
 use Rattle.ebpf_btf.specs.declared.error.BtfError.{BtfError as TypeError}
 use Rattle.ebpf_btf.specs.declared.variants.BtfVariant.{BtfVariant}
 use Rattle.ebpf_ext.specs.declared.relocation.Relocation.{Relocation}
-use Rattle.ebpf_core.specs.Asked.{asked}
+use Rattle.ebpf_core.specs.Questions.{question_of}
 use Rattle.ebpf_core.specs.FirstVariants.{FirstVariantIs}
 use Rattle.ebpf_core.specs.LocalPaths.{local_path}
 use Rattle.ebpf_core.specs.LocalSides.{LocalSideIs}
@@ -51,6 +51,6 @@ abbrev pub FirstFaultRefuses : Type 0
 FirstFaultRefuses = (local target : TypeInfo) (r : Relocation) (fault : RelocationError) → OutcomeIsRefused local target r fault → outcome_of local target r ≡ Err fault
 
 -- Records that ask the same come to the same outcome: it rests neither on their numbers nor on their instructions.
-abbrev pub OutcomesRestOnWhatIsAsked : Type 0
-OutcomesRestOnWhatIsAsked = (local target : TypeInfo) (r s : Relocation) (outcome : Outcome) → asked r ≡ asked s
+abbrev pub OutcomesRestOnQuestions : Type 0
+OutcomesRestOnQuestions = (local target : TypeInfo) (r s : Relocation) (outcome : Outcome) → question_of r ≡ question_of s
     → outcome_of local target r ≡ Ok outcome → outcome_of local target s ≡ Ok outcome

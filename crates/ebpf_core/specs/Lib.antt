@@ -1,6 +1,6 @@
 pub mod AccessStrings
 pub mod Answers
-pub mod Asked
+pub mod Questions
 pub mod Containers
 pub mod Fields
 pub mod FirstVariants
@@ -13,4 +13,4 @@ pub mod Outcomes
 pub mod Refused
 pub mod Searches
 pub mod Sides
-pub mod Subjects
+pub mod RelocationBases

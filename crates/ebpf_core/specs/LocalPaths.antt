@@ -20,15 +20,15 @@ use Rattle.ebpf_core.specs.declared.paths.LocalPath.{LocalPath}
 use Rattle.ebpf_core.specs.declared.paths.NamedPath.{NamedPath}
 use Rattle.ebpf_core.specs.declared.paths.NamedPath.TheVariants as paths
 use Rattle.ebpf_core.specs.declared.local_walk.LocalSpot.{LocalSpot}
-use Rattle.ebpf_core.specs.declared.subject.Subject.{Subject}
-use Rattle.ebpf_core.specs.declared.subject.Subject.TheVariants as subjects
+use Rattle.ebpf_core.specs.declared.relocation_basis.RelocationBasis.{RelocationBasis}
+use Rattle.ebpf_core.specs.declared.relocation_basis.RelocationBasis.TheVariants as bases
 use Rattle.ebpf_places.specs.declared.places.PlaceEnd.{PlaceEnd}
 use Rattle.ebpf_places.specs.declared.places.PlaceEnd.TheVariants.{Element, Member}
 use Rattle.ebpf_places.specs.declared.steps.Step.{Step}
 use Rattle.ebpf_places.specs.declared.steps.Step.TheVariants.{Name, Index}
 use Rattle.ebpf_core.specs.AccessStrings.{access_parts}
 use Rattle.ebpf_core.specs.Answers.{if_ok, of_types}
-use Rattle.ebpf_core.specs.Subjects.{subject_of}
+use Rattle.ebpf_core.specs.RelocationBases.{basis_of}
 
 -- ---- the faults
 
@@ -46,20 +46,20 @@ wrong_kind number = Err (InvalidRelocationKindForType number [] [] [])
 -- ---- a field: the steps to it
 
 -- A path that has come so many bits from the root type's first. Bits are 32 bits wide.
-abbrev pub reached : List Step → ℕ → PlaceEnd → ℕ → ℕ → Result LocalSpot RelocationError
-reached steps bits end index type_id =
+abbrev pub spot_reached : List Step → ℕ → PlaceEnd → ℕ → ℕ → Result LocalSpot RelocationError
+spot_reached steps bits end index type_id =
     if nat_lt bits (2 ^ 32) then Ok (record { steps = steps; place = record { bits = bits; end = end }; index = index; type_id = type_id })
     else Err (BtfError InvalidTypeInfo)
 
 -- to an element of a type, of which the first is at a bit
-abbrev pub to_element : TypeInfo → List Step → ℕ → ℕ → ℕ → Result LocalSpot RelocationError
-to_element info steps bits id index =
-    if_ok (of_types (size_of info.types id)) (λ size. reached (steps ++ Index index ∷ []) (bits + index * size * 8) (Element id) index id)
+abbrev pub spot_at_element : TypeInfo → List Step → ℕ → ℕ → ℕ → Result LocalSpot RelocationError
+spot_at_element info steps bits id index =
+    if_ok (of_types (size_of info.types id)) (λ size. spot_reached (steps ++ Index index ∷ []) (bits + index * size * 8) (Element id) index id)
 
 -- whether a number is that of the last member of a STRUCT
-unfoldable pub is_last_member : ℕ → BtfType → Bool
-is_last_member index (Struct _ _ _ members) = index + 1 == length members
-is_last_member index _ = false
+unfoldable pub ends_type : ℕ → BtfType → Bool
+ends_type index (Struct _ _ _ members) = index + 1 == length members
+ends_type index _ = false
 
 -- the type of a step: the type of an element, or the one that a member stands in
 abbrev pub type_of_step : List BtfType → PlaceEnd → Option BtfType
@@ -68,7 +68,7 @@ type_of_step types (Member parent index) = slice_get types parent
 
 -- whether the last step led to the last member of a STRUCT
 abbrev pub ends_struct : List BtfType → LocalSpot → Bool
-ends_struct types from = if_some (type_of_step types from.place.end) (is_last_member from.index) false
+ends_struct types from = if_some (type_of_step types from.place.end) (ends_type from.index) false
 
 -- an index is below the number of elements, or there are none and the ARRAY ends a STRUCT
 abbrev pub is_element : List BtfType → LocalSpot → ℕ → ℕ → Bool
@@ -76,20 +76,20 @@ is_element types from count index = nat_lt index count || (count == 0 && ends_st
 
 abbrev pub into_array : TypeInfo → List ℕ → LocalSpot → BtfArray → ℕ → Result LocalSpot RelocationError
 into_array info access from array index =
-    if is_element info.types from array.len index then to_element info from.steps from.place.bits array.element_type index
+    if is_element info.types from array.len index then spot_at_element info from.steps from.place.bits array.element_type index
     else past access index array.len
 
 -- a member without a name adds its bits and no step
-abbrev pub to_member : TypeInfo → LocalSpot → ℕ → BtfType → ℕ → BtfMember → Result LocalSpot RelocationError
-to_member info from parent t index member =
+abbrev pub spot_at_member : TypeInfo → LocalSpot → ℕ → BtfType → ℕ → BtfMember → Result LocalSpot RelocationError
+spot_at_member info from parent t index member =
     if member.name_offset == 0
-    then reached from.steps (from.place.bits + bit_offset t member) from.place.end from.index member.btf_type
+    then spot_reached from.steps (from.place.bits + bit_offset t member) from.place.end from.index member.btf_type
     else if_ok (of_types (text_at info.strings member.name_offset)) (λ name.
-    reached (from.steps ++ Name name member.btf_type ∷ []) (from.place.bits + bit_offset t member) (Member parent index) index member.btf_type)
+    spot_reached (from.steps ++ Name name member.btf_type ∷ []) (from.place.bits + bit_offset t member) (Member parent index) index member.btf_type)
 
 abbrev pub into_members : TypeInfo → List ℕ → LocalSpot → ℕ → BtfType → List BtfMember → ℕ → Result LocalSpot RelocationError
 into_members info access from parent t members index =
-    if_some (slice_get members index) (to_member info from parent t index) (past access index (length members))
+    if_some (slice_get members index) (spot_at_member info from parent t index) (past access index (length members))
 
 -- where a part leads: to a member of a STRUCT or UNION, or to an element of an ARRAY
 unfoldable pub part_step : TypeInfo → ℕ → List ℕ → LocalSpot → ℕ → Result LocalSpot RelocationError
@@ -100,15 +100,15 @@ part_step info number access from part =
     (if_some (array_of t) (λ array. into_array info access from array part) (wrong_kind number))))
 
 -- where parts lead, one after the other
-unfoldable pub walked : TypeInfo → ℕ → List ℕ → List ℕ → LocalSpot → Result LocalSpot RelocationError
-walked info number access parts from = fold (λ so_far part. if_ok so_far (λ spot. part_step info number access spot part)) (Ok from) parts
+unfoldable pub spot_after : TypeInfo → ℕ → List ℕ → List ℕ → LocalSpot → Result LocalSpot RelocationError
+spot_after info number access parts from = fold (λ so_far part. if_ok so_far (λ spot. part_step info number access spot part)) (Ok from) parts
 
 -- the first part counts in the local type itself
 unfoldable pub field_path : TypeInfo → ℕ → List ℕ → ℕ → List ℕ → Result NamedPath RelocationError
 field_path info number access id [] = wrong_string access
 field_path info number access id (root ∷ parts) =
-    if_ok (to_element info [] 0 id root) (λ start.
-    if_ok (walked info number access parts start) (λ end. Ok (paths.Field end.steps end.place)))
+    if_ok (spot_at_element info [] 0 id root) (λ start.
+    if_ok (spot_after info number access parts start) (λ end. Ok (paths.Field end.steps end.place)))
 
 -- ---- a type, and a variant of an enumeration
 
@@ -133,10 +133,10 @@ variant_path info number access t parts =
 
 -- ---- the local side of a record
 
-abbrev pub path_for : TypeInfo → ℕ → List ℕ → ℕ → List ℕ → Subject → Result NamedPath RelocationError
-path_for info number access id parts subjects.WholeType = type_path access parts
-path_for info number access id parts subjects.Variant = if_ok (of_types (type_at info.types id)) (λ t. variant_path info number access t parts)
-path_for info number access id parts subjects.Field = field_path info number access id parts
+abbrev pub path_for : TypeInfo → ℕ → List ℕ → ℕ → List ℕ → RelocationBasis → Result NamedPath RelocationError
+path_for info number access id parts bases.WholeType = type_path access parts
+path_for info number access id parts bases.Variant = if_ok (of_types (type_at info.types id)) (λ t. variant_path info number access t parts)
+path_for info number access id parts bases.Field = field_path info number access id parts
 
 -- The name of the local type, and the path in it. The type is resolved once the string is read.
 unfoldable pub local_path : TypeInfo → Relocation → Result LocalPath RelocationError
@@ -146,4 +146,4 @@ local_path info r =
     if_ok (of_types (text_at info.strings r.access_str_off)) (λ access.
     if_ok (access_parts name access) (λ parts.
     if_ok (of_types (resolved info.types r.type_id)) (λ id.
-    if_ok (path_for info r.number access id parts (subject_of r.kind)) (λ path. Ok (record { type_name = name; path = path })))))))
+    if_ok (path_for info r.number access id parts (basis_of r.kind)) (λ path. Ok (record { type_name = name; path = path })))))))

@@ -7,15 +7,15 @@ use Rattle.ebpf_btf.specs.declared.error.BtfError.{BtfError as TypeError}
 use Rattle.ebpf_btf.specs.declared.types.BtfType.{BtfType}
 use Rattle.ebpf_ext.specs.declared.relocation.Relocation.{Relocation}
 use Rattle.ebpf_core.specs.AccessStrings.{access_parts}
-use Rattle.ebpf_core.specs.LocalPaths.{part_step, to_element, type_path, variant_path, wrong_string}
-use Rattle.ebpf_core.specs.Subjects.{subject_of}
+use Rattle.ebpf_core.specs.LocalPaths.{part_step, spot_at_element, type_path, variant_path, wrong_string}
+use Rattle.ebpf_core.specs.RelocationBases.{basis_of}
 use Rattle.ebpf_core.specs.declared.error.RelocationError.{RelocationError}
 use Rattle.ebpf_core.specs.declared.error.RelocationError.TheVariants.{BtfError}
 use Rattle.ebpf_core.specs.declared.local_walk.LocalSpot.{LocalSpot}
 use Rattle.ebpf_core.specs.declared.paths.LocalPath.{LocalPath}
 use Rattle.ebpf_core.specs.declared.paths.NamedPath.{NamedPath}
 use Rattle.ebpf_core.specs.declared.paths.NamedPath.TheVariants as paths
-use Rattle.ebpf_core.specs.declared.subject.Subject.TheVariants as subjects
+use Rattle.ebpf_core.specs.declared.relocation_basis.RelocationBasis.TheVariants as bases
 
 -- Some parts of an access string lead so from a spot: one after the other, up to the first that has a fault.
 pub data PartsLead (info : TypeInfo) (number : ℕ) (access : List ℕ) : List ℕ → LocalSpot → Result LocalSpot RelocationError → Type 0 where
@@ -29,20 +29,20 @@ pub data PartsLead (info : TypeInfo) (number : ℕ) (access : List ℕ) : List �
 -- The parts of an access string lead so to a field of the type with an id. The first part counts in the type itself.
 pub data FieldLeads (info : TypeInfo) (number : ℕ) (access : List ℕ) (id : ℕ) : List ℕ → Result NamedPath RelocationError → Type 0 where
   NoPart : FieldLeads info number access id [] (wrong_string access)
-  NoRoot : (root : ℕ) (parts : List ℕ) (fault : RelocationError) → to_element info [] 0 id root ≡ Err fault
+  NoRoot : (root : ℕ) (parts : List ℕ) (fault : RelocationError) → spot_at_element info [] 0 id root ≡ Err fault
       → FieldLeads info number access id (root ∷ parts) (Err fault)
-  NoField : (root : ℕ) (parts : List ℕ) (start : LocalSpot) (fault : RelocationError) → to_element info [] 0 id root ≡ Ok start
+  NoField : (root : ℕ) (parts : List ℕ) (start : LocalSpot) (fault : RelocationError) → spot_at_element info [] 0 id root ≡ Ok start
       → PartsLead info number access parts start (Err fault) → FieldLeads info number access id (root ∷ parts) (Err fault)
-  ToField : (root : ℕ) (parts : List ℕ) (start end : LocalSpot) → to_element info [] 0 id root ≡ Ok start
+  ToField : (root : ℕ) (parts : List ℕ) (start end : LocalSpot) → spot_at_element info [] 0 id root ≡ Ok start
       → PartsLead info number access parts start (Ok end) → FieldLeads info number access id (root ∷ parts) (Ok (paths.Field end.steps end.place))
 
 -- The parts of a record's access string lead so in the type with an id, by what the record's kind asks about.
 pub data LocalPathLeads (info : TypeInfo) (r : Relocation) (access : List ℕ) (id : ℕ) (parts : List ℕ) : Result NamedPath RelocationError → Type 0 where
-  OfType : subject_of r.kind ≡ subjects.WholeType → LocalPathLeads info r access id parts (type_path access parts)
-  NoType : (e : TypeError) → subject_of r.kind ≡ subjects.Variant → type_at info.types id ≡ Err e → LocalPathLeads info r access id parts (Err (BtfError e))
-  OfVariant : (t : BtfType) → subject_of r.kind ≡ subjects.Variant → type_at info.types id ≡ Ok t
+  OfType : basis_of r.kind ≡ bases.WholeType → LocalPathLeads info r access id parts (type_path access parts)
+  NoType : (e : TypeError) → basis_of r.kind ≡ bases.Variant → type_at info.types id ≡ Err e → LocalPathLeads info r access id parts (Err (BtfError e))
+  OfVariant : (t : BtfType) → basis_of r.kind ≡ bases.Variant → type_at info.types id ≡ Ok t
       → LocalPathLeads info r access id parts (variant_path info r.number access t parts)
-  OfField : (answer : Result NamedPath RelocationError) → subject_of r.kind ≡ subjects.Field → FieldLeads info r.number access id parts answer
+  OfField : (answer : Result NamedPath RelocationError) → basis_of r.kind ≡ bases.Field → FieldLeads info r.number access id parts answer
       → LocalPathLeads info r access id parts answer
 
 -- a record's local type, its name, and the access string
@@ -50,7 +50,7 @@ pub record IsRead (info : TypeInfo) (r : Relocation) (name access : List ℕ) : 
   pub type : BtfType
   pub there : type_at info.types r.type_id ≡ Ok type
   pub named : type_name info type ≡ Ok name
-  pub said : text_at info.strings r.access_str_off ≡ Ok access
+  pub access_is : text_at info.strings r.access_str_off ≡ Ok access
 
 -- The local side of a record is so: the first of its steps that has a fault, or the name of the type and the path in it.
 -- The type is resolved once the string is read.

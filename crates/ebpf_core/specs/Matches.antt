@@ -23,44 +23,44 @@ use Rattle.ebpf_places.specs.Places.{place_of}
 use Rattle.ebpf_core.specs.Answers.{each, if_ok, of_types}
 
 -- the name of the type with an id
-abbrev pub name_at : TypeInfo → ℕ → Result (List ℕ) TypeError
-name_at info id = if_ok (type_at info.types id) (type_name info)
+abbrev pub type_name_at : TypeInfo → ℕ → Result (List ℕ) TypeError
+type_name_at info id = if_ok (type_at info.types id) (type_name info)
 
--- what a variant answers by whether it has the name that is sought; one that has another answers nothing
+-- what a variant answers by whether it has the name that is looked up; one that has another answers nothing
 abbrev pub variant_answer : ℕ → Result Bool TypeError → Option (Result (Option ℕ) TypeError)
 variant_answer value (Ok same) = if same then Some (Ok (Some value)) else None
 variant_answer value (Err e) = Some (Err e)
 
-abbrev pub variant_sought : TypeInfo → List ℕ → BtfVariant → Option (Result (Option ℕ) TypeError)
-variant_sought info name v = variant_answer v.value (is_essential_name_at info.strings v.name_offset name)
+abbrev pub named_variant_answer : TypeInfo → List ℕ → BtfVariant → Option (Result (Option ℕ) TypeError)
+named_variant_answer info name v = variant_answer v.value (is_essential_name_at info.strings v.name_offset name)
 
 -- the value of the first variant of a name, flavors aside
 unfoldable pub first_variant : TypeInfo → List ℕ → List BtfVariant → Result (Option ℕ) TypeError
-first_variant info name vs = unwrap_or (first_some (variant_sought info name) vs) (Ok None)
+first_variant info name vs = unwrap_or (first_some (named_variant_answer info name) vs) (Ok None)
 
 -- in the type that a candidate stands for; one that is no enumeration has no variants
 abbrev pub variant_in : TypeInfo → List ℕ → ℕ → Result (Option ℕ) TypeError
 variant_in target name id = if_ok (resolved_type target.types id) (λ t. first_variant target name (unwrap_or (variants_of t) []))
 
--- a place that was found; a limit that was reached is told with the candidate's name
+-- a place that was found; a limit that was reached is answered with the candidate's name
 abbrev pub by_place : TypeInfo → ℕ → Result (Option Place) PlaceFault → Result (Option Found) RelocationError
 by_place target id (Ok place) = Ok (option_map found.Field place)
-by_place target id (Err NestingLevel) = if_ok (of_types (name_at target id)) (λ name. Err (MaximumNestingLevelReached name))
+by_place target id (Err NestingLevel) = if_ok (of_types (type_name_at target id)) (λ name. Err (MaximumNestingLevelReached name))
 by_place target id (Err (Btf e)) = Err (BtfError e)
 
 -- what a path of the local type leads to in a candidate
-unfoldable pub found_in : TypeInfo → TypeInfo → ℕ → NamedPath → ℕ → Result (Option Found) RelocationError
-found_in local target local_id paths.WholeType id =
+unfoldable pub found_at_candidate : TypeInfo → TypeInfo → ℕ → NamedPath → ℕ → Result (Option Found) RelocationError
+found_at_candidate local target local_id paths.WholeType id =
     if_ok (of_types (types_compatible local local_id target id)) (λ fits. Ok (if fits then Some found.WholeType else None))
-found_in local target local_id (paths.Variant name) id = if_ok (of_types (variant_in target name id)) (λ value. Ok (option_map found.Variant value))
-found_in local target local_id (paths.Field steps place) id = by_place target id (place_of local target id steps)
+found_at_candidate local target local_id (paths.Variant name) id = if_ok (of_types (variant_in target name id)) (λ value. Ok (option_map found.Variant value))
+found_at_candidate local target local_id (paths.Field steps place) id = by_place target id (place_of local target id steps)
 
 abbrev pub match_of : ℕ → Found → Match
 match_of id what = record { candidate = id; found = what }
 
 -- whether a candidate matches, and how
 abbrev pub match_in : TypeInfo → TypeInfo → ℕ → NamedPath → ℕ → Result (Option Match) RelocationError
-match_in local target local_id path id = if_ok (found_in local target local_id path id) (λ what. Ok (option_map (match_of id) what))
+match_in local target local_id path id = if_ok (found_at_candidate local target local_id path id) (λ what. Ok (option_map (match_of id) what))
 
 -- the candidates that match, in their order
 unfoldable pub matches : TypeInfo → TypeInfo → ℕ → NamedPath → List ℕ → Result (List Match) RelocationError

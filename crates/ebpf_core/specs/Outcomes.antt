@@ -26,23 +26,23 @@ use Rattle.ebpf_core.specs.declared.values.MatchValue.{MatchValue}
 use Rattle.ebpf_core.specs.Answers.{each, if_ok, of_types}
 use Rattle.ebpf_core.specs.Fields.{field_value}
 use Rattle.ebpf_core.specs.LocalPaths.{wrong_kind}
-use Rattle.ebpf_core.specs.Matches.{matches, name_at}
+use Rattle.ebpf_core.specs.Matches.{matches, type_name_at}
 
 -- ---- the value of a match
 
 -- what a kind asks of a type
-abbrev pub type_number : TypeInfo → RelocationKind → ℕ → Result ℕ TypeError
-type_number target TypeSize id = size_of target.types id
-type_number target TypeIdTarget id = Ok id
-type_number target _ id = Ok 1
+abbrev pub type_value : TypeInfo → RelocationKind → ℕ → Result ℕ TypeError
+type_value target TypeSize id = size_of target.types id
+type_value target TypeIdTarget id = Ok id
+type_value target _ id = Ok 1
 
 -- what a kind asks of a variant
-abbrev pub variant_number : RelocationKind → ℕ → ℕ
-variant_number EnumVariantValue value = value
-variant_number _ value = 1
+abbrev pub variant_value : RelocationKind → ℕ → ℕ
+variant_value EnumVariantValue value = value
+variant_value _ value = 1
 
-abbrev pub number_in : ℕ → ℕ → MatchValue
-number_in id number = record { candidate = id; bits = 0; number = Some number; loaded = None }
+abbrev pub match_of_number : ℕ → ℕ → MatchValue
+match_of_number id number = record { candidate = id; bits = 0; number = Some number; loaded = None }
 
 -- a field whose number can't be had has none
 abbrev pub field_in : ℕ → ℕ → Option FieldValue → MatchValue
@@ -50,8 +50,8 @@ field_in id bits value =
     record { candidate = id; bits = bits; number = option_map (λ v. v.number) value; loaded = option_and_then (λ v. v.loaded) value }
 
 abbrev pub value_in : TypeInfo → RelocationKind → ℕ → Found → Result MatchValue RelocationError
-value_in target kind id found.WholeType = if_ok (of_types (type_number target kind id)) (λ number. Ok (number_in id number))
-value_in target kind id (found.Variant value) = Ok (number_in id (variant_number kind value))
+value_in target kind id found.WholeType = if_ok (of_types (type_value target kind id)) (λ number. Ok (match_of_number id number))
+value_in target kind id (found.Variant value) = Ok (match_of_number id (variant_value kind value))
 value_in target kind id (found.Field place) = Ok (field_in id place.bits (result_ok (field_value target kind place)))
 
 -- what a match gives; a type of which the size is asked has to have one
@@ -74,8 +74,8 @@ local_loaded local r (paths.Variant name) = Ok None
 -- ---- all candidates
 
 -- matches agree in their bits and their numbers; one without a number agrees with one without a number alone
-abbrev pub agree : MatchValue → MatchValue → Bool
-agree a b = a.bits == b.bits && option_eq nat_eq a.number b.number
+abbrev pub values_agree : MatchValue → MatchValue → Bool
+values_agree a b = a.bits == b.bits && option_eq nat_eq a.number b.number
 
 -- what stands where nothing matches: that it is not there, or no value
 abbrev pub without_match : RelocationKind → Option ℕ
@@ -86,16 +86,16 @@ without_match _ = None
 
 -- the names of those among matches that differ from one
 abbrev pub differing_names : TypeInfo → MatchValue → List MatchValue → Result (List (List ℕ)) RelocationError
-differing_names target first others = each (λ v. of_types (name_at target v.candidate)) (filter (λ v. not (agree first v)) others)
+differing_names target first others = each (λ v. of_types (type_name_at target v.candidate)) (filter (λ v. not (values_agree first v)) others)
 
 -- the first match's value where no other differs from it
-abbrev pub settled : List ℕ → Option LoadedField → MatchValue → List (List ℕ) → Result Outcome RelocationError
-settled name loaded first [] = Ok (record { value = first.number; local = loaded; target = first.loaded })
-settled name loaded first (other ∷ others) = Err (ConflictingCandidates name (other ∷ others))
+abbrev pub agreed_outcome : List ℕ → Option LoadedField → MatchValue → List (List ℕ) → Result Outcome RelocationError
+agreed_outcome name loaded first [] = Ok (record { value = first.number; local = loaded; target = first.loaded })
+agreed_outcome name loaded first (other ∷ others) = Err (ConflictingCandidates name (other ∷ others))
 
 unfoldable pub concluded : TypeInfo → List ℕ → RelocationKind → Option LoadedField → List MatchValue → Result Outcome RelocationError
 concluded target name kind loaded [] = Ok (record { value = without_match kind; local = loaded; target = None })
-concluded target name kind loaded (first ∷ others) = if_ok (differing_names target first others) (settled name loaded first)
+concluded target name kind loaded (first ∷ others) = if_ok (differing_names target first others) (agreed_outcome name loaded first)
 
 -- What a record comes to over its candidates. Matching comes first, then the local field, then the values.
 unfoldable pub outcome_among : TypeInfo → TypeInfo → Relocation → LocalPath → List ℕ → Result Outcome RelocationError

@@ -5,8 +5,8 @@ use Rattle.ebpf_btf.specs.declared.error.BtfError.{BtfError as TypeError}
 use Rattle.ebpf_ext.specs.declared.relocation.Relocation.{Relocation}
 use Rattle.ebpf_core.specs.Answers.{FirstFails, each, of_types}
 use Rattle.ebpf_core.specs.LocalSides.{LocalSideIs}
-use Rattle.ebpf_core.specs.Matches.{found_in, matches, name_at}
-use Rattle.ebpf_core.specs.Outcomes.{agree, differing_names, local_loaded, match_value}
+use Rattle.ebpf_core.specs.Matches.{found_at_candidate, matches, type_name_at}
+use Rattle.ebpf_core.specs.Outcomes.{values_agree, differing_names, local_loaded, match_value}
 use Rattle.ebpf_core.specs.Searches.{candidates_for, is_local}
 use Rattle.ebpf_core.specs.declared.error.RelocationError.{RelocationError}
 use Rattle.ebpf_core.specs.declared.error.RelocationError.TheVariants.{BtfError, ConflictingCandidates}
@@ -17,8 +17,8 @@ use Rattle.ebpf_core.specs.declared.values.MatchValue.{MatchValue}
 
 -- Matches are in conflict: one that differs from the first has no name that can be read, or some differ from it.
 pub data AreInConflict (target : TypeInfo) (type_name : List ℕ) : List MatchValue → RelocationError → Type 0 where
-  Nameless : (first : MatchValue) (others : List MatchValue) (fault : RelocationError)
-      → FirstFails (λ v. of_types (name_at target v.candidate)) (filter (λ v. not (agree first v)) others) fault
+  Unreadable : (first : MatchValue) (others : List MatchValue) (fault : RelocationError)
+      → FirstFails (λ v. of_types (type_name_at target v.candidate)) (filter (λ v. not (values_agree first v)) others) fault
       → AreInConflict target type_name (first ∷ others) fault
   Differing : (first : MatchValue) (others : List MatchValue) (name : List ℕ) (names : List (List ℕ))
       → differing_names target first others ≡ Ok (name ∷ names)
@@ -27,7 +27,7 @@ pub data AreInConflict (target : TypeInfo) (type_name : List ℕ) : List MatchVa
 -- A record is refused over its candidates with a fault: of the first candidate that has one, of the local field, of the
 -- first match whose value has one, or since matches are in conflict. Each stands where none before it does.
 pub data AmongIsRefused (local target : TypeInfo) (r : Relocation) (path : LocalPath) (ids : List ℕ) : RelocationError → Type 0 where
-  Matching : (fault : RelocationError) → FirstFails (found_in local target r.type_id path.path) ids fault
+  Matching : (fault : RelocationError) → FirstFails (found_at_candidate local target r.type_id path.path) ids fault
       → AmongIsRefused local target r path ids fault
   LocalField : (found : List Match) (fault : RelocationError) → matches local target r.type_id path.path ids ≡ Ok found
       → local_loaded local r path.path ≡ Err fault → AmongIsRefused local target r path ids fault

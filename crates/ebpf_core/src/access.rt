@@ -2,7 +2,7 @@
 
 ghost use Rattle.std.specs.Prelude.{◌≡◌, ◌==◌, IfOk, map};
 ghost use Rattle.std.specs.List.{slice_split};
-ghost use Rattle.ebpf_core.specs.AccessStrings.{access_parts, all_of, part_of, parts_of};
+ghost use Rattle.ebpf_core.specs.AccessStrings.{access_parts, all_of, part_of, access_parts_of};
 ghost use Rattle.ebpf_core.specs.Answers.{Tells};
 
 use crate::error::RelocationError;
@@ -47,8 +47,8 @@ fn all_parts(alloc: Global, pieces: &[&str]) -> Result<Option<Items<usize>>, All
 }
 
 /// The parts of an access string, where each piece between its colons is one.
-fn parts_of(alloc: Global, access: &str) -> Result<Option<Items<usize>>, AllocError>
-    ensures { IfOk result (λ parts. parts ≡ parts_of access.now) }
+fn access_parts_of(alloc: Global, access: &str) -> Result<Option<Items<usize>>, AllocError>
+    ensures { IfOk result (λ parts. parts ≡ access_parts_of access.now) }
 {
     let pieces = pieces_of(alloc, access)?;
     all_parts(alloc, pieces.as_slice())
@@ -65,7 +65,7 @@ pub fn access_parts(
 ) -> Result<Items<usize>, RelocationError>
     ensures { Tells result (access_parts type_name.now access.now) }
 {
-    let Some(parts) = parts_of(alloc, access)? else {
+    let Some(parts) = access_parts_of(alloc, access)? else {
         return invalid_access_string(alloc, access);
     };
     if parts.len() > MOST_PARTS {

@@ -1,7 +1,7 @@
 //! The bytes that a program loads for a field.
 
 ghost use Rattle.std.specs.Prelude.{◌≡◌, ◌*◌, ◌<◌, ◌≤◌, ◌^◌, IfOk, IfSome};
-ghost use Rattle.ebpf_core.specs.Containers.{aligned, bit_field_extent, container, holds, is_container, plain_extent};
+ghost use Rattle.ebpf_core.specs.Containers.{aligned, bit_field_extent, container, container_holds, is_container, plain_extent};
 
 use ebpf_btf::BtfError;
 
@@ -28,12 +28,12 @@ fn aligned(bit: u64, size: u64) -> u64
 }
 
 /// Whether that container has all `width` bits of a field.
-fn holds(bit: u64, width: u64, size: u64) -> bool
+fn container_holds(bit: u64, width: u64, size: u64) -> bool
     requires few { bit < 2 ^ 32 }
     requires narrow { width < 2 ^ 32 }
     requires small { size < 2 ^ 36 }
     requires some { 0 < size }
-    ensures { result ≡ holds bit width size }
+    ensures { result ≡ container_holds bit width size }
 {
     bit + width <= (aligned(bit, size) + size) * 8
 }
@@ -47,7 +47,7 @@ fn is_container(bit: u64, width: u64, size: u64, doubled: u64) -> bool
     requires some { 0 < doubled }
     ensures { result ≡ is_container bit width size doubled }
 {
-    (doubled == size || doubled < 16) && holds(bit, width, doubled)
+    (doubled == size || doubled < 16) && container_holds(bit, width, doubled)
 }
 
 /// The size of the smallest container that holds a bit field.

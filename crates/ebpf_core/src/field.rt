@@ -3,7 +3,7 @@
 ghost use Rattle.std.specs.Prelude.{◌≡◌, ◌*◌, ◌<◌, ◌≤◌, ◌^◌, IfOk};
 ghost use Rattle.std.specs.Option.{option_copied};
 ghost use Rattle.ebpf_btf.specs.Steps.{size_of};
-ghost use Rattle.ebpf_core.specs.Fields.{asked, class_of, element_value, field_value, laid, loaded_as, member_at, member_value, shift, value_at, value_of_member, value_with};
+ghost use Rattle.ebpf_core.specs.Fields.{member_number, class_of, element_value, field_value, member_extent, loaded_field, member_with_index, member_value, shift, place_end_value, value_of_member, value_with};
 
 use crate::extent::{Extent, bit_field_extent, plain_extent};
 use ebpf_btf::{Btf, BtfError, BtfMember, BtfType};
@@ -71,8 +71,8 @@ fn class_of(ty: &BtfType) -> FieldClass
 }
 
 /// What is loaded of a field of a type and size.
-fn loaded_as(ty: &BtfType, size: u32) -> LoadedField
-    ensures { result ≡ loaded_as ty.now size }
+fn loaded_field(ty: &BtfType, size: u32) -> LoadedField
+    ensures { result ≡ loaded_field ty.now size }
 {
     LoadedField {
         size,
@@ -88,7 +88,7 @@ fn shift(bits: u64) -> Result<u64, BtfError>
 }
 
 /// Where a member lies whose resolved type has the id `type_id`, and what is loaded where it is no bit field.
-fn laid(
+fn member_extent(
     btf: &Btf,
     parent: &BtfType,
     member: &BtfMember,
@@ -96,24 +96,24 @@ fn laid(
     type_id: u32,
     ty: &BtfType,
 ) -> Result<(Extent, Option<LoadedField>), BtfError>
-    ensures value { result ≡ laid parent.now member.now bits ty.now (size_of btf.now.types type_id) }
+    ensures value { result ≡ member_extent parent.now member.now bits ty.now (size_of btf.now.types type_id) }
     ensures low { IfOk result (λ place. place.0.start * 8 ≤ bits) }
     ensures narrow { IfOk result (λ place. place.0.width < 2 ^ 36) }
 {
     let width = parent.member_bit_field_size(member);
     if width == 0 {
         let size = btf.type_size(type_id)?;
-        return Ok((plain_extent(bits, size), Some(loaded_as(ty, size))));
+        return Ok((plain_extent(bits, size), Some(loaded_field(ty, size))));
     }
     let extent = bit_field_extent(bits, width, ty.size())?;
     Ok((extent, None))
 }
 
 /// What a kind asks of a member.
-fn asked(kind: RelocationKind, is_signed: bool, bits: u32, extent: Extent) -> Result<u64, BtfError>
+fn member_number(kind: RelocationKind, is_signed: bool, bits: u32, extent: Extent) -> Result<u64, BtfError>
     requires low { extent.start * 8 ≤ bits }
     requires narrow { extent.width < 2 ^ 36 }
-    ensures { result ≡ asked kind is_signed bits extent }
+    ensures { result ≡ member_number kind is_signed bits extent }
 {
     match kind {
         RelocationKind::FieldByteOffset => Ok(extent.start),
@@ -153,8 +153,8 @@ fn member_value(
 {
     let type_id = btf.resolve_type(member.btf_type)?;
     let ty = btf.type_by_id(type_id)?;
-    let (extent, loaded) = laid(btf, parent, member, bits, type_id, ty)?;
-    let number = asked(kind, ty.is_signed(), bits, extent)?;
+    let (extent, loaded) = member_extent(btf, parent, member, bits, type_id, ty)?;
+    let number = member_number(kind, ty.is_signed(), bits, extent)?;
     Ok(value_with(kind, number, loaded))
 }
 
@@ -171,7 +171,7 @@ fn element_value(
         RelocationKind::FieldByteOffset => {
             let size = btf.type_size(type_id)?;
             let ty = btf.resolved_type(type_id)?;
-            Ok(value_with(kind, u64::from(bits / 8), Some(loaded_as(ty, size))))
+            Ok(value_with(kind, u64::from(bits / 8), Some(loaded_field(ty, size))))
         }
         RelocationKind::FieldByteSize => {
             let size = btf.type_size(type_id)?;
@@ -182,8 +182,8 @@ fn element_value(
 }
 
 /// The member of a type with a number.
-fn member_at(ty: &BtfType, index: usize) -> Option<&BtfMember>
-    ensures { option_copied result ≡ member_at ty.now index }
+fn member_with_index(ty: &BtfType, index: usize) -> Option<&BtfMember>
+    ensures { option_copied result ≡ member_with_index ty.now index }
 {
     ty.members()?.get(index)
 }
@@ -199,7 +199,7 @@ fn value_of_member(
     ensures { result ≡ value_of_member btf.now kind bits parent index }
 {
     let ty = btf.type_by_id(parent)?;
-    match member_at(ty, index) {
+    match member_with_index(ty, index) {
         Some(member) => member_value(btf, kind, bits, ty, member),
         None => Err(BtfError::InvalidTypeInfo),
     }

@@ -1,6 +1,6 @@
 //! What holds of every record and all types.
 
-ghost use Rattle.ebpf_core.specs.Laws.{AmongFaultIsFirst, AmongFirstFaultRefuses, FaultIsFirst, FirstFaultRefuses, FirstVariantIsOne, FirstVariantIsSo, LocalSideIsOne, LocalSideIsSo, OutcomesRestOnWhatIsAsked};
+ghost use Rattle.ebpf_core.specs.Laws.{AmongFaultIsFirst, AmongFirstFaultRefuses, FaultIsFirst, FirstFaultRefuses, FirstVariantIsOne, FirstVariantIsSo, LocalSideIsOne, LocalSideIsSo, OutcomesRestOnQuestions};
 
 /// The local side of a record, step by step, is the one that the equation gives: the way from part to part of its access
 /// string, up to the first fault.
@@ -27,6 +27,6 @@ pub fn first_fault_refuses()
 
 /// Records with the same type, access string and kind come to the same outcome: it rests neither on their numbers nor on
 /// their instructions.
-pub fn outcomes_rest_on_what_is_asked()
-    ensures { OutcomesRestOnWhatIsAsked }
+pub fn outcomes_rest_on_questions()
+    ensures { OutcomesRestOnQuestions }
 {}

@@ -15,7 +15,7 @@ mod matches;
 mod outcome;
 mod paths;
 mod search;
-mod subject;
+mod relocation_basis;
 mod values;
 mod wording;
 

@@ -3,7 +3,7 @@
 ghost use Rattle.std.specs.Prelude.{◌≡◌, ◌∷◌, ◌++◌, [], IfOk, Ok};
 ghost use Rattle.std.specs.Option.{option_copied};
 ghost use Rattle.ebpf_core.specs.Answers.{Tells};
-ghost use Rattle.ebpf_core.specs.LocalPaths.{ends_struct, field_path, into_array, into_members, is_element, is_last_member, part_step, reached, to_element, to_member, type_of_step, walked};
+ghost use Rattle.ebpf_core.specs.LocalPaths.{ends_struct, field_path, into_array, into_members, is_element, ends_type, part_step, spot_reached, spot_at_element, spot_at_member, type_of_step, spot_after};
 
 use crate::error::RelocationError;
 use crate::faults::{invalid_access_index, invalid_access_string, invalid_kind};
@@ -28,14 +28,14 @@ pub struct LocalSpot {
 }
 
 /// A path that has come so far. `InvalidTypeInfo` where that is past 32 bits.
-fn reached(
+fn spot_reached(
     steps: Items<Step>,
     bits: u128,
     end: PlaceEnd,
     index: usize,
     type_id: u32,
 ) -> Result<LocalSpot, RelocationError>
-    ensures { Tells result (reached steps bits end index type_id) }
+    ensures { Tells result (spot_reached steps bits end index type_id) }
 {
     if bits >= 0x1_0000_0000 {
         return Err(RelocationError::BtfError(BtfError::InvalidTypeInfo));
@@ -53,25 +53,25 @@ fn reached(
 }
 
 /// A path that goes on to an element of a type, of which the first is at a bit.
-fn to_element(
+fn spot_at_element(
     local: &Btf,
     mut steps: Items<Step>,
     bits: u32,
     type_id: u32,
     index: usize,
 ) -> Result<LocalSpot, RelocationError>
-    ensures { Tells result (to_element local.now steps bits type_id index) }
+    ensures { Tells result (spot_at_element local.now steps bits type_id index) }
 {
     let size = local.type_size(type_id)?;
     steps.push(Step::Index { index })?;
     let bits = u128::from(bits) + index as u128 * u128::from(size) * 8;
-    reached(steps, bits, PlaceEnd::Element { type_id }, index, type_id)
+    spot_reached(steps, bits, PlaceEnd::Element { type_id }, index, type_id)
 }
 
 /// Whether a number is that of the last member of a STRUCT.
-#[tactic(auto, unfolding(crate::specs::LocalPaths::is_last_member))]
-fn is_last_member(index: usize, ty: &BtfType) -> bool
-    ensures { result ≡ is_last_member index ty.now }
+#[tactic(auto, unfolding(crate::specs::LocalPaths::ends_type))]
+fn ends_type(index: usize, ty: &BtfType) -> bool
+    ensures { result ≡ ends_type index ty.now }
 {
     match ty {
         BtfType::Struct { members, .. } => index < members.len() && index + 1 == members.len(),
@@ -94,7 +94,7 @@ fn ends_struct(local: &Btf, from: &LocalSpot) -> bool
     ensures { result ≡ ends_struct local.now.types from.now }
 {
     match type_of_step(local, from.place.end) {
-        Some(ty) => is_last_member(from.index, ty),
+        Some(ty) => ends_type(from.index, ty),
         None => false,
     }
 }
@@ -122,7 +122,7 @@ fn into_array(
         let len = array.len as usize;
         return invalid_access_index(alloc, request.access, place, index, len, "elements");
     }
-    to_element(
+    spot_at_element(
         local,
         from.steps,
         from.place.bits,
@@ -132,7 +132,7 @@ fn into_array(
 }
 
 /// A path that goes on to a member of a type. A member without a name adds its bits and no step.
-fn to_member(
+fn spot_at_member(
     alloc: Global,
     local: &Btf,
     from: LocalSpot,
@@ -141,11 +141,11 @@ fn to_member(
     index: usize,
     member: &BtfMember,
 ) -> Result<LocalSpot, RelocationError>
-    ensures { Tells result (to_member local.now from parent ty.now index member.now) }
+    ensures { Tells result (spot_at_member local.now from parent ty.now index member.now) }
 {
     let bits = u128::from(from.place.bits) + u128::from(ty.member_bit_offset(member));
     if member.name_offset == 0 {
-        return reached(
+        return spot_reached(
             from.steps,
             bits,
             from.place.end,
@@ -160,7 +160,7 @@ fn to_member(
         name,
         local_type: member.btf_type,
     })?;
-    reached(
+    spot_reached(
         steps,
         bits,
         PlaceEnd::Member { parent, index },
@@ -183,7 +183,7 @@ fn into_members(
     ensures { Tells result (into_members local.now request.entry.access.now from parent ty.now members.now index) }
 {
     match members.get(index) {
-        Some(member) => to_member(alloc, local, from, parent, ty, index, member),
+        Some(member) => spot_at_member(alloc, local, from, parent, ty, index, member),
         None => {
             let place = path_words(alloc, request.type_name, from.steps.as_slice())?;
             let len = members.len();
@@ -230,7 +230,7 @@ fn walk(
     start: LocalSpot,
     parts: &[usize],
 ) -> Result<LocalSpot, RelocationError>
-    ensures { Tells result (walked local.now request.entry.number request.entry.access.now parts.now start) }
+    ensures { Tells result (spot_after local.now request.entry.number request.entry.access.now parts.now start) }
 {
     let mut from = start;
     for part in parts {
@@ -255,7 +255,7 @@ pub fn field_path(
     let Some((root, parts)) = parts.split_first() else {
         return invalid_access_string(alloc, request.access);
     };
-    let start = to_element(local, Items::new(alloc), 0, type_id, *root)?;
+    let start = spot_at_element(local, Items::new(alloc), 0, type_id, *root)?;
     let end = walk(alloc, local, request, start, parts)?;
     Ok(NamedPath::Field {
         steps: end.steps,

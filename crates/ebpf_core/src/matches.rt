@@ -3,7 +3,7 @@
 ghost use Rattle.std.specs.Prelude.{◌≡◌, [], unwrap_or, Err};
 ghost use Rattle.ebpf_btf.specs.Variants.{variants_of};
 ghost use Rattle.ebpf_core.specs.Answers.{Tells, of_types};
-ghost use Rattle.ebpf_core.specs.Matches.{by_place, first_variant, found_in, match_in, matches, name_at, variant_in};
+ghost use Rattle.ebpf_core.specs.Matches.{by_place, first_variant, found_at_candidate, match_in, matches, type_name_at, variant_in};
 ghost use Rattle.ebpf_places.specs.Places.{place_of};
 ghost use Rattle.ebpf_places.specs.declared.fault.PlaceFault.TheVariants.{NestingLevel};
 
@@ -37,15 +37,15 @@ pub struct Match {
 }
 
 /// The name of the type with an id.
-pub fn name_at(alloc: Global, btf: &Btf, type_id: u32) -> Result<Text, RelocationError>
-    ensures { Tells result (of_types (name_at btf.now type_id)) }
+pub fn type_name_at(alloc: Global, btf: &Btf, type_id: u32) -> Result<Text, RelocationError>
+    ensures { Tells result (of_types (type_name_at btf.now type_id)) }
 {
     let name = btf.type_name(btf.type_by_id(type_id)?)?;
     Ok(Text::from_str(alloc, name.as_str())?)
 }
 
 /// The value of the first variant of a type that has a name, flavors aside.
-#[tactic(auto, using(crate::proofs::VariantSteps::variant_passed, crate::proofs::VariantSteps::variant_met, crate::proofs::VariantSteps::variant_fault, crate::proofs::VariantSteps::variant_missing, crate::proofs::VariantSteps::variants_over))]
+#[tactic(auto, using(crate::proofs::VariantSteps::variant_passed, crate::proofs::VariantSteps::variant_has_name, crate::proofs::VariantSteps::variant_fault, crate::proofs::VariantSteps::variant_missing, crate::proofs::VariantSteps::variants_over))]
 fn first_variant(target: &Btf, name: &str, ty: &BtfType) -> Result<Option<u64>, BtfError>
     ensures { result ≡ first_variant target.now name.now (unwrap_or (variants_of ty.now) []) }
 {
@@ -76,7 +76,7 @@ fn too_nested_in(
 ) -> Result<Option<Found>, RelocationError>
     ensures { Tells result (by_place target.now candidate (Err NestingLevel)) }
 {
-    let name = name_at(alloc, target, candidate)?;
+    let name = type_name_at(alloc, target, candidate)?;
     too_nested(alloc, name.as_str())
 }
 
@@ -100,8 +100,8 @@ fn field_in(
 }
 
 /// What a path of the local type `local_id` leads to in a candidate.
-#[tactic(auto, unfolding(crate::specs::Matches::found_in))]
-fn found_in(
+#[tactic(auto, unfolding(crate::specs::Matches::found_at_candidate))]
+fn found_at_candidate(
     alloc: Global,
     local: &Btf,
     target: &Btf,
@@ -109,7 +109,7 @@ fn found_in(
     path: &NamedPath,
     candidate: u32,
 ) -> Result<Option<Found>, RelocationError>
-    ensures { Tells result (found_in local.now target.now local_id path.now candidate) }
+    ensures { Tells result (found_at_candidate local.now target.now local_id path.now candidate) }
 {
     match path {
         NamedPath::WholeType => {
@@ -142,7 +142,7 @@ pub fn matches_among(
 {
     let mut matches = Items::new(alloc);
     for candidate in candidates {
-        let Some(found) = found_in(alloc, local, target, local_id, path, *candidate)? else {
+        let Some(found) = found_at_candidate(alloc, local, target, local_id, path, *candidate)? else {
             continue;
         };
         matches.push(Match {

@@ -1,16 +1,16 @@
 //! What a record comes to.
 
 ghost use Rattle.std.specs.Prelude.{◌≡◌, not, filter, IfErr, IfOk, MatchBool, ⊤};
-ghost use Rattle.ebpf_core.specs.Answers.{Tells, each, of_types, told};
+ghost use Rattle.ebpf_core.specs.Answers.{Tells, each, of_types, without_texts};
 ghost use Rattle.ebpf_core.specs.Fields.{field_value};
 ghost use Rattle.ebpf_core.specs.Memory.{is_memory};
 ghost use Rattle.ebpf_core.specs.Refused.{AmongIsRefused};
-ghost use Rattle.ebpf_core.specs.Outcomes.{agree, concluded, differing_names, loaded_by, local_loaded, outcome_among, settled, without_match};
+ghost use Rattle.ebpf_core.specs.Outcomes.{values_agree, concluded, differing_names, loaded_by, local_loaded, outcome_among, agreed_outcome, without_match};
 
 use crate::error::RelocationError;
 use crate::faults::invalid_kind;
 use crate::field::{FieldFault, LoadedField, field_value};
-use crate::matches::{matches_among, name_at};
+use crate::matches::{matches_among, type_name_at};
 use crate::paths::{LocalPath, NamedPath};
 use crate::values::{MatchValue, match_values};
 use crate::wording::path_words;
@@ -99,7 +99,7 @@ fn local_loaded(
 }
 
 /// The names of the types whose matches differ from the first.
-#[tactic(auto, using(crate::proofs::WalkSteps::agreeing, crate::proofs::WalkSteps::differing, crate::proofs::WalkSteps::nameless, crate::proofs::WalkSteps::others_over, crate::proofs::Refusals::also))]
+#[tactic(auto, using(crate::proofs::WalkSteps::agreeing, crate::proofs::WalkSteps::differing, crate::proofs::WalkSteps::unreadable, crate::proofs::WalkSteps::others_over, crate::proofs::Refusals::also))]
 fn differing_names(
     alloc: Global,
     target: &Btf,
@@ -113,7 +113,7 @@ fn differing_names(
         if first.agrees(*other) {
             continue;
         }
-        names.push(name_at(alloc, target, other.candidate)?)?;
+        names.push(type_name_at(alloc, target, other.candidate)?)?;
     }
     Ok(names)
 }
@@ -203,7 +203,7 @@ pub fn outcome_among(
     candidates: &[u32],
 ) -> Result<Outcome, RelocationError>
     ensures outcome { Tells result (outcome_among local.now target.now relocation.now path.now candidates.now) }
-    ensures refused { IfErr result (λ e. MatchBool (is_memory e) ⊤ (AmongIsRefused local.now target.now relocation.now path.now candidates.now (told e))) }
+    ensures refused { IfErr result (λ e. MatchBool (is_memory e) ⊤ (AmongIsRefused local.now target.now relocation.now path.now candidates.now (without_texts e))) }
 {
     outcome_by_matches(alloc, local, target, relocation, path, candidates)
 }

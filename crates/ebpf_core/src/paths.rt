@@ -4,13 +4,13 @@ ghost use Rattle.std.specs.Prelude.{◌≡◌};
 ghost use Rattle.ebpf_core.specs.Answers.{Tells, TellsSo};
 ghost use Rattle.ebpf_core.specs.LocalSides.{LocalSideIs};
 ghost use Rattle.ebpf_core.specs.LocalPaths.{local_path, lone, named_variant, path_for, type_path, variant_path};
-ghost use Rattle.ebpf_core.specs.Subjects.{subject_of};
+ghost use Rattle.ebpf_core.specs.RelocationBases.{basis_of};
 
 use crate::access::access_parts;
 use crate::error::RelocationError;
 use crate::faults::{invalid_access_index, invalid_access_string, invalid_kind};
 use crate::local_walk::field_path;
-use crate::subject::{Subject, subject_of};
+use crate::relocation_basis::{RelocationBasis, basis_of};
 use crate::wording::{Request, kind_words};
 use ebpf_base::{Items, Text};
 use ebpf_btf::{Btf, BtfType, BtfVariant};
@@ -113,15 +113,15 @@ fn path_for(
     type_id: u32,
     parts: &[usize],
 ) -> Result<NamedPath, RelocationError>
-    ensures { Tells result (path_for local.now request.entry.number request.entry.access.now type_id parts.now (subject_of request.entry.kind)) }
+    ensures { Tells result (path_for local.now request.entry.number request.entry.access.now type_id parts.now (basis_of request.entry.kind)) }
 {
-    match subject_of(request.kind) {
-        Subject::WholeType => type_path(alloc, request.access, parts),
-        Subject::Variant => {
+    match basis_of(request.kind) {
+        RelocationBasis::WholeType => type_path(alloc, request.access, parts),
+        RelocationBasis::Variant => {
             let ty = local.type_by_id(type_id)?;
             variant_path(alloc, local, request, ty, parts)
         }
-        Subject::Field => field_path(alloc, local, request, type_id, parts),
+        RelocationBasis::Field => field_path(alloc, local, request, type_id, parts),
     }
 }
 

@@ -1,8 +1,8 @@
 //! Records over the types of a kernel, one after the other.
 
 ghost use Rattle.std.specs.Prelude.{◌≡◌, IfErr, MatchBool, Ok, ⊤};
-ghost use Rattle.ebpf_core.specs.Answers.{Tells, if_ok, of_types, told};
-ghost use Rattle.ebpf_core.specs.Asked.{asked};
+ghost use Rattle.ebpf_core.specs.Answers.{Tells, if_ok, of_types, without_texts};
+ghost use Rattle.ebpf_core.specs.Questions.{question_of};
 ghost use Rattle.ebpf_core.specs.Memory.{is_memory};
 ghost use Rattle.ebpf_core.specs.Outcomes.{outcome_among};
 ghost use Rattle.ebpf_core.specs.Refused.{OutcomeIsRefused};
@@ -69,12 +69,12 @@ fn outcome_over(
     outcome_named(alloc, local, index, relocation, path, ty, name.as_str())
 }
 
-/// What a record asks, by which its outcome is kept: its type and its access string, and the number of its kind.
-type Asked = ((u32, u32), u32);
+/// The question of a record, by which its outcome is cached: its type and its access string, and the number of its kind.
+type Question = ((u32, u32), u32);
 
-/// What a record asks.
-fn asked(relocation: &Relocation) -> Asked
-    ensures { result ≡ asked relocation.now }
+/// The question of a record.
+fn question_of(relocation: &Relocation) -> Question
+    ensures { result ≡ question_of relocation.now }
 {
     (
         (relocation.type_id, relocation.access_str_off),
@@ -83,7 +83,7 @@ fn asked(relocation: &Relocation) -> Asked
 }
 
 /// The types of an object, and those of a kernel in which they are looked for, record by record. The index of the
-/// kernel's types is made at the first record that searches. Outcomes are kept: what was asked once is looked up.
+/// kernel's types is made at the first record that searches. Outcomes are cached by their questions.
 ///
 /// Contracts see the two sides alone.
 #[derive(Drop)]
@@ -91,20 +91,20 @@ pub struct CoreSearch<'a> {
     local: &'a Btf,
     target: &'a Btf,
     index: Option<TypeIndex<'a>>,
-    kept: BTreeMap<Asked, Outcome>,
+    cached: BTreeMap<Question, Outcome>,
 }
 
 impl<'a> Model for CoreSearch<'a> {
     ghost use Rattle.std.specs.Prelude.{◌≡◌};
     ghost use Rattle.std.specs.Option.{ForSome};
-    ghost use Rattle.ebpf_core.specs.Asked.{AreKept};
+    ghost use Rattle.ebpf_core.specs.Questions.{AreCached};
     ghost use Rattle.ebpf_core.specs.Sides.{Sides};
 
     ghost Value = { Sides };
 
     ghost view = { λ s. record { local = s.local.now; target = s.target.now } };
 
-    ghost invariant = { λ s. ForSome s.index (λ index. index ≡ s.target.now) × AreKept s.local.now s.target.now s.kept };
+    ghost invariant = { λ s. ForSome s.index (λ index. index ≡ s.target.now) × AreCached s.local.now s.target.now s.cached };
 }
 
 impl<'a> CoreSearch<'a> {
@@ -117,7 +117,7 @@ impl<'a> CoreSearch<'a> {
             local,
             target,
             index: None,
-            kept: BTreeMap::new(alloc),
+            cached: BTreeMap::new(alloc),
         }
     }
 
@@ -140,7 +140,7 @@ impl<'a> CoreSearch<'a> {
         outcome
     }
 
-    /// What a record comes to, whatever is kept.
+    /// What a record comes to, whatever is cached.
     fn find(&mut self, alloc: Global, relocation: &Relocation) -> Result<Outcome, RelocationError>
         ensures outcome { Tells result (outcome_of self.old.local self.old.target relocation.now) }
         ensures stays { self.new ≡ self.old }
@@ -156,25 +156,25 @@ impl<'a> CoreSearch<'a> {
         self.search(alloc, relocation, &path)
     }
 
-    /// Keeps the outcome of a record for all that ask the same.
-    fn keep(&mut self, relocation: &Relocation, outcome: Outcome) -> Result<(), AllocError>
+    /// Caches the outcome of a record for all with the same question.
+    fn cache(&mut self, relocation: &Relocation, outcome: Outcome) -> Result<(), AllocError>
         requires { outcome_of self.old.local self.old.target relocation.now ≡ Ok outcome }
         ensures { self.new ≡ self.old }
     {
-        self.kept.insert(asked(relocation), outcome)?;
+        self.cached.insert(question_of(relocation), outcome)?;
         Ok(())
     }
 
-    /// What a record comes to: the outcome that is kept, or what a search finds.
-    fn known(&mut self, alloc: Global, relocation: &Relocation) -> Result<Outcome, RelocationError>
+    /// What a record comes to: the outcome that is cached, or what a search finds.
+    fn cached_outcome(&mut self, alloc: Global, relocation: &Relocation) -> Result<Outcome, RelocationError>
         ensures outcome { Tells result (outcome_of self.old.local self.old.target relocation.now) }
         ensures stays { self.new ≡ self.old }
     {
-        if let Some(outcome) = self.kept.get(&asked(relocation)) {
+        if let Some(outcome) = self.cached.get(&question_of(relocation)) {
             return Ok(*outcome);
         }
         let outcome = self.find(alloc, relocation)?;
-        self.keep(relocation, outcome)?;
+        self.cache(relocation, outcome)?;
         Ok(outcome)
     }
 
@@ -185,9 +185,9 @@ impl<'a> CoreSearch<'a> {
         relocation: &Relocation,
     ) -> Result<Outcome, RelocationError>
         ensures outcome { Tells result (outcome_of self.old.local self.old.target relocation.now) }
-        ensures refused { IfErr result (λ e. MatchBool (is_memory e) ⊤ (OutcomeIsRefused self.old.local self.old.target relocation.now (told e))) }
+        ensures refused { IfErr result (λ e. MatchBool (is_memory e) ⊤ (OutcomeIsRefused self.old.local self.old.target relocation.now (without_texts e))) }
         ensures stays { self.new ≡ self.old }
     {
-        self.known(alloc, relocation)
+        self.cached_outcome(alloc, relocation)
     }
 }

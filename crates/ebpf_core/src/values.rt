@@ -4,7 +4,7 @@ ghost use Rattle.std.specs.Prelude.{◌≡◌};
 ghost use Rattle.std.specs.Result.{result_ok};
 ghost use Rattle.ebpf_core.specs.Fields.{field_value};
 ghost use Rattle.ebpf_core.specs.Answers.{Tells, each};
-ghost use Rattle.ebpf_core.specs.Outcomes.{agree, field_in, match_value, number_in, type_number, variant_number};
+ghost use Rattle.ebpf_core.specs.Outcomes.{values_agree, field_in, match_value, match_of_number, type_value, variant_value};
 
 use crate::error::RelocationError;
 use crate::field::{LoadedField, field_value};
@@ -29,8 +29,8 @@ pub struct MatchValue {
 }
 
 /// A number of a type or a variant.
-fn number_in(candidate: u32, number: u64) -> MatchValue
-    ensures { result ≡ number_in candidate number }
+fn match_of_number(candidate: u32, number: u64) -> MatchValue
+    ensures { result ≡ match_of_number candidate number }
 {
     MatchValue {
         candidate,
@@ -41,8 +41,8 @@ fn number_in(candidate: u32, number: u64) -> MatchValue
 }
 
 /// What a kind asks of a type.
-fn type_number(target: &Btf, kind: RelocationKind, candidate: u32) -> Result<u64, BtfError>
-    ensures { result ≡ type_number target.now kind candidate }
+fn type_value(target: &Btf, kind: RelocationKind, candidate: u32) -> Result<u64, BtfError>
+    ensures { result ≡ type_value target.now kind candidate }
 {
     match kind {
         RelocationKind::TypeSize => Ok(u64::from(target.type_size(candidate)?)),
@@ -52,8 +52,8 @@ fn type_number(target: &Btf, kind: RelocationKind, candidate: u32) -> Result<u64
 }
 
 /// What a kind asks of a variant.
-fn variant_number(kind: RelocationKind, value: u64) -> u64
-    ensures { result ≡ variant_number kind value }
+fn variant_value(kind: RelocationKind, value: u64) -> u64
+    ensures { result ≡ variant_value kind value }
 {
     match kind {
         RelocationKind::EnumVariantValue => value,
@@ -84,11 +84,11 @@ fn match_value(
     ensures { Tells result (match_value target.now kind found) }
 {
     match found.found {
-        Found::WholeType => Ok(number_in(
+        Found::WholeType => Ok(match_of_number(
             found.candidate,
-            type_number(target, kind, found.candidate)?,
+            type_value(target, kind, found.candidate)?,
         )),
-        Found::Variant { value } => Ok(number_in(found.candidate, variant_number(kind, value))),
+        Found::Variant { value } => Ok(match_of_number(found.candidate, variant_value(kind, value))),
         Found::Field { place } => Ok(field_in(target, kind, found.candidate, place)),
     }
 }
@@ -113,7 +113,7 @@ pub fn match_values(
 impl MatchValue {
     /// Whether two matches have the same bits and the same number, or both no number.
     pub fn agrees(self, other: MatchValue) -> bool
-        ensures { result ≡ agree self other }
+        ensures { result ≡ values_agree self other }
     {
         self.bits == other.bits && self.number == other.number
     }

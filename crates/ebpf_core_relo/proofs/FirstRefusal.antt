@@ -18,20 +18,20 @@ use Rattle.ebpf_core_relo.proofs.OneRecord.{applied_puts, ok_parts}
 use Rattle.ebpf_core_relo.proofs.OutcomeRows.{outcomes-append, slots-append}
 use Rattle.ebpf_core_relo.proofs.OutcomeSlots.{same_ok}
 use Rattle.ebpf_core_relo.specs.Absences.{absence_of}
-use Rattle.ebpf_core_relo.specs.Answers.{fault_in}
+use Rattle.ebpf_core_relo.specs.Answers.{error_in_section}
 use Rattle.ebpf_core_relo.specs.OutcomeLaws.{FirstRefusalIsTheFault, HaveRecords, SlotsAreTheSame, refusal, refusal_in, told_name, unless}
 use Rattle.ebpf_core_relo.specs.RecordOutcomes.{Named, answered, applied, concluded, left_after, left_by, named_in, named_records, outcome_after, outcomes_from, record_slots, result_in, section_at, section_by, slots_left}
-use Rattle.ebpf_core_relo.specs.Records.{Scene, Written, all_applied, in_section, named_applied, record_applied, records_applied, section_applied, unnamed_section}
+use Rattle.ebpf_core_relo.specs.Records.{RelocationInputs, Written, all_applied, answer_in_section, named_applied, record_applied, records_applied, section_applied, unnamed_section}
 use Rattle.ebpf_core_relo.specs.declared.error.BtfRelocationError.{BtfRelocationError}
 use Rattle.ebpf_core_relo.specs.declared.record_outcome.RecordResult.TheVariants.{Value, Absent}
 use Rattle.ebpf_elf.specs.declared.entries.SectionIndex.{SectionIndex}
 
 -- what is first refused of some records, and what they leave
-abbrev first : Scene → Written → List Named → Option BtfRelocationError
-first scene so_far records = first_some (refusal scene) (outcomes_from scene so_far records)
+abbrev first : RelocationInputs → Written → List Named → Option BtfRelocationError
+first inputs so_far records = first_some (refusal inputs) (outcomes_from inputs so_far records)
 
-abbrev stated : Scene → Written → List Named → Result Written BtfRelocationError
-stated scene so_far records = unless (first scene so_far records) (slots_left scene so_far records)
+abbrev stated : RelocationInputs → Written → List Named → Result Written BtfRelocationError
+stated inputs so_far records = unless (first inputs so_far records) (slots_left inputs so_far records)
 
 -- ---- one record
 
@@ -43,149 +43,149 @@ not_refused sides name r outcome = by_test (is_some outcome.value)
     by_test true = refl
     by_test false = refl
 
-module _ (scene : Scene) (offset : ℕ) (name : List ℕ) (named : told_name offset (text_at scene.sides.local.strings offset) ≡ name) where
+module _ (inputs : RelocationInputs) (offset : ℕ) (name : List ℕ) (named : told_name offset (text_at inputs.sides.local.strings offset) ≡ name) where
   abbrev section : Result ℕ RelocationError
-  section = section_at scene.sides.local scene.section_infos offset
+  section = section_at inputs.sides.local inputs.section_infos offset
 
   refusal_is : (so_far : Written) (r : Relocation) (s : Result ℕ RelocationError) → section ≡ s
-      → refusal scene (outcome_after scene so_far (offset, r)) ≡ refusal_in name (result_in scene s so_far r)
+      → refusal inputs (outcome_after inputs so_far (offset, r)) ≡ refusal_in name (result_in inputs s so_far r)
   unfolding outcome_after
   refusal_is so_far r s found =
-      ap (λ n. refusal_in n (result_in scene section so_far r)) named
-      ∙ ap (λ t. refusal_in name (result_in scene t so_far r)) found
+      ap (λ n. refusal_in n (result_in inputs section so_far r)) named
+      ∙ ap (λ t. refusal_in name (result_in inputs t so_far r)) found
 
   -- where the section is found, a record is refused where it can't be applied
-  by_applied : (number : ℕ) (so_far : Written) (r : Relocation) (a : Result Written RelocationError) → record_applied scene number so_far r ≡ a
-      → refusal_in name (concluded scene.sides r (if_ok a (λ left. outcome_of scene.sides.local scene.sides.target r))) ≡ fault_of (in_section name a)
+  by_applied : (number : ℕ) (so_far : Written) (r : Relocation) (a : Result Written RelocationError) → record_applied inputs number so_far r ≡ a
+      → refusal_in name (concluded inputs.sides r (if_ok a (λ left. outcome_of inputs.sides.local inputs.sides.target r))) ≡ fault_of (answer_in_section name a)
   by_applied number so_far r (Ok next) is =
-      let p = applied_puts scene number so_far next r is in
-      ap (λ o. refusal_in name (concluded scene.sides r o)) p.found ∙ not_refused scene.sides name r p.outcome
+      let p = applied_puts inputs number so_far next r is in
+      ap (λ o. refusal_in name (concluded inputs.sides r o)) p.found ∙ not_refused inputs.sides name r p.outcome
   by_applied number so_far r (Err fault) is = refl
 
   -- ---- the records of a section
 
   -- one record, and then some others
-  abbrev joined : List Relocation → Option BtfRelocationError → Written → Result Written BtfRelocationError
-  joined rs fault left = unless (or_else fault (first scene left (named_in offset rs))) (slots_left scene left (named_in offset rs))
+  abbrev all_spans : List Relocation → Option BtfRelocationError → Written → Result Written BtfRelocationError
+  all_spans rs fault left = unless (or_else fault (first inputs left (named_in offset rs))) (slots_left inputs left (named_in offset rs))
 
   in_records : (number : ℕ) → section ≡ Ok number → (rs : List Relocation) (so_far : Written)
-      → in_section name (records_applied scene number rs so_far) ≡ stated scene so_far (named_in offset rs)
+      → answer_in_section name (records_applied inputs number rs so_far) ≡ stated inputs so_far (named_in offset rs)
   in_records number found [] so_far = refl
-  in_records number found (r ∷ rs) so_far = by_record (record_applied scene number so_far r) refl (λ next. in_records number found rs next)
+  in_records number found (r ∷ rs) so_far = by_record (record_applied inputs number so_far r) refl (λ next. in_records number found rs next)
     where
-      by_case : ((next : Written) → in_section name (records_applied scene number rs next) ≡ stated scene next (named_in offset rs))
-          → (b : Result Written RelocationError) → in_section name (if_ok b (records_applied scene number rs)) ≡ joined rs (fault_of (in_section name b)) (left_by so_far b)
+      by_case : ((next : Written) → answer_in_section name (records_applied inputs number rs next) ≡ stated inputs next (named_in offset rs))
+          → (b : Result Written RelocationError) → answer_in_section name (if_ok b (records_applied inputs number rs)) ≡ all_spans rs (fault_of (answer_in_section name b)) (left_by so_far b)
       by_case later (Ok next) = later next
       by_case later (Err fault) = refl
 
-      by_record : (a : Result Written RelocationError) → record_applied scene number so_far r ≡ a
-          → ((next : Written) → in_section name (records_applied scene number rs next) ≡ stated scene next (named_in offset rs))
-          → in_section name (if_ok a (records_applied scene number rs)) ≡ stated scene so_far (named_in offset (r ∷ rs))
+      by_record : (a : Result Written RelocationError) → record_applied inputs number so_far r ≡ a
+          → ((next : Written) → answer_in_section name (records_applied inputs number rs next) ≡ stated inputs next (named_in offset rs))
+          → answer_in_section name (if_ok a (records_applied inputs number rs)) ≡ stated inputs so_far (named_in offset (r ∷ rs))
       by_record a is later =
           by_case later a
-          ∙ sym (ap (λ b. joined rs (fault_of (in_section name b)) (left_by so_far b)) is)
-          ∙ sym (ap (λ f. joined rs f (left_by so_far (record_applied scene number so_far r))) (refusal_is so_far r (Ok number) found ∙ by_applied number so_far r _ refl))
-          ∙ sym (ap (λ s. joined rs (refusal scene (outcome_after scene so_far (offset, r))) (left_by so_far (applied scene s so_far r))) found)
+          ∙ sym (ap (λ b. all_spans rs (fault_of (answer_in_section name b)) (left_by so_far b)) is)
+          ∙ sym (ap (λ f. all_spans rs f (left_by so_far (record_applied inputs number so_far r))) (refusal_is so_far r (Ok number) found ∙ by_applied number so_far r _ refl))
+          ∙ sym (ap (λ s. all_spans rs (refusal inputs (outcome_after inputs so_far (offset, r))) (left_by so_far (applied inputs s so_far r))) found)
 
   -- where it is not, the first record is refused
   in_none : (fault : RelocationError) → section ≡ Err fault → (rs : List Relocation) (so_far : Written) → rs ≢ []
-      → Err (fault_in name fault) ≡ stated scene so_far (named_in offset rs)
+      → Err (error_in_section name fault) ≡ stated inputs so_far (named_in offset rs)
   in_none fault found [] so_far some = absurd (some refl)
   in_none fault found (r ∷ rs) so_far some =
-      sym (ap (λ f. joined rs f (left_after scene so_far (offset, r))) (refusal_is so_far r (Err fault) found))
+      sym (ap (λ f. all_spans rs f (left_after inputs so_far (offset, r))) (refusal_is so_far r (Err fault) found))
 
 -- ---- the part of a section
 
 -- a part, and then the others
-abbrev by_name : Scene → ℕ × List Relocation → Written → Result (List ℕ) BtfError → Result Written BtfRelocationError
-by_name scene part so_far t =
+abbrev by_name : RelocationInputs → ℕ × List Relocation → Written → Result (List ℕ) BtfError → Result Written BtfRelocationError
+by_name inputs part so_far t =
     elim t [
-      | Ok name ↦ in_section name (section_applied scene name part.1 so_far)
-      | Err e ↦ in_section (unnamed_section part.0) (Err (errors.BtfError e))
+      | Ok name ↦ answer_in_section name (section_applied inputs name part.1 so_far)
+      | Err e ↦ answer_in_section (unnamed_section part.0) (Err (errors.BtfError e))
     ]
 
-abbrev by_section : Scene → List ℕ → ℕ × List Relocation → Written → Option SectionIndex → Result Written BtfRelocationError
-by_section scene name part so_far o = in_section name (if_some o (λ section. records_applied scene section.0 part.1 so_far) (Err errors.SectionNotFound))
+abbrev by_section : RelocationInputs → List ℕ → ℕ × List Relocation → Written → Option SectionIndex → Result Written BtfRelocationError
+by_section inputs name part so_far o = answer_in_section name (if_some o (λ section. records_applied inputs section.0 part.1 so_far) (Err errors.SectionNotFound))
 
-section_found : (scene : Scene) (offset : ℕ) (t : Result (List ℕ) BtfError) → text_at scene.sides.local.strings offset ≡ t
-    → section_at scene.sides.local scene.section_infos offset ≡ section_by scene.section_infos (of_types t)
+section_found : (inputs : RelocationInputs) (offset : ℕ) (t : Result (List ℕ) BtfError) → text_at inputs.sides.local.strings offset ≡ t
+    → section_at inputs.sides.local inputs.section_infos offset ≡ section_by inputs.section_infos (of_types t)
 unfolding section_at
-section_found scene offset t is = ap (λ r. section_by scene.section_infos (of_types r)) is
+section_found inputs offset t is = ap (λ r. section_by inputs.section_infos (of_types r)) is
 
 -- where a part is refused it has records
-part_stated : (scene : Scene) (part : ℕ × List Relocation) (so_far : Written)
-    → ((fault : BtfRelocationError) → named_applied scene part so_far ≡ Err fault → part.1 ≢ [])
-    → named_applied scene part so_far ≡ stated scene so_far (named_in part.0 part.1)
-part_stated scene part so_far some = by_text (text_at scene.sides.local.strings part.0) refl
+part_stated : (inputs : RelocationInputs) (part : ℕ × List Relocation) (so_far : Written)
+    → ((fault : BtfRelocationError) → named_applied inputs part so_far ≡ Err fault → part.1 ≢ [])
+    → named_applied inputs part so_far ≡ stated inputs so_far (named_in part.0 part.1)
+part_stated inputs part so_far some = by_text (text_at inputs.sides.local.strings part.0) refl
   where
-    by_text : (t : Result (List ℕ) BtfError) → text_at scene.sides.local.strings part.0 ≡ t → by_name scene part so_far t ≡ stated scene so_far (named_in part.0 part.1)
+    by_text : (t : Result (List ℕ) BtfError) → text_at inputs.sides.local.strings part.0 ≡ t → by_name inputs part so_far t ≡ stated inputs so_far (named_in part.0 part.1)
     by_text (Err e) is =
-        in_none scene part.0 (unnamed_section part.0) (ap (told_name part.0) is) (errors.BtfError e) (section_found scene part.0 (Err e) is) part.1 so_far
-        (some _ (ap (by_name scene part so_far) is))
-    by_text (Ok name) is = by_number (get scene.section_infos name) refl
+        in_none inputs part.0 (unnamed_section part.0) (ap (told_name part.0) is) (errors.BtfError e) (section_found inputs part.0 (Err e) is) part.1 so_far
+        (some _ (ap (by_name inputs part so_far) is))
+    by_text (Ok name) is = by_number (get inputs.section_infos name) refl
       where
-        found : (o : Option SectionIndex) → get scene.section_infos name ≡ o
-            → section_at scene.sides.local scene.section_infos part.0 ≡ if_some o (λ section. Ok section.0) (Err errors.SectionNotFound)
-        found o there = section_found scene part.0 (Ok name) is ∙ ap (λ p. if_some p (λ section. Ok section.0) (Err errors.SectionNotFound)) there
+        found : (o : Option SectionIndex) → get inputs.section_infos name ≡ o
+            → section_at inputs.sides.local inputs.section_infos part.0 ≡ if_some o (λ section. Ok section.0) (Err errors.SectionNotFound)
+        found o there = section_found inputs part.0 (Ok name) is ∙ ap (λ p. if_some p (λ section. Ok section.0) (Err errors.SectionNotFound)) there
 
-        by_number : (o : Option SectionIndex) → get scene.section_infos name ≡ o → by_section scene name part so_far o ≡ stated scene so_far (named_in part.0 part.1)
+        by_number : (o : Option SectionIndex) → get inputs.section_infos name ≡ o → by_section inputs name part so_far o ≡ stated inputs so_far (named_in part.0 part.1)
         by_number None there =
-            in_none scene part.0 name (ap (told_name part.0) is) errors.SectionNotFound (found None there) part.1 so_far
-            (some _ (ap (by_name scene part so_far) is ∙ ap (by_section scene name part so_far) there))
-        by_number (Some number) there = in_records scene part.0 name (ap (told_name part.0) is) number.0 (found (Some number) there) part.1 so_far
+            in_none inputs part.0 name (ap (told_name part.0) is) errors.SectionNotFound (found None there) part.1 so_far
+            (some _ (ap (by_name inputs part so_far) is ∙ ap (by_section inputs name part so_far) there))
+        by_number (Some number) there = in_records inputs part.0 name (ap (told_name part.0) is) number.0 (found (Some number) there) part.1 so_far
 
 -- ---- all parts
 
-module _ (scene : Scene) (part : ℕ × List Relocation) (parts : List (ℕ × List Relocation)) (so_far : Written) where
+module _ (inputs : RelocationInputs) (part : ℕ × List Relocation) (parts : List (ℕ × List Relocation)) (so_far : Written) where
   abbrev here : List Named
   here = named_in part.0 part.1
 
   abbrev behind : List Named
   behind = named_records parts
 
-  both : stated scene so_far (here ++ behind)
-      ≡ unless (or_else (first scene so_far here) (first scene (slots_left scene so_far here) behind)) (slots_left scene (slots_left scene so_far here) behind)
+  both : stated inputs so_far (here ++ behind)
+      ≡ unless (or_else (first inputs so_far here) (first inputs (slots_left inputs so_far here) behind)) (slots_left inputs (slots_left inputs so_far here) behind)
   both =
-      ap (λ rows. unless (first_some (refusal scene) rows) (slots_left scene so_far (here ++ behind))) (outcomes-append scene so_far here behind)
-      ∙ ap (λ f. unless f (slots_left scene so_far (here ++ behind))) (first_some-append (refusal scene) (outcomes_from scene so_far here) (outcomes_from scene (slots_left scene so_far here) behind))
-      ∙ ap (unless (or_else (first scene so_far here) (first scene (slots_left scene so_far here) behind))) (slots-append scene so_far here behind)
+      ap (λ rows. unless (first_some (refusal inputs) rows) (slots_left inputs so_far (here ++ behind))) (outcomes-append inputs so_far here behind)
+      ∙ ap (λ f. unless f (slots_left inputs so_far (here ++ behind))) (first_some-append (refusal inputs) (outcomes_from inputs so_far here) (outcomes_from inputs (slots_left inputs so_far here) behind))
+      ∙ ap (unless (or_else (first inputs so_far here) (first inputs (slots_left inputs so_far here) behind))) (slots-append inputs so_far here behind)
 
   onward : (fault : Option BtfRelocationError) (left : Written)
-      → ((next : Written) → unless fault left ≡ Ok next → all_applied scene parts next ≡ stated scene next behind)
-      → if_ok (unless fault left) (all_applied scene parts) ≡ unless (or_else fault (first scene left behind)) (slots_left scene left behind)
+      → ((next : Written) → unless fault left ≡ Ok next → all_applied inputs parts next ≡ stated inputs next behind)
+      → if_ok (unless fault left) (all_applied inputs parts) ≡ unless (or_else fault (first inputs left behind)) (slots_left inputs left behind)
   onward None left more = more left refl
   onward (Some e) left more = refl
 
-  one_more : named_applied scene part so_far ≡ stated scene so_far here
-      → ((next : Written) → named_applied scene part so_far ≡ Ok next → all_applied scene parts next ≡ stated scene next behind)
-      → if_ok (named_applied scene part so_far) (all_applied scene parts) ≡ stated scene so_far (here ++ behind)
+  one_more : named_applied inputs part so_far ≡ stated inputs so_far here
+      → ((next : Written) → named_applied inputs part so_far ≡ Ok next → all_applied inputs parts next ≡ stated inputs next behind)
+      → if_ok (named_applied inputs part so_far) (all_applied inputs parts) ≡ stated inputs so_far (here ++ behind)
   one_more is more =
-      ap (λ r. if_ok r (all_applied scene parts)) is
-      ∙ onward (first scene so_far here) (slots_left scene so_far here) (λ next e. more next (is ∙ e))
+      ap (λ r. if_ok r (all_applied inputs parts)) is
+      ∙ onward (first inputs so_far here) (slots_left inputs so_far here) (λ next e. more next (is ∙ e))
       ∙ sym both
 
-all_stated : (scene : Scene) (parts : List (ℕ × List Relocation)) (so_far : Written) → HaveRecords parts → all_applied scene parts so_far ≡ stated scene so_far (named_records parts)
-all_stated scene [] so_far have = refl
-all_stated scene (part ∷ parts) so_far have =
-    one_more scene part parts so_far (part_stated scene part so_far (λ fault e. have 0 part refl)) (λ next e. all_stated scene parts next (λ n p at. have (suc n) p at))
+all_stated : (inputs : RelocationInputs) (parts : List (ℕ × List Relocation)) (so_far : Written) → HaveRecords parts → all_applied inputs parts so_far ≡ stated inputs so_far (named_records parts)
+all_stated inputs [] so_far have = refl
+all_stated inputs (part ∷ parts) so_far have =
+    one_more inputs part parts so_far (part_stated inputs part so_far (λ fault e. have 0 part refl)) (λ next e. all_stated inputs parts next (λ n p at. have (suc n) p at))
 
 pub first_refusal : FirstRefusalIsTheFault
-first_refusal scene parts have = all_stated scene parts empty have
+first_refusal inputs parts have = all_stated inputs parts empty have
 
 no_fault : (left : Written) (fault : BtfRelocationError) → ◌≡◌ {A = Result Written BtfRelocationError} (Ok left) (Err fault) → ⊥
 no_fault left fault e = cc
 
-all_left : (scene : Scene) (parts : List (ℕ × List Relocation)) (so_far left : Written) → all_applied scene parts so_far ≡ Ok left
-    → all_applied scene parts so_far ≡ stated scene so_far (named_records parts)
-all_left scene [] so_far left e = refl
-all_left scene (part ∷ parts) so_far left e =
-    let (next, applied, rest) = ok_parts (named_applied scene part so_far) (all_applied scene parts) left e in
-    one_more scene part parts so_far (part_stated scene part so_far (λ fault f. absurd (no_fault next fault (sym applied ∙ f))))
-    (λ other f. all_left scene parts other left (subst (λ m. all_applied scene parts m ≡ Ok left) (same_ok _ _ (sym applied ∙ f)) rest))
+all_left : (inputs : RelocationInputs) (parts : List (ℕ × List Relocation)) (so_far left : Written) → all_applied inputs parts so_far ≡ Ok left
+    → all_applied inputs parts so_far ≡ stated inputs so_far (named_records parts)
+all_left inputs [] so_far left e = refl
+all_left inputs (part ∷ parts) so_far left e =
+    let (next, applied, rest) = ok_parts (named_applied inputs part so_far) (all_applied inputs parts) left e in
+    one_more inputs part parts so_far (part_stated inputs part so_far (λ fault f. absurd (no_fault next fault (sym applied ∙ f))))
+    (λ other f. all_left inputs parts other left (subst (λ m. all_applied inputs parts m ≡ Ok left) (same_ok _ _ (sym applied ∙ f)) rest))
 
 unless_ok : (fault : Option BtfRelocationError) (left so_far : Written) → unless fault left ≡ Ok so_far → (left ≡ so_far) × (fault ≡ None)
 unless_ok None left so_far e = (same_ok _ _ e, refl)
 unless_ok (Some f) left so_far e = cc
 
 pub same_slots : SlotsAreTheSame
-same_slots scene parts so_far e = unless_ok (first scene empty (named_records parts)) (record_slots scene parts) so_far (sym (all_left scene parts empty so_far e) ∙ e)
+same_slots inputs parts so_far e = unless_ok (first inputs empty (named_records parts)) (record_slots inputs parts) so_far (sym (all_left inputs parts empty so_far e) ∙ e)

@@ -9,15 +9,15 @@ use Rattle.ebpf_base.proofs.Pointwise.{number_agrees}
 use Rattle.ebpf_base.specs.Keys.{key_cmp}
 use Rattle.std.specs.Prelude.{if◌then◌else◌, nat_eq}
 use Rattle.ebpf_core_relo.specs.declared.spans.Span.{Span}
-use Rattle.ebpf_core_relo.specs.Places.{added, entries_in, listed, span_of, spans_among, spans_of}
+use Rattle.ebpf_core_relo.specs.RecordFunctions.{with_span, entries_of_section, spans_or_none, span_of, spans_among, spans_of}
 use Rattle.ebpf_reloc.specs.declared.function.Function.{Function}
 
 by_case : (b : Bool) (group own : List Span) (e : (ℕ × ℕ) × Function) (rest : List ((ℕ × ℕ) × Function)) → (b ≡ true → own ≡ group)
-    → listed (cond b (Some (own ++ span_of e ∷ [])) (Some group)) ++ map span_of rest ≡ group ++ map span_of (if b then e ∷ rest else rest)
+    → spans_or_none (cond b (Some (own ++ span_of e ∷ [])) (Some group)) ++ map span_of rest ≡ group ++ map span_of (if b then e ∷ rest else rest)
 by_case true group own e rest same = ap (λ g. (g ++ span_of e ∷ []) ++ map span_of rest) (same refl) ∙ append_assoc group (span_of e ∷ []) (map span_of rest)
 by_case false group own e rest same = refl
 
-listed_cond : (b : Bool) (v : List Span) (o : Option (List Span)) → listed (cond b (Some v) o) ≡ listed (cond b (Some v) (Some (listed o)))
+listed_cond : (b : Bool) (v : List Span) (o : Option (List Span)) → spans_or_none (cond b (Some v) o) ≡ spans_or_none (cond b (Some v) (Some (spans_or_none o)))
 listed_cond true v o = refl
 listed_cond false v o = refl
 
@@ -28,25 +28,25 @@ eq_by_number : (q n : ℕ) → eq_by_cmp nat_cmp q n ≡ nat_eq n q
 eq_by_number q n = sym (number_agrees q n) ∙ eqb_sym q n
 
 one_more : (m : FinMap nat_cmp (List Span)) (e : (ℕ × ℕ) × Function) (rest : List ((ℕ × ℕ) × Function)) (q : ℕ)
-    → listed (get (insert m e.0.0 (listed (get m e.0.0) ++ span_of e ∷ [])) q) ++ spans_among q rest ≡ listed (get m q) ++ spans_among q (e ∷ rest)
+    → spans_or_none (get (insert m e.0.0 (spans_or_none (get m e.0.0) ++ span_of e ∷ [])) q) ++ spans_among q rest ≡ spans_or_none (get m q) ++ spans_among q (e ∷ rest)
 one_more m e rest q =
-    ap (λ o. listed o ++ spans_among q rest) (get-insert nat_cmp_total m e.0.0 (listed (get m e.0.0) ++ span_of e ∷ []) q)
-    ∙ ap (λ g. g ++ spans_among q rest) (listed_cond (eq_by_cmp nat_cmp q e.0.0) (listed (get m e.0.0) ++ span_of e ∷ []) (get m q))
-    ∙ ap (λ b. listed (cond b (Some (listed (get m e.0.0) ++ span_of e ∷ [])) (Some (listed (get m q)))) ++ spans_among q rest) (eq_by_number q e.0.0)
-    ∙ by_case (nat_eq e.0.0 q) (listed (get m q)) (listed (get m e.0.0)) e (entries_in q rest) (λ h. ap (λ n. listed (get m n)) (eqb-true e.0.0 q h))
+    ap (λ o. spans_or_none o ++ spans_among q rest) (get-insert nat_cmp_total m e.0.0 (spans_or_none (get m e.0.0) ++ span_of e ∷ []) q)
+    ∙ ap (λ g. g ++ spans_among q rest) (listed_cond (eq_by_cmp nat_cmp q e.0.0) (spans_or_none (get m e.0.0) ++ span_of e ∷ []) (get m q))
+    ∙ ap (λ b. spans_or_none (cond b (Some (spans_or_none (get m e.0.0) ++ span_of e ∷ [])) (Some (spans_or_none (get m q)))) ++ spans_among q rest) (eq_by_number q e.0.0)
+    ∙ by_case (nat_eq e.0.0 q) (spans_or_none (get m q)) (spans_or_none (get m e.0.0)) e (entries_of_section q rest) (λ h. ap (λ n. spans_or_none (get m n)) (eqb-true e.0.0 q h))
 
-added_by : (m : FinMap nat_cmp (List Span)) (n : ℕ) (s : Span) (o : Option (List Span)) → added m n s o ≡ insert m n (listed o ++ s ∷ [])
+added_by : (m : FinMap nat_cmp (List Span)) (n : ℕ) (s : Span) (o : Option (List Span)) → with_span m n s o ≡ insert m n (spans_or_none o ++ s ∷ [])
 added_by m n s None = refl
 added_by m n s (Some spans) = refl
 
 -- the spans so far, with one more put behind those of its section
 pub span_more : (m : FinMap nat_cmp (List Span)) (e : (ℕ × ℕ) × Function) (rest : List ((ℕ × ℕ) × Function)) (q : ℕ)
-    → listed (get (added m e.0.0 (span_of e) (get m e.0.0)) q) ++ spans_among q rest ≡ listed (get m q) ++ spans_among q (e ∷ rest)
-span_more m e rest q = ap (λ n. listed (get n q) ++ spans_among q rest) (added_by m e.0.0 (span_of e) (get m e.0.0)) ∙ one_more m e rest q
+    → spans_or_none (get (with_span m e.0.0 (span_of e) (get m e.0.0)) q) ++ spans_among q rest ≡ spans_or_none (get m q) ++ spans_among q (e ∷ rest)
+span_more m e rest q = ap (λ n. spans_or_none (get n q) ++ spans_among q rest) (added_by m e.0.0 (span_of e) (get m e.0.0)) ∙ one_more m e rest q
 
 -- none yet
-pub span_none : (functions : FinMap key_cmp Function) (q : ℕ) → listed (get (empty {R = nat_cmp}) q) ++ spans_among q (entries functions) ≡ spans_of functions q
-span_none functions q = ap (λ o. listed o ++ spans_among q (entries functions)) (get-empty nat_cmp q)
+pub span_none : (functions : FinMap key_cmp Function) (q : ℕ) → spans_or_none (get (empty {R = nat_cmp}) q) ++ spans_among q (entries functions) ≡ spans_of functions q
+span_none functions q = ap (λ o. spans_or_none o ++ spans_among q (entries functions)) (get-empty nat_cmp q)
 
 pub span_all : (group : List Span) (q : ℕ) → group ++ spans_among q [] ≡ group
 span_all group q = append-nil group

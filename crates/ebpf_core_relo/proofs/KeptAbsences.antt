@@ -8,8 +8,8 @@ use Rattle.ebpf_ext.proofs.RelocationRows.{numbers_of_relocation_kinds}
 use Rattle.ebpf_ext.specs.RelocationKinds.{relocation_kind, relocation_kind_number}
 use Rattle.ebpf_ext.specs.declared.relocation.Relocation.{Relocation}
 use Rattle.ebpf_ext.specs.declared.relocation.RelocationKind.{RelocationKind}
-use Rattle.ebpf_core.proofs.Asked.{question_exact}
-use Rattle.ebpf_core.specs.Asked.{Question, asked, question_cmp}
+use Rattle.ebpf_core.proofs.Questions.{question_exact}
+use Rattle.ebpf_core.specs.Questions.{Question, asked, question_cmp}
 use Rattle.ebpf_core.specs.LocalPaths.{local_path}
 use Rattle.ebpf_core.specs.Searches.{candidates_for}
 use Rattle.ebpf_core_relo.specs.Absences.{absence_by, absence_of, without_place}

@@ -1,7 +1,7 @@
 pub mod FirstRefusal
 pub mod FurthestOnes
 pub mod Grouped
-pub mod JoinedRuns
+pub mod SpanRuns
 pub mod KeptAbsences
 pub mod MatchAbsences
 pub mod MisfitNames

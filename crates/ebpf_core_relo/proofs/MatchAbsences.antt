@@ -8,16 +8,16 @@ use Rattle.std.proofs.lemmas.Option.{same_Some, slice_get_past}
 use Rattle.ebpf_btf.specs.TypeInfo.{TypeInfo}
 use Rattle.ebpf_btf.specs.declared.error.BtfError.{BtfError}
 use Rattle.ebpf_ext.specs.declared.relocation.Relocation.{Relocation}
-use Rattle.ebpf_places.specs.Places.{place_of}
+use Rattle.ebpf_places.specs.FunctionSpans.{place_of}
 use Rattle.ebpf_places.specs.declared.fault.PlaceFault.{PlaceFault}
 use Rattle.ebpf_places.specs.declared.fault.PlaceFault.TheVariants.{NestingLevel, Btf}
-use Rattle.ebpf_places.specs.declared.places.Place.{Place}
+use Rattle.ebpf_places.specs.declared.function_spans.Place.{Place}
 use Rattle.ebpf_places.specs.declared.steps.Step.{Step}
 use Rattle.ebpf_places.specs.declared.steps.Step.TheVariants.{Name, Index}
-use Rattle.ebpf_core.proofs.Asked.{outcomes_rest_on_what_is_asked}
+use Rattle.ebpf_core.proofs.Questions.{outcomes_rest_on_questions}
 use Rattle.ebpf_core.specs.Answers.{each, if_ok, of_types}
 use Rattle.ebpf_core.specs.LocalPaths.{local_path}
-use Rattle.ebpf_core.specs.Matches.{by_place, found_in, match_in, match_of, matches, name_at}
+use Rattle.ebpf_core.specs.Matches.{by_place, found_at_candidate, match_in, match_of, matches, type_name_at}
 use Rattle.ebpf_core.specs.Outcomes.{outcome_among}
 use Rattle.ebpf_core.specs.Searches.{candidates_for, is_local, itself, outcome_of}
 use Rattle.ebpf_core.specs.declared.error.RelocationError.{RelocationError}
@@ -51,12 +51,12 @@ told_among local target r path side (Ok ids) are outcome e = record {
 }
 told_among local target r path side (Err fault) are outcome e = cc
 
-told_by : (local target : TypeInfo) (r : Relocation) (outcome : Outcome) → outcome.value ≡ None → (side : Result LocalPath RelocationError) → local_path local (without_place r) ≡ side
+without_texts_by : (local target : TypeInfo) (r : Relocation) (outcome : Outcome) → outcome.value ≡ None → (side : Result LocalPath RelocationError) → local_path local (without_place r) ≡ side
     → if_ok side (λ path.
     if is_local r.kind then Ok (itself r.type_id) else if_ok (of_types (candidates_for local target r.type_id)) (outcome_among local target (without_place r) path)) ≡ Ok outcome
     → IsTold local target r
-told_by local target r outcome none (Err fault) is e = cc
-told_by local target r outcome none (Ok path) is e = by_kind (is_local r.kind) e
+without_texts_by local target r outcome none (Err fault) is e = cc
+without_texts_by local target r outcome none (Ok path) is e = by_kind (is_local r.kind) e
   where
     by_kind : (b : Bool) → (if b then Ok (itself r.type_id) else if_ok (of_types (candidates_for local target r.type_id)) (outcome_among local target (without_place r) path)) ≡ Ok outcome
         → IsTold local target r
@@ -66,7 +66,7 @@ told_by local target r outcome none (Ok path) is e = by_kind (is_local r.kind) e
 pub absences_are_told : AbsencesAreTold
 unfolding outcome_of
 absences_are_told local target r outcome is none =
-    told_by local target r outcome none (local_path local (without_place r)) refl (outcomes_rest_on_what_is_asked local target r (without_place r) outcome refl is)
+    without_texts_by local target r outcome none (local_path local (without_place r)) refl (outcomes_rest_on_questions local target r (without_place r) outcome refl is)
 
 -- ---- matches of a field
 
@@ -110,7 +110,7 @@ module _ (local target : TypeInfo) (local_id : ℕ) (steps : List Step) (place :
   by_answer id p = if_ok (by_place target id p) (λ what. Ok (option_map (match_of id) what))
 
   matched_by : (id : ℕ) → matched id ≡ by_answer id (place_of local target id steps)
-  unfolding found_in
+  unfolding found_at_candidate
   matched_by id = refl
 
   nested : {X : Type 0} (name : Result (List ℕ) RelocationError) (e : List ℕ → RelocationError) (next : Option Found → Result X RelocationError) (x : X)
@@ -126,7 +126,7 @@ module _ (local target : TypeInfo) (local_id : ℕ) (steps : List Step) (place :
   somewhere_then : (id : ℕ) (m : Match) (p : Result (Option Place) PlaceFault) → by_answer id p ≡ Ok (Some m) → is_place p ≡ true
   somewhere_then id m (Ok None) e = cc
   somewhere_then id m (Ok (Some there)) e = refl
-  somewhere_then id m (Err NestingLevel) e = absurd (nested (of_types (name_at target id)) _ _ _ e)
+  somewhere_then id m (Err NestingLevel) e = absurd (nested (of_types (type_name_at target id)) _ _ _ e)
   somewhere_then id m (Err (Btf fault)) e = cc
 
   whole : (id : ℕ) (b : Bool) → is_place (place_of local target id steps) ≡ b → leads local target steps id (length steps) ≡ b

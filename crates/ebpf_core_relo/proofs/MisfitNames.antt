@@ -18,13 +18,13 @@ use Rattle.ebpf_btf.specs.declared.members.BtfMember.{BtfMember}
 use Rattle.ebpf_btf.specs.declared.types.BtfType.{BtfType}
 use Rattle.ebpf_candidates.specs.Compatibility.{fields_compatible}
 use Rattle.ebpf_places.proofs.TypeMembers.{known_members, known_role}
-use Rattle.ebpf_places.specs.Members.{Known, Member, if_read, known, member_at, members_from, members_in, named_role, role, unnamed_levels, unnamed_role}
-use Rattle.ebpf_places.specs.MemberViews.{Entry, below as under, entry, flat, is_misfit, nothing, own, view}
-use Rattle.ebpf_places.specs.Searches.{found_by, or_on, run, search_entries, sought, stop_by}
+use Rattle.ebpf_places.specs.Members.{MemberSearch, Member, if_read, member_search, indexed_member, members_from, members_in, named_role, role, anonymous_levels, anonymous_role}
+use Rattle.ebpf_places.specs.MemberViews.{ViewEntry, below as under, entry, flat, is_misfit, nothing, own, view}
+use Rattle.ebpf_places.specs.Searches.{answer_member, or_on, run, search_entries, first_fitting, stop_by}
 use Rattle.ebpf_places.specs.declared.fault.PlaceFault.{PlaceFault}
 use Rattle.ebpf_places.specs.declared.fault.PlaceFault.TheVariants.{NestingLevel}
 use Rattle.ebpf_places.specs.declared.role.Role.{Role}
-use Rattle.ebpf_places.specs.declared.role.Role.TheVariants.{Unnamed, Other, Sought, Misfit}
+use Rattle.ebpf_places.specs.declared.role.Role.TheVariants.{Anonymous, Other, Fitting, Misfit}
 use Rattle.ebpf_places.specs.declared.search.Answer.{Answer}
 use Rattle.ebpf_places.specs.declared.search.Answer.TheVariants.{Found, Absent}
 use Rattle.ebpf_core_relo.proofs.NamedMembers.{below, has_any}
@@ -34,27 +34,27 @@ use Rattle.ebpf_core_relo.specs.Absences.{has_member, is_or_has, members_at}
 -- ---- a search that stops nowhere
 
 abbrev quiet : Result Role PlaceFault → Bool
-quiet (Ok (Unnamed id)) = true
+quiet (Ok (Anonymous id)) = true
 quiet (Ok Other) = true
 quiet (Ok Misfit) = true
-quiet (Ok Sought) = false
+quiet (Ok Fitting) = false
 quiet (Err fault) = false
 
 both_true : (a b : Bool) → (a && b) ≡ true → (a ≡ true) × (b ≡ true)
 both_true true b e = (refl, e)
 both_true false b e = cc
 
-module _ (K : Known) where
-  abbrev at : Entry → Result Role PlaceFault
+module _ (K : MemberSearch) where
+  abbrev at : ViewEntry → Result Role PlaceFault
   at e = K.role_of e.inside e.member
 
-  abbrev are_quiet : List Entry → Bool
+  abbrev are_quiet : List ViewEntry → Bool
   are_quiet es = list_all (λ e. quiet (at e)) es
 
-  abbrev any_misfit : List Entry → Bool
+  abbrev any_misfit : List ViewEntry → Bool
   any_misfit es = list_any (λ e. is_misfit (at e)) es
 
-  stops_nowhere : (es : List Entry) (limit left : ℕ) → run K limit es ≡ Ok (Absent left) → are_quiet es ≡ true
+  stops_nowhere : (es : List ViewEntry) (limit left : ℕ) → run K limit es ≡ Ok (Absent left) → are_quiet es ≡ true
   unfolding run
   stops_nowhere [] limit left e = refl
   stops_nowhere (x ∷ es) zero left e = cc
@@ -62,47 +62,47 @@ module _ (K : Known) where
     where
       by_role : (r : Result Role PlaceFault) → (run K limit es ≡ Ok (Absent left) → are_quiet es ≡ true) → or_on (stop_by r x) (run K limit es) ≡ Ok (Absent left)
           → (quiet r && are_quiet es) ≡ true
-      by_role (Ok (Unnamed id)) more e = more e
+      by_role (Ok (Anonymous id)) more e = more e
       by_role (Ok Other) more e = more e
       by_role (Ok Misfit) more e = more e
-      by_role (Ok Sought) more e = cc
+      by_role (Ok Fitting) more e = cc
       by_role (Err fault) more e = cc
 
-  found_nothing : (limit : ℕ) (ms : List Member) → sought K limit ms ≡ Ok None → are_quiet (view K unnamed_levels 0 0 ms) ≡ true
-  unfolding sought
-  found_nothing limit ms e = by_answer (run K limit (view K unnamed_levels 0 0 ms)) refl e
+  found_nothing : (limit : ℕ) (ms : List Member) → first_fitting K limit ms ≡ Ok None → are_quiet (view K anonymous_levels 0 0 ms) ≡ true
+  unfolding first_fitting
+  found_nothing limit ms e = by_answer (run K limit (view K anonymous_levels 0 0 ms)) refl e
     where
-      by_answer : (r : Result Answer PlaceFault) → run K limit (view K unnamed_levels 0 0 ms) ≡ r → found_by r ≡ Ok None → are_quiet (view K unnamed_levels 0 0 ms) ≡ true
+      by_answer : (r : Result Answer PlaceFault) → run K limit (view K anonymous_levels 0 0 ms) ≡ r → answer_member r ≡ Ok None → are_quiet (view K anonymous_levels 0 0 ms) ≡ true
       by_answer (Ok (Found m)) is e = cc
-      by_answer (Ok (Absent left)) is e = stops_nowhere (view K unnamed_levels 0 0 ms) limit left is
+      by_answer (Ok (Absent left)) is e = stops_nowhere (view K anonymous_levels 0 0 ms) limit left is
       by_answer (Err fault) is e = cc
 
 -- ---- what a member is
 
 module _ (local target : TypeInfo) (name : List ℕ) (local_type : ℕ) where
-  abbrev K : Known
-  K = known local target name local_type
+  abbrev K : MemberSearch
+  K = member_search local target name local_type
 
   abbrev what : ℕ → BtfMember → Result Role PlaceFault
   what inside m = role local target name local_type inside m.name_offset m.btf_type
 
   data RoleIs (inside : ℕ) (m : BtfMember) : Type 0 where
-    IsUnnamed : (id : ℕ) → nat_eq m.name_offset 0 ≡ true → inside < unnamed_levels → resolved target.types m.btf_type ≡ Ok id → what inside m ≡ Ok (Unnamed id) → RoleIs inside m
+    IsUnnamed : (id : ℕ) → nat_eq m.name_offset 0 ≡ true → inside < anonymous_levels → resolved target.types m.btf_type ≡ Ok id → what inside m ≡ Ok (Anonymous id) → RoleIs inside m
     IsOther : nat_eq m.name_offset 0 ≡ false → is_text name (text_at target.strings m.name_offset) ≡ false → what inside m ≡ Ok Other → RoleIs inside m
     IsMisfit : nat_eq m.name_offset 0 ≡ false → is_text name (text_at target.strings m.name_offset) ≡ true → what inside m ≡ Ok Misfit → RoleIs inside m
 
   module _ (inside : ℕ) (m : BtfMember) where
     abbrev by_name : Bool → Result Role PlaceFault
-    by_name none = if none then unnamed_role target inside m.btf_type else named_role local target name local_type m.name_offset m.btf_type
+    by_name none = if none then anonymous_role target inside m.btf_type else named_role local target name local_type m.name_offset m.btf_type
 
     abbrev by_depth : Bool → Result Role PlaceFault
-    by_depth shallow = if shallow then if_read (resolved target.types m.btf_type) (λ id. Ok (Unnamed id)) else Err NestingLevel
+    by_depth shallow = if shallow then if_read (resolved target.types m.btf_type) (λ id. Ok (Anonymous id)) else Err NestingLevel
 
     abbrev by_type : Result ℕ BtfError → Result Role PlaceFault
-    by_type r = if_read r (λ id. Ok (Unnamed id))
+    by_type r = if_read r (λ id. Ok (Anonymous id))
 
     abbrev by_fit : Result Bool BtfError → Result Role PlaceFault
-    by_fit fits = if_read fits (λ fit. Ok (if fit then Sought else Misfit))
+    by_fit fits = if_read fits (λ fit. Ok (if fit then Fitting else Misfit))
 
     abbrev by_same : Bool → Result Role PlaceFault
     by_same same = if same then by_fit (fields_compatible local local_type target m.btf_type) else Ok Other
@@ -113,11 +113,11 @@ module _ (local target : TypeInfo) (name : List ℕ) (local_type : ℕ) where
     quiet_role : quiet (what inside m) ≡ true → RoleIs inside m
     quiet_role calm = named (nat_eq m.name_offset 0) refl calm
       where
-        at_type : nat_eq m.name_offset 0 ≡ true → nat_lt inside unnamed_levels ≡ true → (r : Result ℕ BtfError) → resolved target.types m.btf_type ≡ r → quiet (by_type r) ≡ true → RoleIs inside m
-        at_type none shallow (Ok id) is calm = IsUnnamed id none (ltb-true inside unnamed_levels shallow) is (ap by_name none ∙ ap by_depth shallow ∙ ap by_type is)
+        at_type : nat_eq m.name_offset 0 ≡ true → nat_lt inside anonymous_levels ≡ true → (r : Result ℕ BtfError) → resolved target.types m.btf_type ≡ r → quiet (by_type r) ≡ true → RoleIs inside m
+        at_type none shallow (Ok id) is calm = IsUnnamed id none (ltb-true inside anonymous_levels shallow) is (ap by_name none ∙ ap by_depth shallow ∙ ap by_type is)
         at_type none shallow (Err e) is calm = cc
 
-        at_depth : nat_eq m.name_offset 0 ≡ true → (b : Bool) → nat_lt inside unnamed_levels ≡ b → quiet (by_depth b) ≡ true → RoleIs inside m
+        at_depth : nat_eq m.name_offset 0 ≡ true → (b : Bool) → nat_lt inside anonymous_levels ≡ b → quiet (by_depth b) ≡ true → RoleIs inside m
         at_depth none true shallow calm = at_type none shallow (resolved target.types m.btf_type) refl calm
         at_depth none false deep calm = cc
 
@@ -137,22 +137,22 @@ module _ (local target : TypeInfo) (name : List ℕ) (local_type : ℕ) where
         at_text some (Err e) is calm = cc
 
         named : (b : Bool) → nat_eq m.name_offset 0 ≡ b → quiet (by_name b) ≡ true → RoleIs inside m
-        named true none calm = at_depth none (nat_lt inside unnamed_levels) refl calm
+        named true none calm = at_depth none (nat_lt inside anonymous_levels) refl calm
         named false some calm = at_text some (text_at target.strings m.name_offset) refl calm
 
   -- ---- the members of a type's own list
 
   -- what lies under an unnamed member that leads to a type
-  abbrev AreToldUnder : ℕ → (ℕ → ℕ → List Member → List Entry) → ℕ → Type 0
+  abbrev AreToldUnder : ℕ → (ℕ → ℕ → List Member → List ViewEntry) → ℕ → Type 0
   AreToldUnder levels deeper inside =
-      (type_id id bits : ℕ) → inside < unnamed_levels → resolved target.types type_id ≡ Ok id → are_quiet K (deeper (inside + 1) bits (K.members_of id)) ≡ true
+      (type_id id bits : ℕ) → inside < anonymous_levels → resolved target.types type_id ≡ Ok id → are_quiet K (deeper (inside + 1) bits (K.members_of id)) ≡ true
       → any_misfit K (deeper (inside + 1) bits (K.members_of id)) ≡ below target name levels type_id
 
-  module _ (levels : ℕ) (deeper : ℕ → ℕ → List Member → List Entry) (inside bits : ℕ) (told : AreToldUnder levels deeper inside) (id : ℕ) (t : BtfType) where
-    abbrev follow : Member → List Entry
+  module _ (levels : ℕ) (deeper : ℕ → ℕ → List Member → List ViewEntry) (inside bits : ℕ) (told : AreToldUnder levels deeper inside) (id : ℕ) (t : BtfType) where
+    abbrev follow : Member → List ViewEntry
     follow m = entry inside bits m ∷ under (λ n. deeper (inside + 1) (bits + m.bits) (K.members_of n)) (K.role_of inside m)
 
-    abbrev rest : Member → List Member → Result Role PlaceFault → List Entry
+    abbrev rest : Member → List Member → Result Role PlaceFault → List ViewEntry
     rest m ms r = under (λ n. deeper (inside + 1) (bits + m.bits) (K.members_of n)) r ++ flat_map follow (if is_misfit r then [] else own K inside ms)
 
     abbrev misfits : Member → List Member → Result Role PlaceFault → Bool
@@ -182,8 +182,8 @@ module _ (local target : TypeInfo) (name : List ℕ) (local_type : ℕ) where
         ∙ later (sym (ap (calm_by first ms) (same ∙ is)) ∙ calm)
         ∙ sym (ap (λ b. b || list_any tells bms) (tells_name m some false other))
     one_told first ms m bms same (IsUnnamed n none shallow leads is) calm later =
-        let inner : List Entry = deeper (inside + 1) (bits + first.bits) (K.members_of n) in
-        let outer : List Entry = flat K deeper inside bits ms in
+        let inner : List ViewEntry = deeper (inside + 1) (bits + first.bits) (K.members_of n) in
+        let outer : List ViewEntry = flat K deeper inside bits ms in
         let all : are_quiet K (inner ++ outer) ≡ true = sym (ap (calm_by first ms) (same ∙ is)) ∙ calm in
         let parts = both_true (are_quiet K inner) (are_quiet K outer) (sym (list_all-append (λ e. quiet (at K e)) inner outer) ∙ all) in
         ap (misfits first ms) (same ∙ is)
@@ -196,7 +196,7 @@ module _ (local target : TypeInfo) (name : List ℕ) (local_type : ℕ) where
         → any_misfit K (flat K deeper inside bits (members_from id t number bms)) ≡ list_any tells bms
     own_told number [] calm = refl
     own_told number (m ∷ bms) calm =
-        let first : Member = member_at id t (number, m) in
+        let first : Member = indexed_member id t (number, m) in
         let ms : List Member = members_from id t (number + 1) bms in
         let same : K.role_of inside first ≡ what inside m = known_role local target name local_type inside first in
         let here = both_true (quiet (K.role_of inside first)) (are_quiet K (rest first ms (K.role_of inside first))) calm in
@@ -210,12 +210,12 @@ module _ (local target : TypeInfo) (name : List ℕ) (local_type : ℕ) where
   none_told (suc levels) inside bits = refl
 
   module _ (type_id id : ℕ) (leads : resolved target.types type_id ≡ Ok id) where
-    abbrev listed : BtfType → List BtfMember
-    listed t = unwrap_or (members_of t) []
+    abbrev spans_or_none : BtfType → List BtfMember
+    spans_or_none t = unwrap_or (members_of t) []
 
-    in_is : (o : Option BtfType) → slice_get target.types id ≡ o → members_in target.types id ≡ option_map_or (λ t. members_from id t 0 (listed t)) o []
+    in_is : (o : Option BtfType) → slice_get target.types id ≡ o → members_in target.types id ≡ option_map_or (λ t. members_from id t 0 (spans_or_none t)) o []
     unfolding members_in
-    in_is o there = ap (λ p. option_map_or (λ t. members_from id t 0 (listed t)) p []) there
+    in_is o there = ap (λ p. option_map_or (λ t. members_from id t 0 (spans_or_none t)) p []) there
 
     at_is : (o : Option BtfType) → slice_get target.types id ≡ o
         → members_at target type_id ≡ unwrap_or (option_and_then members_of (result_ok (types.if_some o (λ t. Ok t) (Err (UnknownBtfType id))))) []
@@ -239,10 +239,10 @@ module _ (local target : TypeInfo) (name : List ℕ) (local_type : ℕ) where
             ∙ sym (ap (has_member target name levels) (at_is None there) ∙ has_any target name levels [])
         by_type (Some t) there =
             ap (λ ms. any_misfit K (view K levels inside bits ms)) (in_is (Some t) there)
-            ∙ lists t (listed t) (sym (ap (λ ms. are_quiet K (view K levels inside bits ms)) (in_is (Some t) there)) ∙ calm)
+            ∙ lists t (spans_or_none t) (sym (ap (λ ms. are_quiet K (view K levels inside bits ms)) (in_is (Some t) there)) ∙ calm)
             ∙ sym (ap (has_member target name levels) (at_is (Some t) there))
 
-  list_told : (levels inside bits id number : ℕ) (t : BtfType) (bms : List BtfMember) → levels + inside ≡ unnamed_levels
+  list_told : (levels inside bits id number : ℕ) (t : BtfType) (bms : List BtfMember) → levels + inside ≡ anonymous_levels
       → are_quiet K (view K levels inside bits (members_from id t number bms)) ≡ true
       → any_misfit K (view K levels inside bits (members_from id t number bms)) ≡ has_member target name levels bms
   unfolding view
@@ -259,6 +259,6 @@ module _ (local target : TypeInfo) (name : List ℕ) (local_type : ℕ) where
 
 pub names_are_misfits : NamesAreMisfits
 names_are_misfits local target name local_type type_id id leads nothing_fits =
-    sym (members_told local target name local_type type_id id leads unnamed_levels 0 0
-    (λ t bms calm. list_told local target name local_type unnamed_levels 0 0 id 0 t bms (omega arith) calm)
-    (found_nothing (known local target name local_type) search_entries (members_in target.types id) nothing_fits))
+    sym (members_told local target name local_type type_id id leads anonymous_levels 0 0
+    (λ t bms calm. list_told local target name local_type anonymous_levels 0 0 id 0 t bms (omega arith) calm)
+    (found_nothing (member_search local target name local_type) search_entries (members_in target.types id) nothing_fits))

@@ -10,10 +10,10 @@ use Rattle.ebpf_core.specs.declared.error.RelocationError.TheVariants.{InvalidIn
 use Rattle.ebpf_core.specs.declared.field.LoadedField.{LoadedField}
 use Rattle.ebpf_core.specs.declared.outcome.Outcome.{Outcome}
 use Rattle.ebpf_core_relo.specs.Alone.{goes_on}
-use Rattle.ebpf_core_relo.specs.Carried.{both_written, carried_by, carrier_of, carrier_of_class, is_wide, high_half, laid, may_resize, moved_code, numbered, poison, poisoned, resized, size_bits, written}
+use Rattle.ebpf_core_relo.specs.Carried.{both_written, carried_by, carrier_of, carrier_of_class, is_wide_load, high_half, carried_at, may_resize, moved_code, value_written, poison, poisoned, resized, size_bits, written}
 use Rattle.ebpf_core_relo.specs.SlotOutcomes.{CarriesAt, WrittenSlotsCarry, behind, carrying}
 use Rattle.ebpf_core_relo.specs.declared.carried.Carrier.{Carrier}
-use Rattle.ebpf_core_relo.specs.declared.carried.Carrier.TheVariants.{Immediate, Offset, Wide, Nothing}
+use Rattle.ebpf_core_relo.specs.declared.carried.Carrier.TheVariants.{Immediate, Offset, WideLoad, Nothing}
 use Rattle.ebpf_parts.specs.Slots.{src_of}
 use Rattle.ebpf_parts.specs.declared.insn.bpf_insn.{bpf_insn}
 
@@ -107,14 +107,14 @@ module _ (number : ℕ) (before after : List bpf_insn) (i : ℕ) (outcome : Outc
   by_test false new second carries same e = subst (CarriesAt i outcome before) (same_ok _ _ e) (one_slot i outcome before slot new was carries same)
 
   by_carried : (n : ℕ) → outcome.value ≡ Some n → (c : Option bpf_insn) → carried_by (carrier_of slot) slot n outcome ≡ c
-      → if_some c (λ new. laid number before i slot new n) (Err (InvalidInstruction number i [])) ≡ Ok after → CarriesAt i outcome before after
+      → if_some c (λ new. carried_at number before i slot new n) (Err (InvalidInstruction number i [])) ≡ Ok after → CarriesAt i outcome before after
   by_carried n value None is e = cc
   by_carried n value (Some new) is e =
-      by_test (is_wide (carrier_of slot)) new (λ x. record x { imm = high_half n })
+      by_test (is_wide_load (carrier_of slot)) new (λ x. record x { imm = high_half n })
       (ap (λ v. carrying v slot outcome) value ∙ is)
       (λ x. ap (λ v. behind v slot x) value) e
 
-  by_value : (v : Option ℕ) → outcome.value ≡ v → if_some v (λ n. numbered number before i slot n outcome) (poisoned number before i slot) ≡ Ok after → CarriesAt i outcome before after
+  by_value : (v : Option ℕ) → outcome.value ≡ v → if_some v (λ n. value_written number before i slot n outcome) (poisoned number before i slot) ≡ Ok after → CarriesAt i outcome before after
   by_value None value e =
       by_test (slot.code == 0x18) poison (λ x. poison) (ap (λ v. carrying v slot outcome) value) (λ x. ap (λ v. behind v slot x) value) e
   by_value (Some n) value e = by_carried n value (carried_by (carrier_of slot) slot n outcome) refl e
@@ -124,7 +124,7 @@ unfolding written
 written_slots_carry number before after i outcome e = by_slot (slice_get before i) refl e
   where
     by_slot : (o : Option bpf_insn) → slice_get before i ≡ o
-        → if_some o (λ slot. if_some outcome.value (λ n. numbered number before i slot n outcome) (poisoned number before i slot)) (Err (InvalidInstructionIndex i (length before) number)) ≡ Ok after
+        → if_some o (λ slot. if_some outcome.value (λ n. value_written number before i slot n outcome) (poisoned number before i slot)) (Err (InvalidInstructionIndex i (length before) number)) ≡ Ok after
         → CarriesAt i outcome before after
     by_slot None is e = cc
     by_slot (Some slot) is e = by_value number before after i outcome slot is outcome.value refl e
@@ -132,13 +132,13 @@ written_slots_carry number before after i outcome e = by_slot (slice_get before 
 -- ---- whether an outcome can be written
 
 -- by its slot, and whether there is one behind it
-laid_tells : Option bpf_insn → bpf_insn → Bool → Bool
-laid_tells None slot more = false
-laid_tells (Some new) slot more = if is_wide (carrier_of slot) then more else true
+carried_at_tells : Option bpf_insn → bpf_insn → Bool → Bool
+carried_at_tells None slot more = false
+carried_at_tells (Some new) slot more = if is_wide_load (carrier_of slot) then more else true
 
 value_tells : Option ℕ → bpf_insn → Outcome → Bool → Bool
 value_tells None slot outcome more = if slot.code == 0x18 then more else true
-value_tells (Some n) slot outcome more = laid_tells (carried_by (carrier_of slot) slot n outcome) slot more
+value_tells (Some n) slot outcome more = carried_at_tells (carried_by (carrier_of slot) slot n outcome) slot more
 
 slot_tells : Option bpf_insn → Outcome → Bool → Bool
 slot_tells None outcome more = false
@@ -154,18 +154,18 @@ module _ (number : ℕ) (before : List bpf_insn) (i : ℕ) (outcome : Outcome) w
   ok_both true (Some x) two one fault = refl
   ok_both false o two one fault = refl
 
-  ok_laid : (slot : bpf_insn) (n : ℕ) (c : Option bpf_insn) → is_ok (if_some c (λ new. laid number before i slot new n) (Err (InvalidInstruction number i []))) ≡ laid_tells c slot more
-  unfolding laid_tells
-  ok_laid slot n None = refl
-  ok_laid slot n (Some new) = ok_both (is_wide (carrier_of slot)) (slice_get before (i + 1)) _ _ _
+  ok_carried_at : (slot : bpf_insn) (n : ℕ) (c : Option bpf_insn) → is_ok (if_some c (λ new. carried_at number before i slot new n) (Err (InvalidInstruction number i []))) ≡ carried_at_tells c slot more
+  unfolding carried_at_tells
+  ok_carried_at slot n None = refl
+  ok_carried_at slot n (Some new) = ok_both (is_wide_load (carrier_of slot)) (slice_get before (i + 1)) _ _ _
 
-  ok_value : (slot : bpf_insn) (v : Option ℕ) → is_ok (if_some v (λ n. numbered number before i slot n outcome) (poisoned number before i slot)) ≡ value_tells v slot outcome more
+  ok_value : (slot : bpf_insn) (v : Option ℕ) → is_ok (if_some v (λ n. value_written number before i slot n outcome) (poisoned number before i slot)) ≡ value_tells v slot outcome more
   unfolding value_tells
   ok_value slot None = ok_both (slot.code == 0x18) (slice_get before (i + 1)) _ _ _
-  ok_value slot (Some n) = ok_laid slot n (carried_by (carrier_of slot) slot n outcome)
+  ok_value slot (Some n) = ok_carried_at slot n (carried_by (carrier_of slot) slot n outcome)
 
   ok_slot : (o : Option bpf_insn)
-      → is_ok (if_some o (λ slot. if_some outcome.value (λ n. numbered number before i slot n outcome) (poisoned number before i slot)) (Err (InvalidInstructionIndex i (length before) number)))
+      → is_ok (if_some o (λ slot. if_some outcome.value (λ n. value_written number before i slot n outcome) (poisoned number before i slot)) (Err (InvalidInstructionIndex i (length before) number)))
       ≡ slot_tells o outcome more
   unfolding slot_tells
   ok_slot None = refl
@@ -231,7 +231,7 @@ unfolding carried_by
 carried_class Immediate slot n outcome new e = ap (λ (s : bpf_insn). s.code % 8) (sym (cond_some (src_of slot == 0) _ new e).1)
 carried_class Offset slot n outcome new e =
     offset_class (nat_lt n (2 ^ 15)) slot n (moved_code slot.code outcome.local outcome.target) new (λ code is. moved_class slot.code outcome.local outcome.target code is) e
-carried_class Wide slot n outcome new e = ap (λ (s : bpf_insn). s.code % 8) (sym (same_Some _ _ e))
+carried_class WideLoad slot n outcome new e = ap (λ (s : bpf_insn). s.code % 8) (sym (same_Some _ _ e))
 carried_class Nothing slot n outcome new e = cc
 
 -- a slot that carries an outcome goes on in the next one only where it did so before
@@ -246,7 +246,7 @@ next_goes_on None old next h = by_code (old.code == 0x18) h
     by_code : (b : Bool) → goes_on (Some (if b then poison else next)) ≡ true → goes_on (Some next) ≡ true
     by_code true h = cc
     by_code false h = h
-next_goes_on (Some n) old next h = by_carrier (is_wide (carrier_of old)) h
+next_goes_on (Some n) old next h = by_carrier (is_wide_load (carrier_of old)) h
   where
     by_carrier : (b : Bool) → goes_on (Some (if b then record next { imm = high_half n } else next)) ≡ true → goes_on (Some next) ≡ true
     by_carrier true h = h
@@ -270,11 +270,11 @@ goes_on_before i outcome before after c k h = by_place (cases_eq k i) (cases_eq 
     by_place (inr apart) (inr other) = sym (ap goes_on (c.others k apart other)) ∙ h
 
 -- what is not of class 0 is no wide load
-narrow : (class : ℕ) → (class == 0) ≡ false → is_wide (carrier_of_class class) ≡ false
+narrow : (class : ℕ) → (class == 0) ≡ false → is_wide_load (carrier_of_class class) ≡ false
 narrow class h = by_tests (class == 0) (class == 4) (class == 5) (class == 6) (class == 7) h
   where
     by_tests : (a b c d e : Bool) → a ≡ false
-        → is_wide (if a then Wide else (if b then Immediate else (if c then Nothing else (if d then Nothing else (if e then Immediate else Offset))))) ≡ false
+        → is_wide_load (if a then WideLoad else (if b then Immediate else (if c then Nothing else (if d then Nothing else (if e then Immediate else Offset))))) ≡ false
     by_tests true b c d e h = cc
     by_tests false true c d e h = refl
     by_tests false false true d e h = refl

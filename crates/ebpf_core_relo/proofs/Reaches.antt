@@ -3,7 +3,7 @@ use Rattle.std.proofs.Common.{◌≡◌, ℕ, zero, suc, ◌<◌, ◌≤◌, max
 use Rattle.std.specs.Prelude.{◌≢◌, if◌then◌else◌}
 use Rattle.std.proofs.lemmas.Bool.{cases_eq, cases_lt, le-ltb, lt-ltb}
 use Rattle.ebpf_btf.specs.TypeInfo.{TypeInfo}
-use Rattle.ebpf_places.specs.Places.{begun, followed, if_fine, onward, place_of, stepped}
+use Rattle.ebpf_places.specs.FunctionSpans.{root_spot, followed, if_fine, onward, place_of, stepped}
 use Rattle.ebpf_places.specs.declared.fault.PlaceFault.{PlaceFault}
 use Rattle.ebpf_places.specs.declared.steps.Step.{Step}
 use Rattle.ebpf_places.specs.declared.steps.Step.TheVariants.{Name, Index}
@@ -93,7 +93,7 @@ module _ (local target : TypeInfo) where
   unfolding place_of
   leads_fewer [] id n there = there
   leads_fewer (Name name local_type ∷ path) id n there = there
-  leads_fewer (Index index ∷ path) id n there = by_start (begun target id index) there
+  leads_fewer (Index index ∷ path) id n there = by_start (root_spot target id index) there
     where
       by_start : (r : Result Spot PlaceFault) → is_place (if_fine r (followed local target (take (suc n) path))) ≡ true → is_place (if_fine r (followed local target (take n path))) ≡ true
       by_start (Ok from) there = fewer path n from there

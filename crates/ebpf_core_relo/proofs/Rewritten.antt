@@ -9,7 +9,7 @@ use Rattle.ebpf_core.specs.Searches.{outcome_of}
 use Rattle.ebpf_core.specs.declared.error.RelocationError.{RelocationError}
 use Rattle.ebpf_core.specs.declared.outcome.Outcome.{Outcome}
 use Rattle.ebpf_core_relo.specs.Carried.{written}
-use Rattle.ebpf_core_relo.specs.Records.{Scene, Written, put_outcome, slots_at}
+use Rattle.ebpf_core_relo.specs.Records.{RelocationInputs, Written, put_outcome, slots_so_far}
 use Rattle.ebpf_core_relo.specs.declared.spans.Span.{Span}
 use Rattle.ebpf_parts.specs.declared.insn.bpf_insn.{bpf_insn}
 use Rattle.ebpf_base.proofs.Maps.{key_exact}
@@ -27,17 +27,17 @@ put_back m key v = same_map key_total key_exact _ _ (λ q.
     ∙ sym (get-insert key_total m key v q))
 
 -- what is put where a record's outcome is written into slots that were taken out
-pub put_by : (scene : Scene) (section : ℕ) (so_far left : Written) (r : Relocation) (span : Span) (outcome : Outcome) (before after : List bpf_insn)
-    → outcome_of scene.sides.local scene.sides.target r ≡ Ok outcome
-    → before ≡ slots_at scene.functions so_far (section, span.address)
+pub put_by : (inputs : RelocationInputs) (section : ℕ) (so_far left : Written) (r : Relocation) (span : Span) (outcome : Outcome) (before after : List bpf_insn)
+    → outcome_of inputs.sides.local inputs.sides.target r ≡ Ok outcome
+    → before ≡ slots_so_far inputs.functions so_far (section, span.address)
     → written r.number before ((r.insn_off - span.start) / 8) outcome ≡ Ok after
     → left ≡ insert (remove so_far (section, span.address)) (section, span.address) after
-    → put_outcome scene section so_far r span ≡ Ok left
+    → put_outcome inputs section so_far r span ≡ Ok left
 unfolding put_outcome
-put_by scene section so_far left r span outcome before after is slots carried put =
+put_by inputs section so_far left r span outcome before after is slots carried put =
     let at : ℕ × ℕ = (section, span.address) in
     let on = λ (w : Result (List bpf_insn) RelocationError). if_ok w (λ all. Ok (insert so_far at all)) in
-    ap (λ o. if_ok o (λ x. on (written r.number (slots_at scene.functions so_far at) ((r.insn_off - span.start) / 8) x))) is
+    ap (λ o. if_ok o (λ x. on (written r.number (slots_so_far inputs.functions so_far at) ((r.insn_off - span.start) / 8) x))) is
     ∙ ap (λ b. on (written r.number b ((r.insn_off - span.start) / 8) outcome)) (sym slots)
     ∙ ap on carried
     ∙ ap Ok (sym (put ∙ put_back so_far at after))

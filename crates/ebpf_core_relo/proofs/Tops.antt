@@ -5,7 +5,7 @@ use Rattle.std.proofs.Math.Nat.{le-max_left, le-max_right, max-le}
 use Rattle.std.specs.List.Sorted.{IsPartitionPoint, IsPartitionedBy}
 use Rattle.std.proofs.lemmas.Bool.{leb-true, leb-false, lt-leb, le-leb, lt-ltb, le-ltb, cases_lt}
 use Rattle.ebpf_core_relo.specs.declared.spans.Span.{Span}
-use Rattle.ebpf_core_relo.specs.Spans.{holds, span_at, held}
+use Rattle.ebpf_core_relo.specs.Spans.{span_holds, span_at, if_begun}
 use Rattle.ebpf_core_relo.specs.SpanLists.{IsTopped, last_start, last_top, rises, tops}
 
 first : (a b : Bool) → (a && b) ≡ true → a ≡ true
@@ -24,7 +24,7 @@ none_after : (a b : Bool) → b ≡ false → (a && b) ≡ false
 none_after true b h = h
 none_after false b h = refl
 
-passed : (offset : ℕ) (s : Span) (ss : List Span) → holds offset s ≡ false → span_at offset (s ∷ ss) ≡ span_at offset ss
+passed : (offset : ℕ) (s : Span) (ss : List Span) → span_holds offset s ≡ false → span_at offset (s ∷ ss) ≡ span_at offset ss
 passed offset s ss misses = rw misses refl
 
 -- spans that begin behind the offset
@@ -41,17 +41,17 @@ past_max x m e le lt = elim (cases_lt x e) [
   | inr above ↦ let most = max-le {a = m} {b = e} {k = x} le above in omega arith
 ]
 
-here_begun : (offset place : ℕ) (s : Span) (ss : List Span) → offset / 8 < s.end → leb s.start offset ≡ true → span_at offset (s ∷ ss) ≡ held offset (Some s)
+here_begun : (offset place : ℕ) (s : Span) (ss : List Span) → offset / 8 < s.end → leb s.start offset ≡ true → span_at offset (s ∷ ss) ≡ if_begun offset (Some s)
 here_begun offset place s ss lt begun = rw (begun, lt-ltb (offset / 8) s.end lt) refl
 
-here_later : (offset place : ℕ) (s : Span) (ss : List Span) → rises place (s ∷ ss) ≡ true → leb s.start offset ≡ false → span_at offset (s ∷ ss) ≡ held offset (Some s)
+here_later : (offset place : ℕ) (s : Span) (ss : List Span) → rises place (s ∷ ss) ≡ true → leb s.start offset ≡ false → span_at offset (s ∷ ss) ≡ if_begun offset (Some s)
 here_later offset place s ss rising later =
     rw later (none_past offset s.start ss (leb-false s.start offset later) (second (leb place s.start) (rises s.start ss) rising))
 
 -- the span at which the greatest end first passes the offset
-here : (offset place : ℕ) (s : Span) (ss : List Span) → rises place (s ∷ ss) ≡ true → offset / 8 < s.end → span_at offset (s ∷ ss) ≡ held offset (Some s)
+here : (offset place : ℕ) (s : Span) (ss : List Span) → rises place (s ∷ ss) ≡ true → offset / 8 < s.end → span_at offset (s ∷ ss) ≡ if_begun offset (Some s)
 here offset place s ss rising lt =
-    elim (leb s.start offset) as (λ b. leb s.start offset ≡ b → span_at offset (s ∷ ss) ≡ held offset (Some s)) [
+    elim (leb s.start offset) as (λ b. leb s.start offset ≡ b → span_at offset (s ∷ ss) ≡ if_begun offset (Some s)) [
       | true ↦ λ begun. here_begun offset place s ss lt begun
       | false ↦ λ later. here_later offset place s ss rising later
     ] refl
@@ -60,7 +60,7 @@ here offset place s ss rising lt =
 pub found : (offset place top : ℕ) (spans : List Span) (i : ℕ) → top ≤ offset / 8 → rises place spans ≡ true
     → ((j : ℕ) → j < i → get_or (tops top spans) j 0 ≤ offset / 8)
     → (i < length spans → offset / 8 < get_or (tops top spans) i 0)
-    → span_at offset spans ≡ held offset (slice_get spans i)
+    → span_at offset spans ≡ if_begun offset (slice_get spans i)
 found offset place top [] i le rising before at = refl
 found offset place top (s ∷ ss) zero le rising before at =
     here offset place s ss rising (past_max (offset / 8) top s.end le (at (omega arith)))
@@ -102,7 +102,7 @@ parted top spans x i j d le lt h =
 -- the span at the number of ends that are not past the slot
 pub found_by : (offset : ℕ) (spans : List Span) (ends : List ℕ) (i : ℕ) → ends ≡ tops 0 spans → rises 0 spans ≡ true
     → IsPartitionPoint (λ end. leb end (offset / 8) ≡ true) (λ end. leb end (offset / 8) ≡ false) ends i
-    → held offset (slice_get spans i) ≡ span_at offset spans
+    → if_begun offset (slice_get spans i) ≡ span_at offset spans
 found_by offset spans ends i is rising at =
     let parts = subst (λ (es : List ℕ). IsPartitionPoint (λ end. leb end (offset / 8) ≡ true) (λ end. leb end (offset / 8) ≡ false) es i) is at in
     sym (found offset 0 0 spans i (omega arith) rising

@@ -4,10 +4,10 @@ use Rattle.std.specs.List.{list_any}
 use Rattle.ebpf_btf.specs.Steps.{resolved}
 use Rattle.ebpf_btf.specs.TypeInfo.{TypeInfo}
 use Rattle.ebpf_ext.specs.declared.relocation.Relocation.{Relocation}
-use Rattle.ebpf_places.specs.Members.{known, members_in, unnamed_levels}
+use Rattle.ebpf_places.specs.Members.{member_search, members_in, anonymous_levels}
 use Rattle.ebpf_places.specs.MemberViews.{is_misfit, view}
-use Rattle.ebpf_places.specs.Searches.{search_entries, sought}
-use Rattle.ebpf_places.specs.declared.places.Place.{Place}
+use Rattle.ebpf_places.specs.Searches.{search_entries, first_fitting}
+use Rattle.ebpf_places.specs.declared.function_spans.Place.{Place}
 use Rattle.ebpf_places.specs.declared.steps.Step.{Step}
 use Rattle.ebpf_core.specs.LocalPaths.{local_path}
 use Rattle.ebpf_core.specs.Matches.{matches}
@@ -64,6 +64,6 @@ NoValueIsOfMatches =
 abbrev pub NamesAreMisfits : Type 0
 NamesAreMisfits =
     (local target : TypeInfo) (name : List ℕ) (local_type type_id id : ℕ) → resolved target.types type_id ≡ Ok id
-    → sought (known local target name local_type) search_entries (members_in target.types id) ≡ Ok None
-    → has_member target name unnamed_levels (members_at target type_id)
-    ≡ list_any (λ e. is_misfit ((known local target name local_type).role_of e.inside e.member)) (view (known local target name local_type) unnamed_levels 0 0 (members_in target.types id))
+    → first_fitting (member_search local target name local_type) search_entries (members_in target.types id) ≡ Ok None
+    → has_member target name anonymous_levels (members_at target type_id)
+    ≡ list_any (λ e. is_misfit ((member_search local target name local_type).role_of e.inside e.member)) (view (member_search local target name local_type) anonymous_levels 0 0 (members_in target.types id))

@@ -9,16 +9,16 @@ use Rattle.ebpf_btf.specs.Types.{members_of}
 use Rattle.ebpf_btf.specs.declared.error.BtfError.{BtfError}
 use Rattle.ebpf_btf.specs.declared.members.BtfMember.{BtfMember}
 use Rattle.ebpf_btf.specs.declared.types.BtfType.{BtfType}
-use Rattle.ebpf_places.specs.Members.{unnamed_levels}
-use Rattle.ebpf_places.specs.Places.{place_of}
+use Rattle.ebpf_places.specs.Members.{anonymous_levels}
+use Rattle.ebpf_places.specs.FunctionSpans.{place_of}
 use Rattle.ebpf_places.specs.declared.fault.PlaceFault.{PlaceFault}
-use Rattle.ebpf_places.specs.declared.places.Place.{Place}
-use Rattle.ebpf_places.specs.declared.places.PlaceEnd.{PlaceEnd}
-use Rattle.ebpf_places.specs.declared.places.PlaceEnd.TheVariants.{Element, Member}
+use Rattle.ebpf_places.specs.declared.function_spans.Place.{Place}
+use Rattle.ebpf_places.specs.declared.function_spans.PlaceEnd.{PlaceEnd}
+use Rattle.ebpf_places.specs.declared.function_spans.PlaceEnd.TheVariants.{Element, Member}
 use Rattle.ebpf_places.specs.declared.steps.Step.{Step}
 use Rattle.ebpf_places.specs.declared.steps.Step.TheVariants.{Name, Index}
 use Rattle.ebpf_ext.specs.declared.relocation.Relocation.{Relocation}
-use Rattle.ebpf_core.specs.Fields.{member_at}
+use Rattle.ebpf_core.specs.Fields.{member_with_index}
 use Rattle.ebpf_core.specs.LocalPaths.{local_path}
 use Rattle.ebpf_core.specs.Searches.{candidates_for}
 use Rattle.ebpf_core.specs.declared.error.RelocationError.{RelocationError}
@@ -80,11 +80,11 @@ has_member target name (suc levels) members = list_any (is_or_has target name (�
 -- the id of the type of what a path ends in
 abbrev pub type_of_end : List BtfType → PlaceEnd → Option ℕ
 type_of_end types (Element id) = Some id
-type_of_end types (Member parent index) = option_map (λ m. m.btf_type) (option_and_then (λ t. member_at t index) (slice_get types parent))
+type_of_end types (Member parent index) = option_map (λ m. m.btf_type) (option_and_then (λ t. member_with_index t index) (slice_get types parent))
 
 abbrev pub is_member_of : TypeInfo → List ℕ → Option ℕ → Bool
 is_member_of target name None = false
-is_member_of target name (Some id) = has_member target name unnamed_levels (members_at target id)
+is_member_of target name (Some id) = has_member target name anonymous_levels (members_at target id)
 
 -- A step by a name that leads nowhere from a place: a member of the name that is there has a type that doesn't fit.
 abbrev pub name_absence : TypeInfo → List ℕ → Result (Option Place) PlaceFault → Absence

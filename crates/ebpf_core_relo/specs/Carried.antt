@@ -10,7 +10,7 @@ use Rattle.ebpf_core.specs.declared.field.FieldClass.TheVariants.{Pointer, Unsig
 use Rattle.ebpf_core.specs.declared.field.LoadedField.{LoadedField}
 use Rattle.ebpf_core.specs.declared.outcome.Outcome.{Outcome}
 use Rattle.ebpf_core_relo.specs.declared.carried.Carrier.{Carrier}
-use Rattle.ebpf_core_relo.specs.declared.carried.Carrier.TheVariants.{Immediate, Offset, Wide, Nothing}
+use Rattle.ebpf_core_relo.specs.declared.carried.Carrier.TheVariants.{Immediate, Offset, WideLoad, Nothing}
 use Rattle.ebpf_parts.specs.declared.insn.bpf_insn.{bpf_insn}
 use Rattle.ebpf_parts.specs.Slots.{src_of}
 
@@ -20,7 +20,7 @@ use Rattle.ebpf_parts.specs.Slots.{src_of}
 -- store through a register (1, 2 and 3) in the offset, a wide load (0) in two immediates, a jump (5 and 6) nowhere
 abbrev pub carrier_of_class : ℕ → Carrier
 carrier_of_class class =
-    if class == 0 then Wide
+    if class == 0 then WideLoad
     else (if class == 4 then Immediate
     else (if class == 5 then Nothing
     else (if class == 6 then Nothing
@@ -77,7 +77,7 @@ with_offset slot number outcome =
 unfoldable pub carried_by : Carrier → bpf_insn → ℕ → Outcome → Option bpf_insn
 carried_by Immediate slot number outcome = if src_of slot == 0 then Some (record slot { imm = low_half number }) else None
 carried_by Offset slot number outcome = with_offset slot number outcome
-carried_by Wide slot number outcome = Some (record slot { imm = low_half number })
+carried_by WideLoad slot number outcome = Some (record slot { imm = low_half number })
 carried_by Nothing slot number outcome = None
 
 -- a slot that fails where it is reached: a call of a helper function that no kernel has
@@ -98,21 +98,21 @@ abbrev pub poisoned : ℕ → List bpf_insn → ℕ → bpf_insn → Result (Lis
 poisoned record_number slots i slot =
     if slot.code == 0x18 then both_written record_number slots i poison (λ next. poison) else Ok (slice_set slots i poison)
 
-abbrev pub is_wide : Carrier → Bool
-is_wide Wide = true
-is_wide _ = false
+abbrev pub is_wide_load : Carrier → Bool
+is_wide_load WideLoad = true
+is_wide_load _ = false
 
 -- a slot that carries a number, and of a wide load the one behind it
-abbrev pub laid : ℕ → List bpf_insn → ℕ → bpf_insn → bpf_insn → ℕ → Result (List bpf_insn) RelocationError
-laid record_number slots i slot carrying number =
-    if is_wide (carrier_of slot)
+abbrev pub carried_at : ℕ → List bpf_insn → ℕ → bpf_insn → bpf_insn → ℕ → Result (List bpf_insn) RelocationError
+carried_at record_number slots i slot carrying number =
+    if is_wide_load (carrier_of slot)
     then both_written record_number slots i carrying (λ next. record next { imm = high_half number })
     else Ok (slice_set slots i carrying)
 
-abbrev pub numbered : ℕ → List bpf_insn → ℕ → bpf_insn → ℕ → Outcome → Result (List bpf_insn) RelocationError
-numbered record_number slots i slot number outcome =
+abbrev pub value_written : ℕ → List bpf_insn → ℕ → bpf_insn → ℕ → Outcome → Result (List bpf_insn) RelocationError
+value_written record_number slots i slot number outcome =
     if_some (carried_by (carrier_of slot) slot number outcome)
-    (λ carrying. laid record_number slots i slot carrying number)
+    (λ carrying. carried_at record_number slots i slot carrying number)
     (Err (InvalidInstruction record_number i []))
 
 -- The slots of a function of which slot i carries the outcome of the record with a number. Slot i is there; of a
@@ -120,5 +120,5 @@ numbered record_number slots i slot number outcome =
 unfoldable pub written : ℕ → List bpf_insn → ℕ → Outcome → Result (List bpf_insn) RelocationError
 written record_number slots i outcome =
     if_some (slice_get slots i)
-    (λ slot. if_some outcome.value (λ number. numbered record_number slots i slot number outcome) (poisoned record_number slots i slot))
+    (λ slot. if_some outcome.value (λ number. value_written record_number slots i slot number outcome) (poisoned record_number slots i slot))
     (Err (InvalidInstructionIndex i (length slots) record_number))

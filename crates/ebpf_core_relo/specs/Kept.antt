@@ -3,7 +3,7 @@ use Rattle.std.specs.Prelude.{◌≡◌, Some}
 use Rattle.std.specs.BTreeMap.{BTreeMap, get}
 use Rattle.ebpf_btf.specs.TypeInfo.{TypeInfo}
 use Rattle.ebpf_ext.specs.declared.relocation.Relocation.{Relocation}
-use Rattle.ebpf_core.specs.Asked.{Question, asked, question_cmp}
+use Rattle.ebpf_core.specs.Questions.{Question, asked, question_cmp}
 use Rattle.ebpf_core_relo.specs.Absences.{absence_of}
 use Rattle.ebpf_core_relo.specs.declared.absence.Absence.{Absence}
 

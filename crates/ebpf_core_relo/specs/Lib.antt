@@ -6,7 +6,7 @@ pub mod Carried
 pub mod Carrying
 pub mod Kept
 pub mod OutcomeLaws
-pub mod Places
+pub mod RecordFunctions
 pub mod RecordOutcomes
 pub mod Records
 pub mod Refused

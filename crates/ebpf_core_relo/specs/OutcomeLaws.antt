@@ -5,9 +5,9 @@ use Rattle.ebpf_base.specs.Faults.{first_some}
 use Rattle.ebpf_btf.specs.Strings.{text_at}
 use Rattle.ebpf_btf.specs.declared.error.BtfError.{BtfError}
 use Rattle.ebpf_ext.specs.declared.relocation.Relocation.{Relocation}
-use Rattle.ebpf_core_relo.specs.Answers.{fault_in}
+use Rattle.ebpf_core_relo.specs.Answers.{error_in_section}
 use Rattle.ebpf_core_relo.specs.RecordOutcomes.{named_records, outcome_after, record_outcomes, record_slots, slots_left}
-use Rattle.ebpf_core_relo.specs.Records.{Scene, Written, slots_written, unnamed_section}
+use Rattle.ebpf_core_relo.specs.Records.{RelocationInputs, Written, slots_written, unnamed_section}
 use Rattle.ebpf_core_relo.specs.declared.error.BtfRelocationError.{BtfRelocationError}
 use Rattle.ebpf_core_relo.specs.declared.record_outcome.RecordOutcome.{RecordOutcome}
 use Rattle.ebpf_core_relo.specs.declared.record_outcome.RecordResult.{RecordResult}
@@ -16,9 +16,9 @@ use Rattle.ebpf_core_relo.specs.declared.record_outcome.RecordResult.TheVariants
 -- Each record has a place, and there is what it comes to over the slots that those before it left.
 abbrev pub OutcomesAreInOrder : Type 0
 OutcomesAreInOrder =
-    (scene : Scene) (parts : List (ℕ × List Relocation)) (k : ℕ)
-    → slice_get (record_outcomes scene parts) k
-    ≡ option_map (λ named. outcome_after scene (slots_left scene empty (take k (named_records parts))) named) (slice_get (named_records parts) k)
+    (inputs : RelocationInputs) (parts : List (ℕ × List Relocation)) (k : ℕ)
+    → slice_get (record_outcomes inputs parts) k
+    ≡ option_map (λ named. outcome_after inputs (slots_left inputs empty (take k (named_records parts))) named) (slice_get (named_records parts) k)
 
 -- the name of a section, or what stands for one that can't be read
 abbrev pub told_name : ℕ → Result (List ℕ) BtfError → List ℕ
@@ -29,10 +29,10 @@ told_name offset (Err e) = unnamed_section offset
 abbrev pub refusal_in : List ℕ → RecordResult → Option BtfRelocationError
 refusal_in name (Value outcome) = None
 refusal_in name (Absent absence) = None
-refusal_in name (Refused fault) = Some (fault_in name fault)
+refusal_in name (Refused fault) = Some (error_in_section name fault)
 
-abbrev pub refusal : Scene → RecordOutcome → Option BtfRelocationError
-refusal scene row = refusal_in (told_name row.section_name (text_at scene.sides.local.strings row.section_name)) row.result
+abbrev pub refusal : RelocationInputs → RecordOutcome → Option BtfRelocationError
+refusal inputs row = refusal_in (told_name row.section_name (text_at inputs.sides.local.strings row.section_name)) row.result
 
 -- some slots, unless there is a refusal
 abbrev pub unless : Option BtfRelocationError → Written → Result Written BtfRelocationError
@@ -47,11 +47,11 @@ HaveRecords parts = (n : ℕ) (part : ℕ × List Relocation) → slice_get part
 -- those that all records leave. Of a part without records nothing is told here, and its section has to be found there.
 abbrev pub FirstRefusalIsTheFault : Type 0
 FirstRefusalIsTheFault =
-    (scene : Scene) (parts : List (ℕ × List Relocation)) → HaveRecords parts
-    → slots_written scene parts ≡ unless (first_some (refusal scene) (record_outcomes scene parts)) (record_slots scene parts)
+    (inputs : RelocationInputs) (parts : List (ℕ × List Relocation)) → HaveRecords parts
+    → slots_written inputs parts ≡ unless (first_some (refusal inputs) (record_outcomes inputs parts)) (record_slots inputs parts)
 
 -- Where no record is refused and no section is missing, the slots are the same, whatever parts have records.
 abbrev pub SlotsAreTheSame : Type 0
 SlotsAreTheSame =
-    (scene : Scene) (parts : List (ℕ × List Relocation)) (so_far : Written) → slots_written scene parts ≡ Ok so_far
-    → (record_slots scene parts ≡ so_far) × (first_some (refusal scene) (record_outcomes scene parts) ≡ None)
+    (inputs : RelocationInputs) (parts : List (ℕ × List Relocation)) (so_far : Written) → slots_written inputs parts ≡ Ok so_far
+    → (record_slots inputs parts ≡ so_far) × (first_some (refusal inputs) (record_outcomes inputs parts) ≡ None)

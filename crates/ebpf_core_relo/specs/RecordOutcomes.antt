@@ -6,15 +6,15 @@ use Rattle.ebpf_btf.specs.Next.{if_some}
 use Rattle.ebpf_btf.specs.Strings.{text_at}
 use Rattle.ebpf_btf.specs.TypeInfo.{TypeInfo}
 use Rattle.ebpf_ext.specs.declared.relocation.Relocation.{Relocation}
-use Rattle.ebpf_core.specs.Answers.{if_ok, of_types, told}
+use Rattle.ebpf_core.specs.Answers.{if_ok, of_types, without_texts}
 use Rattle.ebpf_core.specs.Searches.{outcome_of}
 use Rattle.ebpf_core.specs.Sides.{Sides}
 use Rattle.ebpf_core.specs.declared.error.RelocationError.{RelocationError}
 use Rattle.ebpf_core.specs.declared.error.RelocationError.TheVariants.{SectionNotFound}
 use Rattle.ebpf_core.specs.declared.outcome.Outcome.{Outcome}
 use Rattle.ebpf_core_relo.specs.Absences.{absence_of}
-use Rattle.ebpf_core_relo.specs.Alone.{slot_of}
-use Rattle.ebpf_core_relo.specs.Records.{Scene, Written, record_applied}
+use Rattle.ebpf_core_relo.specs.Alone.{record_slot}
+use Rattle.ebpf_core_relo.specs.Records.{RelocationInputs, Written, record_applied}
 use Rattle.ebpf_core_relo.specs.declared.record_outcome.RecordOutcome.{RecordOutcome}
 use Rattle.ebpf_core_relo.specs.declared.record_outcome.RecordResult.{RecordResult}
 use Rattle.ebpf_core_relo.specs.declared.record_outcome.RecordResult.TheVariants.{Value, Absent, Refused}
@@ -43,33 +43,33 @@ section_by infos name = if_ok name (λ text. if_some (get infos text) (λ sectio
 unfoldable pub section_at : TypeInfo → FinMap text_cmp SectionIndex → ℕ → Result ℕ RelocationError
 section_at local infos offset = section_by infos (of_types (text_at local.strings offset))
 
-abbrev pub section_of : Scene → Named → Result ℕ RelocationError
-section_of scene named = section_at scene.sides.local scene.section_infos named.0
+abbrev pub section_of : RelocationInputs → Named → Result ℕ RelocationError
+section_of inputs named = section_at inputs.sides.local inputs.section_infos named.0
 
 -- what a record makes of the slots that were written before it, or its fault
-abbrev pub applied : Scene → Result ℕ RelocationError → Written → Relocation → Result Written RelocationError
-applied scene section so_far r = if_ok section (λ number. record_applied scene number so_far r)
+abbrev pub applied : RelocationInputs → Result ℕ RelocationError → Written → Relocation → Result Written RelocationError
+applied inputs section so_far r = if_ok section (λ number. record_applied inputs number so_far r)
 
 -- one that is refused writes nothing
 abbrev pub left_by : Written → Result Written RelocationError → Written
 left_by so_far (Ok left) = left
 left_by so_far (Err fault) = so_far
 
-abbrev pub left_after : Scene → Written → Named → Written
-left_after scene so_far named = left_by so_far (applied scene (section_of scene named) so_far named.1)
+abbrev pub left_after : RelocationInputs → Written → Named → Written
+left_after inputs so_far named = left_by so_far (applied inputs (section_of inputs named) so_far named.1)
 
 -- the slots that records leave: the ones write that aren't refused, each over those before it
-abbrev pub slots_left : Scene → Written → List Named → Written
-slots_left scene so_far records = fold (left_after scene) so_far records
+abbrev pub slots_left : RelocationInputs → Written → List Named → Written
+slots_left inputs so_far records = fold (left_after inputs) so_far records
 
 -- ---- what they come to
 
 -- the slot that a record of a section is about
-abbrev pub slot_in : Scene → Result ℕ RelocationError → Relocation → Option RecordSlot
-slot_in scene (Ok section) r = option_map (λ place. record { function = place.0; slot = place.1 }) (slot_of scene (section, r))
-slot_in scene (Err fault) r = None
+abbrev pub slot_in : RelocationInputs → Result ℕ RelocationError → Relocation → Option RecordSlot
+slot_in inputs (Ok section) r = option_map (λ place. record { function = place.0; slot = place.1 }) (record_slot inputs (section, r))
+slot_in inputs (Err fault) r = None
 
--- an outcome without a value is told by why there is none
+-- an outcome without a value is without_texts by why there is none
 abbrev pub answered : Sides → Relocation → Outcome → RecordResult
 answered sides r outcome = if is_some outcome.value then Value outcome else Absent (absence_of sides.local sides.target r)
 
@@ -78,35 +78,35 @@ concluded sides r (Ok outcome) = answered sides r outcome
 concluded sides r (Err fault) = Refused fault
 
 -- what a record of a section comes to, over the slots that were written before it
-abbrev pub result_in : Scene → Result ℕ RelocationError → Written → Relocation → RecordResult
-result_in scene section so_far r =
-    concluded scene.sides r (if_ok (applied scene section so_far r) (λ left. outcome_of scene.sides.local scene.sides.target r))
+abbrev pub result_in : RelocationInputs → Result ℕ RelocationError → Written → Relocation → RecordResult
+result_in inputs section so_far r =
+    concluded inputs.sides r (if_ok (applied inputs section so_far r) (λ left. outcome_of inputs.sides.local inputs.sides.target r))
 
-abbrev pub outcome_in : Scene → ℕ → Result ℕ RelocationError → Written → Relocation → RecordOutcome
-outcome_in scene offset section so_far r =
-    record { section_name = offset; number = r.number; slot = slot_in scene section r; result = result_in scene section so_far r }
+abbrev pub outcome_in : RelocationInputs → ℕ → Result ℕ RelocationError → Written → Relocation → RecordOutcome
+outcome_in inputs offset section so_far r =
+    record { section_name = offset; number = r.number; slot = slot_in inputs section r; result = result_in inputs section so_far r }
 
-unfoldable pub outcome_after : Scene → Written → Named → RecordOutcome
-outcome_after scene so_far named = outcome_in scene named.0 (section_of scene named) so_far named.1
+unfoldable pub outcome_after : RelocationInputs → Written → Named → RecordOutcome
+outcome_after inputs so_far named = outcome_in inputs named.0 (section_of inputs named) so_far named.1
 
 -- what records come to one after the other, each over the slots that those before it left
-abbrev pub outcomes_from : Scene → Written → List Named → List RecordOutcome
-outcomes_from scene so_far [] = []
-outcomes_from scene so_far (named ∷ records) = outcome_after scene so_far named ∷ outcomes_from scene (left_after scene so_far named) records
+abbrev pub outcomes_from : RelocationInputs → Written → List Named → List RecordOutcome
+outcomes_from inputs so_far [] = []
+outcomes_from inputs so_far (named ∷ records) = outcome_after inputs so_far named ∷ outcomes_from inputs (left_after inputs so_far named) records
 
 -- the same from the functions' own slots on
-abbrev pub record_outcomes : Scene → List (ℕ × List Relocation) → List RecordOutcome
-record_outcomes scene parts = outcomes_from scene empty (named_records parts)
+abbrev pub record_outcomes : RelocationInputs → List (ℕ × List Relocation) → List RecordOutcome
+record_outcomes inputs parts = outcomes_from inputs empty (named_records parts)
 
-abbrev pub record_slots : Scene → List (ℕ × List Relocation) → Written
-record_slots scene parts = slots_left scene empty (named_records parts)
+abbrev pub record_slots : RelocationInputs → List (ℕ × List Relocation) → Written
+record_slots inputs parts = slots_left inputs empty (named_records parts)
 
 -- ---- without the texts in faults that are for people to read
 
 abbrev pub told_result : RecordResult → RecordResult
 told_result (Value outcome) = Value outcome
 told_result (Absent absence) = Absent absence
-told_result (Refused fault) = Refused (told fault)
+told_result (Refused fault) = Refused (without_texts fault)
 
 abbrev pub told_outcome : RecordOutcome → RecordOutcome
 told_outcome row = record row { result = told_result row.result }

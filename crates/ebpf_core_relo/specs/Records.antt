@@ -13,9 +13,9 @@ use Rattle.ebpf_core.specs.Searches.{outcome_of}
 use Rattle.ebpf_core.specs.Sides.{Sides}
 use Rattle.ebpf_core.specs.declared.error.RelocationError.{RelocationError}
 use Rattle.ebpf_core.specs.declared.error.RelocationError.TheVariants.{BtfError, FunctionNotFound, SectionNotFound}
-use Rattle.ebpf_core_relo.specs.Answers.{fault_in}
+use Rattle.ebpf_core_relo.specs.Answers.{error_in_section}
 use Rattle.ebpf_core_relo.specs.Carried.{written}
-use Rattle.ebpf_core_relo.specs.Places.{spans_of}
+use Rattle.ebpf_core_relo.specs.RecordFunctions.{spans_of}
 use Rattle.ebpf_core_relo.specs.Spans.{span_at}
 use Rattle.ebpf_core_relo.specs.declared.error.BtfRelocationError.{BtfRelocationError}
 use Rattle.ebpf_core_relo.specs.declared.spans.Span.{Span}
@@ -27,14 +27,14 @@ use Rattle.ebpf_reloc.specs.declared.function.Function.{Function}
 abbrev pub Written : Type 0
 Written = FinMap key_cmp (List bpf_insn)
 
--- what records read: the two sides of types, the functions as they stood, and the sections' numbers by name
-pub record Scene : Type 0 where
+-- what records read: the two sides of types, the functions as they stood, and the sections' indexes by name
+pub record RelocationInputs : Type 0 where
   pub sides : Sides
   pub functions : FinMap key_cmp Function
   pub section_infos : FinMap text_cmp SectionIndex
 
-abbrev pub scene_of : Sides → FinMap key_cmp Function → FinMap text_cmp SectionIndex → Scene
-scene_of sides functions infos = record { sides = sides; functions = functions; section_infos = infos }
+abbrev pub relocation_inputs : Sides → FinMap key_cmp Function → FinMap text_cmp SectionIndex → RelocationInputs
+relocation_inputs sides functions infos = record { sides = sides; functions = functions; section_infos = infos }
 
 -- ---- one record
 
@@ -48,61 +48,61 @@ abbrev pub slots_by : Option (List bpf_insn) → Option Function → List bpf_in
 slots_by (Some slots) f = slots
 slots_by None f = own_slots f
 
-abbrev pub slots_at : FinMap key_cmp Function → Written → ℕ × ℕ → List bpf_insn
-slots_at functions so_far key = slots_by (get so_far key) (get functions key)
+abbrev pub slots_so_far : FinMap key_cmp Function → Written → ℕ × ℕ → List bpf_insn
+slots_so_far functions so_far key = slots_by (get so_far key) (get functions key)
 
 -- the outcome of a record in the slot of a function that begins at a place
-unfoldable pub put_outcome : Scene → ℕ → Written → Relocation → Span → Result Written RelocationError
-put_outcome scene section so_far r span =
-    if_ok (outcome_of scene.sides.local scene.sides.target r) (λ outcome.
-    if_ok (written r.number (slots_at scene.functions so_far (section, span.address)) ((r.insn_off - span.start) / 8) outcome) (λ slots.
+unfoldable pub put_outcome : RelocationInputs → ℕ → Written → Relocation → Span → Result Written RelocationError
+put_outcome inputs section so_far r span =
+    if_ok (outcome_of inputs.sides.local inputs.sides.target r) (λ outcome.
+    if_ok (written r.number (slots_so_far inputs.functions so_far (section, span.address)) ((r.insn_off - span.start) / 8) outcome) (λ slots.
     Ok (insert so_far (section, span.address) slots)))
 
 -- A record is about the function of its section that holds its instruction, the one with the lowest address.
-unfoldable pub record_applied : Scene → ℕ → Written → Relocation → Result Written RelocationError
-record_applied scene section so_far r =
-    if_some (span_at r.insn_off (spans_of scene.functions section)) (put_outcome scene section so_far r) (Err FunctionNotFound)
+unfoldable pub record_applied : RelocationInputs → ℕ → Written → Relocation → Result Written RelocationError
+record_applied inputs section so_far r =
+    if_some (span_at r.insn_off (spans_of inputs.functions section)) (put_outcome inputs section so_far r) (Err FunctionNotFound)
 
 -- ---- records in order
 
 -- the records of a section, one after the other
-abbrev pub records_applied : Scene → ℕ → List Relocation → Written → Result Written RelocationError
-records_applied scene section [] so_far = Ok so_far
-records_applied scene section (r ∷ rs) so_far = if_ok (record_applied scene section so_far r) (records_applied scene section rs)
+abbrev pub records_applied : RelocationInputs → ℕ → List Relocation → Written → Result Written RelocationError
+records_applied inputs section [] so_far = Ok so_far
+records_applied inputs section (r ∷ rs) so_far = if_ok (record_applied inputs section so_far r) (records_applied inputs section rs)
 
 -- a fault in a section, by the section's name
-abbrev pub in_section : {X : Type 0} → List ℕ → Result X RelocationError → Result X BtfRelocationError
-in_section name (Ok x) = Ok x
-in_section name (Err e) = Err (fault_in name e)
+abbrev pub answer_in_section : {X : Type 0} → List ℕ → Result X RelocationError → Result X BtfRelocationError
+answer_in_section name (Ok x) = Ok x
+answer_in_section name (Err e) = Err (error_in_section name e)
 
 -- the text that stands for the name at an offset that can't be read
 abbrev pub unnamed_section : ℕ → List ℕ
 unnamed_section offset = codes "section@" ++ decimal offset
 
 -- the records of the section of a name
-abbrev pub section_applied : Scene → List ℕ → List Relocation → Written → Result Written RelocationError
-section_applied scene name rs so_far =
-    if_some (get scene.section_infos name) (λ section. records_applied scene section.0 rs so_far) (Err SectionNotFound)
+abbrev pub section_applied : RelocationInputs → List ℕ → List Relocation → Written → Result Written RelocationError
+section_applied inputs name rs so_far =
+    if_some (get inputs.section_infos name) (λ section. records_applied inputs section.0 rs so_far) (Err SectionNotFound)
 
 -- the records of the section whose name stands at an offset
-abbrev pub named_applied : Scene → ℕ × List Relocation → Written → Result Written BtfRelocationError
-named_applied scene part so_far =
-    elim (text_at scene.sides.local.strings part.0) [
-      | Ok name ↦ in_section name (section_applied scene name part.1 so_far)
-      | Err e ↦ in_section (unnamed_section part.0) (Err (BtfError e))
+abbrev pub named_applied : RelocationInputs → ℕ × List Relocation → Written → Result Written BtfRelocationError
+named_applied inputs part so_far =
+    elim (text_at inputs.sides.local.strings part.0) [
+      | Ok name ↦ answer_in_section name (section_applied inputs name part.1 so_far)
+      | Err e ↦ answer_in_section (unnamed_section part.0) (Err (BtfError e))
     ]
 
 -- all records, section by section
-abbrev pub all_applied : Scene → List (ℕ × List Relocation) → Written → Result Written BtfRelocationError
-all_applied scene [] so_far = Ok so_far
-all_applied scene (part ∷ parts) so_far = if_ok (named_applied scene part so_far) (all_applied scene parts)
+abbrev pub all_applied : RelocationInputs → List (ℕ × List Relocation) → Written → Result Written BtfRelocationError
+all_applied inputs [] so_far = Ok so_far
+all_applied inputs (part ∷ parts) so_far = if_ok (named_applied inputs part so_far) (all_applied inputs parts)
 
 -- the slots that the records of an object write, each over those before it, or the first fault
-abbrev pub slots_written : Scene → List (ℕ × List Relocation) → Result Written BtfRelocationError
-slots_written scene parts = all_applied scene parts empty
+abbrev pub slots_written : RelocationInputs → List (ℕ × List Relocation) → Result Written BtfRelocationError
+slots_written inputs parts = all_applied inputs parts empty
 
-abbrev pub scene_between : TypeInfo → TypeInfo → FinMap key_cmp Function → FinMap text_cmp SectionIndex → Scene
-scene_between local target functions infos = scene_of (record { local = local; target = target }) functions infos
+abbrev pub relocation_inputs_between : TypeInfo → TypeInfo → FinMap key_cmp Function → FinMap text_cmp SectionIndex → RelocationInputs
+relocation_inputs_between local target functions infos = relocation_inputs (record { local = local; target = target }) functions infos
 
 -- ---- the functions with these slots
 

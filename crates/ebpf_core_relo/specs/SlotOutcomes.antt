@@ -1,7 +1,7 @@
 -- An outcome in the slots of a function, slot by slot.
 use Rattle.std.specs.Prelude.{◌≡◌, ◌≢◌, ℕ, ◌+◌, ◌==◌, List, length, Option, Some, None, option_map, Ok, slice_get, if◌then◌else◌}
 use Rattle.ebpf_core.specs.declared.outcome.Outcome.{Outcome}
-use Rattle.ebpf_core_relo.specs.Carried.{carried_by, carrier_of, high_half, is_wide, poison, written}
+use Rattle.ebpf_core_relo.specs.Carried.{carried_by, carrier_of, high_half, is_wide_load, poison, written}
 use Rattle.ebpf_parts.specs.declared.insn.bpf_insn.{bpf_insn}
 
 -- a slot that carries an outcome: its number as the slot's class has it, or without one what fails where it is reached
@@ -12,7 +12,7 @@ carrying (Some number) slot outcome = carried_by (carrier_of slot) slot number o
 -- the slot behind it: the upper half of the number of a wide load, or the second slot of one that fails
 abbrev pub behind : Option ℕ → bpf_insn → bpf_insn → bpf_insn
 behind None slot next = if slot.code == 0x18 then poison else next
-behind (Some number) slot next = if is_wide (carrier_of slot) then record next { imm = high_half number } else next
+behind (Some number) slot next = if is_wide_load (carrier_of slot) then record next { imm = high_half number } else next
 
 -- the slots of a function of which slot i carries an outcome, slot by slot
 pub record CarriesAt (i : ℕ) (outcome : Outcome) (before after : List bpf_insn) : Type 0 where

@@ -1,4 +1,4 @@
--- What is kept of spans beside their list: the greatest end up to each, where they begin one behind the other; and
+-- What stands beside a list of spans: the greatest end up to each, where they begin one behind the other; and
 -- lists of such spans as one.
 use Rattle.std.specs.Prelude.{◌≡◌, ℕ, Bool, true, ◌&&◌, List, [], ◌∷◌, ◌++◌, Option, nat_le, max}
 use Rattle.std.specs.Option.{option_or}
@@ -31,9 +31,9 @@ pub record IsTopped (spans : List Span) (ends : List ℕ) (top start : ℕ) : Ty
   pub rising_is : rises 0 spans ≡ true
 
 -- lists of spans one behind the other, and a last one
-abbrev pub joined : List (List Span) → List Span → List Span
-joined [] last = last
-joined (run ∷ runs) last = run ++ joined runs last
+abbrev pub all_spans : List (List Span) → List Span → List Span
+all_spans [] last = last
+all_spans (run ∷ runs) last = run ++ all_spans runs last
 
 -- the first span that holds an offset, list by list
 abbrev pub first_at : ℕ → List (List Span) → List Span → Option Span

@@ -2,7 +2,7 @@
 
 ghost use Rattle.std.specs.Prelude.{◌≡◌, IfOk};
 ghost use Rattle.ebpf_btf.specs.Strings.{is_text, text_at};
-ghost use Rattle.ebpf_places.specs.Places.{place_of};
+ghost use Rattle.ebpf_places.specs.FunctionSpans.{place_of};
 ghost use Rattle.ebpf_core_relo.specs.Absences.{absence_among, field_absence, has_member, is_member_of, members_at, name_absence, path_absence, type_of_end};
 
 use crate::furthest::furthest_candidate;

@@ -1,7 +1,7 @@
 //! Why records have no value, one after the other.
 
 ghost use Rattle.std.specs.Prelude.{◌≡◌, IfOk};
-ghost use Rattle.ebpf_core.specs.Asked.{asked};
+ghost use Rattle.ebpf_core.specs.Questions.{asked};
 ghost use Rattle.ebpf_core.specs.LocalPaths.{local_path};
 ghost use Rattle.ebpf_core.specs.Searches.{candidates_for, candidates_named, was_enum64};
 ghost use Rattle.ebpf_core_relo.specs.Absences.{absence_by, absence_in, absence_of, without_place};

@@ -1,11 +1,11 @@
 //! Slots that carry the outcome of a record.
 
 ghost use Rattle.std.specs.Prelude.{◌≡◌, ◌<◌, ◌≤◌, ⊤, MatchBool, [], length, slice_index_or, Some, Ok, Err, IfErr, IfOk, IfSome};
-ghost use Rattle.ebpf_core.specs.Answers.{Tells, told};
+ghost use Rattle.ebpf_core.specs.Answers.{Tells, without_texts};
 ghost use Rattle.ebpf_core.specs.Memory.{is_memory};
 ghost use Rattle.ebpf_core.specs.declared.error.RelocationError.TheVariants as errors;
 ghost use Rattle.ebpf_core_relo.specs.Carrying.{HasRoom, put_at};
-ghost use Rattle.ebpf_core_relo.specs.Carried.{carrier_of, carried_by, high_half, laid, low_half, may_resize, moved_code, poison, poisoned, resized, resized_to, size_bits, with_offset, written};
+ghost use Rattle.ebpf_core_relo.specs.Carried.{carrier_of, carried_by, high_half, carried_at, low_half, may_resize, moved_code, poison, poisoned, resized, resized_to, size_bits, with_offset, written};
 
 use ebpf_base::Text;
 use ebpf_core::{FieldClass, LoadedField, Outcome, RelocationError};
@@ -26,7 +26,7 @@ pub enum Carrier {
     /// In its offset.
     Offset,
     /// In its immediate and that of the slot behind it.
-    Wide,
+    WideLoad,
     /// Nowhere.
     Nothing,
 }
@@ -36,7 +36,7 @@ fn carrier_of(slot: &bpf_insn) -> Carrier
     ensures { result ≡ carrier_of slot.now }
 {
     match slot.code % 8 {
-        0 => Carrier::Wide,
+        0 => Carrier::WideLoad,
         4 | 7 => Carrier::Immediate,
         5 | 6 => Carrier::Nothing,
         _ => Carrier::Offset,
@@ -138,7 +138,7 @@ fn carried(slot: bpf_insn, number: u64, outcome: &Outcome) -> Option<bpf_insn>
 {
     match carrier_of(&slot) {
         Carrier::Immediate if slot.src_reg() != 0 => None,
-        Carrier::Immediate | Carrier::Wide => Some(bpf_insn {
+        Carrier::Immediate | Carrier::WideLoad => Some(bpf_insn {
             imm: low_half(number),
             ..slot
         }),
@@ -208,7 +208,7 @@ fn poisoned(
     requires { at < length slots.now }
     ensures slots { IfOk result (λ carrying. poisoned record_number slots.now at (slice_index_or slots.now at poison) ≡ Ok (put_at slots.now at carrying)) }
     ensures there { IfOk result (λ carrying. HasRoom slots.now at carrying.next) }
-    ensures fault { IfErr result (λ e. poisoned record_number slots.now at (slice_index_or slots.now at poison) ≡ Err (told e)) }
+    ensures fault { IfErr result (λ e. poisoned record_number slots.now at (slice_index_or slots.now at poison) ≡ Err (without_texts e)) }
 {
     if slots[at].code != WIDE_LOAD {
         return Ok(CarryingSlots {
@@ -226,7 +226,7 @@ fn poisoned(
 }
 
 /// A slot that carries a number, and of a wide load the one behind it.
-fn laid(
+fn carried_at(
     slots: &[bpf_insn],
     at: usize,
     record_number: usize,
@@ -234,11 +234,11 @@ fn laid(
     number: u64,
 ) -> Result<CarryingSlots, RelocationError>
     requires { at < length slots.now }
-    ensures slots { IfOk result (λ carrying. laid record_number slots.now at (slice_index_or slots.now at poison) slot number ≡ Ok (put_at slots.now at carrying)) }
+    ensures slots { IfOk result (λ carrying. carried_at record_number slots.now at (slice_index_or slots.now at poison) slot number ≡ Ok (put_at slots.now at carrying)) }
     ensures there { IfOk result (λ carrying. HasRoom slots.now at carrying.next) }
-    ensures fault { IfErr result (λ e. laid record_number slots.now at (slice_index_or slots.now at poison) slot number ≡ Err (told e)) }
+    ensures fault { IfErr result (λ e. carried_at record_number slots.now at (slice_index_or slots.now at poison) slot number ≡ Err (without_texts e)) }
 {
-    if carrier_of(&slots[at]) != Carrier::Wide {
+    if carrier_of(&slots[at]) != Carrier::WideLoad {
         return Ok(CarryingSlots { slot, next: None });
     }
     if at + 1 >= slots.len() {
@@ -272,7 +272,7 @@ pub fn carrying_slots(
 ) -> Result<CarryingSlots, RelocationError>
     ensures slots { IfOk result (λ carrying. written record_number slots.now at outcome.now ≡ Ok (put_at slots.now at carrying)) }
     ensures there { IfOk result (λ carrying. (at < length slots.now) × HasRoom slots.now at carrying.next) }
-    ensures fault { IfErr result (λ e. MatchBool (is_memory e) ⊤ (written record_number slots.now at outcome.now ≡ Err (told e))) }
+    ensures fault { IfErr result (λ e. MatchBool (is_memory e) ⊤ (written record_number slots.now at outcome.now ≡ Err (without_texts e))) }
 {
     let Some(slot) = slots.get(at) else {
         return missing_slot(slots, at, record_number);
@@ -284,7 +284,7 @@ pub fn carrying_slots(
     let Some(carrying) = carried(slot, number, outcome) else {
         return no_carrier(alloc, at, record_number, slot.code, number);
     };
-    laid(slots, at, record_number, carrying, number)
+    carried_at(slots, at, record_number, carrying, number)
 }
 
 /// Writes what a record makes of slot `at` of a function.

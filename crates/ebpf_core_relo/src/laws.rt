@@ -1,7 +1,7 @@
 //! What holds of the slots that records write.
 
 ghost use Rattle.ebpf_core_relo.specs.AbsenceLaws.{AbsencesAreTold, FurthestComesFurthest, NamesAreMisfits, NoValueIsOfMatches, NoneLeads};
-ghost use Rattle.ebpf_core_relo.specs.Alone.{OtherSlotsStay, PutSlotsStand, RecordsAloneAreCarried, RecordsArePlaced, RecordsHaveSlots, RecordsKeepShapes, SlotsStayAsMany};
+ghost use Rattle.ebpf_core_relo.specs.Alone.{OtherSlotsStay, PutSlotsStand, RecordsAloneAreCarried, RecordsHaveSections, RecordsHaveSlots, RecordsKeepShapes, SlotsStayAsMany};
 ghost use Rattle.ebpf_core_relo.specs.OutcomeLaws.{FirstRefusalIsTheFault, OutcomesAreInOrder, SlotsAreTheSame};
 ghost use Rattle.ebpf_core_relo.specs.Refused.{FaultsAreRefusals, RefusalIsOne};
 ghost use Rattle.ebpf_core_relo.specs.SlotOutcomes.{WrittenSlotsCarry};
@@ -12,10 +12,10 @@ pub fn records_alone_are_carried()
     ensures { RecordsAloneAreCarried }
 {}
 
-/// Where all records were applied, none is left out of the list of those with their sections' numbers, and each is about
+/// Where all records were applied, none is left out of the list of those with their sections' indexes, and each is about
 /// a slot that is there.
 pub fn records_have_slots()
-    ensures placed { RecordsArePlaced }
+    ensures located { RecordsHaveSections }
     ensures slots { RecordsHaveSlots }
 {}
 

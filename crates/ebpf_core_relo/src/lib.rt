@@ -13,7 +13,7 @@ mod record_outcome;
 mod records;
 mod relocate;
 mod runs;
-mod scene;
+mod function_spans;
 mod section_spans;
 mod sections;
 mod spans;

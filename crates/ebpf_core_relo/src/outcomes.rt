@@ -3,7 +3,7 @@
 ghost use Rattle.std.specs.Prelude.{◌≡◌, [], ◌∷◌, ◌++◌, map, None, Ok, IfOk, OnOk};
 ghost use Rattle.ebpf_core.specs.Sides.{Sides};
 ghost use Rattle.ebpf_core_relo.specs.RecordOutcomes.{answered, applied, left_by, named_in, named_records, outcome_in, outcomes_from, record_outcomes, record_slots, result_in, section_at, slot_in, slots_left, told_outcome, told_result};
-ghost use Rattle.ebpf_core_relo.specs.Records.{scene_between, scene_of};
+ghost use Rattle.ebpf_core_relo.specs.Records.{relocation_inputs_between, relocation_inputs};
 ghost use Rattle.ebpf_core_relo.specs.Sections.{found_number};
 ghost use Rattle.ebpf_core_relo.specs.declared.record_outcome.RecordResult.TheVariants.{Refused};
 
@@ -11,7 +11,7 @@ use crate::absences::Absences;
 use crate::memory::{unless_memory, unless_memory_of_types};
 use crate::record_outcome::{RecordOutcome, RecordOutcomes, RecordResult, RecordSlot};
 use crate::records::apply_record;
-use crate::scene::Places;
+use crate::inputs::FunctionSpans;
 use crate::section_spans::span_in;
 use crate::spans::SLOT;
 use ebpf_base::{ByKey, ByName, Items};
@@ -43,8 +43,8 @@ struct NamedSection {
 
 /// The section whose name stands at an offset.
 #[tactic(auto, unfolding(crate::specs::RecordOutcomes::section_at, ebpf_btf::specs::Strings::text_at))]
-fn section_at(places: &Places<'_>, local: &Btf, offset: u32) -> Result<FoundSection, AllocError>
-    ensures { IfOk result (λ found. found_number found ≡ section_at local.now places.now.section_infos.now offset) }
+fn section_at(function_spans: &FunctionSpans<'_>, local: &Btf, offset: u32) -> Result<FoundSection, AllocError>
+    ensures { IfOk result (λ found. found_number found ≡ section_at local.now function_spans.now.section_infos.now offset) }
 {
     let name = match local.string_at(offset) {
         Ok(name) => name,
@@ -53,18 +53,18 @@ fn section_at(places: &Places<'_>, local: &Btf, offset: u32) -> Result<FoundSect
             return Ok(FoundSection::NoName(offset as usize));
         }
     };
-    match places.section_infos.get(name.as_str()) {
+    match function_spans.section_infos.get(name.as_str()) {
         Some(section) => Ok(FoundSection::Number(section.0)),
         None => Ok(FoundSection::NoSection),
     }
 }
 
 /// The slot that a record of a section is about.
-fn slot_in(places: &Places<'_>, section: usize, relocation: &Relocation) -> Option<RecordSlot>
-    ensures { (sides : Sides) → result ≡ slot_in (scene_of sides places.now.functions.now places.now.section_infos.now) (Ok section) relocation.now }
+fn slot_in(function_spans: &FunctionSpans<'_>, section: usize, relocation: &Relocation) -> Option<RecordSlot>
+    ensures { (sides : Sides) → result ≡ slot_in (relocation_inputs sides function_spans.now.functions.now function_spans.now.section_infos.now) (Ok section) relocation.now }
 {
     let offset = relocation.insn_off as usize;
-    let span = span_in(&places.spans, section, offset)?;
+    let span = span_in(&function_spans.spans, section, offset)?;
     Some(RecordSlot {
         function: (section, span.address),
         slot: offset.saturating_sub(span.start) / SLOT,
@@ -93,18 +93,18 @@ fn result_in(
     alloc: Global,
     search: &mut CoreSearch<'_>,
     absences: &mut Absences<'_>,
-    places: &Places<'_>,
+    function_spans: &FunctionSpans<'_>,
     section: usize,
     written: &mut ByKey<Items<bpf_insn>>,
     relocation: &Relocation,
 ) -> Result<RecordResult, AllocError>
     requires { absences.old ≡ search.old }
-    ensures answered { IfOk result (λ answer. told_result answer ≡ result_in (scene_of search.old places.now.functions.now places.now.section_infos.now) (Ok section) written.old relocation.now) }
-    ensures written { OnOk result (written.new ≡ left_by written.old (applied (scene_of search.old places.now.functions.now places.now.section_infos.now) (Ok section) written.old relocation.now)) }
+    ensures answered { IfOk result (λ answer. told_result answer ≡ result_in (relocation_inputs search.old function_spans.now.functions.now function_spans.now.section_infos.now) (Ok section) written.old relocation.now) }
+    ensures written { OnOk result (written.new ≡ left_by written.old (applied (relocation_inputs search.old function_spans.now.functions.now function_spans.now.section_infos.now) (Ok section) written.old relocation.now)) }
     ensures search { search.new ≡ search.old }
     ensures absences { absences.new ≡ absences.old }
 {
-    match apply_record(alloc, search, places, section, written, relocation) {
+    match apply_record(alloc, search, function_spans, section, written, relocation) {
         Ok(outcome) => answered(alloc, absences, relocation, outcome),
         Err(fault) => Ok(RecordResult::Refused(unless_memory(fault)?)),
     }
@@ -127,24 +127,24 @@ fn outcome_in(
     alloc: Global,
     search: &mut CoreSearch<'_>,
     absences: &mut Absences<'_>,
-    places: &Places<'_>,
+    function_spans: &FunctionSpans<'_>,
     section: NamedSection,
     written: &mut ByKey<Items<bpf_insn>>,
     relocation: &Relocation,
 ) -> Result<RecordOutcome, AllocError>
     requires { absences.old ≡ search.old }
-    ensures outcome { IfOk result (λ outcome. told_outcome outcome ≡ outcome_in (scene_of search.old places.now.functions.now places.now.section_infos.now) section.name (found_number section.found) written.old relocation.now) }
-    ensures written { OnOk result (written.new ≡ left_by written.old (applied (scene_of search.old places.now.functions.now places.now.section_infos.now) (found_number section.found) written.old relocation.now)) }
+    ensures outcome { IfOk result (λ outcome. told_outcome outcome ≡ outcome_in (relocation_inputs search.old function_spans.now.functions.now function_spans.now.section_infos.now) section.name (found_number section.found) written.old relocation.now) }
+    ensures written { OnOk result (written.new ≡ left_by written.old (applied (relocation_inputs search.old function_spans.now.functions.now function_spans.now.section_infos.now) (found_number section.found) written.old relocation.now)) }
     ensures search { search.new ≡ search.old }
     ensures absences { absences.new ≡ absences.old }
 {
     match section.found {
         FoundSection::Number(number) => {
-            let result = result_in(alloc, search, absences, places, number, written, relocation)?;
+            let result = result_in(alloc, search, absences, function_spans, number, written, relocation)?;
             Ok(RecordOutcome {
                 section_name: section.name,
                 number: relocation.number,
-                slot: slot_in(places, number, relocation),
+                slot: slot_in(function_spans, number, relocation),
                 result,
             })
         }
@@ -165,14 +165,14 @@ fn add_record(
     alloc: Global,
     search: &mut CoreSearch<'_>,
     absences: &mut Absences<'_>,
-    places: &Places<'_>,
+    function_spans: &FunctionSpans<'_>,
     section: NamedSection,
     relocation: &Relocation,
     outcomes: &mut RecordOutcomes,
 ) -> Result<(), AllocError>
     requires { absences.old ≡ search.old }
-    ensures records { OnOk result (map told_outcome outcomes.new.records ≡ map told_outcome outcomes.old.records ++ outcome_in (scene_of search.old places.now.functions.now places.now.section_infos.now) section.name (found_number section.found) outcomes.old.written relocation.now ∷ []) }
-    ensures written { OnOk result (outcomes.new.written ≡ left_by outcomes.old.written (applied (scene_of search.old places.now.functions.now places.now.section_infos.now) (found_number section.found) outcomes.old.written relocation.now)) }
+    ensures records { OnOk result (map told_outcome outcomes.new.records ≡ map told_outcome outcomes.old.records ++ outcome_in (relocation_inputs search.old function_spans.now.functions.now function_spans.now.section_infos.now) section.name (found_number section.found) outcomes.old.written relocation.now ∷ []) }
+    ensures written { OnOk result (outcomes.new.written ≡ left_by outcomes.old.written (applied (relocation_inputs search.old function_spans.now.functions.now function_spans.now.section_infos.now) (found_number section.found) outcomes.old.written relocation.now)) }
     ensures search { search.new ≡ search.old }
     ensures absences { absences.new ≡ absences.old }
 {
@@ -180,7 +180,7 @@ fn add_record(
         alloc,
         search,
         absences,
-        places,
+        function_spans,
         section,
         &mut outcomes.written,
         relocation,
@@ -194,21 +194,21 @@ fn add_records(
     alloc: Global,
     search: &mut CoreSearch<'_>,
     absences: &mut Absences<'_>,
-    places: &Places<'_>,
+    function_spans: &FunctionSpans<'_>,
     section: NamedSection,
     relocations: &[Relocation],
     outcomes: &mut RecordOutcomes,
 ) -> Result<(), AllocError>
     requires sides { absences.old ≡ search.old }
-    requires section { found_number section.found ≡ section_at search.old.local places.now.section_infos.now section.name }
-    ensures records { OnOk result (map told_outcome outcomes.new.records ≡ map told_outcome outcomes.old.records ++ outcomes_from (scene_of search.old places.now.functions.now places.now.section_infos.now) outcomes.old.written (named_in section.name relocations.now)) }
-    ensures written { OnOk result (outcomes.new.written ≡ slots_left (scene_of search.old places.now.functions.now places.now.section_infos.now) outcomes.old.written (named_in section.name relocations.now)) }
+    requires section { found_number section.found ≡ section_at search.old.local function_spans.now.section_infos.now section.name }
+    ensures records { OnOk result (map told_outcome outcomes.new.records ≡ map told_outcome outcomes.old.records ++ outcomes_from (relocation_inputs search.old function_spans.now.functions.now function_spans.now.section_infos.now) outcomes.old.written (named_in section.name relocations.now)) }
+    ensures written { OnOk result (outcomes.new.written ≡ slots_left (relocation_inputs search.old function_spans.now.functions.now function_spans.now.section_infos.now) outcomes.old.written (named_in section.name relocations.now)) }
     ensures search { search.new ≡ search.old }
     ensures absences { absences.new ≡ absences.old }
 {
     for relocation in relocations {
         add_record(
-            alloc, search, absences, places, section, relocation, outcomes,
+            alloc, search, absences, function_spans, section, relocation, outcomes,
         )?;
     }
     Ok(())
@@ -219,27 +219,27 @@ fn add_sections(
     alloc: Global,
     search: &mut CoreSearch<'_>,
     absences: &mut Absences<'_>,
-    places: &Places<'_>,
+    function_spans: &FunctionSpans<'_>,
     local: &Btf,
     sections: &[(u32, Items<Relocation>)],
     outcomes: &mut RecordOutcomes,
 ) -> Result<(), AllocError>
     requires sides { absences.old ≡ search.old }
     requires local { search.old.local ≡ local.now }
-    ensures records { OnOk result (map told_outcome outcomes.new.records ≡ map told_outcome outcomes.old.records ++ outcomes_from (scene_of search.old places.now.functions.now places.now.section_infos.now) outcomes.old.written (named_records sections.now)) }
-    ensures written { OnOk result (outcomes.new.written ≡ slots_left (scene_of search.old places.now.functions.now places.now.section_infos.now) outcomes.old.written (named_records sections.now)) }
+    ensures records { OnOk result (map told_outcome outcomes.new.records ≡ map told_outcome outcomes.old.records ++ outcomes_from (relocation_inputs search.old function_spans.now.functions.now function_spans.now.section_infos.now) outcomes.old.written (named_records sections.now)) }
+    ensures written { OnOk result (outcomes.new.written ≡ slots_left (relocation_inputs search.old function_spans.now.functions.now function_spans.now.section_infos.now) outcomes.old.written (named_records sections.now)) }
 {
     for part in sections {
         let section = NamedSection {
             name: part.0,
-            found: section_at(places, local, part.0)?,
+            found: section_at(function_spans, local, part.0)?,
         };
         let relocations = part.1.as_slice();
         add_records(
             alloc,
             search,
             absences,
-            places,
+            function_spans,
             section,
             relocations,
             outcomes,
@@ -268,10 +268,10 @@ pub fn record_outcomes(
     relocations: &BtfExt,
     target: &Btf,
 ) -> Result<RecordOutcomes, AllocError>
-    ensures records { IfOk result (λ outcomes. map told_outcome outcomes.records ≡ record_outcomes (scene_between local.now target.now functions.now section_infos.now) relocations.now.relocations) }
-    ensures written { IfOk result (λ outcomes. outcomes.written ≡ record_slots (scene_between local.now target.now functions.now section_infos.now) relocations.now.relocations) }
+    ensures records { IfOk result (λ outcomes. map told_outcome outcomes.records ≡ record_outcomes (relocation_inputs_between local.now target.now functions.now section_infos.now) relocations.now.relocations) }
+    ensures written { IfOk result (λ outcomes. outcomes.written ≡ record_slots (relocation_inputs_between local.now target.now functions.now section_infos.now) relocations.now.relocations) }
 {
-    let places = Places::new(alloc, functions, section_infos)?;
+    let function_spans = FunctionSpans::new(alloc, functions, section_infos)?;
     let mut search = CoreSearch::new(alloc, local, target);
     let mut absences = Absences::new(alloc, local, target);
     let mut outcomes = RecordOutcomes {
@@ -282,7 +282,7 @@ pub fn record_outcomes(
         alloc,
         &mut search,
         &mut absences,
-        &places,
+        &function_spans,
         local,
         relocations.relocations(),
         &mut outcomes,

@@ -2,16 +2,16 @@
 
 ghost use Rattle.std.specs.Prelude.{◌≡◌, ◌<◌, ⊤, MatchBool, IfOk, IfErr, Ok, Err, length};
 ghost use Rattle.std.specs.FinMap as map;
-ghost use Rattle.ebpf_core.specs.Answers.{told};
+ghost use Rattle.ebpf_core.specs.Answers.{without_texts};
 ghost use Rattle.ebpf_core.specs.Memory.{is_memory};
 ghost use Rattle.ebpf_core.specs.Searches.{outcome_of};
 ghost use Rattle.ebpf_core_relo.specs.Answers.{Leaves, StaysRefused};
 ghost use Rattle.ebpf_core_relo.specs.Carried as carried;
 ghost use Rattle.ebpf_core_relo.specs.Carrying.{HasRoom, put_at};
-ghost use Rattle.ebpf_core_relo.specs.Records.{put_outcome, record_applied, records_applied, scene_of, slots_at};
+ghost use Rattle.ebpf_core_relo.specs.Records.{put_outcome, record_applied, records_applied, relocation_inputs, slots_so_far};
 
 use crate::carried::{CarryingSlots, carrying_slots, put_slots_at};
-use crate::scene::Places;
+use crate::function_spans::FunctionSpans;
 use crate::section_spans::span_in;
 use crate::spans::{SLOT, Span};
 use ebpf_base::{ByKey, Items};
@@ -23,17 +23,17 @@ use std::alloc::{AllocError, Global};
 /// Takes the slots of a function out of those that are written, or copies its own.
 fn take_slots(
     alloc: Global,
-    places: &Places<'_>,
+    function_spans: &FunctionSpans<'_>,
     written: &mut ByKey<Items<bpf_insn>>,
     key: (usize, u64),
 ) -> Result<Items<bpf_insn>, AllocError>
-    ensures slots { IfOk result (λ slots. slots ≡ slots_at places.now.functions.now written.old key) }
+    ensures slots { IfOk result (λ slots. slots ≡ slots_so_far function_spans.now.functions.now written.old key) }
     ensures taken { written.new ≡ map.remove written.old key }
 {
     if let Some(slots) = written.remove(key) {
         return Ok(slots);
     }
-    match places.functions.get(key) {
+    match function_spans.functions.get(key) {
         Some(function) => function.instructions.copied(),
         None => Ok(Items::new(alloc)),
     }
@@ -43,21 +43,21 @@ fn take_slots(
 /// written.
 fn carrying_in(
     alloc: Global,
-    places: &Places<'_>,
+    function_spans: &FunctionSpans<'_>,
     written: &ByKey<Items<bpf_insn>>,
     key: (usize, u64),
     at: usize,
     record_number: usize,
     outcome: &Outcome,
 ) -> Result<CarryingSlots, RelocationError>
-    ensures slots { IfOk result (λ carrying. carried.written record_number (slots_at places.now.functions.now written.now key) at outcome.now ≡ Ok (put_at (slots_at places.now.functions.now written.now key) at carrying)) }
-    ensures there { IfOk result (λ carrying. (at < length (slots_at places.now.functions.now written.now key)) × HasRoom (slots_at places.now.functions.now written.now key) at carrying.next) }
-    ensures fault { IfErr result (λ e. MatchBool (is_memory e) ⊤ (carried.written record_number (slots_at places.now.functions.now written.now key) at outcome.now ≡ Err (told e))) }
+    ensures slots { IfOk result (λ carrying. carried.written record_number (slots_so_far function_spans.now.functions.now written.now key) at outcome.now ≡ Ok (put_at (slots_so_far function_spans.now.functions.now written.now key) at carrying)) }
+    ensures there { IfOk result (λ carrying. (at < length (slots_so_far function_spans.now.functions.now written.now key)) × HasRoom (slots_so_far function_spans.now.functions.now written.now key) at carrying.next) }
+    ensures fault { IfErr result (λ e. MatchBool (is_memory e) ⊤ (carried.written record_number (slots_so_far function_spans.now.functions.now written.now key) at outcome.now ≡ Err (without_texts e))) }
 {
     if let Some(slots) = written.get(key) {
         return carrying_slots(alloc, slots.as_slice(), at, record_number, outcome);
     }
-    match places.functions.get(key) {
+    match function_spans.functions.get(key) {
         Some(function) => carrying_slots(
             alloc,
             function.instructions.as_slice(),
@@ -85,13 +85,13 @@ fn rewritten(slots: Items<bpf_insn>, at: usize, carrying: CarryingSlots) -> Item
 fn put_outcome(
     alloc: Global,
     search: &mut CoreSearch<'_>,
-    places: &Places<'_>,
+    function_spans: &FunctionSpans<'_>,
     section: usize,
     written: &mut ByKey<Items<bpf_insn>>,
     relocation: &Relocation,
     span: Span,
 ) -> Result<Outcome, RelocationError>
-    ensures put { Leaves result written.new (put_outcome (scene_of search.old places.now.functions.now places.now.section_infos.now) section written.old relocation.now span) }
+    ensures put { Leaves result written.new (put_outcome (relocation_inputs search.old function_spans.now.functions.now function_spans.now.section_infos.now) section written.old relocation.now span) }
     ensures outcome { IfOk result (λ outcome. outcome_of search.old.local search.old.target relocation.now ≡ Ok outcome) }
     ensures stays { StaysRefused result written.old written.new }
     ensures search { search.new ≡ search.old }
@@ -99,8 +99,8 @@ fn put_outcome(
     let outcome = search.outcome(alloc, relocation)?;
     let key = (section, span.address);
     let at = (relocation.insn_off as usize).saturating_sub(span.start) / SLOT;
-    let carrying = carrying_in(alloc, places, written, key, at, relocation.number, &outcome)?;
-    let slots = take_slots(alloc, places, written, key)?;
+    let carrying = carrying_in(alloc, function_spans, written, key, at, relocation.number, &outcome)?;
+    let slots = take_slots(alloc, function_spans, written, key)?;
     let slots = rewritten(slots, at, carrying);
     written.insert(key, slots)?;
     Ok(outcome)
@@ -111,36 +111,36 @@ fn put_outcome(
 pub fn apply_record(
     alloc: Global,
     search: &mut CoreSearch<'_>,
-    places: &Places<'_>,
+    function_spans: &FunctionSpans<'_>,
     section: usize,
     written: &mut ByKey<Items<bpf_insn>>,
     relocation: &Relocation,
 ) -> Result<Outcome, RelocationError>
-    ensures applied { Leaves result written.new (record_applied (scene_of search.old places.now.functions.now places.now.section_infos.now) section written.old relocation.now) }
+    ensures applied { Leaves result written.new (record_applied (relocation_inputs search.old function_spans.now.functions.now function_spans.now.section_infos.now) section written.old relocation.now) }
     ensures outcome { IfOk result (λ outcome. outcome_of search.old.local search.old.target relocation.now ≡ Ok outcome) }
     ensures stays { StaysRefused result written.old written.new }
     ensures search { search.new ≡ search.old }
 {
-    let Some(span) = span_in(&places.spans, section, relocation.insn_off as usize) else {
+    let Some(span) = span_in(&function_spans.spans, section, relocation.insn_off as usize) else {
         return Err(RelocationError::FunctionNotFound);
     };
-    put_outcome(alloc, search, places, section, written, relocation, span)
+    put_outcome(alloc, search, function_spans, section, written, relocation, span)
 }
 
 /// Applies the records of a section in order.
 pub fn apply_records(
     alloc: Global,
     search: &mut CoreSearch<'_>,
-    places: &Places<'_>,
+    function_spans: &FunctionSpans<'_>,
     section: usize,
     written: &mut ByKey<Items<bpf_insn>>,
     records: &[Relocation],
 ) -> Result<(), RelocationError>
-    ensures applied { Leaves result written.new (records_applied (scene_of search.old places.now.functions.now places.now.section_infos.now) section records.now written.old) }
+    ensures applied { Leaves result written.new (records_applied (relocation_inputs search.old function_spans.now.functions.now function_spans.now.section_infos.now) section records.now written.old) }
     ensures search { search.new ≡ search.old }
 {
     for relocation in records {
-        apply_record(alloc, search, places, section, written, relocation)?;
+        apply_record(alloc, search, function_spans, section, written, relocation)?;
     }
     Ok(())
 }

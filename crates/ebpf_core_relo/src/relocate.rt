@@ -3,12 +3,12 @@
 ghost use Rattle.std.specs.Prelude.{◌≡◌, ℕ, Ok, Err, IfOk, IfErr, MatchBool, []};
 ghost use Rattle.std.specs.FinMap as map;
 ghost use Rattle.ebpf_base.specs.Keys.{key_cmp};
-ghost use Rattle.ebpf_core_relo.specs.Answers.{is_memory_at, told_at};
+ghost use Rattle.ebpf_core_relo.specs.Answers.{is_memory_at, without_texts_at};
 ghost use Rattle.ebpf_core_relo.specs.Refused.{RecordsAreRefused};
-ghost use Rattle.ebpf_core_relo.specs.Records.{scene_between, slots_written, with_slots, with_slots_at};
+ghost use Rattle.ebpf_core_relo.specs.Records.{relocation_inputs_between, slots_written, with_slots, with_slots_at};
 
 use crate::error::BtfRelocationError;
-use crate::scene::Places;
+use crate::function_spans::FunctionSpans;
 use crate::sections::apply_all;
 use ebpf_base::{ByKey, ByName, Items};
 use ebpf_btf::Btf;
@@ -28,10 +28,10 @@ fn written_slots(
     relocations: &BtfExt,
     target: &Btf,
 ) -> Result<ByKey<Items<bpf_insn>>, BtfRelocationError>
-    ensures slots { IfOk result (λ slots. slots_written (scene_between local.now target.now functions.now section_infos.now) relocations.now.relocations ≡ Ok slots) }
-    ensures fault { IfErr result (λ e. MatchBool (is_memory_at e) (e.section ≡ []) (slots_written (scene_between local.now target.now functions.now section_infos.now) relocations.now.relocations ≡ Err (told_at e))) }
+    ensures slots { IfOk result (λ slots. slots_written (relocation_inputs_between local.now target.now functions.now section_infos.now) relocations.now.relocations ≡ Ok slots) }
+    ensures fault { IfErr result (λ e. MatchBool (is_memory_at e) (e.section ≡ []) (slots_written (relocation_inputs_between local.now target.now functions.now section_infos.now) relocations.now.relocations ≡ Err (without_texts_at e))) }
 {
-    let Ok(places) = Places::new(alloc, functions, section_infos) else {
+    let Ok(function_spans) = FunctionSpans::new(alloc, functions, section_infos) else {
         return Err(BtfRelocationError::memory(alloc));
     };
     let mut search = CoreSearch::new(alloc, local, target);
@@ -39,7 +39,7 @@ fn written_slots(
     apply_all(
         alloc,
         &mut search,
-        &places,
+        &function_spans,
         &mut written,
         local,
         relocations.relocations(),
@@ -66,9 +66,9 @@ pub fn relocate_slots(
     relocations: &BtfExt,
     target: &Btf,
 ) -> Result<ByKey<Items<bpf_insn>>, BtfRelocationError>
-    ensures slots { IfOk result (λ slots. slots_written (scene_between local.now target.now functions.now section_infos.now) relocations.now.relocations ≡ Ok slots) }
-    ensures fault { IfErr result (λ e. MatchBool (is_memory_at e) (e.section ≡ []) (slots_written (scene_between local.now target.now functions.now section_infos.now) relocations.now.relocations ≡ Err (told_at e))) }
-    ensures refused { IfErr result (λ e. MatchBool (is_memory_at e) (e.section ≡ []) (RecordsAreRefused (scene_between local.now target.now functions.now section_infos.now) relocations.now.relocations (told_at e))) }
+    ensures slots { IfOk result (λ slots. slots_written (relocation_inputs_between local.now target.now functions.now section_infos.now) relocations.now.relocations ≡ Ok slots) }
+    ensures fault { IfErr result (λ e. MatchBool (is_memory_at e) (e.section ≡ []) (slots_written (relocation_inputs_between local.now target.now functions.now section_infos.now) relocations.now.relocations ≡ Err (without_texts_at e))) }
+    ensures refused { IfErr result (λ e. MatchBool (is_memory_at e) (e.section ≡ []) (RecordsAreRefused (relocation_inputs_between local.now target.now functions.now section_infos.now) relocations.now.relocations (without_texts_at e))) }
 {
     written_slots(alloc, functions, section_infos, local, relocations, target)
 }

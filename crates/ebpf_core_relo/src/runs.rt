@@ -1,8 +1,8 @@
-//! Places that begin one behind the other.
+//! Spans that begin one behind the other.
 
 ghost use Rattle.std.specs.Prelude.{◌≡◌, ◌∷◌, [], ◌++◌, ◌≤◌, nat_le, slice_get, OnOk, true, false};
 ghost use Rattle.std.specs.List.Sorted.{IsPartitionPoint, IsPartitionedBy};
-ghost use Rattle.ebpf_core_relo.specs.Spans.{span_at, held};
+ghost use Rattle.ebpf_core_relo.specs.Spans.{span_at, if_begun};
 ghost use Rattle.ebpf_core_relo.specs.SpanLists.{last_start};
 
 use crate::spans::{SLOT, Span};
@@ -30,8 +30,8 @@ impl Model for Run {
     ghost invariant = { λ s. IsTopped s.spans.items s.ends.items s.top s.last_start };
 }
 
-/// The number of ends that are not past a slot, where these come first.
-fn ends_up_to(ends: &[usize], slot: usize) -> usize
+/// The upper bound of a slot among ends: the number of those that are not past it, where these come first.
+fn upper_bound(ends: &[usize], slot: usize) -> usize
     requires { IsPartitionedBy (λ end. nat_le end slot) ends.now }
     ensures { IsPartitionPoint (λ end. nat_le end slot ≡ true) (λ end. nat_le end slot ≡ false) ends.now result }
 {
@@ -78,14 +78,14 @@ impl Run {
     pub fn at(&self, offset: usize) -> Option<Span>
         ensures { result ≡ span_at offset self.now }
     {
-        let number = ends_up_to(&self.ends, offset / SLOT);
+        let number = upper_bound(&self.ends, offset / SLOT);
         begun(&self.spans, number, offset)
     }
 }
 
 /// The span with a number, where it begins no later than an offset.
 fn begun(spans: &[Span], number: usize, offset: usize) -> Option<Span>
-    ensures { result ≡ held offset (slice_get spans.now number) }
+    ensures { result ≡ if_begun offset (slice_get spans.now number) }
 {
     match spans.get(number) {
         Some(span) if span.start <= offset => Some(*span),

@@ -1,8 +1,8 @@
-//! The places that all functions take, by their sections.
+//! The spans of all functions, by their sections.
 
 ghost use Rattle.std.specs.Prelude.{◌≡◌, ℕ, OnOk, IfOk};
 ghost use Rattle.std.specs.FinMap as map;
-ghost use Rattle.ebpf_core_relo.specs.Places.{added, listed, span_of, spans_of};
+ghost use Rattle.ebpf_core_relo.specs.RecordFunctions.{with_span, spans_or_none, span_of, spans_of};
 ghost use Rattle.ebpf_core_relo.specs.Spans.{span_at};
 
 use crate::spans::{SLOT, Span, Spans};
@@ -28,7 +28,7 @@ fn add(
     section: usize,
     span: Span,
 ) -> Result<(), AllocError>
-    ensures { OnOk result (sections.new ≡ added sections.old section span (map.get sections.old section)) }
+    ensures { OnOk result (sections.new ≡ with_span sections.old section span (map.get sections.old section)) }
 {
     match sections.get_mut(section) {
         Some(spans) => {
@@ -49,7 +49,7 @@ pub fn section_spans(
     alloc: Global,
     functions: &ByKey<Function>,
 ) -> Result<BySection<Spans>, AllocError>
-    ensures { IfOk result (λ sections. (q : ℕ) → listed (map.get sections q) ≡ spans_of functions.now q) }
+    ensures { IfOk result (λ sections. (q : ℕ) → spans_or_none (map.get sections q) ≡ spans_of functions.now q) }
 {
     let mut sections = BySection::new(alloc);
     for (key, function) in functions.iter() {
@@ -60,7 +60,7 @@ pub fn section_spans(
 
 /// The span in a section that holds an offset, in bytes, and has the lowest address.
 pub fn span_in(sections: &BySection<Spans>, section: usize, offset: usize) -> Option<Span>
-    ensures { result ≡ span_at offset (listed (map.get sections.now section)) }
+    ensures { result ≡ span_at offset (spans_or_none (map.get sections.now section)) }
 {
     sections.get(section)?.at(offset)
 }

@@ -4,15 +4,15 @@ ghost use Rattle.std.specs.Prelude.{◌≡◌, [], Err, MatchBool, ⊤, IfOk, If
 ghost use Rattle.std.specs.Fmt.{decimal};
 ghost use Rattle.std.specs.FinMap as map;
 ghost use Rattle.ebpf_btf.specs.Strings.{text_at};
-ghost use Rattle.ebpf_core.specs.Answers.{of_type_error, told};
+ghost use Rattle.ebpf_core.specs.Answers.{of_type_error, without_texts};
 ghost use Rattle.ebpf_core.specs.Memory.{is_memory};
 ghost use Rattle.ebpf_core.specs.declared.error.RelocationError.TheVariants.{BtfError};
-ghost use Rattle.ebpf_core_relo.specs.Answers.{IsRefusal, Leaves, LeavesAt, fault_in};
-ghost use Rattle.ebpf_core_relo.specs.Records.{all_applied, named_applied, scene_of, section_applied, slots_written, unnamed_section};
+ghost use Rattle.ebpf_core_relo.specs.Answers.{IsStatedRefusal, Leaves, LeavesAt, error_in_section};
+ghost use Rattle.ebpf_core_relo.specs.Records.{all_applied, named_applied, relocation_inputs, section_applied, slots_written, unnamed_section};
 
 use crate::error::BtfRelocationError;
 use crate::records::apply_records;
-use crate::scene::Places;
+use crate::function_spans::FunctionSpans;
 use ebpf_base::{ByKey, Items, Text};
 use ebpf_btf::{Btf, BtfError};
 use ebpf_core::{CoreSearch, RelocationError};
@@ -24,23 +24,23 @@ use std::alloc::Global;
 fn apply_section(
     alloc: Global,
     search: &mut CoreSearch<'_>,
-    places: &Places<'_>,
+    function_spans: &FunctionSpans<'_>,
     written: &mut ByKey<Items<bpf_insn>>,
     name: &str,
     records: &[Relocation],
 ) -> Result<(), RelocationError>
-    ensures applied { Leaves result written.new (section_applied (scene_of search.old places.now.functions.now places.now.section_infos.now) name.now records.now written.old) }
+    ensures applied { Leaves result written.new (section_applied (relocation_inputs search.old function_spans.now.functions.now function_spans.now.section_infos.now) name.now records.now written.old) }
     ensures search { search.new ≡ search.old }
 {
-    let Some(section) = places.section_infos.get(name) else {
+    let Some(section) = function_spans.section_infos.get(name) else {
         return Err(RelocationError::SectionNotFound);
     };
-    apply_records(alloc, search, places, section.0, written, records)
+    apply_records(alloc, search, function_spans, section.0, written, records)
 }
 
 /// A fault in the section of a name; of a want of memory no section is named.
-fn in_section(alloc: Global, name: &str, error: RelocationError) -> BtfRelocationError
-    ensures { IsRefusal result (fault_in name.now (told error)) }
+fn answer_in_section(alloc: Global, name: &str, error: RelocationError) -> BtfRelocationError
+    ensures { IsStatedRefusal result (error_in_section name.now (without_texts error)) }
 {
     if matches!(error, RelocationError::OutOfMemory) {
         return BtfRelocationError::memory(alloc);
@@ -53,36 +53,36 @@ fn in_section(alloc: Global, name: &str, error: RelocationError) -> BtfRelocatio
 
 /// The fault of a section whose name can't be read.
 fn unnamed(alloc: Global, offset: u32, error: BtfError) -> BtfRelocationError
-    ensures { IsRefusal result (fault_in (unnamed_section offset) (of_type_error error)) }
+    ensures { IsStatedRefusal result (error_in_section (unnamed_section offset) (of_type_error error)) }
 {
     let error = RelocationError::from(error);
     let Ok(name) = format!(in alloc; "section@{offset}") else {
         return BtfRelocationError::memory(alloc);
     };
-    in_section(alloc, name.as_str(), error)
+    answer_in_section(alloc, name.as_str(), error)
 }
 
 /// Applies the records of the section whose name stands at an offset.
 fn apply_named(
     alloc: Global,
     search: &mut CoreSearch<'_>,
-    places: &Places<'_>,
+    function_spans: &FunctionSpans<'_>,
     written: &mut ByKey<Items<bpf_insn>>,
     local: &Btf,
     offset: u32,
     records: &[Relocation],
 ) -> Result<(), BtfRelocationError>
     requires { search.old.local ≡ local.now }
-    ensures applied { LeavesAt result written.new (named_applied (scene_of search.old places.now.functions.now places.now.section_infos.now) (offset, records.now) written.old) }
+    ensures applied { LeavesAt result written.new (named_applied (relocation_inputs search.old function_spans.now.functions.now function_spans.now.section_infos.now) (offset, records.now) written.old) }
     ensures search { search.new ≡ search.old }
 {
     let name = match local.string_at(offset) {
         Ok(name) => name,
         Err(error) => return Err(unnamed(alloc, offset, error)),
     };
-    match apply_section(alloc, search, places, written, name.as_str(), records) {
+    match apply_section(alloc, search, function_spans, written, name.as_str(), records) {
         Ok(()) => Ok(()),
-        Err(error) => Err(in_section(alloc, name.as_str(), error)),
+        Err(error) => Err(answer_in_section(alloc, name.as_str(), error)),
     }
 }
 
@@ -90,19 +90,19 @@ fn apply_named(
 pub fn apply_all(
     alloc: Global,
     search: &mut CoreSearch<'_>,
-    places: &Places<'_>,
+    function_spans: &FunctionSpans<'_>,
     written: &mut ByKey<Items<bpf_insn>>,
     local: &Btf,
     sections: &[(u32, Items<Relocation>)],
 ) -> Result<(), BtfRelocationError>
     requires { search.old.local ≡ local.now }
-    ensures applied { LeavesAt result written.new (all_applied (scene_of search.old places.now.functions.now places.now.section_infos.now) sections.now written.old) }
+    ensures applied { LeavesAt result written.new (all_applied (relocation_inputs search.old function_spans.now.functions.now function_spans.now.section_infos.now) sections.now written.old) }
 {
     for section in sections {
         apply_named(
             alloc,
             search,
-            places,
+            function_spans,
             written,
             local,
             section.0,

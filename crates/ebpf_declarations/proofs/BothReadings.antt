@@ -6,7 +6,7 @@ use Rattle.ebpf_base.proofs.Faults.{both_None}
 use Rattle.ebpf_base.specs.Faults.{first_some, fault_of, or_else}
 use Rattle.ebpf_btf.proofs.Looks.{resolved_here}
 use Rattle.ebpf_btf.specs.Next.{if_some, if_ok}
-use Rattle.ebpf_btf.specs.Steps.{type_at, modified, resolved}
+use Rattle.ebpf_btf.specs.Steps.{type_at, modifier_type_id, resolved}
 use Rattle.ebpf_btf.specs.Strings.{type_name}
 use Rattle.ebpf_btf.specs.TypeInfo.{TypeInfo}
 use Rattle.ebpf_btf.specs.Types.{array_of}
@@ -19,18 +19,18 @@ use Rattle.ebpf_btf.specs.declared.types.BtfType.TheVariants.{Ptr, Struct}
 use Rattle.ebpf_declarations.proofs.KnownStructs.{via, with_same}
 use Rattle.ebpf_declarations.proofs.MoreMaps.{named_by, from_type, by_type}
 use Rattle.ebpf_declarations.specs.Attempts.{given}
-use Rattle.ebpf_declarations.specs.DataSections.{MetSection, Named, UnreadableName, met_section}
+use Rattle.ebpf_declarations.specs.DataSections.{DatasecMatch, Named, UnreadableName, datasec_match}
 use Rattle.ebpf_declarations.specs.Laws.{BroadDeclaresAsStated}
-use Rattle.ebpf_declarations.specs.MapMembers.{unexpected, pointed, struct_members, number, own_number, number_in, sole_value, is_prototype, is_prototype_in, is_prototype_at, members_at, held_struct, member_at}
-use Rattle.ebpf_declarations.specs.Maps.{number_saying, plain_saying, inner_saying_of, inner_saying, inner_definition, inner_says, are_programs, saying_of, saying, definitions, struct_says, variable, declared, placed, map_of, entries_maps, entries_fault, maps_by, fault_by, type_maps, type_fault}
-use Rattle.ebpf_declarations.specs.Sayings.{no_definitions}
+use Rattle.ebpf_declarations.specs.MapMembers.{unexpected, pointee, struct_members, number, own_number, sole_value_in, sole_value, is_prototype, is_prototype_in, is_prototype_at, members_at, inner_map_struct, map_member_at}
+use Rattle.ebpf_declarations.specs.Maps.{number_value, plain_value, inner_member_value_of, inner_member_value, inner_definition, inner_struct_definition, are_programs, member_value_of, member_value, definitions, struct_definitions, variable, declared, map_with_symbol, entry_map, entries_maps, entries_fault, matched_maps, matched_maps_fault, type_maps, type_maps_fault}
+use Rattle.ebpf_declarations.specs.MemberValues.{no_definitions}
 use Rattle.ebpf_declarations.specs.declared.definitions.MapDefinitions.{MapDefinitions}
 use Rattle.ebpf_declarations.specs.declared.map_member.MapMember.{MapMember}
 use Rattle.ebpf_declarations.specs.declared.map_member.MapMember.TheVariants as about
 use Rattle.ebpf_declarations.specs.declared.map_member.MapNumber.{MapNumber}
 use Rattle.ebpf_declarations.specs.declared.map_member.MapNumber.TheVariants.{MapType, KeySize, ValueSize, MaxEntries, MapFlags, MapExtra}
-use Rattle.ebpf_declarations.specs.declared.saying.Saying.{Saying}
-use Rattle.ebpf_declarations.specs.declared.saying.Saying.TheVariants as said
+use Rattle.ebpf_declarations.specs.declared.member_value.MemberValue.{MemberValue}
+use Rattle.ebpf_declarations.specs.declared.member_value.MemberValue.TheVariants as said
 use Rattle.ebpf_parts.specs.declared.maps.definition.BtfMapDef.{BtfMapDef}
 use Rattle.ebpf_parts.specs.declared.reading.Reading.TheVariants.{Stated, Broad}
 
@@ -49,33 +49,33 @@ all_kept f g a b each (x ∷ xs) none =
 -- ---- numbers
 
 -- a PTR is no number itself
-no_pointer : (types : List BtfType) (id : ℕ) (t : BtfType) → slice_get types id ≡ Some t → modified t ≡ None → sole_value t ≡ None → own_number types id ≡ None
+no_pointer : (types : List BtfType) (id : ℕ) (t : BtfType) → slice_get types id ≡ Some t → modifier_type_id t ≡ None → sole_value t ≡ None → own_number types id ≡ None
 unfolding own_number
 no_pointer types id t here last none =
     let found : resolved types id ≡ Ok id = resolved_here 0 types id id t (omega arith) here last in
-    ap (λ r. number_in (if_ok r (λ found. type_at types found))) found
-    ∙ ap (λ o. number_in (if_some o (λ t. Ok t) (Err (UnknownBtfType id)))) here ∙ none
+    ap (λ r. sole_value_in (if_ok r (λ found. type_at types found))) found
+    ∙ ap (λ o. sole_value_in (if_some o (λ t. Ok t) (Err (UnknownBtfType id)))) here ∙ none
 
 spelled_alone : (types : List BtfType) (id n : ℕ) → number types id ≡ Ok n → own_number types id ≡ None
-unfolding number pointed modified sole_value
+unfolding number pointee modifier_type_id sole_value
 spelled_alone types id n is = by_place (slice_get types id) refl is
   where
     by_type : (t : BtfType) → slice_get types id ≡ Some t
-        → if_some (pointed t) (λ a. if_ok (type_at types a) (λ u. if_some (array_of u) (λ array. Ok array.len) (Err (unexpected u)))) (Err (unexpected t)) ≡ Ok n
+        → if_some (pointee t) (λ a. if_ok (type_at types a) (λ u. if_some (array_of u) (λ array. Ok array.len) (Err (unexpected u)))) (Err (unexpected t)) ≡ Ok n
         → own_number types id ≡ None
     by_type (Ptr a b) here h = no_pointer types id (Ptr a b) here refl refl
     by_type _ here h = absurd (cc)
 
     by_place : (o : Option BtfType) → slice_get types id ≡ o
-        → if_ok (if_some o (λ t. Ok t) (Err (UnknownBtfType id))) (λ p. if_some (pointed p) (λ a. if_ok (type_at types a) (λ u. if_some (array_of u) (λ array. Ok array.len) (Err (unexpected u)))) (Err (unexpected p))) ≡ Ok n
+        → if_ok (if_some o (λ t. Ok t) (Err (UnknownBtfType id))) (λ p. if_some (pointee p) (λ a. if_ok (type_at types a) (λ u. if_some (array_of u) (λ array. Ok array.len) (Err (unexpected u)))) (Err (unexpected p))) ≡ Ok n
         → own_number types id ≡ None
     by_place None here h = absurd (cc)
     by_place (Some t) here h = by_type t here h
 
-number_kept : (types : List BtfType) (of : MapNumber) (id : ℕ) (s : Saying) → number_saying Stated types of id ≡ Ok s → number_saying Broad types of id ≡ Ok s
+number_kept : (types : List BtfType) (of : MapNumber) (id : ℕ) (s : MemberValue) → number_value Stated types of id ≡ Ok s → number_value Broad types of id ≡ Ok s
 number_kept types MapExtra id s h = by_number (number types id) refl h
   where
-    by_number : (r : Result ℕ BtfError) → number types id ≡ r → if_ok r (λ n. Ok (said.Number MapExtra n)) ≡ Ok s → number_saying Broad types MapExtra id ≡ Ok s
+    by_number : (r : Result ℕ BtfError) → number types id ≡ r → if_ok r (λ n. Ok (said.Number MapExtra n)) ≡ Ok s → number_value Broad types MapExtra id ≡ Ok s
     by_number (Err e) is k = absurd (cc)
     by_number (Ok n) is k =
         ap (λ o. if_some o (λ n. Ok (said.Extra n)) (if_ok (number types id) (λ n. Ok (said.Number MapExtra n)))) (spelled_alone types id n is)
@@ -86,8 +86,8 @@ number_kept types ValueSize id s h = h
 number_kept types MaxEntries id s h = h
 number_kept types MapFlags id s h = h
 
-plain_kept : (types : List BtfType) (m : MapMember) (id : ℕ) (s : Saying) → plain_saying Stated types m id ≡ Ok s → plain_saying Broad types m id ≡ Ok s
-unfolding plain_saying
+plain_kept : (types : List BtfType) (m : MapMember) (id : ℕ) (s : MemberValue) → plain_value Stated types m id ≡ Ok s → plain_value Broad types m id ≡ Ok s
+unfolding plain_value
 plain_kept types (about.Number of) id s h = number_kept types of id s h
 plain_kept types about.Pinning id s h = h
 plain_kept types about.Key id s h = h
@@ -111,8 +111,8 @@ no_programs types id members is = by_place (slice_get types id) is
     by_place (Some t) h = by_type t h
 
 module _ (info : TypeInfo) (name : List ℕ) where
-  inner_of : (m : MapMember) (id : ℕ) (s : Saying) → inner_saying_of Stated info name m id ≡ Ok s → inner_saying_of Broad info name m id ≡ Ok s
-  unfolding inner_saying_of
+  inner_of : (m : MapMember) (id : ℕ) (s : MemberValue) → inner_member_value_of Stated info name m id ≡ Ok s → inner_member_value_of Broad info name m id ≡ Ok s
+  unfolding inner_member_value_of
   inner_of (about.Number of) id s h = plain_kept info.types (about.Number of) id s h
   inner_of about.Pinning id s h = absurd (cc)
   inner_of about.Key id s h = plain_kept info.types about.Key id s h
@@ -120,58 +120,58 @@ module _ (info : TypeInfo) (name : List ℕ) where
   inner_of about.Values id s h = absurd (cc)
   inner_of about.Other id s h = plain_kept info.types about.Other id s h
 
-  inner_kept : (m : BtfMember) (s : Saying) → inner_saying Stated info name m ≡ Ok s → inner_saying Broad info name m ≡ Ok s
-  unfolding inner_saying
-  inner_kept m s h = via (member_at info.strings m) (member_at info.strings m) _ _ s (λ x k. k) (λ about k. inner_of about m.btf_type s k) h
+  inner_kept : (m : BtfMember) (s : MemberValue) → inner_member_value Stated info name m ≡ Ok s → inner_member_value Broad info name m ≡ Ok s
+  unfolding inner_member_value
+  inner_kept m s h = via (map_member_at info.strings m) (map_member_at info.strings m) _ _ s (λ x k. k) (λ about k. inner_of about m.btf_type s k) h
 
   inner_definition_kept : (ms : List BtfMember) (d : BtfMapDef) → inner_definition Stated info name ms ≡ Ok d → inner_definition Broad info name ms ≡ Ok d
   inner_definition_kept ms d h =
       via _ _ (λ (e : MapDefinitions). Ok e.def) (λ (e : MapDefinitions). Ok e.def) d
-      (λ e k. with_same (inner_saying Stated info name) (inner_saying Broad info name) inner_kept no_definitions e ms k) (λ e k. k) h
+      (λ e k. with_same (inner_member_value Stated info name) (inner_member_value Broad info name) inner_kept no_definitions e ms k) (λ e k. k) h
 
-  inner_says_kept : (id : ℕ) (d : BtfMapDef) → inner_says Stated info name id ≡ Ok d → inner_says Broad info name id ≡ Ok d
+  inner_says_kept : (id : ℕ) (d : BtfMapDef) → inner_struct_definition Stated info name id ≡ Ok d → inner_struct_definition Broad info name id ≡ Ok d
   inner_says_kept id d h =
       via (members_at info.types id) (members_at info.types id) (λ ms. inner_definition Stated info name ms) (λ ms. inner_definition Broad info name ms) d (λ ms k. k) (λ ms k. inner_definition_kept ms d k) h
 
   -- maps that a map holds are no programs
-  inner_alone : (held : ℕ) (d : BtfMapDef) → inner_says Stated info name held ≡ Ok d → are_programs Broad info.types held ≡ false
+  inner_alone : (held : ℕ) (d : BtfMapDef) → inner_struct_definition Stated info name held ≡ Ok d → are_programs Broad info.types held ≡ false
   inner_alone held d h = by_members (members_at info.types held) refl h
     where
       by_members : (r : Result (List BtfMember) BtfError) → members_at info.types held ≡ r → if_ok r (λ ms. inner_definition Stated info name ms) ≡ Ok d → are_programs Broad info.types held ≡ false
       by_members (Err e) is k = absurd (cc)
       by_members (Ok ms) is k = no_programs info.types held ms is
 
-  values_kept : (held : ℕ) (s : Saying) → if_ok (inner_says Stated info name held) (λ inner. Ok (said.Values inner)) ≡ Ok s
-      → (if are_programs Broad info.types held then Ok said.Programs else if_ok (inner_says Broad info name held) (λ inner. Ok (said.Values inner))) ≡ Ok s
-  values_kept held s h = by_inner (inner_says Stated info name held) refl h
+  values_kept : (held : ℕ) (s : MemberValue) → if_ok (inner_struct_definition Stated info name held) (λ inner. Ok (said.Values inner)) ≡ Ok s
+      → (if are_programs Broad info.types held then Ok said.Programs else if_ok (inner_struct_definition Broad info name held) (λ inner. Ok (said.Values inner))) ≡ Ok s
+  values_kept held s h = by_inner (inner_struct_definition Stated info name held) refl h
     where
-      by_inner : (r : Result BtfMapDef BtfError) → inner_says Stated info name held ≡ r → if_ok r (λ inner. Ok (said.Values inner)) ≡ Ok s
-          → (if are_programs Broad info.types held then Ok said.Programs else if_ok (inner_says Broad info name held) (λ inner. Ok (said.Values inner))) ≡ Ok s
+      by_inner : (r : Result BtfMapDef BtfError) → inner_struct_definition Stated info name held ≡ r → if_ok r (λ inner. Ok (said.Values inner)) ≡ Ok s
+          → (if are_programs Broad info.types held then Ok said.Programs else if_ok (inner_struct_definition Broad info name held) (λ inner. Ok (said.Values inner))) ≡ Ok s
       by_inner (Err e) is k = absurd (cc)
       by_inner (Ok d) is k =
-          ap (λ b. if b then Ok said.Programs else if_ok (inner_says Broad info name held) (λ inner. Ok (said.Values inner))) (inner_alone held d is)
+          ap (λ b. if b then Ok said.Programs else if_ok (inner_struct_definition Broad info name held) (λ inner. Ok (said.Values inner))) (inner_alone held d is)
           ∙ ap (λ (r : Result BtfMapDef BtfError). if_ok r (λ inner. Ok (said.Values inner))) (inner_says_kept held d is) ∙ k
 
-  saying_of_kept : (m : MapMember) (id : ℕ) (s : Saying) → saying_of Stated info name m id ≡ Ok s → saying_of Broad info name m id ≡ Ok s
-  unfolding saying_of
-  saying_of_kept (about.Number of) id s h = plain_kept info.types (about.Number of) id s h
-  saying_of_kept about.Pinning id s h = plain_kept info.types about.Pinning id s h
-  saying_of_kept about.Key id s h = plain_kept info.types about.Key id s h
-  saying_of_kept about.Value id s h = plain_kept info.types about.Value id s h
-  saying_of_kept about.Values id s h =
-      via (held_struct info.types name id) (held_struct info.types name id) (λ held. if_ok (inner_says Stated info name held) (λ inner. Ok (said.Values inner)))
-      (λ held. if are_programs Broad info.types held then Ok said.Programs else if_ok (inner_says Broad info name held) (λ inner. Ok (said.Values inner))) s
+  member_value_of_kept : (m : MapMember) (id : ℕ) (s : MemberValue) → member_value_of Stated info name m id ≡ Ok s → member_value_of Broad info name m id ≡ Ok s
+  unfolding member_value_of
+  member_value_of_kept (about.Number of) id s h = plain_kept info.types (about.Number of) id s h
+  member_value_of_kept about.Pinning id s h = plain_kept info.types about.Pinning id s h
+  member_value_of_kept about.Key id s h = plain_kept info.types about.Key id s h
+  member_value_of_kept about.Value id s h = plain_kept info.types about.Value id s h
+  member_value_of_kept about.Values id s h =
+      via (inner_map_struct info.types name id) (inner_map_struct info.types name id) (λ held. if_ok (inner_struct_definition Stated info name held) (λ inner. Ok (said.Values inner)))
+      (λ held. if are_programs Broad info.types held then Ok said.Programs else if_ok (inner_struct_definition Broad info name held) (λ inner. Ok (said.Values inner))) s
       (λ held k. k) (λ held k. values_kept held s k) h
-  saying_of_kept about.Other id s h = plain_kept info.types about.Other id s h
+  member_value_of_kept about.Other id s h = plain_kept info.types about.Other id s h
 
-  saying_kept : (m : BtfMember) (s : Saying) → saying Stated info name m ≡ Ok s → saying Broad info name m ≡ Ok s
-  unfolding saying
-  saying_kept m s h = via (member_at info.strings m) (member_at info.strings m) _ _ s (λ x k. k) (λ about k. saying_of_kept about m.btf_type s k) h
+  member_value_kept : (m : BtfMember) (s : MemberValue) → member_value Stated info name m ≡ Ok s → member_value Broad info name m ≡ Ok s
+  unfolding member_value
+  member_value_kept m s h = via (map_member_at info.strings m) (map_member_at info.strings m) _ _ s (λ x k. k) (λ about k. member_value_of_kept about m.btf_type s k) h
 
-  says_kept : (id : ℕ) (d : MapDefinitions) → struct_says Stated info name id ≡ Ok d → struct_says Broad info name id ≡ Ok d
+  says_kept : (id : ℕ) (d : MapDefinitions) → struct_definitions Stated info name id ≡ Ok d → struct_definitions Broad info name id ≡ Ok d
   says_kept id d h =
       via (members_at info.types id) (members_at info.types id) (λ ms. definitions Stated info name ms) (λ ms. definitions Broad info name ms) d (λ ms k. k)
-      (λ ms k. with_same (saying Stated info name) (saying Broad info name) saying_kept no_definitions d ms k) h
+      (λ ms k. with_same (member_value Stated info name) (member_value Broad info name) member_value_kept no_definitions d ms k) h
 
 -- ---- maps
 
@@ -182,8 +182,8 @@ by_some (Some a) f g e x each h = each a h
 module _ (info : TypeInfo) (p : List ℕ × MapDefinitions) where
   named_kept : (name : List ℕ) (id : ℕ) → named_by Stated info name id ≡ Ok p → named_by Broad info name id ≡ Ok p
   named_kept name id h =
-      via (resolved info.types id) (resolved info.types id) (λ held. if_ok (struct_says Stated info name held) (λ d. Ok (name, d))) (λ held. if_ok (struct_says Broad info name held) (λ d. Ok (name, d))) p (λ held k. k)
-      (λ held k. via (struct_says Stated info name held) (struct_says Broad info name held) (λ d. Ok (name, d)) (λ d. Ok (name, d)) p (says_kept info name held) (λ d g. g) k) h
+      via (resolved info.types id) (resolved info.types id) (λ held. if_ok (struct_definitions Stated info name held) (λ d. Ok (name, d))) (λ held. if_ok (struct_definitions Broad info name held) (λ d. Ok (name, d))) p (λ held k. k)
+      (λ held k. via (struct_definitions Stated info name held) (struct_definitions Broad info name held) (λ d. Ok (name, d)) (λ d. Ok (name, d)) p (says_kept info name held) (λ d g. g) k) h
 
   type_kept : (t : BtfType) → from_type Stated info t ≡ Ok p → from_type Broad info t ≡ Ok p
   type_kept t h =
@@ -196,36 +196,36 @@ module _ (info : TypeInfo) (p : List ℕ × MapDefinitions) where
       ∙ via (type_at info.types entry.btf_type) (type_at info.types entry.btf_type) (from_type Stated info) (from_type Broad info) p (λ t k. k) (λ t k. type_kept t k) (sym (by_type Stated info entry) ∙ h)
 
 module _ (info : TypeInfo) (symbols : List ℕ → Option ℕ) (section : ℕ) where
-  entry_kept : (entry : DataSecEntry) → fault_of (map_of Stated info symbols section entry) ≡ None
-      → (given (map_of Broad info symbols section entry) ≡ given (map_of Stated info symbols section entry)) × (fault_of (map_of Broad info symbols section entry) ≡ None)
-  unfolding map_of
+  entry_kept : (entry : DataSecEntry) → fault_of (entry_map Stated info symbols section entry) ≡ None
+      → (given (entry_map Broad info symbols section entry) ≡ given (entry_map Stated info symbols section entry)) × (fault_of (entry_map Broad info symbols section entry) ≡ None)
+  unfolding entry_map
   entry_kept entry none = by_declared (declared Stated info entry) refl none
     where
-      by_declared : (r : Result (List ℕ × MapDefinitions) BtfError) → declared Stated info entry ≡ r → fault_of (placed symbols section r) ≡ None
-          → (given (placed symbols section (declared Broad info entry)) ≡ given (placed symbols section r)) × (fault_of (placed symbols section (declared Broad info entry)) ≡ None)
+      by_declared : (r : Result (List ℕ × MapDefinitions) BtfError) → declared Stated info entry ≡ r → fault_of (map_with_symbol symbols section r) ≡ None
+          → (given (map_with_symbol symbols section (declared Broad info entry)) ≡ given (map_with_symbol symbols section r)) × (fault_of (map_with_symbol symbols section (declared Broad info entry)) ≡ None)
       by_declared (Err e) is k = absurd (cc)
       by_declared (Ok p) is k =
           let same : declared Broad info entry ≡ Ok p = declared_kept info p entry is in
-          (ap (λ r. given (placed symbols section r)) same, ap (λ r. fault_of (placed symbols section r)) same ∙ k)
+          (ap (λ r. given (map_with_symbol symbols section r)) same, ap (λ r. fault_of (map_with_symbol symbols section r)) same ∙ k)
 
   entries_kept : (entries : List DataSecEntry) → entries_fault Stated info symbols section entries ≡ None
       → (entries_maps Broad info symbols section entries ≡ entries_maps Stated info symbols section entries) × (entries_fault Broad info symbols section entries ≡ None)
   entries_kept entries none =
-      all_kept (λ entry. given (map_of Stated info symbols section entry)) (λ entry. given (map_of Broad info symbols section entry))
-      (λ entry. fault_of (map_of Stated info symbols section entry)) (λ entry. fault_of (map_of Broad info symbols section entry)) entry_kept entries none
+      all_kept (λ entry. given (entry_map Stated info symbols section entry)) (λ entry. given (entry_map Broad info symbols section entry))
+      (λ entry. fault_of (entry_map Stated info symbols section entry)) (λ entry. fault_of (entry_map Broad info symbols section entry)) entry_kept entries none
 
-  met_kept : (met : Option MetSection) → fault_by Stated info symbols section met ≡ None
-      → (maps_by Broad info symbols section met ≡ maps_by Stated info symbols section met) × (fault_by Broad info symbols section met ≡ None)
+  met_kept : (met : Option DatasecMatch) → matched_maps_fault Stated info symbols section met ≡ None
+      → (matched_maps Broad info symbols section met ≡ matched_maps Stated info symbols section met) × (matched_maps_fault Broad info symbols section met ≡ None)
   met_kept None none = (refl, refl)
   met_kept (Some (Named entries)) none = entries_kept entries none
   met_kept (Some (UnreadableName e)) none = absurd (cc)
 
-  type_met : (name : List ℕ) (t : BtfType) → type_fault Stated info symbols section name t ≡ None
-      → (type_maps Broad info symbols section name t ≡ type_maps Stated info symbols section name t) × (type_fault Broad info symbols section name t ≡ None)
-  unfolding type_maps type_fault
-  type_met name t none = met_kept (met_section info name t) none
+  type_met : (name : List ℕ) (t : BtfType) → type_maps_fault Stated info symbols section name t ≡ None
+      → (type_maps Broad info symbols section name t ≡ type_maps Stated info symbols section name t) × (type_maps_fault Broad info symbols section name t ≡ None)
+  unfolding type_maps type_maps_fault
+  type_met name t none = met_kept (datasec_match info name t) none
 
 pub broad_declares_as_stated : BroadDeclaresAsStated
 broad_declares_as_stated info symbols section name none =
     all_kept (type_maps Stated info symbols section name) (type_maps Broad info symbols section name)
-    (type_fault Stated info symbols section name) (type_fault Broad info symbols section name) (type_met info symbols section name) info.types none
+    (type_maps_fault Stated info symbols section name) (type_maps_fault Broad info symbols section name) (type_met info symbols section name) info.types none

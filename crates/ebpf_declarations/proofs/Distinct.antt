@@ -15,9 +15,9 @@ use Rattle.ebpf_btf.specs.Next.{if_some}
 use Rattle.ebpf_btf.specs.TypeInfo.{TypeInfo}
 use Rattle.ebpf_btf.specs.declared.members.DataSecEntry.{DataSecEntry}
 use Rattle.ebpf_declarations.specs.Attempts.{given}
-use Rattle.ebpf_declarations.specs.DistinctMaps.{is_among, AreNamed, IsWith, last_of, missing, last_map, distinct_maps, distinct_fault, Adds, AreKept}
-use Rattle.ebpf_declarations.specs.Maps.{declared, map_at, placed, map_of, entries_maps, entries_fault, btf_maps, btf_maps_fault}
-use Rattle.ebpf_declarations.specs.NamedSections.{entries_at, ids_maps, ids_fault, unreadable_fault, AreFound}
+use Rattle.ebpf_declarations.specs.DistinctMaps.{is_name_among, AreNamed, IsWith, last_of, missing, last_map, distinct_maps, distinct_fault, Adds, AreSectionMaps}
+use Rattle.ebpf_declarations.specs.Maps.{declared, map_at, map_with_symbol, entry_map, entries_maps, entries_fault, btf_maps, btf_maps_fault}
+use Rattle.ebpf_declarations.specs.NamedSections.{datasec_entries_at, ids_maps, ids_fault, unreadable_name_fault, AreFound}
 use Rattle.ebpf_declarations.specs.declared.definitions.MapDefinitions.{MapDefinitions}
 use Rattle.ebpf_declarations.specs.declared.distinct_maps.DistinctMaps.{DistinctMaps}
 use Rattle.ebpf_declarations.specs.declared.named_sections.NamedSections.{NamedSections}
@@ -56,11 +56,11 @@ last_at-append q a (e ∷ es) fs = last_at-append q (if eq_by_cmp text_cmp q e.0
 abbrev map_by : ℕ → Option MapDefinitions → Option ℕ → Option Map
 map_by section o y = if_some y (λ y. if_some o (λ d. Some (map_at d section y)) None) None
 
-abbrev placed_by : ℕ → List ℕ → Option MapDefinitions → Option ℕ → List (List ℕ × Map)
-placed_by section name o y = if_some o (λ d. given (if_some y (λ y. Ok (name, map_at d section y)) (Err (errors.SymbolNotFound name)))) []
+abbrev with_symbol_by : ℕ → List ℕ → Option MapDefinitions → Option ℕ → List (List ℕ × Map)
+with_symbol_by section name o y = if_some o (λ d. given (if_some y (λ y. Ok (name, map_at d section y)) (Err (errors.SymbolNotFound name)))) []
 
 one_at : (section : ℕ) (q name : List ℕ) (a : Option Map) (o : Option MapDefinitions) (y : Option ℕ)
-    → last_at text_cmp q a (placed_by section name o y) ≡ (if eq_by_cmp text_cmp q name then or_else (map_by section o y) a else a)
+    → last_at text_cmp q a (with_symbol_by section name o y) ≡ (if eq_by_cmp text_cmp q name then or_else (map_by section o y) a else a)
 one_at section q name a (Some d) (Some y) = refl
 one_at section q name a (Some d) None = same_choice (eq_by_cmp text_cmp q name) a
 one_at section q name a None (Some y) = same_choice (eq_by_cmp text_cmp q name) a
@@ -85,7 +85,7 @@ missing_fault section name d (Some y) = refl
 at_name : (q name : List ℕ) → eq_by_cmp text_cmp q name ≡ true → q ≡ name
 at_name q name is = text_exact q name (equal _ is)
 
-among_more : (q name : List ℕ) (names : List (List ℕ)) → is_among q (names ++ (name ∷ [])) ≡ (if is_among q names then true else eq_by_cmp text_cmp q name)
+among_more : (q name : List ℕ) (names : List (List ℕ)) → is_name_among q (names ++ (name ∷ [])) ≡ (if is_name_among q names then true else eq_by_cmp text_cmp q name)
 among_more q name [] = by_test (eq_by_cmp text_cmp q name)
   where
     by_test : (b : Bool) → (if b then true else false) ≡ b
@@ -93,12 +93,12 @@ among_more q name [] = by_test (eq_by_cmp text_cmp q name)
     by_test false = refl
 among_more q name (n ∷ names) = ap (λ b. if eq_by_cmp text_cmp q n then true else b) (among_more q name names) ∙ by_test (eq_by_cmp text_cmp q n)
   where
-    by_test : (b : Bool) → (if b then true else (if is_among q names then true else eq_by_cmp text_cmp q name)) ≡ (if (if b then true else is_among q names) then true else eq_by_cmp text_cmp q name)
+    by_test : (b : Bool) → (if b then true else (if is_name_among q names then true else eq_by_cmp text_cmp q name)) ≡ (if (if b then true else is_name_among q names) then true else eq_by_cmp text_cmp q name)
     by_test true = refl
     by_test false = refl
 
 -- the fault of a name that is there already
-among_fault : {E : Type 0} (f : List ℕ → Option E) (name : List ℕ) (names : List (List ℕ)) → is_among name names ≡ true → first_some f names ≡ or_else (first_some f names) (f name)
+among_fault : {E : Type 0} (f : List ℕ → Option E) (name : List ℕ) (names : List (List ℕ)) → is_name_among name names ≡ true → first_some f names ≡ or_else (first_some f names) (f name)
 among_fault f name [] there = absurd (cc)
 among_fault f name (n ∷ names) there = by_test (eq_by_cmp text_cmp name n) refl (among_fault f name names) there
   where
@@ -106,7 +106,7 @@ among_fault f name (n ∷ names) there = by_test (eq_by_cmp text_cmp name n) ref
     by_first None is same = sym (ap (or_else (first_some f names)) (same ∙ is) ∙ or_none (first_some f names))
     by_first (Some e) is same = refl
 
-    by_test : (b : Bool) → eq_by_cmp text_cmp name n ≡ b → (is_among name names ≡ true → first_some f names ≡ or_else (first_some f names) (f name)) → (if b then true else is_among name names) ≡ true
+    by_test : (b : Bool) → eq_by_cmp text_cmp name n ≡ b → (is_name_among name names ≡ true → first_some f names ≡ or_else (first_some f names) (f name)) → (if b then true else is_name_among name names) ≡ true
         → or_else (f n) (first_some f names) ≡ or_else (or_else (f n) (first_some f names)) (f name)
     by_test true at later there = by_first (f n) refl (ap f (at_name name n at))
     by_test false at later there = ap (or_else (f n)) (later there) ∙ sym (or_other (f n) (first_some f names) (f name))
@@ -122,13 +122,13 @@ module _ (symbols : List ℕ → Option ℕ) (section : ℕ) (last : List ℕ �
 
   -- what stands at a name once the maps of names are put
   at_names : (a : Option Map) (names : List (List ℕ))
-      → last_at text_cmp q a (flat_map (last_map symbols section last) names) ≡ (if is_among q names then or_else (map_by section (last q) (symbols q)) a else a)
+      → last_at text_cmp q a (flat_map (last_map symbols section last) names) ≡ (if is_name_among q names then or_else (map_by section (last q) (symbols q)) a else a)
   at_names a [] = refl
   at_names a (name ∷ names) =
       last_at-append q a (last_map symbols section last name) (flat_map (last_map symbols section last) names)
       ∙ ap (λ x. last_at text_cmp q x (flat_map (last_map symbols section last) names)) (here a name)
       ∙ at_names (if eq_by_cmp text_cmp q name then or_else (map_by section (last q) (symbols q)) a else a) names
-      ∙ both_choices (eq_by_cmp text_cmp q name) (is_among q names) (map_by section (last q) (symbols q)) a
+      ∙ both_choices (eq_by_cmp text_cmp q name) (is_name_among q names) (map_by section (last q) (symbols q)) a
 
 at_map : (symbols : List ℕ → Option ℕ) (section : ℕ) (kept : DistinctMaps) → AreNamed kept → (m : FinMap text_cmp Map) (q : List ℕ)
     → get (put_all m (distinct_maps symbols section kept)) q ≡ or_else (map_by section (last_of kept q) (symbols q)) (get m q)
@@ -138,10 +138,10 @@ at_map symbols section kept named m q =
     ∙ by_last (last_of kept q) refl
   where
     by_last : (o : Option MapDefinitions) → last_of kept q ≡ o
-        → (if is_among q kept.names then or_else (map_by section o (symbols q)) (get m q) else get m q) ≡ or_else (map_by section o (symbols q)) (get m q)
+        → (if is_name_among q kept.names then or_else (map_by section o (symbols q)) (get m q) else get m q) ≡ or_else (map_by section o (symbols q)) (get m q)
     by_last None is =
-        ap (λ v. if is_among q kept.names then or_else v (get m q) else get m q) (not_defined section (symbols q))
-        ∙ sym (same_choice (is_among q kept.names) (get m q)) ∙ ap (λ v. or_else v (get m q)) (sym (not_defined section (symbols q)))
+        ap (λ v. if is_name_among q kept.names then or_else v (get m q) else get m q) (not_defined section (symbols q))
+        ∙ sym (same_choice (is_name_among q kept.names) (get m q)) ∙ ap (λ v. or_else v (get m q)) (sym (not_defined section (symbols q)))
     by_last (Some d) is = ap (λ b. if b then or_else (map_by section (Some d) (symbols q)) (get m q) else get m q) (defined_name kept named q d is)
 
 -- ---- one more map
@@ -154,12 +154,12 @@ module _ (kept : DistinctMaps) (name : List ℕ) (d : MapDefinitions) (named : A
 
   maps_more : (symbols : List ℕ → Option ℕ) (section : ℕ) (m : FinMap text_cmp Map) (q : List ℕ)
       → get (put_all m (distinct_maps symbols section after)) q
-      ≡ get (put_all (put_all m (distinct_maps symbols section kept)) (placed_by section name (Some d) (symbols name))) q
+      ≡ get (put_all (put_all m (distinct_maps symbols section kept)) (with_symbol_by section name (Some d) (symbols name))) q
   maps_more symbols section m q =
       at_map symbols section after more.named m q
       ∙ ap (λ o. or_else (map_by section o (symbols q)) (get m q)) (more.last q)
       ∙ by_test (eq_by_cmp text_cmp q name) refl
-      ∙ sym (later_text_stands (put_all m (distinct_maps symbols section kept)) (placed_by section name (Some d) (symbols name)) q
+      ∙ sym (later_text_stands (put_all m (distinct_maps symbols section kept)) (with_symbol_by section name (Some d) (symbols name)) q
       ∙ one_at section q name (get (put_all m (distinct_maps symbols section kept)) q) (Some d) (symbols name)
       ∙ ap (λ a. if eq_by_cmp text_cmp q name then or_else (map_by section (Some d) (symbols name)) a else a) (at_map symbols section kept named m q))
     where
@@ -171,7 +171,7 @@ module _ (kept : DistinctMaps) (name : List ℕ) (d : MapDefinitions) (named : A
           ∙ ap (λ n. or_else (map_by section (Some d) (symbols n)) (or_else (map_by section (last_of kept q) (symbols q)) (get m q))) (at_name q name at)
       by_test false at = refl
 
-  pub one_added : Adds kept after (λ symbols section. given (placed symbols section (Ok (name, d)))) (λ symbols section. fault_of (placed symbols section (Ok (name, d))))
+  pub one_added : Adds kept after (λ symbols section. given (map_with_symbol symbols section (Ok (name, d)))) (λ symbols section. fault_of (map_with_symbol symbols section (Ok (name, d))))
   one_added = record {
     named = more.named;
     maps = λ symbols section m. same_map text_total text_exact _ _ (maps_more symbols section m);
@@ -222,10 +222,10 @@ all_added more wrong a b items i past = subst (AddsAll a b more wrong) (take_all
 
 -- an entry that is declared
 pub entry_added : (reading : Reading) (info : TypeInfo) (entry : DataSecEntry) (kept after : DistinctMaps) (name : List ℕ) (d : MapDefinitions) → AreNamed kept → declared reading info entry ≡ Ok (name, d) → IsWith kept name d after
-    → Adds kept after (λ symbols section. given (map_of reading info symbols section entry)) (λ symbols section. fault_of (map_of reading info symbols section entry))
-unfolding map_of
+    → Adds kept after (λ symbols section. given (entry_map reading info symbols section entry)) (λ symbols section. fault_of (entry_map reading info symbols section entry))
+unfolding entry_map
 entry_added reading info entry kept after name d named is more =
-    subst (λ r. Adds kept after (λ symbols section. given (placed symbols section r)) (λ symbols section. fault_of (placed symbols section r))) (sym is) (one_added kept name d named after more)
+    subst (λ r. Adds kept after (λ symbols section. given (map_with_symbol symbols section r)) (λ symbols section. fault_of (map_with_symbol symbols section r))) (sym is) (one_added kept name d named after more)
 
 -- what was added is there under other offsets too
 pub same_added : (a b c : DistinctMaps) (more : (List ℕ → Option ℕ) → ℕ → List (List ℕ × Map)) (wrong : (List ℕ → Option ℕ) → ℕ → Option ParseError) → Adds a b more wrong → IsSame b c → Adds a c more wrong
@@ -245,25 +245,25 @@ pub entries_more : (reading : Reading) (info : TypeInfo) (a b c : DistinctMaps) 
     → i < length entries
     → Adds a b (λ symbols section. entries_maps reading info symbols section (take i entries)) (λ symbols section. entries_fault reading info symbols section (take i entries))
     → entry ≡ slice_index_or entries i x
-    → Adds b c (λ symbols section. given (map_of reading info symbols section entry)) (λ symbols section. fault_of (map_of reading info symbols section entry))
+    → Adds b c (λ symbols section. given (entry_map reading info symbols section entry)) (λ symbols section. fault_of (entry_map reading info symbols section entry))
     → Adds a c (λ symbols section. entries_maps reading info symbols section (take (i + 1) entries)) (λ symbols section. entries_fault reading info symbols section (take (i + 1) entries))
 entries_more reading info a b c entries i x entry below before is one =
-    more_added (λ entry symbols section. given (map_of reading info symbols section entry)) (λ entry symbols section. fault_of (map_of reading info symbols section entry)) a b c entries i x below before
-    (subst (λ (e : DataSecEntry). Adds b c (λ symbols section. given (map_of reading info symbols section e)) (λ symbols section. fault_of (map_of reading info symbols section e))) is one)
+    more_added (λ entry symbols section. given (entry_map reading info symbols section entry)) (λ entry symbols section. fault_of (entry_map reading info symbols section entry)) a b c entries i x below before
+    (subst (λ (e : DataSecEntry). Adds b c (λ symbols section. given (entry_map reading info symbols section e)) (λ symbols section. fault_of (entry_map reading info symbols section e))) is one)
 
 pub sections_more : (reading : Reading) (info : TypeInfo) (a b c : DistinctMaps) (ids : List ℕ) (i id : ℕ) (entries : List DataSecEntry)
     → i < length ids
     → Adds a b (λ symbols section. ids_maps reading info symbols section (take i ids)) (λ symbols section. ids_fault reading info symbols section (take i ids))
-    → entries ≡ entries_at info.types (slice_index_or ids i id)
+    → entries ≡ datasec_entries_at info.types (slice_index_or ids i id)
     → Adds b c (λ symbols section. entries_maps reading info symbols section entries) (λ symbols section. entries_fault reading info symbols section entries)
     → Adds a c (λ symbols section. ids_maps reading info symbols section (take (i + 1) ids)) (λ symbols section. ids_fault reading info symbols section (take (i + 1) ids))
 sections_more reading info a b c ids i id entries below before are more =
-    more_added (λ id symbols section. entries_maps reading info symbols section (entries_at info.types id)) (λ id symbols section. entries_fault reading info symbols section (entries_at info.types id)) a b c ids i id below before
+    more_added (λ id symbols section. entries_maps reading info symbols section (datasec_entries_at info.types id)) (λ id symbols section. entries_fault reading info symbols section (datasec_entries_at info.types id)) a b c ids i id below before
     (subst (λ l. Adds b c (λ symbols section. entries_maps reading info symbols section l) (λ symbols section. entries_fault reading info symbols section l)) are more)
 
 -- ---- by the names of sections
 
-pub none_kept : (reading : Reading) (info : TypeInfo) (kept : FinMap text_cmp DistinctMaps) → kept ≡ empty → AreKept reading info kept
+pub none_kept : (reading : Reading) (info : TypeInfo) (kept : FinMap text_cmp DistinctMaps) → kept ≡ empty → AreSectionMaps reading info kept
 none_kept reading info kept is = record {
   maps = λ name k at symbols section m q. let wrong : None ≡ Some k = sym (get-empty text_cmp name) ∙ ap (λ x. get x name) (sym is) ∙ at in absurd (cc);
   fault = λ name k at symbols section. let wrong : None ≡ Some k = sym (get-empty text_cmp name) ∙ ap (λ x. get x name) (sym is) ∙ at in absurd (cc);
@@ -282,10 +282,10 @@ module _ (reading : Reading) (info : TypeInfo) (sections : NamedSections) (found
       adds.fault symbols section
       ∙ ap (λ l. or_else (first_some (missing symbols) l) (ids_fault reading info symbols section ids)) nameless
       ∙ sym (or_none (ids_fault reading info symbols section ids))
-      ∙ ap (λ u. or_else (ids_fault reading info symbols section ids) (unreadable_fault u)) (sym readable)
+      ∙ ap (λ u. or_else (ids_fault reading info symbols section ids) (unreadable_name_fault u)) (sym readable)
       ∙ found.fault reading name ids there symbols section
 
-  pub one_kept : (kept after : FinMap text_cmp DistinctMaps) → AreKept reading info kept → after ≡ insert kept name k → AreKept reading info after
+  pub one_kept : (kept after : FinMap text_cmp DistinctMaps) → AreSectionMaps reading info kept → after ≡ insert kept name k → AreSectionMaps reading info after
   one_kept kept after before put = record {
     maps = λ q e at symbols section m r. maps_step q e symbols section m r (eq_by_cmp text_cmp q name) refl (looked q ∙ at);
     fault = λ q e at symbols section. fault_step q e symbols section (eq_by_cmp text_cmp q name) refl (looked q ∙ at);
@@ -310,6 +310,6 @@ module _ (reading : Reading) (info : TypeInfo) (sections : NamedSections) (found
           ap (λ (x : DistinctMaps). distinct_fault symbols x) (sym same) ∙ all_fault symbols section ∙ ap (btf_maps_fault reading info symbols section) (sym (at_name q name here))
       fault_step q e symbols section false here at = before.fault q e (sym (ap (λ b. cond b (Some k) (get kept q)) here) ∙ at) symbols section
 
-pub kept_maps : (reading : Reading) (info : TypeInfo) (kept : FinMap text_cmp DistinctMaps) (name : List ℕ) (k : DistinctMaps) → AreKept reading info kept → get kept name ≡ Some k → (symbols : List ℕ → Option ℕ) (section : ℕ) (m : FinMap text_cmp Map)
+pub kept_maps : (reading : Reading) (info : TypeInfo) (kept : FinMap text_cmp DistinctMaps) (name : List ℕ) (k : DistinctMaps) → AreSectionMaps reading info kept → get kept name ≡ Some k → (symbols : List ℕ → Option ℕ) (section : ℕ) (m : FinMap text_cmp Map)
     → put_all m (distinct_maps symbols section k) ≡ put_all m (btf_maps reading info symbols section name)
 kept_maps reading info kept name k are at symbols section m = same_map text_total text_exact _ _ (are.maps name k at symbols section m)

@@ -16,14 +16,14 @@ use Rattle.ebpf_btf.specs.Next.{if_some, if_ok}
 use Rattle.ebpf_btf.specs.Steps.{type_at, resolved}
 use Rattle.ebpf_btf.specs.Strings.{text_at}
 use Rattle.ebpf_btf.specs.TypeInfo.{TypeInfo}
-use Rattle.ebpf_btf.specs.Types.{name_of}
+use Rattle.ebpf_btf.specs.Types.{name_off}
 use Rattle.ebpf_btf.specs.declared.error.BtfError.{BtfError}
 use Rattle.ebpf_btf.specs.declared.error.BtfError.TheVariants.{InvalidDatasec, InvalidSymbolName}
 use Rattle.ebpf_btf.specs.declared.members.DataSecEntry.{DataSecEntry}
 use Rattle.ebpf_btf.specs.declared.types.BtfType.{BtfType}
 use Rattle.ebpf_declarations.specs.Attempts.{given}
-use Rattle.ebpf_declarations.specs.ExternNames.{weak_at, named, all_named, IsNamed, put_before, ArePut}
-use Rattle.ebpf_declarations.specs.Externs.{extern_of, held, new_extern}
+use Rattle.ebpf_declarations.specs.ExternNames.{weak_at, named, all_named, IsNamed, put_before, NamesArePut}
+use Rattle.ebpf_declarations.specs.Externs.{extern_of, func_or_var_type, new_extern}
 use Rattle.ebpf_declarations.proofs.KnownStructs.{equal_numbers}
 use Rattle.ebpf_declarations.proofs.NamedSections.{equal, flat_map-append, or_none, or_other, first_some-append}
 use Rattle.ebpf_reloc.specs.declared.extern_desc.ExternDesc.{ExternDesc}
@@ -62,29 +62,29 @@ module _ (info : TypeInfo) (weak : List ℕ → Option Bool) (entry : DataSecEnt
   abbrev made : List ℕ → Bool → Result (List ℕ × ExternDesc) BtfError
   made name w = if_ok (resolved info.types id) (λ r. Ok (name, new_extern entry.btf_type t w r))
 
-  begins : type_at info.types entry.btf_type ≡ Ok t → held t ≡ Some id → extern_of info weak entry ≡ followed (text_at info.strings (name_of t)) weak made
+  begins : type_at info.types entry.btf_type ≡ Ok t → func_or_var_type t ≡ Some id → extern_of info weak entry ≡ followed (text_at info.strings (name_off t)) weak made
   unfolding extern_of
   begins here holds =
-      ap (λ x. if_ok x (λ t. if_some (held t) (λ id. if_ok (text_at info.strings (name_of t)) (λ name. if_some (weak name) (λ is_weak. if_ok (resolved info.types id) (λ r. Ok (name, new_extern entry.btf_type t is_weak r))) (Err InvalidSymbolName))) (Err InvalidDatasec))) here
-      ∙ ap (λ o. if_some o (λ id. if_ok (text_at info.strings (name_of t)) (λ name. if_some (weak name) (λ is_weak. if_ok (resolved info.types id) (λ r. Ok (name, new_extern entry.btf_type t is_weak r))) (Err InvalidSymbolName))) (Err InvalidDatasec)) holds
+      ap (λ x. if_ok x (λ t. if_some (func_or_var_type t) (λ id. if_ok (text_at info.strings (name_off t)) (λ name. if_some (weak name) (λ is_weak. if_ok (resolved info.types id) (λ r. Ok (name, new_extern entry.btf_type t is_weak r))) (Err InvalidSymbolName))) (Err InvalidDatasec))) here
+      ∙ ap (λ o. if_some o (λ id. if_ok (text_at info.strings (name_off t)) (λ name. if_some (weak name) (λ is_weak. if_ok (resolved info.types id) (λ r. Ok (name, new_extern entry.btf_type t is_weak r))) (Err InvalidSymbolName))) (Err InvalidDatasec)) holds
 
-  pub one_extern : (w : Bool) (r : ℕ) → type_at info.types entry.btf_type ≡ Ok t → held t ≡ Some id → weak_at info weak (name_of t) ≡ Ok w → resolved info.types id ≡ Ok r
-      → IsNamed info (extern_of info weak entry) (name_of t) (new_extern entry.btf_type t w r)
+  pub one_extern : (w : Bool) (r : ℕ) → type_at info.types entry.btf_type ≡ Ok t → func_or_var_type t ≡ Some id → weak_at info weak (name_off t) ≡ Ok w → resolved info.types id ≡ Ok r
+      → IsNamed info (extern_of info weak entry) (name_off t) (new_extern entry.btf_type t w r)
   unfolding named
   one_extern w r here holds is to =
-      let p : (n : List ℕ) × (text_at info.strings (name_of t) ≡ Ok n) = where_read weak made (text_at info.strings (name_of t)) w is in (
-        begins here holds ∙ where_weak weak made (text_at info.strings (name_of t)) w is
-            ∙ ap (λ x. if_ok (text_at info.strings (name_of t)) (λ name. if_ok x (λ r. Ok (name, new_extern entry.btf_type t w r)))) to,
+      let p : (n : List ℕ) × (text_at info.strings (name_off t) ≡ Ok n) = where_read weak made (text_at info.strings (name_off t)) w is in (
+        begins here holds ∙ where_weak weak made (text_at info.strings (name_off t)) w is
+            ∙ ap (λ x. if_ok (text_at info.strings (name_off t)) (λ name. if_ok x (λ r. Ok (name, new_extern entry.btf_type t w r)))) to,
         ap (λ x. fault_of {X = List ℕ × ExternDesc} (if_ok x (λ name. Ok (name, new_extern entry.btf_type t w r)))) p.1,
       )
 
-  pub no_symbol : (e : BtfError) → type_at info.types entry.btf_type ≡ Ok t → held t ≡ Some id → weak_at info weak (name_of t) ≡ Err e → extern_of info weak entry ≡ Err e
-  no_symbol e here holds is = begins here holds ∙ where_fault weak made (text_at info.strings (name_of t)) e is
+  pub no_symbol : (e : BtfError) → type_at info.types entry.btf_type ≡ Ok t → func_or_var_type t ≡ Some id → weak_at info weak (name_off t) ≡ Err e → extern_of info weak entry ≡ Err e
+  no_symbol e here holds is = begins here holds ∙ where_fault weak made (text_at info.strings (name_off t)) e is
 
-  pub unresolved : (w : Bool) (e : BtfError) → type_at info.types entry.btf_type ≡ Ok t → held t ≡ Some id → weak_at info weak (name_of t) ≡ Ok w → resolved info.types id ≡ Err e → extern_of info weak entry ≡ Err e
+  pub unresolved : (w : Bool) (e : BtfError) → type_at info.types entry.btf_type ≡ Ok t → func_or_var_type t ≡ Some id → weak_at info weak (name_off t) ≡ Ok w → resolved info.types id ≡ Err e → extern_of info weak entry ≡ Err e
   unresolved w e here holds is to =
-      let p : (n : List ℕ) × (text_at info.strings (name_of t) ≡ Ok n) = where_read weak made (text_at info.strings (name_of t)) w is in
-      begins here holds ∙ where_weak weak made (text_at info.strings (name_of t)) w is
+      let p : (n : List ℕ) × (text_at info.strings (name_off t) ≡ Ok n) = where_read weak made (text_at info.strings (name_off t)) w is in
+      begins here holds ∙ where_weak weak made (text_at info.strings (name_off t)) w is
       ∙ ap (λ x. if_ok x (λ n. made n w)) p.1
       ∙ ap (λ x. if_ok x (λ r. Ok (p.0, new_extern entry.btf_type t w r))) to
 
@@ -153,7 +153,7 @@ copied_some : (r : Option (Bor Bool)) → is_some (option_copied r) ≡ is_some 
 copied_some None = refl
 copied_some (Some b) = refl
 
-pub already : (info : TypeInfo) (externs : FinMap text_cmp ExternDesc) (put : BTreeMap ℕ Bool) (name : ℕ) (d : ExternDesc) (r : Option (Bor Bool)) → ArePut info externs put
+pub already : (info : TypeInfo) (externs : FinMap text_cmp ExternDesc) (put : BTreeMap ℕ Bool) (name : ℕ) (d : ExternDesc) (r : Option (Bor Bool)) → NamesArePut info externs put
     → option_copied r ≡ at_key nat_cmp put name → is_some r ≡ true → (text : List ℕ) → text_at info.strings name ≡ Ok text → externs ≡ put_before externs text d
 unfolding put_before
 already info externs put name d None are is some text read = absurd (cc)
@@ -188,11 +188,11 @@ module _ (externs : FinMap text_cmp ExternDesc) (text : List ℕ) (d : ExternDes
       by_had None = let p : (e : ExternDesc) × (cond (eq_by_cmp text_cmp key text) (Some d) (get externs key) ≡ Some e) = by_test (eq_by_cmp text_cmp key text) in (p.0, get-insert text_total externs text d key ∙ p.1)
       by_had (Some e) = (v, there)
 
-pub none_put : (info : TypeInfo) (externs : FinMap text_cmp ExternDesc) (put : BTreeMap ℕ Bool) → ((offset : ℕ) → at_key nat_cmp put offset ≡ None) → ArePut info externs put
+pub none_put : (info : TypeInfo) (externs : FinMap text_cmp ExternDesc) (put : BTreeMap ℕ Bool) → ((offset : ℕ) → at_key nat_cmp put offset ≡ None) → NamesArePut info externs put
 none_put info externs put none = record { at = λ offset b there. let wrong : None ≡ Some b = sym (none offset) ∙ there in absurd (cc) }
 
-pub put_more : (info : TypeInfo) (old new : FinMap text_cmp ExternDesc) (put more : BTreeMap ℕ Bool) (name : ℕ) (text : List ℕ) (d : ExternDesc) → ArePut info old put
-    → text_at info.strings name ≡ Ok text → new ≡ put_before old text d → Updates nat_cmp put more name (Some true) → ArePut info new more
+pub put_more : (info : TypeInfo) (old new : FinMap text_cmp ExternDesc) (put more : BTreeMap ℕ Bool) (name : ℕ) (text : List ℕ) (d : ExternDesc) → NamesArePut info old put
+    → text_at info.strings name ≡ Ok text → new ≡ put_before old text d → Updates nat_cmp put more name (Some true) → NamesArePut info new more
 put_more info old new put more name text d are read is updates = record { at = λ offset b there. step offset b (is_at (nat_cmp name) offset) refl (sym (updates.0 offset) ∙ there) }
   where
     step : (offset : ℕ) (b t : Bool) → is_at (nat_cmp name) offset ≡ t → cond (is_at (nat_cmp name) offset) (Some true) (at_key nat_cmp put offset) ≡ Some b

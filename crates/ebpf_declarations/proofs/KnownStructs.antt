@@ -14,14 +14,14 @@ use Rattle.ebpf_btf.specs.declared.error.BtfError.TheVariants.{InvalidValuesSpec
 use Rattle.ebpf_btf.specs.declared.members.BtfMember.{BtfMember}
 use Rattle.ebpf_declarations.specs.Attempts.{all_given}
 use Rattle.ebpf_declarations.specs.KnownStructs.{Remembers}
-use Rattle.ebpf_declarations.specs.MapMembers.{unexpected, members_at, pointed_struct, held_struct, member_at}
-use Rattle.ebpf_declarations.specs.Maps.{with_members, inner_saying_of, inner_saying, inner_definition, inner_says, are_programs, saying_of, saying, definitions, struct_says}
-use Rattle.ebpf_declarations.specs.Sayings.{no_definitions, with_all}
+use Rattle.ebpf_declarations.specs.MapMembers.{unexpected, members_at, pointee_struct, inner_map_struct, map_member_at}
+use Rattle.ebpf_declarations.specs.Maps.{with_members, inner_member_value_of, inner_member_value, inner_definition, inner_struct_definition, are_programs, member_value_of, member_value, definitions, struct_definitions}
+use Rattle.ebpf_declarations.specs.MemberValues.{no_definitions, with_all}
 use Rattle.ebpf_declarations.specs.declared.definitions.MapDefinitions.{MapDefinitions}
 use Rattle.ebpf_declarations.specs.declared.map_member.MapMember.{MapMember}
 use Rattle.ebpf_declarations.specs.declared.map_member.MapMember.TheVariants.{Number, Pinning, Key, Value, Values, Other}
-use Rattle.ebpf_declarations.specs.declared.saying.Saying.{Saying}
-use Rattle.ebpf_declarations.specs.declared.saying.Saying.TheVariants as said
+use Rattle.ebpf_declarations.specs.declared.member_value.MemberValue.{MemberValue}
+use Rattle.ebpf_declarations.specs.declared.member_value.MemberValue.TheVariants as said
 use Rattle.ebpf_parts.specs.declared.maps.definition.BtfMapDef.{BtfMapDef}
 use Rattle.ebpf_parts.specs.declared.reading.Reading.{Reading}
 
@@ -41,18 +41,18 @@ module _ {X : Type 0} where
   where_some None test f e d u x h = h
   where_some (Some y) test f e d u x h = chosen (test y) (f y) e d x h
 
-all_same : (says other : BtfMember → Result Saying BtfError) → ((m : BtfMember) (s : Saying) → says m ≡ Ok s → other m ≡ Ok s) → (ms : List BtfMember) (all : List Saying) → all_given says ms ≡ Ok all → all_given other ms ≡ Ok all
+all_same : (says other : BtfMember → Result MemberValue BtfError) → ((m : BtfMember) (s : MemberValue) → says m ≡ Ok s → other m ≡ Ok s) → (ms : List BtfMember) (all : List MemberValue) → all_given says ms ≡ Ok all → all_given other ms ≡ Ok all
 all_same says other same [] all h = h
 all_same says other same (m ∷ ms) all h =
     via (says m) (other m) (λ x. if_ok (all_given says ms) (λ xs. Ok (x ∷ xs))) (λ x. if_ok (all_given other ms) (λ xs. Ok (x ∷ xs))) all (same m)
     (λ x g. via (all_given says ms) (all_given other ms) (λ xs. Ok (x ∷ xs)) (λ xs. Ok (x ∷ xs)) all (all_same says other same ms) (λ xs k. k) g) h
 
-pub with_same : (says other : BtfMember → Result Saying BtfError) → ((m : BtfMember) (s : Saying) → says m ≡ Ok s → other m ≡ Ok s) → (d e : MapDefinitions) (ms : List BtfMember) → with_members says d ms ≡ Ok e → with_members other d ms ≡ Ok e
+pub with_same : (says other : BtfMember → Result MemberValue BtfError) → ((m : BtfMember) (s : MemberValue) → says m ≡ Ok s → other m ≡ Ok s) → (d e : MapDefinitions) (ms : List BtfMember) → with_members says d ms ≡ Ok e → with_members other d ms ≡ Ok e
 with_same says other same d e ms h = via (all_given says ms) (all_given other ms) (λ all. Ok (with_all d all)) (λ all. Ok (with_all d all)) e (all_same says other same ms) (λ all k. k) h
 
 module _ (reading : Reading) (info : TypeInfo) (n o : List ℕ) where
-  inner_of : (about : MapMember) (id : ℕ) (s : Saying) → inner_saying_of reading info n about id ≡ Ok s → inner_saying_of reading info o about id ≡ Ok s
-  unfolding inner_saying_of
+  inner_of : (about : MapMember) (id : ℕ) (s : MemberValue) → inner_member_value_of reading info n about id ≡ Ok s → inner_member_value_of reading info o about id ≡ Ok s
+  unfolding inner_member_value_of
   inner_of (Number of) id s h = h
   inner_of Pinning id s h = cc
   inner_of Key id s h = h
@@ -60,51 +60,51 @@ module _ (reading : Reading) (info : TypeInfo) (n o : List ℕ) where
   inner_of Values id s h = cc
   inner_of Other id s h = h
 
-  inner_same : (m : BtfMember) (s : Saying) → inner_saying reading info n m ≡ Ok s → inner_saying reading info o m ≡ Ok s
-  unfolding inner_saying
-  inner_same m s h = via (member_at info.strings m) (member_at info.strings m) _ _ s (λ x k. k) (λ about k. inner_of about m.btf_type s k) h
+  inner_same : (m : BtfMember) (s : MemberValue) → inner_member_value reading info n m ≡ Ok s → inner_member_value reading info o m ≡ Ok s
+  unfolding inner_member_value
+  inner_same m s h = via (map_member_at info.strings m) (map_member_at info.strings m) _ _ s (λ x k. k) (λ about k. inner_of about m.btf_type s k) h
 
   inner_definition_same : (ms : List BtfMember) (d : BtfMapDef) → inner_definition reading info n ms ≡ Ok d → inner_definition reading info o ms ≡ Ok d
   inner_definition_same ms d h =
-      via (with_members (inner_saying reading info n) no_definitions ms) (with_members (inner_saying reading info o) no_definitions ms) (λ e. Ok e.def) (λ e. Ok e.def) d
-      (λ e k. with_same (inner_saying reading info n) (inner_saying reading info o) inner_same no_definitions e ms k) (λ e k. k) h
+      via (with_members (inner_member_value reading info n) no_definitions ms) (with_members (inner_member_value reading info o) no_definitions ms) (λ e. Ok e.def) (λ e. Ok e.def) d
+      (λ e k. with_same (inner_member_value reading info n) (inner_member_value reading info o) inner_same no_definitions e ms k) (λ e k. k) h
 
-  pub inner_says_same : (id : ℕ) (d : BtfMapDef) → inner_says reading info n id ≡ Ok d → inner_says reading info o id ≡ Ok d
-  inner_says_same id d h =
+  pub inner_struct_same : (id : ℕ) (d : BtfMapDef) → inner_struct_definition reading info n id ≡ Ok d → inner_struct_definition reading info o id ≡ Ok d
+  inner_struct_same id d h =
       via (members_at info.types id) (members_at info.types id) (λ ms. inner_definition reading info n ms) (λ ms. inner_definition reading info o ms) d (λ ms k. k) (λ ms k. inner_definition_same ms d k) h
 
-  held_same : (id : ℕ) (s : ℕ) → held_struct info.types n id ≡ Ok s → held_struct info.types o id ≡ Ok s
-  unfolding held_struct
+  held_same : (id : ℕ) (s : ℕ) → inner_map_struct info.types n id ≡ Ok s → inner_map_struct info.types o id ≡ Ok s
+  unfolding inner_map_struct
   held_same id s h =
       via (type_at info.types id) (type_at info.types id) _ _ s (λ t k. k)
-      (λ t k. where_some (array_of t) (λ array. array.len == 0) (λ array. pointed_struct info.types array.element_type) (InvalidValuesSpec n) (InvalidValuesSpec o) (unexpected t) s k) h
+      (λ t k. where_some (array_of t) (λ array. array.len == 0) (λ array. pointee_struct info.types array.element_type) (InvalidValuesSpec n) (InvalidValuesSpec o) (unexpected t) s k) h
 
-  abbrev values_by : List ℕ → ℕ → Bool → Result Saying BtfError
-  values_by name held programs = if programs then Ok said.Programs else if_ok (inner_says reading info name held) (λ inner. Ok (said.Values inner))
+  abbrev values_by : List ℕ → ℕ → Bool → Result MemberValue BtfError
+  values_by name held programs = if programs then Ok said.Programs else if_ok (inner_struct_definition reading info name held) (λ inner. Ok (said.Values inner))
 
-  values_same : (held : ℕ) (programs : Bool) (s : Saying) → values_by n held programs ≡ Ok s → values_by o held programs ≡ Ok s
+  values_same : (held : ℕ) (programs : Bool) (s : MemberValue) → values_by n held programs ≡ Ok s → values_by o held programs ≡ Ok s
   values_same held true s h = h
-  values_same held false s h = via (inner_says reading info n held) (inner_says reading info o held) (λ inner. Ok (said.Values inner)) (λ inner. Ok (said.Values inner)) s (inner_says_same held) (λ inner g. g) h
+  values_same held false s h = via (inner_struct_definition reading info n held) (inner_struct_definition reading info o held) (λ inner. Ok (said.Values inner)) (λ inner. Ok (said.Values inner)) s (inner_struct_same held) (λ inner g. g) h
 
-  saying_of_same : (about : MapMember) (id : ℕ) (s : Saying) → saying_of reading info n about id ≡ Ok s → saying_of reading info o about id ≡ Ok s
-  unfolding saying_of
-  saying_of_same (Number of) id s h = h
-  saying_of_same Pinning id s h = h
-  saying_of_same Key id s h = h
-  saying_of_same Value id s h = h
-  saying_of_same Values id s h =
-      via (held_struct info.types n id) (held_struct info.types o id) (λ held. values_by n held (are_programs reading info.types held)) (λ held. values_by o held (are_programs reading info.types held)) s (held_same id)
+  member_value_of_same : (about : MapMember) (id : ℕ) (s : MemberValue) → member_value_of reading info n about id ≡ Ok s → member_value_of reading info o about id ≡ Ok s
+  unfolding member_value_of
+  member_value_of_same (Number of) id s h = h
+  member_value_of_same Pinning id s h = h
+  member_value_of_same Key id s h = h
+  member_value_of_same Value id s h = h
+  member_value_of_same Values id s h =
+      via (inner_map_struct info.types n id) (inner_map_struct info.types o id) (λ held. values_by n held (are_programs reading info.types held)) (λ held. values_by o held (are_programs reading info.types held)) s (held_same id)
       (λ held k. values_same held (are_programs reading info.types held) s k) h
-  saying_of_same Other id s h = h
+  member_value_of_same Other id s h = h
 
-  saying_same : (m : BtfMember) (s : Saying) → saying reading info n m ≡ Ok s → saying reading info o m ≡ Ok s
-  unfolding saying
-  saying_same m s h = via (member_at info.strings m) (member_at info.strings m) _ _ s (λ x k. k) (λ about k. saying_of_same about m.btf_type s k) h
+  member_value_same : (m : BtfMember) (s : MemberValue) → member_value reading info n m ≡ Ok s → member_value reading info o m ≡ Ok s
+  unfolding member_value
+  member_value_same m s h = via (map_member_at info.strings m) (map_member_at info.strings m) _ _ s (λ x k. k) (λ about k. member_value_of_same about m.btf_type s k) h
 
-  pub says_same : (id : ℕ) (d : MapDefinitions) → struct_says reading info n id ≡ Ok d → struct_says reading info o id ≡ Ok d
-  says_same id d h =
+  pub definitions_same : (id : ℕ) (d : MapDefinitions) → struct_definitions reading info n id ≡ Ok d → struct_definitions reading info o id ≡ Ok d
+  definitions_same id d h =
       via (members_at info.types id) (members_at info.types id) (λ ms. definitions reading info n ms) (λ ms. definitions reading info o ms) d (λ ms k. k)
-      (λ ms k. with_same (saying reading info n) (saying reading info o) saying_same no_definitions d ms k) h
+      (λ ms k. with_same (member_value reading info n) (member_value reading info o) member_value_same no_definitions d ms k) h
 
 pub equal_numbers : (k q : ℕ) → is_at (nat_cmp k) q ≡ true → k ≡ q
 equal_numbers k q h = grind (arith, nat_tests)

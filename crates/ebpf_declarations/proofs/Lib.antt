@@ -1,7 +1,7 @@
 pub mod Added
 pub mod Beginnings
 pub mod LaterMembers
-pub mod Said
+pub mod AllGiven
 pub mod KnownStructs
 pub mod NamedSections
 pub mod ExternNames

@@ -12,13 +12,13 @@ use Rattle.ebpf_btf.specs.Next.{if_some, if_ok}
 use Rattle.ebpf_btf.specs.Steps.{type_at, resolved}
 use Rattle.ebpf_btf.specs.Strings.{text_at, type_name}
 use Rattle.ebpf_btf.specs.TypeInfo.{TypeInfo}
-use Rattle.ebpf_btf.specs.Types.{name_of}
+use Rattle.ebpf_btf.specs.Types.{name_off}
 use Rattle.ebpf_btf.specs.declared.error.BtfError.{BtfError}
 use Rattle.ebpf_btf.specs.declared.members.DataSecEntry.{DataSecEntry}
 use Rattle.ebpf_btf.specs.declared.types.BtfType.{BtfType}
-use Rattle.ebpf_declarations.specs.DistinctMaps.{AreNamed, IsWith, Remembers, held_says, is_among, last_of}
+use Rattle.ebpf_declarations.specs.DistinctMaps.{AreNamed, IsWith, RemembersNames, type_definitions, is_name_among, last_of}
 use Rattle.ebpf_declarations.specs.MapMembers.{unexpected}
-use Rattle.ebpf_declarations.specs.Maps.{variable, declared, struct_says}
+use Rattle.ebpf_declarations.specs.Maps.{variable, declared, struct_definitions}
 use Rattle.ebpf_declarations.proofs.KnownStructs.{equal_numbers}
 use Rattle.ebpf_declarations.specs.declared.definitions.MapDefinitions.{MapDefinitions}
 use Rattle.ebpf_declarations.specs.declared.distinct_maps.DistinctMaps.{DistinctMaps}
@@ -61,25 +61,25 @@ at_name q name is = text_exact q name (equal _ is)
 pub same_name : (q : List ℕ) → eq_by_cmp text_cmp q q ≡ true
 same_name q = (eq_by_cmp_equiv text_total).refl q
 
-among_at : (names : List (List ℕ)) (n : ℕ) (q : List ℕ) → slice_get names n ≡ Some q → is_among q names ≡ true
+among_at : (names : List (List ℕ)) (n : ℕ) (q : List ℕ) → slice_get names n ≡ Some q → is_name_among q names ≡ true
 among_at [] n q at = absurd (cc)
 among_at (name ∷ names) zero q at =
-    let same : name ≡ q = cc in ap (λ x. if eq_by_cmp text_cmp q x then true else is_among q names) same ∙ ap (λ b. if b then true else is_among q names) (same_name q)
+    let same : name ≡ q = cc in ap (λ x. if eq_by_cmp text_cmp q x then true else is_name_among q names) same ∙ ap (λ b. if b then true else is_name_among q names) (same_name q)
 among_at (name ∷ names) (suc n) q at = by_test (eq_by_cmp text_cmp q name) (among_at names n q at)
   where
-    by_test : (b : Bool) → is_among q names ≡ true → (if b then true else is_among q names) ≡ true
+    by_test : (b : Bool) → is_name_among q names ≡ true → (if b then true else is_name_among q names) ≡ true
     by_test true later = refl
     by_test false later = later
 
 -- a name with a number is among the names
-pub numbered_name : (kept : DistinctMaps) → AreNamed kept → (q : List ℕ) (n : ℕ) → get kept.numbers q ≡ Some n → is_among q kept.names ≡ true
+pub numbered_name : (kept : DistinctMaps) → AreNamed kept → (q : List ℕ) (n : ℕ) → get kept.numbers q ≡ Some n → is_name_among q kept.names ≡ true
 numbered_name kept named q n at = among_at kept.names n q (named.is q n at)
 
 -- so is one that has a last map
-pub defined_name : (kept : DistinctMaps) → AreNamed kept → (q : List ℕ) (d : MapDefinitions) → last_of kept q ≡ Some d → is_among q kept.names ≡ true
+pub defined_name : (kept : DistinctMaps) → AreNamed kept → (q : List ℕ) (d : MapDefinitions) → last_of kept q ≡ Some d → is_name_among q kept.names ≡ true
 defined_name kept named q d = by_number (get kept.numbers q) refl
   where
-    by_number : (o : Option ℕ) → get kept.numbers q ≡ o → if_some o (λ n. slice_get kept.last n) None ≡ Some d → is_among q kept.names ≡ true
+    by_number : (o : Option ℕ) → get kept.numbers q ≡ o → if_some o (λ n. slice_get kept.last n) None ≡ Some d → is_name_among q kept.names ≡ true
     by_number None is at = absurd (cc)
     by_number (Some n) is at = numbered_name kept named q n is
 
@@ -193,18 +193,18 @@ pub record IsSame (before after : DistinctMaps) : Type 0 where
   pub last : after.last ≡ before.last
   pub numbers : after.numbers ≡ before.numbers
 
-pub none_remembered : (info : TypeInfo) (none : DistinctMaps) → ((offset : ℕ) → at_key nat_cmp none.offsets offset ≡ None) → Remembers info none
+pub none_remembered : (info : TypeInfo) (none : DistinctMaps) → ((offset : ℕ) → at_key nat_cmp none.offsets offset ≡ None) → RemembersNames info none
 none_remembered info none empty = record { at = λ offset n at. let wrong : None ≡ Some n = sym (empty offset) ∙ at in absurd (cc) }
 
-pub still_remembered : (info : TypeInfo) (before after : DistinctMaps) (name : List ℕ) (d : MapDefinitions) → Remembers info before → IsWith before name d after → Remembers info after
+pub still_remembered : (info : TypeInfo) (before after : DistinctMaps) (name : List ℕ) (d : MapDefinitions) → RemembersNames info before → IsWith before name d after → RemembersNames info after
 still_remembered info before after name d remembers more = record {
   at = λ offset n at.
       let was = remembers.at offset n (ap (λ o. at_key nat_cmp o offset) (sym more.offsets) ∙ at) in
       (was.0, was.1, more.numbers was.0 n was.2);
 }
 
-pub one_remembered : (info : TypeInfo) (before after : DistinctMaps) (name : List ℕ) (offset n : ℕ) → Remembers info before → text_at info.strings offset ≡ Ok name → get before.numbers name ≡ Some n
-    → IsSame before after → Updates nat_cmp before.offsets after.offsets offset (Some n) → Remembers info after
+pub one_remembered : (info : TypeInfo) (before after : DistinctMaps) (name : List ℕ) (offset n : ℕ) → RemembersNames info before → text_at info.strings offset ≡ Ok name → get before.numbers name ≡ Some n
+    → IsSame before after → Updates nat_cmp before.offsets after.offsets offset (Some n) → RemembersNames info after
 one_remembered info before after name offset n remembers is number same put = record { at = λ o m at. step o m (is_at (nat_cmp offset) o) refl (sym (put.0 o) ∙ at) }
   where
     step : (o m : ℕ) (b : Bool) → is_at (nat_cmp offset) o ≡ b → cond (is_at (nat_cmp offset) o) (Some n) (at_key nat_cmp before.offsets o) ≡ Some m
@@ -230,7 +230,7 @@ named_with name d = Ok (name, d)
 
 -- what a VAR with a name declares, by the type that it holds
 abbrev pub named_by : Reading → TypeInfo → List ℕ → ℕ → Result (List ℕ × MapDefinitions) BtfError
-named_by reading info name id = if_ok (resolved info.types id) (λ held. if_ok (struct_says reading info name held) (λ d. named_with name d))
+named_by reading info name id = if_ok (resolved info.types id) (λ held. if_ok (struct_definitions reading info name held) (λ d. named_with name d))
 
 abbrev pub from_type : Reading → TypeInfo → BtfType → Result (List ℕ × MapDefinitions) BtfError
 from_type reading info t = if_some (variable t) (λ id. if_ok (type_name info t) (λ name. named_by reading info name id)) (Err (unexpected t))
@@ -241,14 +241,14 @@ by_type reading info entry = refl
 
 -- an entry whose name was read before
 pub known_declared : (reading : Reading) (info : TypeInfo) (entry : DataSecEntry) (t : BtfType) (held : ℕ) (name : List ℕ) (d : MapDefinitions) → type_at info.types entry.btf_type ≡ Ok t → variable t ≡ Some held
-    → text_at info.strings (name_of t) ≡ Ok name → held_says reading info name held ≡ Ok d → declared reading info entry ≡ Ok (name, d)
+    → text_at info.strings (name_off t) ≡ Ok name → type_definitions reading info name held ≡ Ok d → declared reading info entry ≡ Ok (name, d)
 known_declared reading info entry t held name d type is_variable named says =
     by_type reading info entry ∙ ap (λ r. if_ok r (from_type reading info)) type
     ∙ ap (λ o. if_some o (λ id. if_ok (type_name info t) (λ q. named_by reading info q id)) (Err (unexpected t))) is_variable
     ∙ ap (λ r. if_ok r (λ q. named_by reading info q held)) named
     ∙ by_held (resolved info.types held) says
   where
-    by_held : (r : Result ℕ BtfError) → if_ok r (λ held. struct_says reading info name held) ≡ Ok d → if_ok r (λ held. if_ok (struct_says reading info name held) (λ d. named_with name d)) ≡ Ok (name, d)
+    by_held : (r : Result ℕ BtfError) → if_ok r (λ held. struct_definitions reading info name held) ≡ Ok d → if_ok r (λ held. if_ok (struct_definitions reading info name held) (λ d. named_with name d)) ≡ Ok (name, d)
     by_held (Err e) is = absurd (cc)
     by_held (Ok h) is = ap (λ (r : Result MapDefinitions BtfError). if_ok r (λ d. named_with name d)) is
 
@@ -258,16 +258,16 @@ name_in (Err e) = []
 
 -- the name that was read is at the offset of the entry's type
 pub declared_name : (reading : Reading) (info : TypeInfo) (entry : DataSecEntry) (t : BtfType) (name : List ℕ) (d : MapDefinitions) → declared reading info entry ≡ Ok (name, d) → type_at info.types entry.btf_type ≡ Ok t
-    → text_at info.strings (name_of t) ≡ Ok name
+    → text_at info.strings (name_off t) ≡ Ok name
 declared_name reading info entry t name d is type = by_variable (variable t) (sym (by_type reading info entry ∙ ap (λ r. if_ok r (from_type reading info)) type) ∙ is)
   where
     by_said : (q : List ℕ) (r : Result MapDefinitions BtfError) → if_ok r (λ d. named_with q d) ≡ Ok (name, d) → q ≡ name
     by_said q (Err e) is = absurd (cc)
     by_said q (Ok e) is = ap name_in is
 
-    by_held : (q : List ℕ) (r : Result ℕ BtfError) → if_ok r (λ held. if_ok (struct_says reading info q held) (λ d. named_with q d)) ≡ Ok (name, d) → q ≡ name
+    by_held : (q : List ℕ) (r : Result ℕ BtfError) → if_ok r (λ held. if_ok (struct_definitions reading info q held) (λ d. named_with q d)) ≡ Ok (name, d) → q ≡ name
     by_held q (Err e) is = absurd (cc)
-    by_held q (Ok h) is = by_said q (struct_says reading info q h) is
+    by_held q (Ok h) is = by_said q (struct_definitions reading info q h) is
 
     by_name : (id : ℕ) (r : Result (List ℕ) BtfError) → if_ok r (λ q. named_by reading info q id) ≡ Ok (name, d) → r ≡ Ok name
     by_name id (Err e) is = absurd (cc)

@@ -12,12 +12,12 @@ use Rattle.ebpf_btf.specs.Next.{if_some, if_ok}
 use Rattle.ebpf_btf.specs.Steps.{type_at, resolved}
 use Rattle.ebpf_btf.specs.Strings.{text_at}
 use Rattle.ebpf_btf.specs.TypeInfo.{TypeInfo}
-use Rattle.ebpf_btf.specs.Types.{name_of}
+use Rattle.ebpf_btf.specs.Types.{name_off}
 use Rattle.ebpf_btf.specs.declared.error.BtfError.{BtfError}
 use Rattle.ebpf_btf.specs.declared.members.DataSecEntry.{DataSecEntry}
 use Rattle.ebpf_btf.specs.declared.types.BtfType.{BtfType}
 use Rattle.ebpf_declarations.specs.Attempts.{given}
-use Rattle.ebpf_declarations.specs.Maps.{variable, struct_says, placed, btf_maps, btf_maps_fault}
+use Rattle.ebpf_declarations.specs.Maps.{variable, struct_definitions, map_with_symbol, btf_maps, btf_maps_fault}
 use Rattle.ebpf_declarations.specs.declared.definitions.MapDefinitions.{MapDefinitions}
 use Rattle.ebpf_declarations.specs.declared.distinct_maps.DistinctMaps.{DistinctMaps}
 use Rattle.ebpf_parts.specs.declared.error.ParseError.{ParseError}
@@ -27,9 +27,9 @@ use Rattle.ebpf_parts.specs.declared.reading.Reading.{Reading}
 
 -- ---- names
 
-abbrev pub is_among : List ℕ → List (List ℕ) → Bool
-is_among q [] = false
-is_among q (name ∷ names) = if eq_by_cmp text_cmp q name then true else is_among q names
+abbrev pub is_name_among : List ℕ → List (List ℕ) → Bool
+is_name_among q [] = false
+is_name_among q (name ∷ names) = if eq_by_cmp text_cmp q name then true else is_name_among q names
 
 -- the number of a name is its place among the names, each of which has a last map
 pub record AreNamed (kept : DistinctMaps) : Type 0 where
@@ -49,16 +49,16 @@ pub record IsWith (before : DistinctMaps) (name : List ℕ) (d : MapDefinitions)
   pub offsets : after.offsets ≡ before.offsets
 
 -- at the offsets that are remembered are names with these numbers
-pub record Remembers (info : TypeInfo) (kept : DistinctMaps) : Type 0 where
+pub record RemembersNames (info : TypeInfo) (kept : DistinctMaps) : Type 0 where
   pub at : (offset n : ℕ) → at_key nat_cmp kept.offsets offset ≡ Some n → (name : List ℕ) × (text_at info.strings offset ≡ Ok name) × (get kept.numbers name ≡ Some n)
 
 -- the VAR of an entry holds the type with this id, and the offset of its name is remembered with this number
 abbrev pub IsKnown : TypeInfo → DistinctMaps → DataSecEntry → ℕ → ℕ → Type 0
-IsKnown info kept entry n held = (t : BtfType) × (type_at info.types entry.btf_type ≡ Ok t) × (variable t ≡ Some held) × (at_key nat_cmp kept.offsets (name_of t) ≡ Some n)
+IsKnown info kept entry n held = (t : BtfType) × (type_at info.types entry.btf_type ≡ Ok t) × (variable t ≡ Some held) × (at_key nat_cmp kept.offsets (name_off t) ≡ Some n)
 
 -- what the type with an id says of the map with a name
-abbrev pub held_says : Reading → TypeInfo → List ℕ → ℕ → Result MapDefinitions BtfError
-held_says reading info name id = if_ok (resolved info.types id) (λ held. struct_says reading info name held)
+abbrev pub type_definitions : Reading → TypeInfo → List ℕ → ℕ → Result MapDefinitions BtfError
+type_definitions reading info name id = if_ok (resolved info.types id) (λ held. struct_definitions reading info name held)
 
 -- ---- as maps of a section with this number, the symbols of which have these numbers
 
@@ -68,7 +68,7 @@ missing symbols name = if_some (symbols name) (λ y. None) (Some (errors.SymbolN
 
 -- the last map of a name
 unfoldable pub last_map : (List ℕ → Option ℕ) → ℕ → (List ℕ → Option MapDefinitions) → List ℕ → List (List ℕ × Map)
-last_map symbols section last name = if_some (last name) (λ d. given (placed symbols section (Ok (name, d)))) []
+last_map symbols section last name = if_some (last name) (λ d. given (map_with_symbol symbols section (Ok (name, d)))) []
 
 abbrev pub distinct_maps : (List ℕ → Option ℕ) → ℕ → DistinctMaps → List (List ℕ × Map)
 distinct_maps symbols section kept = flat_map (last_map symbols section (last_of kept)) kept.names
@@ -86,7 +86,7 @@ pub record Adds (before after : DistinctMaps) (more : (List ℕ → Option ℕ) 
   pub fault : (symbols : List ℕ → Option ℕ) (section : ℕ) → distinct_fault symbols after ≡ or_else (distinct_fault symbols before) (wrong symbols section)
 
 -- in one reading, of each of some names, key by key, what all types declare in a section of the name
-pub record AreKept (reading : Reading) (info : TypeInfo) (kept : FinMap text_cmp DistinctMaps) : Type 0 where
+pub record AreSectionMaps (reading : Reading) (info : TypeInfo) (kept : FinMap text_cmp DistinctMaps) : Type 0 where
   pub maps : (name : List ℕ) (k : DistinctMaps) → get kept name ≡ Some k → (symbols : List ℕ → Option ℕ) (section : ℕ) (m : FinMap text_cmp Map) (q : List ℕ)
       → get (put_all m (distinct_maps symbols section k)) q ≡ get (put_all m (btf_maps reading info symbols section name)) q
   pub fault : (name : List ℕ) (k : DistinctMaps) → get kept name ≡ Some k → (symbols : List ℕ → Option ℕ) (section : ℕ)

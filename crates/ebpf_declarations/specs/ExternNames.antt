@@ -34,7 +34,7 @@ abbrev pub IsNamed : TypeInfo → Result (List ℕ × ExternDesc) BtfError → �
 IsNamed info answer offset declared = (answer ≡ named info offset declared) × (fault_of (named info offset declared) ≡ None)
 
 -- the names at these offsets can be read, and externs have them
-pub record ArePut (info : TypeInfo) (externs : FinMap text_cmp ExternDesc) (put : BTreeMap ℕ Bool) : Type 0 where
+pub record NamesArePut (info : TypeInfo) (externs : FinMap text_cmp ExternDesc) (put : BTreeMap ℕ Bool) : Type 0 where
   pub at : (offset : ℕ) (b : Bool) → at_key nat_cmp put offset ≡ Some b → (name : List ℕ) × (d : ExternDesc) × (text_at info.strings offset ≡ Ok name) × (get externs name ≡ Some d)
 
 -- with what stands before them: of one name the extern that is there stands

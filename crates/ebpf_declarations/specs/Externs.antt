@@ -15,10 +15,10 @@ use Rattle.ebpf_btf.specs.declared.members.DataSecEntry.{DataSecEntry}
 use Rattle.ebpf_btf.specs.declared.types.BtfType.{BtfType}
 use Rattle.ebpf_btf.specs.declared.types.BtfType.TheVariants.{Func, Var}
 use Rattle.ebpf_declarations.specs.Attempts.{given}
-use Rattle.ebpf_declarations.specs.DataSections.{MetSection, met_section, entries_in, section_fault}
+use Rattle.ebpf_declarations.specs.DataSections.{DatasecMatch, datasec_match, matched_entries, datasec_match_fault}
 use Rattle.ebpf_declarations.specs.Placeholders.{with_placeholder, placeholder_fault}
-use Rattle.ebpf_declarations.specs.declared.externs.MetEntry.{MetEntry}
-use Rattle.ebpf_declarations.specs.declared.externs.MetEntry.TheVariants.{Function, UnreadableType}
+use Rattle.ebpf_declarations.specs.declared.externs.FunctionOrFault.{FunctionOrFault}
+use Rattle.ebpf_declarations.specs.declared.externs.FunctionOrFault.TheVariants.{Function, UnreadableType}
 use Rattle.ebpf_reloc.specs.declared.extern_desc.ExternDesc.{ExternDesc}
 
 -- ---- one extern
@@ -28,10 +28,10 @@ is_function (Func _ _) = true
 is_function _ = false
 
 -- the id of the type that a FUNC or VAR holds
-unfoldable pub held : BtfType → Option ℕ
-held (Func _ id) = Some id
-held (Var _ id _) = Some id
-held _ = None
+unfoldable pub func_or_var_type : BtfType → Option ℕ
+func_or_var_type (Func _ id) = Some id
+func_or_var_type (Var _ id _) = Some id
+func_or_var_type _ = None
 
 -- a variable of type void has no type, all else has one
 abbrev pub new_extern : ℕ → BtfType → Bool → ℕ → ExternDesc
@@ -49,7 +49,7 @@ new_extern id t weak held_id = record {
 unfoldable pub extern_of : TypeInfo → (List ℕ → Option Bool) → DataSecEntry → Result (List ℕ × ExternDesc) BtfError
 extern_of info weak entry =
     if_ok (type_at info.types entry.btf_type) (λ t.
-    if_some (held t)
+    if_some (func_or_var_type t)
     (λ id.
     if_ok (type_name info t) (λ name.
     if_some (weak name)
@@ -60,47 +60,47 @@ extern_of info weak entry =
 -- ---- all of them
 
 -- the first DATASEC `.ksyms`, or one before it whose name can't be read
-abbrev pub found_entries : TypeInfo → Option MetSection
-found_entries info = first_some (met_section info (codes ".ksyms")) info.types
+abbrev pub ksyms_datasec : TypeInfo → Option DatasecMatch
+ksyms_datasec info = first_some (datasec_match info (codes ".ksyms")) info.types
 
 -- what a search for a function meets at an entry: one, or a type that can't be read
-abbrev pub met_by : Result BtfType BtfError → Option MetEntry
-met_by (Ok t) = if is_function t then Some Function else None
-met_by (Err e) = Some (UnreadableType e)
+abbrev pub function_or_fault_by : Result BtfType BtfError → Option FunctionOrFault
+function_or_fault_by (Ok t) = if is_function t then Some Function else None
+function_or_fault_by (Err e) = Some (UnreadableType e)
 
-unfoldable pub met_entry : TypeInfo → DataSecEntry → Option MetEntry
-met_entry info entry = met_by (type_at info.types entry.btf_type)
+unfoldable pub function_or_fault : TypeInfo → DataSecEntry → Option FunctionOrFault
+function_or_fault info entry = function_or_fault_by (type_at info.types entry.btf_type)
 
-abbrev pub first_met : TypeInfo → List DataSecEntry → Option MetEntry
-first_met info entries = first_some (met_entry info) entries
+abbrev pub first_function_or_fault : TypeInfo → List DataSecEntry → Option FunctionOrFault
+first_function_or_fault info entries = first_some (function_or_fault info) entries
 
 -- with a function among the externs there is a placeholder
-unfoldable pub types_with : TypeInfo → Option MetEntry → TypeInfo
+unfoldable pub types_with : TypeInfo → Option FunctionOrFault → TypeInfo
 types_with info (Some Function) = with_placeholder info
 types_with info _ = info
 
-unfoldable pub types_fault : TypeInfo → Option MetEntry → Option BtfError
+unfoldable pub types_fault : TypeInfo → Option FunctionOrFault → Option BtfError
 types_fault info None = None
 types_fault info (Some (UnreadableType e)) = Some e
 types_fault info (Some Function) = placeholder_fault info
 
 -- the externs that entries declare, by name; of equal names the later stands
-abbrev pub externs_of : TypeInfo → (List ℕ → Option Bool) → List DataSecEntry → FinMap text_cmp ExternDesc
-externs_of info weak entries = put_all empty (flat_map (λ entry. given (extern_of info weak entry)) entries)
+abbrev pub entries_externs : TypeInfo → (List ℕ → Option Bool) → List DataSecEntry → FinMap text_cmp ExternDesc
+entries_externs info weak entries = put_all empty (flat_map (λ entry. given (extern_of info weak entry)) entries)
 
-abbrev pub entries_fault : TypeInfo → (List ℕ → Option Bool) → List DataSecEntry → Option BtfError
-entries_fault info weak entries = first_some (λ entry. fault_of (extern_of info weak entry)) entries
+abbrev pub extern_entries_fault : TypeInfo → (List ℕ → Option Bool) → List DataSecEntry → Option BtfError
+extern_entries_fault info weak entries = first_some (λ entry. fault_of (extern_of info weak entry)) entries
 
 -- the types with what externs add
 abbrev pub extern_types : TypeInfo → TypeInfo
-extern_types info = types_with info (first_met info (entries_in (found_entries info)))
+extern_types info = types_with info (first_function_or_fault info (matched_entries (ksyms_datasec info)))
 
 -- the externs of an object with these types, and what symbols say of names
 abbrev pub externs : TypeInfo → (List ℕ → Option Bool) → FinMap text_cmp ExternDesc
-externs info weak = externs_of (extern_types info) weak (entries_in (found_entries info))
+externs info weak = entries_externs (extern_types info) weak (matched_entries (ksyms_datasec info))
 
-abbrev pub externs_fault : TypeInfo → (List ℕ → Option Bool) → Option BtfError
-externs_fault info weak =
-    or_else (section_fault (found_entries info))
-    (or_else (types_fault info (first_met info (entries_in (found_entries info))))
-    (entries_fault (extern_types info) weak (entries_in (found_entries info))))
+abbrev pub extern_declarations_fault : TypeInfo → (List ℕ → Option Bool) → Option BtfError
+extern_declarations_fault info weak =
+    or_else (datasec_match_fault (ksyms_datasec info))
+    (or_else (types_fault info (first_function_or_fault info (matched_entries (ksyms_datasec info))))
+    (extern_entries_fault (extern_types info) weak (matched_entries (ksyms_datasec info))))

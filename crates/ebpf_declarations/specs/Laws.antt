@@ -4,7 +4,7 @@ use Rattle.ebpf_base.specs.Faults.{fault_of}
 use Rattle.ebpf_btf.specs.Strings.{text_at}
 use Rattle.ebpf_btf.specs.TypeInfo.{TypeInfo}
 use Rattle.ebpf_btf.specs.declared.members.BtfMember.{BtfMember}
-use Rattle.ebpf_declarations.specs.Maps.{saying, definitions, inner_saying, inner_definition, btf_maps, btf_maps_fault}
+use Rattle.ebpf_declarations.specs.Maps.{member_value, definitions, inner_member_value, inner_definition, btf_maps, btf_maps_fault}
 use Rattle.ebpf_parts.specs.declared.reading.Reading.{Reading}
 use Rattle.ebpf_parts.specs.declared.reading.Reading.TheVariants.{Stated, Broad}
 
@@ -14,7 +14,7 @@ abbrev pub LaterMembersStand : Type 0
 LaterMembersStand =
     (reading : Reading) (info : TypeInfo) (name : List ℕ) (before between after : List BtfMember) (earlier later : BtfMember)
     → text_at info.strings earlier.name_offset ≡ text_at info.strings later.name_offset
-    → fault_of (saying reading info name earlier) ≡ None
+    → fault_of (member_value reading info name earlier) ≡ None
     → definitions reading info name (before ++ (earlier ∷ (between ++ (later ∷ after)))) ≡ definitions reading info name (before ++ (between ++ (later ∷ after)))
 
 -- so it is of inner maps
@@ -22,7 +22,7 @@ abbrev pub LaterInnerMembersStand : Type 0
 LaterInnerMembersStand =
     (reading : Reading) (info : TypeInfo) (name : List ℕ) (before between after : List BtfMember) (earlier later : BtfMember)
     → text_at info.strings earlier.name_offset ≡ text_at info.strings later.name_offset
-    → fault_of (inner_saying reading info name earlier) ≡ None
+    → fault_of (inner_member_value reading info name earlier) ≡ None
     → inner_definition reading info name (before ++ (earlier ∷ (between ++ (later ∷ after)))) ≡ inner_definition reading info name (before ++ (between ++ (later ∷ after)))
 
 -- What types declare in a section without a fault in the stated reading they declare in the broad one.

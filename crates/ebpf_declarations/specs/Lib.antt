@@ -1,13 +1,13 @@
 pub mod Attempts
 pub mod DataSections
-pub mod Declaring
+pub mod TypesInReading
 pub mod Externs
 pub mod Laws
 pub mod MapMembers
 pub mod Maps
 pub mod NamedSections
 pub mod Placeholders
-pub mod Sayings
+pub mod MemberValues
 pub mod KnownStructs
 pub mod ExternNames
 pub mod DistinctMaps

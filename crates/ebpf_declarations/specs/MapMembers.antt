@@ -31,8 +31,8 @@ map_member name = unwrap_or (first_of (
     ∷ (bytes_eq name (codes "values"), Values)
     ∷ [])) Other
 
-abbrev pub member_at : List ℕ → BtfMember → Result MapMember BtfError
-member_at strings m = if_ok (text_at strings m.name_offset) (λ name. Ok (map_member name))
+abbrev pub map_member_at : List ℕ → BtfMember → Result MapMember BtfError
+map_member_at strings m = if_ok (text_at strings m.name_offset) (λ name. Ok (map_member name))
 
 -- ---- types that members lead to
 
@@ -41,9 +41,9 @@ abbrev pub unexpected : BtfType → BtfError
 unexpected t = UnexpectedBtfType (unwrap_or (type_word t) 0)
 
 -- what a PTR points to
-unfoldable pub pointed : BtfType → Option ℕ
-pointed (Ptr _ id) = Some id
-pointed _ = None
+unfoldable pub pointee : BtfType → Option ℕ
+pointee (Ptr _ id) = Some id
+pointee _ = None
 
 -- the members of a STRUCT
 unfoldable pub struct_members : BtfType → Option (List BtfMember)
@@ -54,33 +54,33 @@ struct_members _ = None
 unfoldable pub number : List BtfType → ℕ → Result ℕ BtfError
 number types id =
     if_ok (type_at types id) (λ p.
-    if_some (pointed p)
+    if_some (pointee p)
     (λ a. if_ok (type_at types a) (λ t. if_some (array_of t) (λ array. Ok array.len) (Err (unexpected t))))
     (Err (unexpected p)))
 
--- an ENUM's value is widened by its sign, as libbpf widens it whatever the ENUM says of its values
-abbrev pub widened : ℕ → ℕ
-widened value = if nat_lt value 0x80000000 then value else value + 0xFFFFFFFF00000000
+-- an ENUM's value has its sign extended, as libbpf widens it whatever the ENUM says of its values
+abbrev pub sign_extended : ℕ → ℕ
+sign_extended value = if nat_lt value 0x80000000 then value else value + 0xFFFFFFFF00000000
 
 -- the number that an ENUM or ENUM64 of one value is (libbpf's `__ulong`)
 unfoldable pub sole_value : BtfType → Option ℕ
-sole_value (Enum _ _ _ (e ∷ [])) = Some (widened e.value)
+sole_value (Enum _ _ _ (e ∷ [])) = Some (sign_extended e.value)
 sole_value (Enum64 _ _ _ (e ∷ [])) = Some (e.value_high * 2 ^ 32 + e.value_low)
 sole_value _ = None
 
-abbrev pub number_in : Result BtfType BtfError → Option ℕ
-number_in (Ok t) = sole_value t
-number_in (Err e) = None
+abbrev pub sole_value_in : Result BtfType BtfError → Option ℕ
+sole_value_in (Ok t) = sole_value t
+sole_value_in (Err e) = None
 
 -- the number that a member is itself, past types that stand for others
 unfoldable pub own_number : List BtfType → ℕ → Option ℕ
-own_number types id = number_in (resolved_type types id)
+own_number types id = sole_value_in (resolved_type types id)
 
 -- the type that a member spells, with its size
 unfoldable pub sized_type : List BtfType → ℕ → Result (ℕ × ℕ) BtfError
 sized_type types id =
     if_ok (type_at types id) (λ p.
-    if_some (pointed p)
+    if_some (pointee p)
     (λ t. if_ok (size_of types t) (λ size. Ok (t, size)))
     (Err (UnexpectedBtfType id)))
 
@@ -104,15 +104,15 @@ members_at types id =
     if_some (struct_members t) (λ members. Ok members) (Err (unexpected t)))
 
 -- the id of what a pointer, which a type stands for, points to, past types that stand for others
-unfoldable pub pointed_struct : List BtfType → ℕ → Result ℕ BtfError
-pointed_struct types id =
+unfoldable pub pointee_struct : List BtfType → ℕ → Result ℕ BtfError
+pointee_struct types id =
     if_ok (resolved_type types id) (λ p.
-    if_some (pointed p) (λ s. resolved types s) (Err (unexpected p)))
+    if_some (pointee p) (λ s. resolved types s) (Err (unexpected p)))
 
 -- the id of the struct of the maps that a map holds: the member is an ARRAY of no elements that point to it
-unfoldable pub held_struct : List BtfType → List ℕ → ℕ → Result ℕ BtfError
-held_struct types name id =
+unfoldable pub inner_map_struct : List BtfType → List ℕ → ℕ → Result ℕ BtfError
+inner_map_struct types name id =
     if_ok (type_at types id) (λ t.
     if_some (array_of t)
-    (λ array. if array.len == 0 then pointed_struct types array.element_type else Err (InvalidValuesSpec name))
+    (λ array. if array.len == 0 then pointee_struct types array.element_type else Err (InvalidValuesSpec name))
     (Err (unexpected t)))

@@ -3,7 +3,7 @@
 use Rattle.std.specs.Prelude.{◌≡◌, ℕ, Bool, false, List, length, take, Option, None, ◌==◌, codes}
 use Rattle.std.specs.List.{position}
 use Rattle.ebpf_base.specs.Faults.{or_else}
-use Rattle.ebpf_btf.specs.Additions.{with_type, with_string, number_fault}
+use Rattle.ebpf_btf.specs.Additions.{with_type, with_string, too_large_fault}
 use Rattle.ebpf_btf.specs.Next.{if_some}
 use Rattle.ebpf_btf.specs.TypeInfo.{TypeInfo}
 use Rattle.ebpf_btf.specs.declared.error.BtfError.{BtfError}
@@ -25,7 +25,7 @@ with_named info name t = with_type (with_string info name) (t (length info.strin
 
 -- an offset or an id that has no room
 abbrev pub named_fault : TypeInfo → Option BtfError
-named_fault info = or_else (number_fault (length info.strings)) (number_fault (length info.types))
+named_fault info = or_else (too_large_fault (length info.strings)) (too_large_fault (length info.types))
 
 -- `int`, signed, of 32 bits
 abbrev pub int_at : ℕ → BtfType

@@ -3,14 +3,14 @@
 ghost use Rattle.std.specs.Prelude.{◌≡◌, IfOk, IfErr, Some, option_map};
 ghost use Rattle.std.specs.Option.{option_copied};
 ghost use Rattle.ebpf_base.specs.Faults.{first_some};
-ghost use Rattle.ebpf_declarations.specs.DataSections.{Named, UnreadableName, entries_of, met_section};
+ghost use Rattle.ebpf_declarations.specs.DataSections.{Named, UnreadableName, datasec_entries, datasec_match};
 
 use ebpf_btf::{Btf, BtfError, BtfType, DataSecEntry};
 
 /// The entries of a DATASEC.
-#[tactic(auto, unfolding(crate::specs::DataSections::entries_of))]
-pub fn entries_of(ty: &BtfType) -> Option<&[DataSecEntry]>
-    ensures { option_copied result ≡ entries_of ty.now }
+#[tactic(auto, unfolding(crate::specs::DataSections::datasec_entries))]
+pub fn datasec_entries(ty: &BtfType) -> Option<&[DataSecEntry]>
+    ensures { option_copied result ≡ datasec_entries ty.now }
 {
     match ty {
         BtfType::DataSec { entries, .. } => Some(entries.as_slice()),
@@ -19,16 +19,16 @@ pub fn entries_of(ty: &BtfType) -> Option<&[DataSecEntry]>
 }
 
 /// The entries of a type that is a DATASEC with this name.
-#[tactic(auto, unfolding(crate::specs::DataSections::met_section))]
+#[tactic(auto, unfolding(crate::specs::DataSections::datasec_match))]
 pub fn section_entries<'a>(
     btf: &Btf,
     wanted: &str,
     ty: &'a BtfType,
 ) -> Result<Option<&'a [DataSecEntry]>, BtfError>
-    ensures found { IfOk result (λ found. met_section btf.now wanted.now ty.now ≡ option_map Named (option_copied found)) }
-    ensures fault { IfErr result (λ e. met_section btf.now wanted.now ty.now ≡ Some (UnreadableName e)) }
+    ensures found { IfOk result (λ found. datasec_match btf.now wanted.now ty.now ≡ option_map Named (option_copied found)) }
+    ensures fault { IfErr result (λ e. datasec_match btf.now wanted.now ty.now ≡ Some (UnreadableName e)) }
 {
-    let Some(entries) = entries_of(ty) else {
+    let Some(entries) = datasec_entries(ty) else {
         return Ok(None);
     };
     if btf.is_name_at(ty.name_offset(), wanted)? {
@@ -40,8 +40,8 @@ pub fn section_entries<'a>(
 /// The entries of the first DATASEC with this name.
 #[tactic(auto, using(ebpf_parts::proofs::Walks::rest_more, ebpf_parts::proofs::Walks::rest_none))]
 pub fn first_entries<'a>(btf: &'a Btf, wanted: &str) -> Result<Option<&'a [DataSecEntry]>, BtfError>
-    ensures found { IfOk result (λ found. first_some (met_section btf.now wanted.now) btf.now.types ≡ option_map Named (option_copied found)) }
-    ensures fault { IfErr result (λ e. first_some (met_section btf.now wanted.now) btf.now.types ≡ Some (UnreadableName e)) }
+    ensures found { IfOk result (λ found. first_some (datasec_match btf.now wanted.now) btf.now.types ≡ option_map Named (option_copied found)) }
+    ensures fault { IfErr result (λ e. first_some (datasec_match btf.now wanted.now) btf.now.types ≡ Some (UnreadableName e)) }
 {
     for ty in btf.types() {
         if let Some(entries) = section_entries(btf, wanted, ty)? {

@@ -1,11 +1,11 @@
-//! The definition of a map, and what is said of it.
+//! The definition of a map, and the values that its members give.
 
 ghost use Rattle.std.specs.Prelude.{◌≡◌, ◌∷◌, []};
-ghost use Rattle.ebpf_declarations.specs.Sayings.{no_definitions, with_all};
-ghost use Rattle.ebpf_declarations.specs.declared.saying.Saying.TheVariants.{Number};
+ghost use Rattle.ebpf_declarations.specs.MemberValues.{no_definitions, with_all};
+ghost use Rattle.ebpf_declarations.specs.declared.member_value.MemberValue.TheVariants.{Number};
 
 use crate::map_member::MapNumber;
-use crate::saying::Saying;
+use crate::member_value::MemberValue;
 use ebpf_parts::maps::{BtfMapDef, PinningType};
 
 /// The size of a value that is a map or a program, in bytes.
@@ -19,7 +19,7 @@ pub struct MapDefinitions {
 }
 
 /// Definitions with a number.
-#[tactic(auto, unfolding(crate::specs::Sayings::with_all))]
+#[tactic(auto, unfolding(crate::specs::MemberValues::with_all))]
 fn with_number(definitions: MapDefinitions, of: MapNumber, number: u32) -> MapDefinitions
     ensures { result ≡ with_all definitions (Number of number ∷ []) }
 {
@@ -54,7 +54,7 @@ fn with_number(definitions: MapDefinitions, of: MapNumber, number: u32) -> MapDe
 }
 
 impl MapDefinitions {
-    /// Where nothing is said.
+    /// Where no member gives a value.
     pub fn none() -> MapDefinitions
         ensures { result ≡ no_definitions }
     {
@@ -74,19 +74,19 @@ impl MapDefinitions {
         }
     }
 
-    /// With what one more member says.
-    #[tactic(auto, unfolding(crate::specs::Sayings::with_all))]
-    pub fn with(self, saying: Saying) -> MapDefinitions
-        ensures { result ≡ with_all self (saying ∷ []) }
+    /// With the value of one more member.
+    #[tactic(auto, unfolding(crate::specs::MemberValues::with_all))]
+    pub fn with(self, member_value: MemberValue) -> MapDefinitions
+        ensures { result ≡ with_all self (member_value ∷ []) }
     {
         let MapDefinitions { def, inner_def } = self;
-        match saying {
-            Saying::Number { of, number } => with_number(self, of, number),
-            Saying::Pinning(pinning) => MapDefinitions {
+        match member_value {
+            MemberValue::Number { of, number } => with_number(self, of, number),
+            MemberValue::Pinning(pinning) => MapDefinitions {
                 def: BtfMapDef { pinning, ..def },
                 inner_def,
             },
-            Saying::Key { type_id, size } => MapDefinitions {
+            MemberValue::Key { type_id, size } => MapDefinitions {
                 def: BtfMapDef {
                     btf_key_type_id: type_id,
                     key_size: size,
@@ -94,7 +94,7 @@ impl MapDefinitions {
                 },
                 inner_def,
             },
-            Saying::Value { type_id, size } => MapDefinitions {
+            MemberValue::Value { type_id, size } => MapDefinitions {
                 def: BtfMapDef {
                     btf_value_type_id: type_id,
                     value_size: size,
@@ -102,25 +102,25 @@ impl MapDefinitions {
                 },
                 inner_def,
             },
-            Saying::Values(inner) => MapDefinitions {
+            MemberValue::Values(inner) => MapDefinitions {
                 def: BtfMapDef {
                     value_size: MAP_VALUE,
                     ..def
                 },
                 inner_def: Some(inner),
             },
-            Saying::Programs => MapDefinitions {
+            MemberValue::Programs => MapDefinitions {
                 def: BtfMapDef {
                     value_size: MAP_VALUE,
                     ..def
                 },
                 inner_def: None,
             },
-            Saying::Extra(map_extra) => MapDefinitions {
+            MemberValue::Extra(map_extra) => MapDefinitions {
                 def: BtfMapDef { map_extra, ..def },
                 inner_def,
             },
-            Saying::Nothing => self,
+            MemberValue::Nothing => self,
         }
     }
 }

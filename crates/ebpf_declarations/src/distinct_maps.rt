@@ -1,4 +1,4 @@
-//! The maps that types declare for a section, each name once.
+//! The BTF-defined maps of a section, each name once.
 
 ghost use Rattle.std.specs.Prelude.{◌≡◌, ℕ, List, [], None, Some, OnOk, IfOk, IfErr, true};
 ghost use Rattle.std.specs.BTreeMap.{Updates};
@@ -9,7 +9,7 @@ ghost use Rattle.ebpf_base.specs.Faults.{Refuses};
 ghost use Rattle.ebpf_base.specs.Keyed.{put_all};
 ghost use Rattle.ebpf_btf.specs.Memory.{is_memory as is_btf_memory};
 ghost use Rattle.ebpf_btf.specs.TypeInfo.{TypeInfo};
-ghost use Rattle.ebpf_declarations.specs.DistinctMaps.{missing, last_map, last_of, distinct_maps, distinct_fault, AreNamed, IsWith, Remembers};
+ghost use Rattle.ebpf_declarations.specs.DistinctMaps.{missing, last_map, last_of, distinct_maps, distinct_fault, AreNamed, IsWith, RemembersNames};
 ghost use Rattle.ebpf_parts.specs.Memory.{is_memory};
 
 use crate::definitions::MapDefinitions;
@@ -39,7 +39,7 @@ impl DistinctMaps {
     pub fn none(alloc: Global) -> DistinctMaps
         ensures names { result.names ≡ [] }
         ensures named { AreNamed result }
-        ensures remembers { (info : TypeInfo) → Remembers info result }
+        ensures remembers { (info : TypeInfo) → RemembersNames info result }
     {
         DistinctMaps {
             names: Items::new(alloc),

@@ -7,7 +7,7 @@ ghost use Rattle.ebpf_base.specs.Faults.{Refuses, fault_of, first_some, or_else}
 ghost use Rattle.ebpf_btf.specs.Memory.{is_memory};
 ghost use Rattle.ebpf_declarations.specs.Attempts.{given};
 ghost use Rattle.ebpf_declarations.specs.ExternNames.{named, all_named, IsNamed, RemembersWeak};
-ghost use Rattle.ebpf_declarations.specs.Externs.{is_function, held, new_extern, extern_of, met_entry, first_met, found_entries, types_with, types_fault, externs_of, entries_fault, extern_types, externs, externs_fault};
+ghost use Rattle.ebpf_declarations.specs.Externs.{is_function, func_or_var_type, new_extern, extern_of, function_or_fault, first_function_or_fault, ksyms_datasec, types_with, types_fault, entries_externs, extern_entries_fault, extern_types, externs, extern_declarations_fault};
 ghost use Rattle.ebpf_declarations.specs.Placeholders.{Begins};
 
 use crate::data_sections::first_entries;
@@ -31,9 +31,9 @@ fn is_function(ty: &BtfType) -> bool
 }
 
 /// The id of the type that a FUNC or VAR holds.
-#[tactic(auto, unfolding(crate::specs::Externs::held))]
-fn held(ty: &BtfType) -> Option<u32>
-    ensures { result ≡ held ty.now }
+#[tactic(auto, unfolding(crate::specs::Externs::func_or_var_type))]
+fn func_or_var_type(ty: &BtfType) -> Option<u32>
+    ensures { result ≡ func_or_var_type ty.now }
 {
     match ty {
         BtfType::Func { btf_type, .. } | BtfType::Var { btf_type, .. } => Some(*btf_type),
@@ -43,7 +43,7 @@ fn held(ty: &BtfType) -> Option<u32>
 
 /// What a search for a function among entries meets.
 #[derive(Debug, Drop)]
-pub enum MetEntry {
+pub enum FunctionOrFault {
     /// A function.
     Function,
     /// An entry whose type can't be read.
@@ -51,24 +51,24 @@ pub enum MetEntry {
 }
 
 /// What it meets at an entry.
-#[tactic(auto, unfolding(crate::specs::Externs::met_entry))]
-fn met_entry(btf: &Btf, entry: &DataSecEntry) -> Option<MetEntry>
-    ensures { result ≡ met_entry btf.now entry.now }
+#[tactic(auto, unfolding(crate::specs::Externs::function_or_fault))]
+fn function_or_fault(btf: &Btf, entry: &DataSecEntry) -> Option<FunctionOrFault>
+    ensures { result ≡ function_or_fault btf.now entry.now }
 {
     match btf.type_by_id(entry.btf_type) {
-        Ok(ty) if is_function(ty) => Some(MetEntry::Function),
+        Ok(ty) if is_function(ty) => Some(FunctionOrFault::Function),
         Ok(_) => None,
-        Err(error) => Some(MetEntry::UnreadableType(error)),
+        Err(error) => Some(FunctionOrFault::UnreadableType(error)),
     }
 }
 
 /// What it meets first.
 #[tactic(auto, using(ebpf_parts::proofs::Walks::rest_more, ebpf_parts::proofs::Walks::rest_none))]
-fn first_met(btf: &Btf, entries: &[DataSecEntry]) -> Option<MetEntry>
-    ensures { result ≡ first_met btf.now entries.now }
+fn first_function_or_fault(btf: &Btf, entries: &[DataSecEntry]) -> Option<FunctionOrFault>
+    ensures { result ≡ first_function_or_fault btf.now entries.now }
 {
     for entry in entries {
-        if let Some(met) = met_entry(btf, entry) {
+        if let Some(met) = function_or_fault(btf, entry) {
             return Some(met);
         }
     }
@@ -78,14 +78,14 @@ fn first_met(btf: &Btf, entries: &[DataSecEntry]) -> Option<MetEntry>
 /// Adds a placeholder where there is a function among entries.
 #[tactic(auto, unfolding(crate::specs::Externs::types_with, crate::specs::Externs::types_fault))]
 fn prepare_types(btf: &mut Btf, entries: &[DataSecEntry]) -> Result<(), BtfError>
-    ensures types { OnOk result (btf.new ≡ types_with btf.old (first_met btf.old entries.now)) }
-    ensures fault { Refuses is_memory result (types_fault btf.old (first_met btf.old entries.now)) }
+    ensures types { OnOk result (btf.new ≡ types_with btf.old (first_function_or_fault btf.old entries.now)) }
+    ensures fault { Refuses is_memory result (types_fault btf.old (first_function_or_fault btf.old entries.now)) }
     ensures begins { Begins btf.old btf.new }
 {
-    match first_met(btf, entries) {
+    match first_function_or_fault(btf, entries) {
         None => Ok(()),
-        Some(MetEntry::Function) => add_placeholder(btf),
-        Some(MetEntry::UnreadableType(error)) => Err(error),
+        Some(FunctionOrFault::Function) => add_placeholder(btf),
+        Some(FunctionOrFault::UnreadableType(error)) => Err(error),
     }
 }
 
@@ -103,12 +103,12 @@ fn extern_of(
     ensures known { OnOk result (RemembersWeak btf.now (map.get weak.now) known.new) }
 {
     let ty = btf.type_by_id(entry.btf_type)?;
-    let Some(held) = held(ty) else {
+    let Some(type_id) = func_or_var_type(ty) else {
         return Err(BtfError::InvalidDatasec);
     };
     let name = ty.name_offset();
     let is_weak = weak_at(btf, weak, known, name)?;
-    let resolved = btf.resolve_type(held)?;
+    let resolved = btf.resolve_type(type_id)?;
     let declared = ExternDesc {
         btf_id: entry.btf_type,
         is_typed: is_function(ty) || resolved != 0,
@@ -129,7 +129,7 @@ fn all_externs(
 ) -> Result<Items<(u32, ExternDesc)>, BtfError>
     ensures externs { IfOk result (λ found. all_named btf.now found ≡ flat_map (λ entry. given (extern_of btf.now (map.get weak.now) entry)) entries.now) }
     ensures readable { IfOk result (λ found. first_some (λ f. fault_of (named btf.now f.0 f.1)) found ≡ None) }
-    ensures fault { Refuses is_memory result (entries_fault btf.now (map.get weak.now) entries.now) }
+    ensures fault { Refuses is_memory result (extern_entries_fault btf.now (map.get weak.now) entries.now) }
 {
     let mut found = Items::new(alloc);
     let mut known = BTreeMap::new(alloc);
@@ -139,15 +139,15 @@ fn all_externs(
     Ok(found)
 }
 
-/// The externs that entries declare, by name. What is said of a name, and the name itself, is read once.
-fn externs_of(
+/// The externs that entries declare, by name. The binding of a name, and the name itself, is read once.
+fn entries_externs(
     alloc: Global,
     btf: &Btf,
     weak: &ByName<bool>,
     entries: &[DataSecEntry],
 ) -> Result<ByName<ExternDesc>, BtfError>
-    ensures externs { IfOk result (λ found. found ≡ externs_of btf.now (map.get weak.now) entries.now) }
-    ensures fault { Refuses is_memory result (entries_fault btf.now (map.get weak.now) entries.now) }
+    ensures externs { IfOk result (λ found. found ≡ entries_externs btf.now (map.get weak.now) entries.now) }
+    ensures fault { Refuses is_memory result (extern_entries_fault btf.now (map.get weak.now) entries.now) }
 {
     let found = all_externs(alloc, btf, weak, entries)?;
     by_name(alloc, btf, found.as_slice())
@@ -162,18 +162,18 @@ fn add_externs(
     weak: &ByName<bool>,
     entries: &[DataSecEntry],
 ) -> Result<ByName<ExternDesc>, BtfError>
-    ensures types { OnOk result (btf.new ≡ types_with btf.old (first_met btf.old entries.now)) }
-    ensures externs { IfOk result (λ found. found ≡ externs_of (types_with btf.old (first_met btf.old entries.now)) (map.get weak.now) entries.now) }
-    ensures fault { Refuses is_memory result (or_else (types_fault btf.old (first_met btf.old entries.now)) (entries_fault (types_with btf.old (first_met btf.old entries.now)) (map.get weak.now) entries.now)) }
+    ensures types { OnOk result (btf.new ≡ types_with btf.old (first_function_or_fault btf.old entries.now)) }
+    ensures externs { IfOk result (λ found. found ≡ entries_externs (types_with btf.old (first_function_or_fault btf.old entries.now)) (map.get weak.now) entries.now) }
+    ensures fault { Refuses is_memory result (or_else (types_fault btf.old (first_function_or_fault btf.old entries.now)) (extern_entries_fault (types_with btf.old (first_function_or_fault btf.old entries.now)) (map.get weak.now) entries.now)) }
     ensures begins { Begins btf.old btf.new }
 {
     prepare_types(btf, entries)?;
-    externs_of(alloc, btf, weak, entries)
+    entries_externs(alloc, btf, weak, entries)
 }
 
 /// Whether types may declare externs: they have a DATASEC `.ksyms`, or one before it whose name can't be read.
 pub fn may_declare_externs(btf: &Btf) -> bool
-    ensures { result ≡ is_some (found_entries btf.now) }
+    ensures { result ≡ is_some (ksyms_datasec btf.now) }
 {
     !matches!(first_entries(btf, EXTERNS), Ok(None))
 }
@@ -195,7 +195,7 @@ pub fn collect_externs(
 ) -> Result<ByName<ExternDesc>, BtfError>
     ensures types { OnOk result (btf.new ≡ extern_types btf.old) }
     ensures externs { IfOk result (λ found. found ≡ externs btf.old (map.get weak.now)) }
-    ensures fault { Refuses is_memory result (externs_fault btf.old (map.get weak.now)) }
+    ensures fault { Refuses is_memory result (extern_declarations_fault btf.old (map.get weak.now)) }
     ensures unchanged { OnErr result (btf.new ≡ btf.old) }
 {
     let entries = match first_entries(btf, EXTERNS)? {

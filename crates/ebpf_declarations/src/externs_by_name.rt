@@ -6,7 +6,7 @@ ghost use Rattle.ebpf_base.specs.Faults.{first_some, fault_of};
 ghost use Rattle.ebpf_base.specs.Keyed.{put_all};
 ghost use Rattle.ebpf_btf.specs.Memory.{is_memory};
 ghost use Rattle.ebpf_btf.specs.Strings.{text_at};
-ghost use Rattle.ebpf_declarations.specs.ExternNames.{named, all_named, put_before, ArePut};
+ghost use Rattle.ebpf_declarations.specs.ExternNames.{named, all_named, put_before, NamesArePut};
 
 use ebpf_base::ByName;
 use ebpf_btf::{Btf, BtfError};
@@ -41,10 +41,10 @@ fn put_at(
     name: u32,
     declared: ExternDesc,
 ) -> Result<(), BtfError>
-    requires put { ArePut btf.now externs.old put.old }
+    requires put { NamesArePut btf.now externs.old put.old }
     requires readable { fault_of (text_at btf.now.strings name) ≡ None }
     ensures put { OnOk result ((text : List ℕ) → text_at btf.now.strings name ≡ Ok text → externs.new ≡ put_before externs.old text declared) }
-    ensures names { OnOk result (ArePut btf.now externs.new put.new) }
+    ensures names { OnOk result (NamesArePut btf.now externs.new put.new) }
     ensures memory { IfErr result (λ e. is_memory e ≡ true) }
 {
     if put.get(&name).is_some() {

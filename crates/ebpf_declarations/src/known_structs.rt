@@ -5,11 +5,11 @@ ghost use Rattle.ebpf_base.specs.Faults.{Gives};
 ghost use Rattle.ebpf_btf.specs.Memory.{is_memory};
 ghost use Rattle.ebpf_btf.specs.TypeInfo.{TypeInfo};
 ghost use Rattle.ebpf_declarations.specs.KnownStructs.{Knows, RemembersInner};
-ghost use Rattle.ebpf_declarations.specs.Maps.{struct_says};
+ghost use Rattle.ebpf_declarations.specs.Maps.{struct_definitions};
 ghost use Rattle.ebpf_parts.specs.declared.reading.Reading.{Reading};
 
 use crate::definitions::MapDefinitions;
-use crate::map_sayings::definitions;
+use crate::member_values::definitions;
 use crate::map_structs::members_at;
 use ebpf_btf::{Btf, BtfError};
 use ebpf_parts::Reading;
@@ -48,7 +48,7 @@ fn read_struct(
     struct_id: u32,
 ) -> Result<MapDefinitions, BtfError>
     requires { RemembersInner reading btf.now inner_maps.old }
-    ensures says { Gives is_memory result (struct_says reading btf.now name.now struct_id) }
+    ensures says { Gives is_memory result (struct_definitions reading btf.now name.now struct_id) }
     ensures known { OnOk result (RemembersInner reading btf.now inner_maps.new) }
 {
     let members = members_at(btf, struct_id)?;
@@ -56,7 +56,7 @@ fn read_struct(
 }
 
 /// The same, read at the first map that the struct declares.
-pub fn said_by_struct(
+pub fn struct_definitions(
     alloc: Global,
     btf: &Btf,
     reading: Reading,
@@ -65,7 +65,7 @@ pub fn said_by_struct(
     struct_id: u32,
 ) -> Result<MapDefinitions, BtfError>
     requires { Knows reading btf.now known.old }
-    ensures says { Gives is_memory result (struct_says reading btf.now name.now struct_id) }
+    ensures says { Gives is_memory result (struct_definitions reading btf.now name.now struct_id) }
     ensures known { OnOk result (Knows reading btf.now known.new) }
 {
     if let Some(said) = known.maps.get(&struct_id) {

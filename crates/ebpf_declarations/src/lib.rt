@@ -1,26 +1,26 @@
-//! What the types of an eBPF object declare: its externs in `.ksyms`, and its maps in sections as `.maps`.
+//! The extern declarations of an eBPF object in `.ksyms`, and its BTF-defined maps in sections as `.maps`.
 #![tactic(auto)]
 
 mod data_sections;
-mod declared_maps;
+mod btf_defined_maps;
 mod definitions;
 mod distinct_maps;
 mod error;
 mod extern_names;
 mod externs;
 mod externs_by_name;
-mod kept_sections;
+mod section_maps;
 mod known_structs;
 pub mod laws;
 mod map_member;
-mod map_sayings;
+mod member_values;
 mod map_structs;
 mod map_types;
 mod maps;
 mod named_sections;
 mod placeholders;
-mod saying;
+mod member_value;
 
-pub use declared_maps::DeclaredMaps;
+pub use btf_defined_maps::BtfDefinedMaps;
 pub use error::parse_error;
 pub use externs::{collect_externs, may_declare_externs};

@@ -1,7 +1,7 @@
 //! The members of a struct that declares a map.
 
 ghost use Rattle.std.specs.Prelude.{◌≡◌};
-ghost use Rattle.ebpf_declarations.specs.MapMembers.{member_at};
+ghost use Rattle.ebpf_declarations.specs.MapMembers.{map_member_at};
 
 use ebpf_btf::{Btf, BtfError, BtfMember};
 
@@ -41,8 +41,8 @@ pub enum MapMember {
 
 /// What a member is about, by its name, of which no more is looked at than the longest of the known names has.
 #[tactic(auto, unfolding(crate::specs::MapMembers::map_member))]
-pub fn member_at(btf: &Btf, member: &BtfMember) -> Result<MapMember, BtfError>
-    ensures { result ≡ member_at btf.now.strings member.now }
+pub fn map_member_at(btf: &Btf, member: &BtfMember) -> Result<MapMember, BtfError>
+    ensures { result ≡ map_member_at btf.now.strings member.now }
 {
     let name = member.name_offset;
     if btf.is_name_at(name, "type")? {

@@ -3,9 +3,9 @@
 ghost use Rattle.std.specs.Prelude.{◌≡◌, IfOk, Ok};
 ghost use Rattle.ebpf_base.specs.Faults.{Gives, fault_of};
 ghost use Rattle.ebpf_btf.specs.Memory.{is_memory};
-ghost use Rattle.ebpf_declarations.specs.MapMembers.{is_prototype_at, members_at, pointed_struct, held_struct};
+ghost use Rattle.ebpf_declarations.specs.MapMembers.{is_prototype_at, members_at, pointee_struct, inner_map_struct};
 
-use crate::map_types::{pointed, struct_members, unexpected};
+use crate::map_types::{pointee, struct_members, unexpected};
 use ebpf_base::Text;
 use ebpf_btf::{Btf, BtfError, BtfMember, BtfType};
 use std::alloc::Global;
@@ -32,28 +32,28 @@ pub fn members_at(btf: &Btf, type_id: u32) -> Result<&[BtfMember], BtfError>
 }
 
 /// The id of what the pointer points to that a type stands for, past types that stand for others.
-#[tactic(auto, unfolding(crate::specs::MapMembers::pointed_struct))]
-fn pointed_struct(btf: &Btf, type_id: u32) -> Result<u32, BtfError>
-    ensures { result ≡ pointed_struct btf.now.types type_id }
+#[tactic(auto, unfolding(crate::specs::MapMembers::pointee_struct))]
+fn pointee_struct(btf: &Btf, type_id: u32) -> Result<u32, BtfError>
+    ensures { result ≡ pointee_struct btf.now.types type_id }
 {
     let pointer = btf.resolved_type(type_id)?;
-    match pointed(pointer) {
+    match pointee(pointer) {
         Some(target) => btf.resolve_type(target),
         None => Err(unexpected(pointer)),
     }
 }
 
 /// The id of the struct of the maps that the map with a name holds.
-#[tactic(auto, unfolding(crate::specs::MapMembers::held_struct))]
-pub fn held_struct(alloc: Global, btf: &Btf, name: &str, type_id: u32) -> Result<u32, BtfError>
-    ensures { Gives is_memory result (held_struct btf.now.types name.now type_id) }
+#[tactic(auto, unfolding(crate::specs::MapMembers::inner_map_struct))]
+pub fn inner_map_struct(alloc: Global, btf: &Btf, name: &str, type_id: u32) -> Result<u32, BtfError>
+    ensures { Gives is_memory result (inner_map_struct btf.now.types name.now type_id) }
 {
     let ty = btf.type_by_id(type_id)?;
     let Some(array) = ty.array() else {
         return Err(unexpected(ty));
     };
     if array.len == 0 {
-        return pointed_struct(btf, array.element_type);
+        return pointee_struct(btf, array.element_type);
     }
     Err(BtfError::InvalidValuesSpec {
         name: Text::from_str(alloc, name)?,

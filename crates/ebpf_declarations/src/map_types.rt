@@ -4,7 +4,7 @@ ghost use Rattle.std.specs.Prelude.{◌≡◌, Some};
 ghost use Rattle.std.specs.Option.{option_copied};
 ghost use Rattle.ebpf_base.specs.Faults.{Gives};
 ghost use Rattle.ebpf_btf.specs.Memory.{is_memory};
-ghost use Rattle.ebpf_declarations.specs.MapMembers.{unexpected, pointed, struct_members, number, widened, sole_value, own_number, sized_type};
+ghost use Rattle.ebpf_declarations.specs.MapMembers.{unexpected, pointee, struct_members, number, sign_extended, sole_value, own_number, sized_type};
 
 use ebpf_btf::{Btf, BtfError, BtfMember, BtfType};
 
@@ -18,9 +18,9 @@ pub fn unexpected(ty: &BtfType) -> BtfError
 }
 
 /// What a PTR points to.
-#[tactic(auto, unfolding(crate::specs::MapMembers::pointed))]
-pub fn pointed(ty: &BtfType) -> Option<u32>
-    ensures { result ≡ pointed ty.now }
+#[tactic(auto, unfolding(crate::specs::MapMembers::pointee))]
+pub fn pointee(ty: &BtfType) -> Option<u32>
+    ensures { result ≡ pointee ty.now }
 {
     match ty {
         BtfType::Ptr { btf_type, .. } => Some(*btf_type),
@@ -45,7 +45,7 @@ pub fn number(btf: &Btf, type_id: u32) -> Result<u32, BtfError>
     ensures { result ≡ number btf.now.types type_id }
 {
     let pointer = btf.type_by_id(type_id)?;
-    let Some(target) = pointed(pointer) else {
+    let Some(target) = pointee(pointer) else {
         return Err(unexpected(pointer));
     };
     let target = btf.type_by_id(target)?;
@@ -55,9 +55,9 @@ pub fn number(btf: &Btf, type_id: u32) -> Result<u32, BtfError>
     }
 }
 
-/// An ENUM's value, widened by its sign.
-fn widened(value: u32) -> u64
-    ensures { result ≡ widened value }
+/// An ENUM's value with its sign extended.
+fn sign_extended(value: u32) -> u64
+    ensures { result ≡ sign_extended value }
 {
     if value < 0x8000_0000 {
         return value as u64;
@@ -72,7 +72,7 @@ fn sole_value(ty: &BtfType) -> Option<u64>
 {
     match ty {
         BtfType::Enum { variants, .. } => match variants.as_slice() {
-            [only] => Some(widened(only.value)),
+            [only] => Some(sign_extended(only.value)),
             _ => None,
         },
         BtfType::Enum64 { variants, .. } => match variants.as_slice() {
@@ -99,7 +99,7 @@ pub fn own_number(btf: &Btf, type_id: u32) -> Option<u64>
 pub fn sized_type(btf: &Btf, type_id: u32) -> Result<(u32, u32), BtfError>
     ensures { result ≡ sized_type btf.now.types type_id }
 {
-    let Some(spelled) = pointed(btf.type_by_id(type_id)?) else {
+    let Some(spelled) = pointee(btf.type_by_id(type_id)?) else {
         return Err(BtfError::UnexpectedBtfType { type_id });
     };
     let size = btf.type_size(spelled)?;

@@ -1,16 +1,16 @@
-//! The maps of a section that types declare.
+//! The BTF-defined maps of a section.
 
 ghost use Rattle.std.specs.Prelude.{◌≡◌, ◌++◌, OnOk};
 ghost use Rattle.std.specs.FinMap as map;
 ghost use Rattle.ebpf_base.specs.Faults.{Gives, Refuses};
 ghost use Rattle.ebpf_btf.specs.Memory.{is_memory as is_btf_memory};
 ghost use Rattle.ebpf_declarations.specs.KnownStructs.{Knows};
-ghost use Rattle.ebpf_declarations.specs.Maps.{variable, declared, map_at, map_of, entries_maps, entries_fault};
+ghost use Rattle.ebpf_declarations.specs.Maps.{variable, declared, map_at, entry_map, entries_maps, entries_fault};
 ghost use Rattle.ebpf_parts.specs.Memory.{is_memory};
 
 use crate::definitions::MapDefinitions;
 use crate::error::parse_error;
-use crate::known_structs::{KnownStructs, said_by_struct};
+use crate::known_structs::{KnownStructs, struct_definitions};
 use crate::map_types::unexpected;
 use ebpf_base::{ByName, Items, Text};
 use ebpf_btf::{Btf, BtfError, BtfType, DataSecEntry};
@@ -48,7 +48,7 @@ pub fn declared(
     };
     let name = Text::from_str(alloc, btf.type_name(ty)?.as_str())?;
     let held = btf.resolve_type(held)?;
-    let definitions = said_by_struct(alloc, btf, reading, known, name.as_str(), held)?;
+    let definitions = struct_definitions(alloc, btf, reading, known, name.as_str(), held)?;
     Ok((name, definitions))
 }
 
@@ -71,8 +71,8 @@ pub fn map_at(
 }
 
 /// The map of an entry, with its name.
-#[tactic(auto, unfolding(crate::specs::Maps::map_of))]
-fn map_of(
+#[tactic(auto, unfolding(crate::specs::Maps::entry_map))]
+fn entry_map(
     alloc: Global,
     btf: &Btf,
     reading: Reading,
@@ -82,7 +82,7 @@ fn map_of(
     entry: &DataSecEntry,
 ) -> Result<(Text, Map), ParseError>
     requires { Knows reading btf.now known.old }
-    ensures map { Gives is_memory result (map_of reading btf.now (map.get symbols.now) section.now.index.0 entry.now) }
+    ensures map { Gives is_memory result (entry_map reading btf.now (map.get symbols.now) section.now.index.0 entry.now) }
     ensures known { OnOk result (Knows reading btf.now known.new) }
 {
     let (name, definitions) = match declared(alloc, btf, reading, known, entry) {
@@ -114,7 +114,7 @@ pub fn add_entries(
     ensures fault { Refuses is_memory result (entries_fault reading btf.now (map.get symbols.now) section.now.index.0 entries.now) }
 {
     for entry in entries {
-        found.push(map_of(alloc, btf, reading, known, section, symbols, entry)?)?;
+        found.push(entry_map(alloc, btf, reading, known, section, symbols, entry)?)?;
     }
     Ok(())
 }

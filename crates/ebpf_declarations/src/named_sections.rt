@@ -2,13 +2,13 @@
 
 ghost use Rattle.std.specs.Prelude.{◌≡◌, is_some, IfOk, IfErr, OnOk, true};
 ghost use Rattle.ebpf_btf.specs.Memory.{is_memory};
-ghost use Rattle.ebpf_declarations.specs.DataSections.{entries_of};
-ghost use Rattle.ebpf_declarations.specs.NamedSections.{noted, entries_at, AreSought, AreWithin, Stay, Looked, AreFound};
+ghost use Rattle.ebpf_declarations.specs.DataSections.{datasec_entries};
+ghost use Rattle.ebpf_declarations.specs.NamedSections.{with_datasec_id, datasec_entries_at, AreWithoutIds, NamesAreWithin, Stay, IsScanned, AreFound};
 ghost use Rattle.std.specs.FinMap.{get};
 
-use crate::data_sections::entries_of;
+use crate::data_sections::datasec_entries;
 use ebpf_base::{ByName, Items};
-use ebpf_btf::strings::{near_bytes, zero_place};
+use ebpf_btf::strings::{near_bytes, first_zero};
 use ebpf_btf::{Btf, BtfError, BtfType, DataSecEntry};
 use std::alloc::Global;
 
@@ -22,28 +22,28 @@ pub struct NamedSections {
 }
 
 /// The entries of the DATASEC with an id.
-#[tactic(auto, unfolding(crate::specs::NamedSections::entries_at))]
-pub fn entries_at(btf: &Btf, id: u32) -> &[DataSecEntry]
-    ensures { result.now ≡ entries_at btf.now.types id }
+#[tactic(auto, unfolding(crate::specs::NamedSections::datasec_entries_at))]
+pub fn datasec_entries_at(btf: &Btf, id: u32) -> &[DataSecEntry]
+    ensures { result.now ≡ datasec_entries_at btf.now.types id }
 {
     let Ok(ty) = btf.type_by_id(id) else {
         return &[];
     };
-    entries_of(ty).unwrap_or(&[])
+    datasec_entries(ty).unwrap_or(&[])
 }
 
 /// Whether a type is a DATASEC.
-#[tactic(auto, unfolding(crate::specs::DataSections::entries_of))]
+#[tactic(auto, unfolding(crate::specs::DataSections::datasec_entries))]
 fn is_section(ty: &BtfType) -> bool
-    ensures { result ≡ is_some (entries_of ty.now) }
+    ensures { result ≡ is_some (datasec_entries ty.now) }
 {
     matches!(ty, BtfType::DataSec { .. })
 }
 
-/// Adds an id to those of a name, where the name is sought.
-#[tactic(auto, unfolding(crate::specs::NamedSections::noted))]
-fn note(by_name: &mut ByName<Items<u32>>, name: &str, id: u32) -> Result<(), BtfError>
-    ensures noted { OnOk result (by_name.new ≡ noted by_name.old name.now id) }
+/// Adds an id to those of a name, where the name is looked for.
+#[tactic(auto, unfolding(crate::specs::NamedSections::with_datasec_id))]
+fn add_datasec_id(by_name: &mut ByName<Items<u32>>, name: &str, id: u32) -> Result<(), BtfError>
+    ensures with_datasec_id { OnOk result (by_name.new ≡ with_datasec_id by_name.old name.now id) }
     ensures memory { IfErr result (λ e. is_memory e ≡ true) }
 {
     let Some(ids) = by_name.get_mut(name) else {
@@ -53,17 +53,17 @@ fn note(by_name: &mut ByName<Items<u32>>, name: &str, id: u32) -> Result<(), Btf
     Ok(())
 }
 
-/// Adds the id of a type to those of its name, where it is a DATASEC whose name is sought. Whether its name can be
-/// read; of one that no text is sought for no more is looked at than the longest of these has.
-fn look_at(
+/// Adds the id of a type to those of its name, where it is a DATASEC whose name is looked for. Whether its name can be
+/// read; of one that no text is looked for for no more is looked at than the longest of these has.
+fn scan_type(
     by_name: &mut ByName<Items<u32>>,
     btf: &Btf,
     longest: usize,
     id: u32,
     ty: &BtfType,
 ) -> Result<bool, BtfError>
-    requires { AreWithin longest by_name.old }
-    ensures looked { IfOk result (λ readable. Looked btf.now ty.now id by_name.old by_name.new readable) }
+    requires { NamesAreWithin longest by_name.old }
+    ensures looked { IfOk result (λ readable. IsScanned btf.now ty.now id by_name.old by_name.new readable) }
     ensures memory { IfErr result (λ e. is_memory e ≡ true) }
 {
     if !is_section(ty) {
@@ -73,17 +73,17 @@ fn look_at(
     if btf.is_name_at(name, "").is_err() {
         return Ok(false);
     }
-    if zero_place(near_bytes(btf.strings(), name, longest)).is_none() {
+    if first_zero(near_bytes(btf.strings(), name, longest)).is_none() {
         return Ok(true);
     }
     let text = btf.string_at(name)?;
-    note(by_name, text.as_str(), id)?;
+    add_datasec_id(by_name, text.as_str(), id)?;
     Ok(true)
 }
 
 /// These names, each with no ids, and the length of the longest.
-fn sought(alloc: Global, names: &[&str]) -> Result<(ByName<Items<u32>>, usize), BtfError>
-    ensures none { IfOk result (λ s. AreSought s.1 s.0) }
+fn wanted_names(alloc: Global, names: &[&str]) -> Result<(ByName<Items<u32>>, usize), BtfError>
+    ensures none { IfOk result (λ s. AreWithoutIds s.1 s.0) }
     ensures memory { IfErr result (λ e. is_memory e ≡ true) }
 {
     let mut by_name = ByName::new(alloc);
@@ -101,14 +101,14 @@ fn gather_into(
     by_name: ByName<Items<u32>>,
     longest: usize,
 ) -> Result<NamedSections, BtfError>
-    requires { AreSought longest by_name }
+    requires { AreWithoutIds longest by_name }
     ensures found { IfOk result (λ found. AreFound btf.now found) }
     ensures stay { IfOk result (λ found. Stay by_name found.by_name) }
     ensures memory { IfErr result (λ e. is_memory e ≡ true) }
 {
     let mut by_name = by_name;
     for (id, ty) in btf.types().iter().enumerate() {
-        if !look_at(&mut by_name, btf, longest, id as u32, ty)? {
+        if !scan_type(&mut by_name, btf, longest, id as u32, ty)? {
             return Ok(NamedSections {
                 by_name,
                 unreadable: Some(ty.name_offset() as usize),
@@ -127,7 +127,7 @@ impl NamedSections {
         ensures found { IfOk result (λ found. AreFound btf.now found) }
         ensures memory { IfErr result (λ e. is_memory e ≡ true) }
     {
-        let (by_name, longest) = sought(alloc, names)?;
+        let (by_name, longest) = wanted_names(alloc, names)?;
         gather_into(btf, by_name, longest)
     }
 

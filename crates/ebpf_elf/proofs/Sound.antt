@@ -1,4 +1,4 @@
--- What a file without faults says of its sections with relocations.
+-- The sections with relocations of a file without faults.
 use Rattle.std.proofs.Common.{◌≡◌, ◌*◌, ◌==◌, ◌<◌, ◌≤◌, ◌+◌, ◌-◌, ◌&&◌, ℕ, List, Bool, true, false, Some, None, cond, refl, arith, length}
 use Rattle.std.proofs.lemmas.Bool.Decides.{nat_tests}
 use Rattle.std.proofs.lemmas.List.Folds.{list_any_at}
@@ -40,10 +40,10 @@ not_bad bytes t j sound low high holds =
 
 -- the entries of a sound section are inside the file
 pub entries_inside : (bytes : List ℕ) (j : ℕ) → is_bad_relocation_table bytes j ≡ false → 0 < entry_count record { file = bytes; index = j }
-    → (section bytes j).offset + relocation_size (section bytes j).kind * entry_count record { file = bytes; index = j } ≤ length bytes
+    → (section bytes j).sh_offset + relocation_size (section bytes j).sh_type * entry_count record { file = bytes; index = j } ≤ length bytes
 unfolding is_bad_relocation_table
-entries_inside bytes j sound some = by_kind ((section bytes j).kind == SHT_REL) refl
+entries_inside bytes j sound some = by_kind ((section bytes j).sh_type == SHT_REL) refl
   where
-    by_kind : (b : Bool) → ((section bytes j).kind == SHT_REL) ≡ b → (section bytes j).offset + relocation_size (section bytes j).kind * entry_count record { file = bytes; index = j } ≤ length bytes
+    by_kind : (b : Bool) → ((section bytes j).sh_type == SHT_REL) ≡ b → (section bytes j).sh_offset + relocation_size (section bytes j).sh_type * entry_count record { file = bytes; index = j } ≤ length bytes
     by_kind true e = rw e (grind (arith, nat_tests, rw e at sound, rw e at some))
     by_kind false e = rw e (grind (arith, nat_tests, rw e at sound, rw e at some))

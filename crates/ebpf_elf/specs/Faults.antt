@@ -5,9 +5,9 @@ use Rattle.ebpf_base.specs.Faults.{Row}
 use Rattle.ebpf_elf.specs.declared.constants.TheConstants.{MAGIC, ELFCLASS64, ELFDATA2LSB, ELFDATA2MSB, SHN_XINDEX}
 use Rattle.ebpf_elf.specs.declared.error.ElfReadError.{ElfReadError}
 use Rattle.ebpf_elf.specs.declared.error.ElfReadError.TheVariants.{TooShort, BadMagic, NotElf64, BadByteOrder, BadSectionTable, BadStringTable, BadSymbolTable, BadRelocationTable, ExtendedNumbering}
-use Rattle.ebpf_elf.specs.File.{table_start, header_size, stated_count, names_index, section, section_numbers, is_inside}
+use Rattle.ebpf_elf.specs.File.{e_shoff, e_shentsize, e_shnum, e_shstrndx, section, section_indices, is_inside}
 use Rattle.ebpf_elf.specs.Strings.{is_string_table}
-use Rattle.ebpf_elf.specs.SymbolTable.{symbol_table, symbol_section, symbol_numbers}
+use Rattle.ebpf_elf.specs.SymbolTable.{symbol_table, st_shndx_at, symbol_table_indices}
 use Rattle.ebpf_elf.specs.RelocationTables.{holds_relocations, is_bad_relocation_table}
 
 -- the file's header: its size, EI_MAG0 to EI_MAG3, EI_CLASS and EI_DATA ('ELF Identification')
@@ -22,41 +22,41 @@ identity_faults bytes =
 -- the table of section headers ('ELF Header'; with a count of 0 or names at SHN_XINDEX, section 0 has the numbers)
 unfoldable pub table_faults : List ℕ → List (Row ElfReadError)
 table_faults bytes =
-    (stated_count bytes == 0 || names_index bytes == SHN_XINDEX, ExtendedNumbering)
-    ∷ (not (header_size bytes == 64) || nat_lt (length bytes) (table_start bytes + 64 * stated_count bytes), BadSectionTable)
+    (e_shnum bytes == 0 || e_shstrndx bytes == SHN_XINDEX, ExtendedNumbering)
+    ∷ (not (e_shentsize bytes == 64) || nat_lt (length bytes) (e_shoff bytes + 64 * e_shnum bytes), BadSectionTable)
     ∷ []
 
 -- the string table of the section names
 unfoldable pub names_faults : List ℕ → List (Row ElfReadError)
 names_faults bytes =
-    (not (names_index bytes == 0) && not (is_string_table bytes (names_index bytes)), BadStringTable)
+    (not (e_shstrndx bytes == 0) && not (is_string_table bytes (e_shstrndx bytes)), BadStringTable)
     ∷ []
 
 -- the symbol table in the section i, and the string table that is its link ('Symbol Table')
 unfoldable pub symbol_faults : List ℕ → ℕ → List (Row ElfReadError)
 symbol_faults bytes i =
-    (not ((section bytes i).size % 24 == 0) || not (is_inside bytes (section bytes i).offset (section bytes i).size), BadSymbolTable)
-    ∷ (not (is_string_table bytes (section bytes i).link), BadStringTable)
+    (not ((section bytes i).sh_size % 24 == 0) || not (is_inside bytes (section bytes i).sh_offset (section bytes i).sh_size), BadSymbolTable)
+    ∷ (not (is_string_table bytes (section bytes i).sh_link), BadStringTable)
     ∷ []
 
--- a symbol whose section number stands elsewhere (SHN_XINDEX)
-unfoldable pub number_faults : List ℕ → ℕ → List (Row ElfReadError)
-number_faults bytes i =
-    (list_any (λ k. symbol_section bytes i k == SHN_XINDEX) (symbol_numbers bytes i), ExtendedNumbering)
+-- a symbol whose section index stands elsewhere (SHN_XINDEX)
+unfoldable pub xindex_faults : List ℕ → ℕ → List (Row ElfReadError)
+xindex_faults bytes i =
+    (list_any (λ k. st_shndx_at bytes i k == SHN_XINDEX) (symbol_table_indices bytes i), ExtendedNumbering)
     ∷ []
 
 -- the relocations against the symbol table ('Relocation')
 unfoldable pub relocation_faults : List ℕ → ℕ → List (Row ElfReadError)
 relocation_faults bytes i =
-    (list_any (λ j. holds_relocations bytes i j && is_bad_relocation_table bytes j) (section_numbers bytes), BadRelocationTable)
+    (list_any (λ j. holds_relocations bytes i j && is_bad_relocation_table bytes j) (section_indices bytes), BadRelocationTable)
     ∷ []
 
 -- what is looked for where there is a symbol table
-abbrev pub linked_faults : List ℕ → Option ℕ → List (List (Row ElfReadError))
-linked_faults bytes None = []
-linked_faults bytes (Some i) = symbol_faults bytes i ∷ number_faults bytes i ∷ relocation_faults bytes i ∷ []
+abbrev pub symbol_table_faults : List ℕ → Option ℕ → List (List (Row ElfReadError))
+symbol_table_faults bytes None = []
+symbol_table_faults bytes (Some i) = symbol_faults bytes i ∷ xindex_faults bytes i ∷ relocation_faults bytes i ∷ []
 
 -- with no section headers nothing past the identification is looked at
 unfoldable pub faults : List ℕ → List (List (Row ElfReadError))
 faults bytes = identity_faults bytes ∷
-    (if table_start bytes == 0 then [] else table_faults bytes ∷ names_faults bytes ∷ linked_faults bytes (symbol_table bytes))
+    (if e_shoff bytes == 0 then [] else table_faults bytes ∷ names_faults bytes ∷ symbol_table_faults bytes (symbol_table bytes))

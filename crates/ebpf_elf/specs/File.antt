@@ -1,4 +1,4 @@
--- The header of a file and its sections, by number (ELF-64 gABI, 'ELF Header' and 'Sections').
+-- The header of a file and its sections, by index (ELF-64 gABI, 'ELF Header' and 'Sections').
 use Rattle.std.specs.Prelude.{ℕ, ◌+◌, ◌-◌, ◌*◌, Bool, ◌||◌, List, length, nat_le, ◌==◌, if◌then◌else◌, slice_index, slice_range}
 use Rattle.std.specs.List.{range_with_len}
 use Rattle.ebpf_btf.specs.declared.endianness.Endianness.{Endianness}
@@ -9,35 +9,35 @@ use Rattle.ebpf_elf.specs.declared.header.SectionHeader.{SectionHeader}
 use Rattle.ebpf_elf.specs.Headers.{header_at}
 
 -- EI_DATA, the byte at 5
-unfoldable pub order_of : List ℕ → Endianness
-order_of bytes = if slice_index bytes 5 == ELFDATA2MSB then Big else Little
+unfoldable pub ei_data : List ℕ → Endianness
+ei_data bytes = if slice_index bytes 5 == ELFDATA2MSB then Big else Little
 
 -- e_shoff, where the section headers stand; 0 where there are none
-unfoldable pub table_start : List ℕ → ℕ
-table_start bytes = number_at (order_of bytes) 8 bytes 40
+unfoldable pub e_shoff : List ℕ → ℕ
+e_shoff bytes = number_at (ei_data bytes) 8 bytes 40
 
 -- e_shentsize, the size of a section header
-unfoldable pub header_size : List ℕ → ℕ
-header_size bytes = number_at (order_of bytes) 2 bytes 58
+unfoldable pub e_shentsize : List ℕ → ℕ
+e_shentsize bytes = number_at (ei_data bytes) 2 bytes 58
 
 -- e_shnum, the number of section headers
-unfoldable pub stated_count : List ℕ → ℕ
-stated_count bytes = number_at (order_of bytes) 2 bytes 60
+unfoldable pub e_shnum : List ℕ → ℕ
+e_shnum bytes = number_at (ei_data bytes) 2 bytes 60
 
 -- e_shstrndx, the section with the names of the sections; 0 where there are no names
-unfoldable pub names_index : List ℕ → ℕ
-names_index bytes = number_at (order_of bytes) 2 bytes 62
+unfoldable pub e_shstrndx : List ℕ → ℕ
+e_shstrndx bytes = number_at (ei_data bytes) 2 bytes 62
 
 abbrev pub section_count : List ℕ → ℕ
-section_count bytes = if table_start bytes == 0 then 0 else stated_count bytes
+section_count bytes = if e_shoff bytes == 0 then 0 else e_shnum bytes
 
--- the header of a section, by its number
+-- the header of a section, by its index
 unfoldable pub section : List ℕ → ℕ → SectionHeader
-section bytes i = header_at (order_of bytes) bytes (table_start bytes + 64 * i)
+section bytes i = header_at (ei_data bytes) bytes (e_shoff bytes + 64 * i)
 
--- the numbers of the sections; number 0 (SHN_UNDEF) is no section
-abbrev pub section_numbers : List ℕ → List ℕ
-section_numbers bytes = range_with_len 1 (section_count bytes - 1)
+-- the indices of the sections; index 0 (SHN_UNDEF) is no section
+abbrev pub section_indices : List ℕ → List ℕ
+section_indices bytes = range_with_len 1 (section_count bytes - 1)
 
 -- a range of the file; one of size 0 is always inside
 abbrev pub is_inside : List ℕ → ℕ → ℕ → Bool

@@ -1,13 +1,13 @@
--- The parts of a file, as they are kept.
+-- The symbol table of a file, if there is one.
 use Rattle.std.specs.Prelude.{ℕ, List, [], Option, Some, None}
 use Rattle.ebpf_elf.specs.declared.symbol_table.SymbolTable.{SymbolTable}
 
 -- the section of a symbol table
-abbrev pub index_of : Option SymbolTable → Option ℕ
-index_of None = None
-index_of (Some s) = Some s.index
+abbrev pub symbol_table_index : Option SymbolTable → Option ℕ
+symbol_table_index None = None
+symbol_table_index (Some s) = Some s.index
 
 -- the file of a symbol table
-abbrev pub file_of : Option SymbolTable → List ℕ
-file_of None = []
-file_of (Some s) = s.table.bytes.now
+abbrev pub symbol_table_file : Option SymbolTable → List ℕ
+symbol_table_file None = []
+symbol_table_file (Some s) = s.table.bytes.now

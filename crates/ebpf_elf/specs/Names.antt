@@ -4,22 +4,22 @@ use Rattle.std.specs.List.{position}
 use Rattle.std.specs.Str.{is_utf8, bytes_eq}
 
 -- the bytes up to the first zero byte
-abbrev pub text_bytes : List ℕ → Option (List ℕ)
-text_bytes bytes = option_map (λ n. take n bytes) (position (λ b. b == 0) bytes)
+abbrev pub bytes_before_zero : List ℕ → Option (List ℕ)
+bytes_before_zero bytes = option_map (λ n. take n bytes) (position (λ b. b == 0) bytes)
 
--- The bytes of a name, by its number: from that place of the table up to the next zero byte.
+-- The bytes of a name, by its index: from that offset of the table up to the next zero byte.
 -- Number 0 is the empty name, also where the table is empty.
 unfoldable pub name_bytes : List ℕ → ℕ → Option (List ℕ)
-name_bytes table number = if number == 0 then Some [] else text_bytes (drop number table)
+name_bytes table index = if index == 0 then Some [] else bytes_before_zero (drop index table)
 
 -- a text has to be UTF-8
-abbrev pub readable : Option (List ℕ) → Option (List ℕ)
-readable None = None
-readable (Some text) = if is_utf8 text then Some text else None
+abbrev pub utf8_text : Option (List ℕ) → Option (List ℕ)
+utf8_text None = None
+utf8_text (Some text) = if is_utf8 text then Some text else None
 
--- the name with a number, where it can be read
-unfoldable pub name_of : List ℕ → ℕ → Option (List ℕ)
-name_of table number = readable (name_bytes table number)
+-- the name with an index, where it can be read
+unfoldable pub string_table_name : List ℕ → ℕ → Option (List ℕ)
+string_table_name table index = utf8_text (name_bytes table index)
 
 -- whether it can be read and is this text
 abbrev pub is_name : List ℕ → Option (List ℕ) → Bool

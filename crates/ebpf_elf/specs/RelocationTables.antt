@@ -11,11 +11,11 @@ relocation_size kind = if kind == SHT_REL then 16 else 24
 -- its link is i, and its info is the section that is patched (0, at dynamic relocations, is none).
 unfoldable pub holds_relocations : List ℕ → ℕ → ℕ → Bool
 holds_relocations bytes i j =
-    ((section bytes j).kind == SHT_REL || (section bytes j).kind == SHT_RELA)
-    && not ((section bytes j).info == 0) && (section bytes j).link == i
+    ((section bytes j).sh_type == SHT_REL || (section bytes j).sh_type == SHT_RELA)
+    && not ((section bytes j).sh_info == 0) && (section bytes j).sh_link == i
 
 unfoldable pub is_bad_relocation_table : List ℕ → ℕ → Bool
 is_bad_relocation_table bytes j =
-    not (nat_lt (section bytes j).info (section_count bytes))
-    || not ((section bytes j).size % relocation_size (section bytes j).kind == 0)
-    || not (is_inside bytes (section bytes j).offset (section bytes j).size)
+    not (nat_lt (section bytes j).sh_info (section_count bytes))
+    || not ((section bytes j).sh_size % relocation_size (section bytes j).sh_type == 0)
+    || not (is_inside bytes (section bytes j).sh_offset (section bytes j).sh_size)

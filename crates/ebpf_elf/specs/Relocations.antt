@@ -5,7 +5,7 @@ use Rattle.ebpf_btf.specs.declared.endianness.Endianness.{Endianness}
 use Rattle.ebpf_btf.specs.Numbers.{number_at}
 use Rattle.ebpf_elf.specs.declared.constants.TheConstants.{R_BPF_64_64, R_BPF_64_32}
 use Rattle.ebpf_elf.specs.declared.entries.ElfRelocation.{ElfRelocation}
-use Rattle.ebpf_elf.specs.File.{order_of}
+use Rattle.ebpf_elf.specs.File.{ei_data}
 use Rattle.ebpf_elf.specs.SymbolTable.{symbol_table}
 use Rattle.ebpf_elf.specs.RelocationTables.{relocation_size, holds_relocations}
 use Rattle.ebpf_elf.specs.Sections.{SectionOf, header, sections}
@@ -16,10 +16,10 @@ size_of_type kind = if kind == R_BPF_64_64 then 64 else (if kind == R_BPF_64_32 
 
 -- an entry: r_offset, then r_info with the symbol in its high half and the type in its low half
 unfoldable pub relocation_at : Endianness → List ℕ → ℕ → ElfRelocation
-relocation_at order bytes place = record {
-  offset = number_at order 8 bytes place;
-  size = size_of_type (number_at order 8 bytes (place + 8) % 2 ^ 32);
-  symbol_index = number_at order 8 bytes (place + 8) / 2 ^ 32;
+relocation_at order bytes offset = record {
+  offset = number_at order 8 bytes offset;
+  size = size_of_type (number_at order 8 bytes (offset + 8) % 2 ^ 32);
+  symbol_index = number_at order 8 bytes (offset + 8) / 2 ^ 32;
 }
 
 -- the sections with relocations against the symbol table, in order; there are none without one
@@ -30,23 +30,23 @@ relocation_sections_in bytes (Some t) = filter (λ s. holds_relocations s.file t
 abbrev pub relocation_sections : List ℕ → List SectionOf
 relocation_sections bytes = relocation_sections_in bytes (symbol_table bytes)
 
--- sh_info, the number of the section that the entries patch
-abbrev pub target_of : SectionOf → ℕ
-target_of s = (header s).info
+-- sh_info, the index of the section that the entries patch
+abbrev pub relocated_section : SectionOf → ℕ
+relocated_section s = (header s).sh_info
 
--- the entries of a section of relocations, by number
+-- the entries of a section of relocations, by index
 abbrev pub entry_count : SectionOf → ℕ
-entry_count s = (header s).size / relocation_size (header s).kind
+entry_count s = (header s).sh_size / relocation_size (header s).sh_type
 
-unfoldable pub entry_of : SectionOf → ℕ → ElfRelocation
-entry_of s k = relocation_at (order_of s.file) s.file ((header s).offset + relocation_size (header s).kind * k)
+unfoldable pub table_entry : SectionOf → ℕ → ElfRelocation
+table_entry s k = relocation_at (ei_data s.file) s.file ((header s).sh_offset + relocation_size (header s).sh_type * k)
 
-abbrev pub entries_of : SectionOf → List ElfRelocation
-entries_of s = map (λ k. entry_of s k) (range_with_len 0 (entry_count s))
+abbrev pub table_entries : SectionOf → List ElfRelocation
+table_entries s = map (λ k. table_entry s k) (range_with_len 0 (entry_count s))
 
 -- the entries of those sections whose target is the section i
 abbrev pub entries_for : ℕ → List SectionOf → List ElfRelocation
-entries_for i tables = flat_map entries_of (filter (λ r. target_of r == i) tables)
+entries_for i tables = flat_map table_entries (filter (λ r. relocated_section r == i) tables)
 
 -- the relocations of a section, in order
 abbrev pub relocations : SectionOf → List ElfRelocation

@@ -5,11 +5,11 @@ use Rattle.ebpf_elf.specs.declared.constants.TheConstants.{SHT_NOBITS}
 use Rattle.ebpf_elf.specs.declared.error.ElfReadError.{ElfReadError}
 use Rattle.ebpf_elf.specs.declared.error.ElfReadError.TheVariants.{BadSectionRange}
 use Rattle.ebpf_elf.specs.declared.header.SectionHeader.{SectionHeader}
-use Rattle.ebpf_elf.specs.File.{section, section_numbers, is_inside, range_of}
+use Rattle.ebpf_elf.specs.File.{section, section_indices, is_inside, range_of}
 use Rattle.ebpf_elf.specs.Strings.{section_names}
-use Rattle.ebpf_elf.specs.Names.{name_of}
+use Rattle.ebpf_elf.specs.Names.{string_table_name}
 
--- a section, by its number in a file
+-- a section, by its index in a file
 pub record SectionOf : Type 0 where
   pub file : List ℕ
   pub index : ℕ
@@ -20,17 +20,17 @@ header s = section s.file s.index
 
 -- the sections of a file, in order
 abbrev pub sections : List ℕ → List SectionOf
-sections bytes = map (λ i. record { file = bytes; index = i }) (section_numbers bytes)
+sections bytes = map (λ i. record { file = bytes; index = i }) (section_indices bytes)
 
 -- its name, where it can be read
 unfoldable pub section_name : SectionOf → Option (List ℕ)
-section_name s = name_of (section_names s.file) (header s).name
+section_name s = string_table_name (section_names s.file) (header s).sh_name
 
 -- a section of kind NOBITS occupies no space in the file, whatever its size
 unfoldable pub data_faults : SectionOf → List (Row ElfReadError)
 data_faults s =
-    (not ((header s).kind == SHT_NOBITS) && not (is_inside s.file (header s).offset (header s).size), BadSectionRange)
+    (not ((header s).sh_type == SHT_NOBITS) && not (is_inside s.file (header s).sh_offset (header s).sh_size), BadSectionRange)
     ∷ []
 
 unfoldable pub data_of : SectionOf → List ℕ
-data_of s = if (header s).kind == SHT_NOBITS then [] else range_of s.file (header s)
+data_of s = if (header s).sh_type == SHT_NOBITS then [] else range_of s.file (header s)

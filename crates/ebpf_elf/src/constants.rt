@@ -11,9 +11,9 @@ pub const ELFDATA2LSB: u8 = 1;
 /// EI_DATA of a big-endian file.
 pub const ELFDATA2MSB: u8 = 2;
 
-/// The first reserved section number.
+/// The first reserved section index.
 pub const SHN_LORESERVE: u16 = 0xff00;
-/// The section number that stands for one kept elsewhere.
+/// The section index that stands for one kept elsewhere.
 pub const SHN_XINDEX: u16 = 0xffff;
 
 /// The kind of a symbol table.

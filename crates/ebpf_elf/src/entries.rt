@@ -1,6 +1,6 @@
 //! What a file's tables hold, as callers see it.
 
-/// The number of a section in its file. The first section has number 1.
+/// The index of a section in its file. The first section has index 1.
 #[derive(Clone, Copy, Debug, Default, PartialEq, Eq)]
 pub struct SectionIndex(pub usize);
 
@@ -24,10 +24,10 @@ pub enum SymbolKind {
 /// A relocation (ELF-64 gABI, 'Relocation').
 #[derive(Clone, Copy, Debug, PartialEq, Eq)]
 pub struct ElfRelocation {
-    /// The place that is patched, in bytes from the start of its section (r_offset).
+    /// The offset that is patched, in bytes from the start of its section (r_offset).
     pub offset: u64,
     /// The size of what is patched, in bits: 64 at R_BPF_64_64, 32 at R_BPF_64_32, else 0.
     pub size: u8,
-    /// The number of the symbol (the high half of r_info).
+    /// The index of the symbol (the high half of r_info).
     pub symbol_index: usize,
 }

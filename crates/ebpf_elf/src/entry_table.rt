@@ -4,7 +4,7 @@ ghost use Rattle.std.specs.Prelude.{◌≡◌, ◌+◌, ◌*◌, ◌<◌, ◌≤
 ghost use Rattle.ebpf_base.specs.Faults.{first_of};
 ghost use Rattle.ebpf_elf.specs.Faults.{relocation_faults};
 ghost use Rattle.ebpf_elf.specs.RelocationTables.{holds_relocations, relocation_size};
-ghost use Rattle.ebpf_elf.specs.Relocations.{relocation_at, target_of, entry_count, entry_of};
+ghost use Rattle.ebpf_elf.specs.Relocations.{relocation_at, relocated_section, entry_count, table_entry};
 ghost use Rattle.ebpf_elf.specs.Sections.{header};
 
 use crate::constants::{R_BPF_64_32, R_BPF_64_64};
@@ -15,20 +15,20 @@ use crate::table::SectionTable;
 use ebpf_btf::Endianness;
 use ebpf_btf::numbers::read_u64;
 
-/// The relocation in the 16 bytes from `place` on. An addend behind them is not read.
+/// The relocation in the 16 bytes from `offset` on. An addend behind them is not read.
 #[tactic(auto, unfolding(crate::specs::Relocations::relocation_at))]
-fn read_relocation(order: Endianness, bytes: &[u8], place: usize) -> ElfRelocation
-    requires { place + 16 ≤ length bytes.now }
-    ensures { result ≡ relocation_at order bytes.now place }
+fn read_relocation(order: Endianness, bytes: &[u8], offset: usize) -> ElfRelocation
+    requires { offset + 16 ≤ length bytes.now }
+    ensures { result ≡ relocation_at order bytes.now offset }
 {
-    let info = read_u64(order, bytes, place + 8);
+    let info = read_u64(order, bytes, offset + 8);
     let size = match info % (1 << 32) {
         R_BPF_64_64 => 64,
         R_BPF_64_32 => 32,
         _ => 0,
     };
     ElfRelocation {
-        offset: read_u64(order, bytes, place),
+        offset: read_u64(order, bytes, offset),
         size,
         symbol_index: (info / (1 << 32)) as usize,
     }
@@ -43,14 +43,14 @@ pub struct EntryTable<'a> {
     pub offset: usize,
     pub entry_size: usize,
     pub count: usize,
-    ghost targets: { target ≡ target_of record { file = table.bytes.now; index = index } },
-    ghost offsets: { offset ≡ (header record { file = table.bytes.now; index = index }).offset },
-    ghost sizes: { entry_size ≡ relocation_size (header record { file = table.bytes.now; index = index }).kind },
+    ghost targets: { target ≡ relocated_section record { file = table.bytes.now; index = index } },
+    ghost offsets: { offset ≡ (header record { file = table.bytes.now; index = index }).sh_offset },
+    ghost sizes: { entry_size ≡ relocation_size (header record { file = table.bytes.now; index = index }).sh_type },
     ghost counts: { count ≡ entry_count record { file = table.bytes.now; index = index } },
     ghost inside: { 0 < count → offset + entry_size * count ≤ length table.bytes.now },
 }
 
-/// The entries of the section with this number, which holds relocations against a symbol table.
+/// The entries of the section with this index, which holds relocations against a symbol table.
 #[tactic(auto, using(crate::proofs::Sound::not_bad, crate::proofs::Sound::entries_inside))]
 pub fn entry_table_of<'a>(symbols: &SymbolTable<'a>, index: usize) -> EntryTable<'a>
     requires from { 1 ≤ index }
@@ -61,25 +61,25 @@ pub fn entry_table_of<'a>(symbols: &SymbolTable<'a>, index: usize) -> EntryTable
     ensures index { result.index ≡ index }
 {
     let header = symbols.table.header(index);
-    let entry_size = relocation_size(header.kind);
+    let entry_size = relocation_size(header.sh_type);
     EntryTable {
         table: symbols.table,
         index,
-        target: header.info as usize,
-        offset: header.offset as usize,
+        target: header.sh_info as usize,
+        offset: header.sh_offset as usize,
         entry_size: entry_size as usize,
-        count: (header.size / entry_size) as usize,
+        count: (header.sh_size / entry_size) as usize,
     }
 }
 
 impl EntryTable<'_> {
-    /// The entry with this number, from 0 on.
-    #[tactic(auto, using(crate::proofs::Tables::entry_inside), unfolding(crate::specs::Relocations::entry_of))]
-    pub fn entry(&self, number: usize) -> ElfRelocation
-        requires { number < self.now.count }
-        ensures { result ≡ entry_of record { file = self.now.table.bytes.now; index = self.now.index } number }
+    /// The entry with this index, from 0 on.
+    #[tactic(auto, using(crate::proofs::Tables::entry_inside), unfolding(crate::specs::Relocations::table_entry))]
+    pub fn entry(&self, entry_index: usize) -> ElfRelocation
+        requires { entry_index < self.now.count }
+        ensures { result ≡ table_entry record { file = self.now.table.bytes.now; index = self.now.index } entry_index }
     {
-        let place = self.offset + self.entry_size * number;
-        read_relocation(self.table.endianness, self.table.bytes, place)
+        let offset = self.offset + self.entry_size * entry_index;
+        read_relocation(self.table.endianness, self.table.bytes, offset)
     }
 }

@@ -34,7 +34,7 @@ pub enum ElfReadError {
     /// is no multiple of an entry's, or it runs past the end of the file.
     #[error("a section of relocations passes the end of the file, is no whole entries, or is for no section")]
     BadRelocationTable,
-    /// A number is kept elsewhere, as in files with more than 65,279 sections. These are not read.
+    /// An index is kept elsewhere, as in files with more than 65,279 sections. These are not read.
     #[error("the file has extended section numbers, which are not read")]
     ExtendedNumbering,
 }

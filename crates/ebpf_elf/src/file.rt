@@ -5,7 +5,7 @@ ghost use Rattle.std.specs.List.{find};
 ghost use Rattle.ebpf_base.specs.FirstFault.{IsFirstFault, IsClear, rows_of};
 ghost use Rattle.ebpf_base.specs.Faults.{first_in, fault_of};
 ghost use Rattle.ebpf_elf.specs.Faults.{faults};
-ghost use Rattle.ebpf_elf.specs.File.{order_of, section_numbers};
+ghost use Rattle.ebpf_elf.specs.File.{ei_data, section_indices};
 ghost use Rattle.ebpf_elf.specs.Names.{is_name};
 ghost use Rattle.ebpf_elf.specs.Relocations.{relocation_sections};
 ghost use Rattle.ebpf_elf.specs.Sections.{sections, section_name};
@@ -64,7 +64,7 @@ impl<'a> ElfFile<'a> {
     /// 3. `BadSectionTable`: a section header has not 64 bytes, or their table runs past the end.
     /// 4. `BadStringTable`: the section names are in no sound string table.
     /// 5. `BadSymbolTable`, `BadStringTable`: the first section of type SYMTAB, and its string table.
-    /// 6. `ExtendedNumbering`: a symbol's section number is kept elsewhere.
+    /// 6. `ExtendedNumbering`: a symbol's section index is kept elsewhere.
     /// 7. `BadRelocationTable`: a section of type REL or RELA, whose link is the symbol table and whose
     ///    info is not 0.
     ///
@@ -82,12 +82,12 @@ impl<'a> ElfFile<'a> {
 
     /// The byte order of the file's numbers (EI_DATA).
     pub fn endianness(&self) -> Endianness
-        ensures { result ≡ order_of self.now }
+        ensures { result ≡ ei_data self.now }
     {
         self.layout.table.endianness
     }
 
-    /// The sections from number 1 on, in order.
+    /// The sections from index 1 on, in order.
     #[tactic(auto, using(crate::proofs::Ranges::length_numbers))]
     pub fn sections(&self) -> Sections<'a>
         ensures list { result ≡ sections self.now }
@@ -103,7 +103,7 @@ impl<'a> ElfFile<'a> {
         first_named(self.sections(), name)
     }
 
-    /// The symbols from number 1 on, in order.
+    /// The symbols from index 1 on, in order.
     #[tactic(auto, using(crate::proofs::Ranges::length_numbers))]
     pub fn symbols(&self) -> Symbols<'a>
         ensures list { result ≡ symbols self.now }
@@ -112,7 +112,7 @@ impl<'a> ElfFile<'a> {
         Symbols::new(self.layout.symbols)
     }
 
-    /// The sections with relocations against the symbol table, in order of their numbers.
+    /// The sections with relocations against the symbol table, in order of their indices.
     #[tactic(auto, using(crate::proofs::Ranges::length_filtered))]
     pub fn relocation_sections(&self) -> RelocationSections<'a>
         ensures list { result ≡ relocation_sections self.now }

@@ -3,8 +3,8 @@
 ghost use Rattle.std.specs.Prelude.{◌≡◌, ◌<◌, None, Some, IfOk};
 ghost use Rattle.std.specs.Option.{ForSome};
 ghost use Rattle.ebpf_base.specs.Faults.{first_of, first_in, fault_of};
-ghost use Rattle.ebpf_elf.specs.Faults.{faults, names_faults, linked_faults, relocation_faults};
-ghost use Rattle.ebpf_elf.specs.Layout.{index_of};
+ghost use Rattle.ebpf_elf.specs.Faults.{faults, names_faults, symbol_table_faults, relocation_faults};
+ghost use Rattle.ebpf_elf.specs.Layout.{symbol_table_index};
 ghost use Rattle.ebpf_elf.specs.Strings.{section_names};
 ghost use Rattle.ebpf_elf.specs.SymbolTable.{symbol_table};
 
@@ -14,7 +14,7 @@ use crate::table::{SectionTable, identify, section_table};
 use ebpf_btf::numbers::read_u16;
 
 /// The string table of the section names.
-#[tactic(auto, unfolding(crate::specs::Faults::names_faults, crate::specs::Strings::section_names, crate::specs::File::names_index))]
+#[tactic(auto, unfolding(crate::specs::Faults::names_faults, crate::specs::Strings::section_names, crate::specs::File::e_shstrndx))]
 fn names_of<'a>(table: &SectionTable<'a>) -> Result<&'a [u8], ElfReadError>
     requires { 0 < table.now.count }
     ensures fault { fault_of result ≡ first_of (names_faults table.now.bytes.now) }
@@ -32,13 +32,13 @@ fn names_of<'a>(table: &SectionTable<'a>) -> Result<&'a [u8], ElfReadError>
 /// The symbol table in the section `index`, whose symbols and relocations are sound.
 fn sound_symbols<'a>(table: SectionTable<'a>, index: usize) -> Result<SymbolTable<'a>, ElfReadError>
     requires { index < table.count }
-    ensures fault { fault_of result ≡ first_in (linked_faults table.entry.bytes.now (Some index)) }
+    ensures fault { fault_of result ≡ first_in (symbol_table_faults table.entry.bytes.now (Some index)) }
     ensures table { IfOk result (λ s. s.table ≡ table.entry) }
     ensures index { IfOk result (λ s. s.index ≡ index) }
     ensures relocations { IfOk result (λ s. first_of (relocation_faults s.table.bytes.now s.index) ≡ None) }
 {
     let symbols = open_symbol_table(table, index)?;
-    symbols.check_section_numbers()?;
+    symbols.check_section_indices()?;
     symbols.check_relocations()?;
     Ok(symbols)
 }
@@ -50,7 +50,7 @@ pub struct Layout<'a> {
     pub names: &'a [u8],
     pub symbols: Option<SymbolTable<'a>>,
     ghost strings: { 0 < table.count → names.now ≡ section_names table.bytes.now },
-    ghost linked: { symbol_table table.bytes.now ≡ index_of symbols },
+    ghost symtab: { symbol_table table.bytes.now ≡ symbol_table_index symbols },
     ghost relocations: { ForSome symbols (λ s. first_of (relocation_faults s.table.bytes.now s.index) ≡ None) },
     ghost same: { ForSome symbols (λ s. s.table.bytes.now ≡ table.bytes.now) },
 }

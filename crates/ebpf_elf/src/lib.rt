@@ -26,7 +26,7 @@ pub use entries::{ElfRelocation, SectionIndex, SymbolKind};
 pub use error::ElfReadError;
 pub use file::ElfFile;
 pub use relocation_entries::RelocationEntries;
-pub use relocation_section::{ElfRelocationSection, EntryPlaces};
+pub use relocation_section::{ElfRelocationSection, EntryExtent};
 pub use relocation_sections::RelocationSections;
 pub use relocations::Relocations;
 pub use section::ElfSection;

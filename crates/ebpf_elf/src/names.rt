@@ -2,13 +2,13 @@
 
 ghost use Rattle.std.specs.Prelude.{◌≡◌, ◌==◌, None, Some, MatchOption, IfOk, IfErr};
 ghost use Rattle.std.specs.List.{position};
-ghost use Rattle.ebpf_elf.specs.Names.{text_bytes, name_bytes, name_of};
+ghost use Rattle.ebpf_elf.specs.Names.{bytes_before_zero, name_bytes, string_table_name};
 ghost use Rattle.ebpf_elf.specs.declared.error.ElfReadError.TheVariants.{BadStringTable};
 
 use crate::error::ElfReadError;
 
-/// The place of the first zero byte.
-fn zero_place(bytes: &[u8]) -> Option<usize>
+/// The index of the first zero byte.
+fn first_zero(bytes: &[u8]) -> Option<usize>
     ensures { result ≡ position (λ b. b == 0) bytes.now }
 {
     bytes.iter().position(|b| *b == 0)
@@ -16,36 +16,36 @@ fn zero_place(bytes: &[u8]) -> Option<usize>
 
 /// The bytes up to the first zero byte.
 fn before_zero(bytes: &[u8]) -> Option<&[u8]>
-    ensures { MatchOption result (text_bytes bytes.now ≡ None) (λ text. text_bytes bytes.now ≡ Some text.now) }
+    ensures { MatchOption result (bytes_before_zero bytes.now ≡ None) (λ text. bytes_before_zero bytes.now ≡ Some text.now) }
 {
-    match zero_place(bytes) {
+    match first_zero(bytes) {
         Some(end) => Some(&bytes[..end]),
         None => None,
     }
 }
 
-/// The bytes of the name with this number.
+/// The bytes of the name with this index.
 #[tactic(auto, unfolding(crate::specs::Names::name_bytes))]
-fn bytes_in(names: &[u8], number: usize) -> Option<&[u8]>
-    ensures { MatchOption result (name_bytes names.now number ≡ None) (λ text. name_bytes names.now number ≡ Some text.now) }
+fn bytes_in(names: &[u8], index: usize) -> Option<&[u8]>
+    ensures { MatchOption result (name_bytes names.now index ≡ None) (λ text. name_bytes names.now index ≡ Some text.now) }
 {
-    if number == 0 {
+    if index == 0 {
         return Some(&[]);
     }
-    if number > names.len() {
+    if index > names.len() {
         return None;
     }
-    before_zero(&names[number..])
+    before_zero(&names[index..])
 }
 
-/// The name with this number. `BadStringTable` where no zero byte follows, or it is not UTF-8.
-#[tactic(auto, using(crate::proofs::Texts::readable_text, crate::proofs::Texts::unreadable), unfolding(crate::specs::Names::name_of))]
-pub fn name_in(names: &[u8], number: usize) -> Result<&str, ElfReadError>
-    ensures name { IfOk result (λ text. name_of names.now number ≡ Some text.now) }
-    ensures none { IfErr result (λ _. name_of names.now number ≡ None) }
+/// The name with this index. `BadStringTable` where no zero byte follows, or it is not UTF-8.
+#[tactic(auto, using(crate::proofs::Texts::readable_text, crate::proofs::Texts::unreadable), unfolding(crate::specs::Names::string_table_name))]
+pub fn name_in(names: &[u8], index: usize) -> Result<&str, ElfReadError>
+    ensures name { IfOk result (λ text. string_table_name names.now index ≡ Some text.now) }
+    ensures none { IfErr result (λ _. string_table_name names.now index ≡ None) }
     ensures error { IfErr result (λ e. e ≡ BadStringTable) }
 {
-    let Some(bytes) = bytes_in(names, number) else {
+    let Some(bytes) = bytes_in(names, index) else {
         return Err(ElfReadError::BadStringTable);
     };
     match str::from_utf8(bytes) {

@@ -2,7 +2,7 @@
 
 ghost use Rattle.std.specs.Prelude.{◌≡◌, []};
 ghost use Rattle.std.specs.Iterator.{YieldsFirst, item_count};
-ghost use Rattle.ebpf_elf.specs.Relocations.{entries_of};
+ghost use Rattle.ebpf_elf.specs.Relocations.{table_entries};
 
 use crate::entries::ElfRelocation;
 use crate::entry_table::EntryTable;
@@ -39,7 +39,7 @@ impl<'a> RelocationEntries<'a> {
 
     /// All entries of a section.
     pub(crate) fn new(entries: EntryTable<'a>) -> RelocationEntries<'a>
-        ensures { result ≡ entries_of record { file = entries.entry.table.bytes.now; index = entries.entry.index } }
+        ensures { result ≡ table_entries record { file = entries.entry.table.bytes.now; index = entries.entry.index } }
     {
         RelocationEntries {
             entries: Some(entries),
@@ -61,8 +61,8 @@ impl<'a> Iterator for RelocationEntries<'a> {
         if self.next >= entries.count {
             return None;
         }
-        let number = self.next;
+        let entry_index = self.next;
         self.next += 1;
-        Some(entries.entry(number))
+        Some(entries.entry(entry_index))
     }
 }

@@ -2,7 +2,7 @@
 
 ghost use Rattle.std.specs.Prelude.{◌≡◌, ◌<◌, ◌^◌, length};
 ghost use Rattle.ebpf_elf.specs.RelocationTables.{relocation_size};
-ghost use Rattle.ebpf_elf.specs.Relocations.{target_of, entries_of, entry_count};
+ghost use Rattle.ebpf_elf.specs.Relocations.{relocated_section, table_entries, entry_count};
 ghost use Rattle.ebpf_elf.specs.Sections.{SectionOf, header};
 
 use crate::entries::SectionIndex;
@@ -12,8 +12,8 @@ use std::marker::Model;
 
 /// Where the entries of a section with relocations stand in its file.
 #[derive(Clone, Copy, Debug, PartialEq, Eq)]
-pub struct EntryPlaces {
-    /// The place of the first entry (sh_offset).
+pub struct EntryExtent {
+    /// The offset of the first entry (sh_offset).
     pub offset: usize,
     /// The size of an entry in bytes: 16 in a REL section, 24 in a RELA section.
     pub entry_size: usize,
@@ -21,7 +21,7 @@ pub struct EntryPlaces {
     pub count: usize,
 }
 
-/// A section with relocations against the symbol table. Contracts see the file and the section's number.
+/// A section with relocations against the symbol table. Contracts see the file and the section's index.
 #[derive(Clone, Drop)]
 pub struct ElfRelocationSection<'a> {
     entries: EntryTable<'a>,
@@ -42,27 +42,27 @@ impl<'a> ElfRelocationSection<'a> {
         ElfRelocationSection { entries }
     }
 
-    /// The section's own number, from 1 on.
+    /// The section's own index, from 1 on.
     pub fn index(&self) -> SectionIndex
         ensures { result.0 ≡ self.now.index }
     {
         SectionIndex(self.entries.index)
     }
 
-    /// The number of the section that the entries patch (sh_info).
+    /// The index of the section that the entries patch (sh_info).
     pub fn target(&self) -> usize
-        ensures { result ≡ target_of self.now }
+        ensures { result ≡ relocated_section self.now }
     {
         self.entries.target
     }
 
-    /// Where the entries stand. Two sections of a file whose entries stand at the same places have the same entries.
-    pub fn places(&self) -> EntryPlaces
-        ensures offset { result.offset ≡ (header self.now).offset }
-        ensures entry_size { result.entry_size ≡ relocation_size (header self.now).kind }
+    /// Where the entries stand. Two sections of a file whose entries have the same extent have the same entries.
+    pub fn extent(&self) -> EntryExtent
+        ensures offset { result.offset ≡ (header self.now).sh_offset }
+        ensures entry_size { result.entry_size ≡ relocation_size (header self.now).sh_type }
         ensures count { result.count ≡ entry_count self.now }
     {
-        EntryPlaces {
+        EntryExtent {
             offset: self.entries.offset,
             entry_size: self.entries.entry_size,
             count: self.entries.count,
@@ -72,7 +72,7 @@ impl<'a> ElfRelocationSection<'a> {
     /// The entries of this section, in order.
     #[tactic(auto, using(crate::proofs::Ranges::length_numbers))]
     pub fn relocations(&self) -> RelocationEntries<'a>
-        ensures list { result ≡ entries_of self.now }
+        ensures list { result ≡ table_entries self.now }
         ensures few { length result < 2 ^ 64 }
     {
         RelocationEntries::new(self.entries)

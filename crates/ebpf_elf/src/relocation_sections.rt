@@ -5,7 +5,7 @@ ghost use Rattle.std.specs.Iterator.{YieldsFirst, item_count};
 ghost use Rattle.std.specs.Option.{ForSome};
 ghost use Rattle.ebpf_base.specs.Faults.{first_of};
 ghost use Rattle.ebpf_elf.specs.Faults.{relocation_faults};
-ghost use Rattle.ebpf_elf.specs.Layout.{index_of, file_of};
+ghost use Rattle.ebpf_elf.specs.Layout.{symbol_table_index, symbol_table_file};
 ghost use Rattle.ebpf_elf.specs.Relocations.{relocation_sections_in};
 
 use crate::entry_table::entry_table_of;
@@ -13,7 +13,7 @@ use crate::relocation_section::ElfRelocationSection;
 use crate::symbol_table::SymbolTable;
 use std::marker::Model;
 
-/// The sections with relocations that are left, in order of their numbers. Contracts see the list of them.
+/// The sections with relocations that are left, in order of their indices. Contracts see the list of them.
 #[derive(Clone, Drop)]
 pub struct RelocationSections<'a> {
     symbols: Option<SymbolTable<'a>>,
@@ -37,7 +37,7 @@ impl<'a> RelocationSections<'a> {
     /// The sections with relocations against a symbol table.
     pub(crate) fn new(symbols: Option<SymbolTable<'a>>) -> RelocationSections<'a>
         requires { ForSome symbols (λ s. first_of (relocation_faults s.table.bytes.now s.index) ≡ None) }
-        ensures { result ≡ relocation_sections_in (file_of symbols.entry) (index_of symbols.entry) }
+        ensures { result ≡ relocation_sections_in (symbol_table_file symbols.entry) (symbol_table_index symbols.entry) }
     {
         RelocationSections { symbols, next: 1 }
     }

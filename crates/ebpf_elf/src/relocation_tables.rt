@@ -4,7 +4,7 @@ ghost use Rattle.std.specs.Prelude.{◌≡◌, ◌+◌, ◌<◌, ◌≤◌, ◌&
 ghost use Rattle.std.specs.List.{list_any};
 ghost use Rattle.ebpf_base.specs.Faults.{first_of, fault_of};
 ghost use Rattle.ebpf_elf.specs.Faults.{relocation_faults};
-ghost use Rattle.ebpf_elf.specs.File.{section_numbers};
+ghost use Rattle.ebpf_elf.specs.File.{section_indices};
 ghost use Rattle.ebpf_elf.specs.Left.{relocation_sections_from};
 ghost use Rattle.ebpf_elf.specs.RelocationTables.{holds_relocations, is_bad_relocation_table, relocation_size};
 
@@ -27,9 +27,9 @@ impl SymbolTable<'_> {
         ensures { result ≡ holds_relocations self.now.table.bytes.now self.now.index section }
     {
         let header = self.table.header(section);
-        (header.kind == SHT_REL || header.kind == SHT_RELA)
-            && header.info != 0
-            && header.link as usize == self.index
+        (header.sh_type == SHT_REL || header.sh_type == SHT_RELA)
+            && header.sh_info != 0
+            && header.sh_link as usize == self.index
     }
 
     /// Whether a section is malformed, taken as one of relocations.
@@ -39,14 +39,14 @@ impl SymbolTable<'_> {
         ensures { result ≡ is_bad_relocation_table self.now.table.bytes.now section }
     {
         let header = self.table.header(section);
-        header.info as usize >= self.table.count
-            || header.size % relocation_size(header.kind) != 0
+        header.sh_info as usize >= self.table.count
+            || header.sh_size % relocation_size(header.sh_type) != 0
             || self.table.range(&header).is_none()
     }
 
     /// Whether a section with relocations against this table is malformed.
     fn has_bad_relocations(&self) -> bool
-        ensures { result ≡ list_any (λ j. holds_relocations self.now.table.bytes.now self.now.index j && is_bad_relocation_table self.now.table.bytes.now j) (section_numbers self.now.table.bytes.now) }
+        ensures { result ≡ list_any (λ j. holds_relocations self.now.table.bytes.now self.now.index j && is_bad_relocation_table self.now.table.bytes.now j) (section_indices self.now.table.bytes.now) }
     {
         (1..self.table.count).any(|j| self.holds_relocations(j) && self.is_bad_relocation_table(j))
     }
@@ -62,7 +62,7 @@ impl SymbolTable<'_> {
         Ok(())
     }
 
-    /// The number of the first section from `from` on with relocations against this table.
+    /// The index of the first section from `from` on with relocations against this table.
     #[tactic(auto, using(crate::proofs::Ranges::range_more))]
     pub fn next_relocation_section(&self, from: usize) -> Option<usize>
         ensures none { IfNone result (relocation_sections_from self.now.table.bytes.now self.now.index from self.now.table.count ≡ []) }

@@ -17,7 +17,7 @@ use crate::relocation_sections::RelocationSections;
 use crate::relocations::Relocations;
 use std::marker::Model;
 
-/// A section of a file. Contracts see the file and the section's number.
+/// A section of a file. Contracts see the file and the section's index.
 #[derive(Clone, Drop)]
 pub struct ElfSection<'a> {
     layout: Layout<'a>,
@@ -33,8 +33,8 @@ impl<'a> Model for ElfSection<'a> {
     ghost invariant = { λ s. (s.index < s.layout.table.count) × (s.fields ≡ section s.layout.table.bytes.now s.index) };
 }
 
-/// The section with this number.
-pub fn section_of<'a>(layout: Layout<'a>, index: usize) -> ElfSection<'a>
+/// The section with this index.
+pub fn section_at<'a>(layout: Layout<'a>, index: usize) -> ElfSection<'a>
     requires { index < layout.table.count }
     ensures file { result.file ≡ layout.entry.table.bytes.now }
     ensures index { result.index ≡ index }
@@ -47,7 +47,7 @@ pub fn section_of<'a>(layout: Layout<'a>, index: usize) -> ElfSection<'a>
 }
 
 impl<'a> ElfSection<'a> {
-    /// The section's number, from 1 on.
+    /// The section's index, from 1 on.
     pub fn index(&self) -> SectionIndex
         ensures { result.0 ≡ self.now.index }
     {
@@ -56,30 +56,30 @@ impl<'a> ElfSection<'a> {
 
     /// The section's type (sh_type), as 1 at PROGBITS and 8 at NOBITS.
     pub fn kind_number(&self) -> u32
-        ensures { result ≡ (header self.now).kind }
+        ensures { result ≡ (header self.now).sh_type }
     {
-        self.fields.kind
+        self.fields.sh_type
     }
 
     /// The section's flags (sh_flags), as 2 at ALLOC and 4 at EXECINSTR.
     pub fn flags(&self) -> u64
-        ensures { result ≡ (header self.now).flags }
+        ensures { result ≡ (header self.now).sh_flags }
     {
-        self.fields.flags
+        self.fields.sh_flags
     }
 
     /// The address of the section's first byte (sh_addr); 0 in most object files.
     pub fn address(&self) -> u64
-        ensures { result ≡ (header self.now).address }
+        ensures { result ≡ (header self.now).sh_addr }
     {
-        self.fields.address
+        self.fields.sh_addr
     }
 
     /// The section's size in bytes (sh_size), also where it has no data in the file.
     pub fn size(&self) -> u64
-        ensures { result ≡ (header self.now).size }
+        ensures { result ≡ (header self.now).sh_size }
     {
-        self.fields.size
+        self.fields.sh_size
     }
 
     /// The section's name, from the string table of the section names (sh_name).
@@ -91,7 +91,7 @@ impl<'a> ElfSection<'a> {
         ensures none { IfErr result (λ _. section_name self.now ≡ None) }
         ensures error { IfErr result (λ e. e ≡ BadStringTable) }
     {
-        name_in(self.layout.names, self.fields.name as usize)
+        name_in(self.layout.names, self.fields.sh_name as usize)
     }
 
     /// The section's bytes in the file (sh_offset, sh_size). A section of type NOBITS has none.
@@ -102,7 +102,7 @@ impl<'a> ElfSection<'a> {
         ensures fault { fault_of result ≡ first_of (data_faults self.now) }
         ensures bytes { IfOk result (λ part. part.now ≡ data_of self.now) }
     {
-        if self.fields.kind == SHT_NOBITS {
+        if self.fields.sh_type == SHT_NOBITS {
             return Ok(&[]);
         }
         self.layout

@@ -6,10 +6,10 @@ ghost use Rattle.std.specs.List.{range_with_len};
 ghost use Rattle.ebpf_elf.specs.Sections.{SectionOf, sections};
 
 use crate::layout::Layout;
-use crate::section::{ElfSection, section_of};
+use crate::section::{ElfSection, section_at};
 use std::marker::Model;
 
-/// The sections of a file that are left, in order of their numbers. Contracts see the list of them.
+/// The sections of a file that are left, in order of their indices. Contracts see the list of them.
 #[derive(Clone, Drop)]
 pub struct Sections<'a> {
     layout: Layout<'a>,
@@ -23,7 +23,7 @@ impl<'a> Model for Sections<'a> {
 }
 
 impl<'a> Sections<'a> {
-    /// The sections of the file from number 1 on.
+    /// The sections of the file from index 1 on.
     pub(crate) fn new(layout: Layout<'a>) -> Sections<'a>
         ensures { result ≡ sections layout.entry.table.bytes.now }
     {
@@ -45,6 +45,6 @@ impl<'a> Iterator for Sections<'a> {
         }
         let index = self.next;
         self.next += 1;
-        Some(section_of(self.layout, index))
+        Some(section_at(self.layout, index))
     }
 }

@@ -1,7 +1,7 @@
 //! A symbol of a file.
 
 ghost use Rattle.std.specs.Prelude.{◌≡◌, ◌<◌, None, Some, IfOk, IfErr};
-ghost use Rattle.ebpf_elf.specs.Symbols.{SymbolOf, entry, symbol_name, kind_of, section_of, is_definition, is_weak};
+ghost use Rattle.ebpf_elf.specs.Symbols.{SymbolOf, entry, symbol_name, symbol_kind, symbol_section_index, is_definition, is_weak};
 ghost use Rattle.ebpf_elf.specs.declared.error.ElfReadError.TheVariants.{BadStringTable};
 
 use crate::constants::{
@@ -15,7 +15,7 @@ use crate::symbol_entry::{SymbolEntry, read_symbol};
 use crate::symbol_table::SymbolTable;
 use std::marker::Model;
 
-/// A symbol of a file. Contracts see the file, the section of the symbol table and the symbol's number.
+/// A symbol of a file. Contracts see the file, the section of the symbol table and the symbol's index.
 #[derive(Clone, Drop)]
 pub struct ElfSymbol<'a> {
     symbols: SymbolTable<'a>,
@@ -31,7 +31,7 @@ impl<'a> Model for ElfSymbol<'a> {
     ghost invariant = { λ s. s.fields ≡ entry record { file = s.symbols.table.bytes.now; table = s.symbols.index; index = s.index } };
 }
 
-/// The symbol with this number.
+/// The symbol with this index.
 #[tactic(auto, unfolding(crate::specs::Symbols::entry))]
 pub fn symbol_of<'a>(symbols: SymbolTable<'a>, index: usize) -> ElfSymbol<'a>
     requires { index < symbols.count }
@@ -39,16 +39,16 @@ pub fn symbol_of<'a>(symbols: SymbolTable<'a>, index: usize) -> ElfSymbol<'a>
     ensures table { result.table ≡ symbols.entry.index }
     ensures index { result.index ≡ index }
 {
-    let place = symbols.offset + 24 * index;
+    let offset = symbols.offset + 24 * index;
     ElfSymbol {
         symbols,
         index,
-        fields: read_symbol(symbols.table.endianness, symbols.table.bytes, place),
+        fields: read_symbol(symbols.table.endianness, symbols.table.bytes, offset),
     }
 }
 
 impl<'a> ElfSymbol<'a> {
-    /// The symbol's number, from 1 on.
+    /// The symbol's index, from 1 on.
     pub fn index(&self) -> usize
         ensures { result ≡ self.now.index }
     {
@@ -64,41 +64,41 @@ impl<'a> ElfSymbol<'a> {
         ensures none { IfErr result (λ _. symbol_name self.now ≡ None) }
         ensures error { IfErr result (λ e. e ≡ BadStringTable) }
     {
-        name_in(self.symbols.names, self.fields.name as usize)
+        name_in(self.symbols.names, self.fields.st_name as usize)
     }
 
-    /// The number of the section that the symbol is in (st_shndx). An undefined symbol, and one with a
-    /// reserved number, as an absolute one, is in no section.
-    #[tactic(auto, unfolding(crate::specs::Symbols::section_of))]
+    /// The index of the section that the symbol is in (st_shndx). An undefined symbol, and one with a
+    /// reserved index, as an absolute one, is in no section.
+    #[tactic(auto, unfolding(crate::specs::Symbols::symbol_section_index))]
     pub fn section_index(&self) -> Option<usize>
-        ensures { result ≡ section_of (entry self.now) }
+        ensures { result ≡ symbol_section_index (entry self.now) }
     {
-        if self.fields.section == 0 || self.fields.section >= SHN_LORESERVE {
+        if self.fields.st_shndx == 0 || self.fields.st_shndx >= SHN_LORESERVE {
             return None;
         }
-        Some(self.fields.section as usize)
+        Some(self.fields.st_shndx as usize)
     }
 
     /// The symbol's value (st_value): in object files its offset in its section, in bytes.
     pub fn address(&self) -> u64
         ensures { result ≡ (entry self.now).value }
     {
-        self.fields.value
+        self.fields.st_value
     }
 
     /// The symbol's size in bytes (st_size); 0 where it has none or is unknown.
     pub fn size(&self) -> u64
         ensures { result ≡ (entry self.now).size }
     {
-        self.fields.size
+        self.fields.st_size
     }
 
     /// What the symbol stands for, by its type (the low half of st_info).
-    #[tactic(auto, unfolding(crate::specs::Symbols::kind_of))]
+    #[tactic(auto, unfolding(crate::specs::Symbols::symbol_kind))]
     pub fn kind(&self) -> SymbolKind
-        ensures { result ≡ kind_of (entry self.now) }
+        ensures { result ≡ symbol_kind (entry self.now) }
     {
-        match self.fields.info % 16 {
+        match self.fields.st_info % 16 {
             STT_OBJECT | STT_COMMON => SymbolKind::Data,
             STT_FUNC | STT_GNU_IFUNC => SymbolKind::Text,
             STT_SECTION => SymbolKind::Section,
@@ -114,11 +114,11 @@ impl<'a> ElfSymbol<'a> {
     pub fn is_definition(&self) -> bool
         ensures { result ≡ is_definition (entry self.now) }
     {
-        let kind = self.fields.info % 16;
-        self.fields.section != 0
+        let kind = self.fields.st_info % 16;
+        self.fields.st_shndx != 0
             && (kind == STT_FUNC
                 || kind == STT_OBJECT
-                || (kind == STT_NOTYPE && self.fields.size != 0))
+                || (kind == STT_NOTYPE && self.fields.st_size != 0))
     }
 
     /// Whether the symbol's binding is weak (the high half of st_info).
@@ -126,6 +126,6 @@ impl<'a> ElfSymbol<'a> {
     pub fn is_weak(&self) -> bool
         ensures { result ≡ is_weak (entry self.now) }
     {
-        self.fields.info / 16 == STB_WEAK
+        self.fields.st_info / 16 == STB_WEAK
     }
 }

@@ -2,14 +2,14 @@
 
 ghost use Rattle.std.specs.Prelude.{◌≡◌, ◌≤◌};
 ghost use Rattle.std.specs.Iterator.{YieldsFirst, item_count};
-ghost use Rattle.ebpf_elf.specs.Layout.{index_of, file_of};
+ghost use Rattle.ebpf_elf.specs.Layout.{symbol_table_index, symbol_table_file};
 ghost use Rattle.ebpf_elf.specs.Symbols.{symbols_in};
 
 use crate::symbol::{ElfSymbol, symbol_of};
 use crate::symbol_table::SymbolTable;
 use std::marker::Model;
 
-/// The symbols of a file that are left, in order of their numbers. Contracts see the list of them.
+/// The symbols of a file that are left, in order of their indices. Contracts see the list of them.
 #[derive(Clone, Drop)]
 pub struct Symbols<'a> {
     table: Option<SymbolTable<'a>>,
@@ -28,9 +28,9 @@ impl<'a> Model for Symbols<'a> {
 }
 
 impl<'a> Symbols<'a> {
-    /// The symbols of the table from number 1 on.
+    /// The symbols of the table from index 1 on.
     pub(crate) fn new(table: Option<SymbolTable<'a>>) -> Symbols<'a>
-        ensures { result ≡ symbols_in (file_of table.entry) (index_of table.entry) }
+        ensures { result ≡ symbols_in (symbol_table_file table.entry) (symbol_table_index table.entry) }
     {
         Symbols { table, next: 1 }
     }

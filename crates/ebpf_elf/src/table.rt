@@ -3,7 +3,7 @@
 ghost use Rattle.std.specs.Prelude.{◌≡◌, ◌↔◌, ◌+◌, ◌*◌, ◌<◌, ◌≤◌, ◌==◌, [], length, false, if◌then◌else◌, IfOk, IfSome, IsNone};
 ghost use Rattle.ebpf_base.specs.Faults.{first_of, fault_of};
 ghost use Rattle.ebpf_elf.specs.Faults.{identity_faults, table_faults};
-ghost use Rattle.ebpf_elf.specs.File.{order_of, table_start, section_count, section, is_inside, range_of};
+ghost use Rattle.ebpf_elf.specs.File.{ei_data, e_shoff, section_count, section, is_inside, range_of};
 ghost use Rattle.ebpf_elf.specs.Strings.{is_string_table};
 
 use crate::constants::{ELFCLASS64, ELFDATA2LSB, ELFDATA2MSB, MAGIC, SHN_XINDEX, SHT_STRTAB};
@@ -13,10 +13,10 @@ use ebpf_btf::Endianness;
 use ebpf_btf::numbers::{read_u16, read_u64};
 
 /// The byte order of an ELF64 file.
-#[tactic(auto, unfolding(crate::specs::File::order_of, crate::specs::Faults::identity_faults))]
+#[tactic(auto, unfolding(crate::specs::File::ei_data, crate::specs::Faults::identity_faults))]
 pub fn identify(bytes: &[u8]) -> Result<Endianness, ElfReadError>
     ensures fault { fault_of result ≡ first_of (identity_faults bytes.now) }
-    ensures order { IfOk result (λ order. order ≡ order_of bytes.now) }
+    ensures order { IfOk result (λ order. order ≡ ei_data bytes.now) }
     ensures room { IfOk result (λ _. 64 ≤ length bytes.now) }
 {
     if bytes.len() < 64 {
@@ -42,21 +42,21 @@ pub struct SectionTable<'a> {
     pub endianness: Endianness,
     pub start: usize,
     pub count: usize,
-    ghost order: { endianness ≡ order_of bytes.now },
-    ghost starts: { start ≡ table_start bytes.now },
+    ghost order: { endianness ≡ ei_data bytes.now },
+    ghost starts: { start ≡ e_shoff bytes.now },
     ghost counts: { count ≡ section_count bytes.now },
     ghost inside: { start + 64 * count ≤ length bytes.now },
 }
 
 /// The table of section headers. Without one its start is 0.
-#[tactic(auto, unfolding(crate::specs::Faults::table_faults, crate::specs::File::table_start, crate::specs::File::stated_count, crate::specs::File::header_size, crate::specs::File::names_index))]
+#[tactic(auto, unfolding(crate::specs::Faults::table_faults, crate::specs::File::e_shoff, crate::specs::File::e_shnum, crate::specs::File::e_shentsize, crate::specs::File::e_shstrndx))]
 pub fn section_table<'a>(
     endianness: Endianness,
     bytes: &'a [u8],
 ) -> Result<SectionTable<'a>, ElfReadError>
-    requires order { endianness ≡ order_of bytes.now }
+    requires order { endianness ≡ ei_data bytes.now }
     requires room { 64 ≤ length bytes.now }
-    ensures fault { fault_of result ≡ first_of (if table_start bytes.now == 0 then [] else table_faults bytes.now) }
+    ensures fault { fault_of result ≡ first_of (if e_shoff bytes.now == 0 then [] else table_faults bytes.now) }
     ensures bytes { IfOk result (λ table. table.bytes.now ≡ bytes.now) }
     ensures some { IfOk result (λ table. 0 < table.start → 0 < table.count) }
 {
@@ -100,11 +100,11 @@ impl<'a> SectionTable<'a> {
 
     /// The range of a section, where it is inside the file.
     pub fn range(&self, header: &SectionHeader) -> Option<&'a [u8]>
-        ensures none { IsNone result ↔ (is_inside self.now.bytes.now header.now.offset header.now.size ≡ false) }
+        ensures none { IsNone result ↔ (is_inside self.now.bytes.now header.now.sh_offset header.now.sh_size ≡ false) }
         ensures some { IfSome result (λ part. part.now ≡ range_of self.now.bytes.now header.now) }
     {
-        let offset = header.offset as usize;
-        let size = header.size as usize;
+        let offset = header.sh_offset as usize;
+        let size = header.sh_size as usize;
         if size == 0 {
             return Some(&[]);
         }
@@ -124,7 +124,7 @@ impl<'a> SectionTable<'a> {
             return None;
         }
         let header = self.header(index);
-        if header.kind != SHT_STRTAB {
+        if header.sh_type != SHT_STRTAB {
             return None;
         }
         self.range(&header)

@@ -3,7 +3,7 @@ use ebpf_btf::Endianness;
 use std::alloc::{AllocError, Global};
 use std::test::*;
 
-/// A number at a place: the place, the number's width in bytes, and its value.
+/// A field: its offset, the number's width in bytes, and its value.
 type Field = (u16, u8, u64);
 
 /// The fields of a file of 616 bytes: a program in `kprobe/p` with a call of `f` in `.text`.
@@ -77,7 +77,7 @@ const ORDERS: [Endianness; 2] = [Endianness::Little, Endianness::Big];
 
 /// Writes a field.
 fn write(bytes: &mut [u8], order: Endianness, field: &Field) {
-    let (place, width, value) = *field;
+    let (offset, width, value) = *field;
     let numbers = value.to_le_bytes();
     for (i, byte) in numbers.iter().enumerate() {
         if i >= usize::from(width) {
@@ -87,7 +87,7 @@ fn write(bytes: &mut [u8], order: Endianness, field: &Field) {
             Endianness::Little => i,
             Endianness::Big => usize::from(width) - 1 - i,
         };
-        if let Some(slot) = bytes.get_mut(usize::from(place) + shift) {
+        if let Some(slot) = bytes.get_mut(usize::from(offset) + shift) {
             *slot = *byte;
         }
     }
@@ -265,7 +265,7 @@ fn reads_a_file_without_sections(rt: HostRuntime) -> Result<(), Fail> {
     Ok(())
 }
 
-/// The number, kind, flags, address and size of a section.
+/// The index, kind, flags, address and size of a section.
 fn fields_of(section: &ElfSection<'_>) -> (SectionIndex, u32, u64, u64, u64) {
     (
         section.index(),
@@ -298,8 +298,8 @@ fn finds_the_first_of_a_name(rt: HostRuntime) -> Result<(), Fail> {
     Ok(())
 }
 
-/// The number, section, address and size of a symbol.
-fn place_of(symbol: &ElfSymbol<'_>) -> (usize, Option<usize>, u64, u64) {
+/// The index, section, address and size of a symbol.
+fn symbol_fields(symbol: &ElfSymbol<'_>) -> (usize, Option<usize>, u64, u64) {
     (
         symbol.index(),
         symbol.section_index(),
@@ -321,7 +321,7 @@ fn reads_the_symbols(rt: HostRuntime) -> Result<(), Fail> {
         assert_eq!(rt; file.symbols().count(), 2);
         let symbol = last_symbol(&file)?;
         assert_eq!(rt; symbol.name()?, "f");
-        assert_eq!(rt; place_of(&symbol), (2, Some(2), 24, 8));
+        assert_eq!(rt; symbol_fields(&symbol), (2, Some(2), 24, 8));
     }
     Ok(())
 }
@@ -352,7 +352,7 @@ fn reads_the_kinds_of_symbols(rt: HostRuntime) -> Result<(), Fail> {
 }
 
 /// Changes of `f`, the section that it is in, and whether it is a definition.
-const PLACES: [([Field; 2], Option<usize>, bool); 5] = [
+const SECTIONS: [([Field; 2], Option<usize>, bool); 5] = [
     ([(142, 2, 0), (140, 1, 0x12)], None, false),
     ([(142, 2, 0xfeff), (140, 1, 0x12)], Some(0xfeff), true),
     ([(142, 2, 0xff00), (140, 1, 0x12)], None, true),
@@ -361,8 +361,8 @@ const PLACES: [([Field; 2], Option<usize>, bool); 5] = [
 ];
 
 #[test]
-fn reads_the_places_of_symbols(rt: HostRuntime) -> Result<(), Fail> {
-    for (changes, section, is_definition) in PLACES.iter() {
+fn reads_the_sections_of_symbols(rt: HostRuntime) -> Result<(), Fail> {
+    for (changes, section, is_definition) in SECTIONS.iter() {
         let bytes = file_with(rt.alloc(), Endianness::Big, changes)?;
         let file = ElfFile::parse(&bytes)?;
         let symbol = last_symbol(&file)?;

@@ -1,4 +1,4 @@
--- Names of sections that are copied: one more, and what they say of the sections.
+-- Names of sections that are copied: one more, and the sections with them.
 use Rattle.std.proofs.Common.{◌≡◌, ℕ, zero, suc, ◌+◌, ◌<◌, ◌≤◌, min, not, Bool, true, false, cond, List, [], ◌∷◌, ◌++◌, length, length-append, take, drop, nat_lt, set, get_or, Option, Some, None, Ok, refl, sym, ap, subst, ◌∙◌, arith, ⊎_elim}
 use Rattle.std.specs.Prelude.{◌==◌, option_map}
 use Rattle.std.specs.List.{position, position_or_len}
@@ -12,7 +12,7 @@ use Rattle.std.proofs.lemmas.List.{drop_all, drop-append-le, length-take, take-a
 use Rattle.ebpf_base.specs.Keyed.{put_all}
 use Rattle.ebpf_btf.specs.Strings.{before_zero, text_at, text_or_fault}
 use Rattle.ebpf_ext.specs.CopiedNames.{with_offsets, AreCopied, IsCopied}
-use Rattle.ebpf_ext.specs.SectionNames.{by_offsets, with_name, with_names}
+use Rattle.ebpf_ext.specs.SectionNames.{by_offsets, section_with_name, sections_with_names}
 
 -- ---- the first zero byte
 
@@ -64,11 +64,11 @@ zero_more xs ys n found =
 
 -- more bytes at the end change nothing
 before_more : (xs ys bytes : List ℕ) → before_zero xs ≡ Some bytes → before_zero (xs ++ ys) ≡ Some bytes
-before_more xs ys bytes is = by_place (position (λ b. b == 0) xs) refl is
+before_more xs ys bytes is = by_index (position (λ b. b == 0) xs) refl is
   where
-    by_place : (o : Option ℕ) → position (λ b. b == 0) xs ≡ o → option_map (λ n. take n xs) o ≡ Some bytes → before_zero (xs ++ ys) ≡ Some bytes
-    by_place None found same = absurd (cc)
-    by_place (Some n) found same = zero_more xs ys n found ∙ same
+    by_index : (o : Option ℕ) → position (λ b. b == 0) xs ≡ o → option_map (λ n. take n xs) o ≡ Some bytes → before_zero (xs ++ ys) ≡ Some bytes
+    by_index None found same = absurd (cc)
+    by_index (Some n) found same = zero_more xs ys n found ∙ same
 
 text_more : (xs ys : List ℕ) (o : ℕ) (text : List ℕ) → text_at xs o ≡ Ok text → text_at (xs ++ ys) o ≡ Ok text
 unfolding text_at
@@ -89,10 +89,10 @@ text_more xs ys o text is = ⊎_elim
 -- ---- one name
 
 -- a name with its zero byte, behind other names
-pub one_copied : (strings names near name : List ℕ) (offset place longest end : ℕ) → near ≡ take (longest + 1) (drop offset strings) → Some end ≡ position (λ b. b == 0) near
-    → name ≡ take (end + 1) near → place ≡ length names → IsCopied strings (names ++ name) offset place
+pub one_copied : (strings names near name : List ℕ) (offset copied longest end : ℕ) → near ≡ take (longest + 1) (drop offset strings) → Some end ≡ position (λ b. b == 0) near
+    → name ≡ take (end + 1) near → copied ≡ length names → IsCopied strings (names ++ name) offset copied
 unfolding text_at
-one_copied strings names near name offset place longest end is found all here =
+one_copied strings names near name offset copied longest end is found all here =
     let at = found_at near end (sym found) in
     let short : length (take (end + 1) near) ≡ end + 1 = omega (arith, at.1, length-take (end + 1) near) in
     let first : front (take (end + 1) near) ≡ end = omega (arith, at.0, front_take (end + 1) near) in
@@ -103,9 +103,9 @@ one_copied strings names near name offset place longest end is found all here =
       text = utf8_lossy (take end near);
       was = ap (λ l. text_or_fault offset (before_zero l)) (sym whole) ∙ ap (text_or_fault offset) (zero_more near (drop (longest + 1) (drop offset strings)) end (sym found));
       is =
-          ap (λ n. text_or_fault place (before_zero (drop n (names ++ name)))) here
-          ∙ ap (λ l. text_or_fault place (before_zero l)) (drop-append_seam names name)
-          ∙ ap (λ o. text_or_fault place (option_map (λ n. take n name) o)) cut
+          ap (λ n. text_or_fault copied (before_zero (drop n (names ++ name)))) here
+          ∙ ap (λ l. text_or_fault copied (before_zero l)) (drop-append_seam names name)
+          ∙ ap (λ o. text_or_fault copied (option_map (λ n. take n name) o)) cut
           ∙ ap (λ l. Ok (utf8_lossy l)) part;
     }
 
@@ -134,11 +134,11 @@ module _ {S : Type 0} (strings : List ℕ) where
   pub as_many : (names : List ℕ) (sections : List (ℕ × S)) (offsets : List ℕ) → AreCopied strings names sections offsets → length offsets ≡ length sections
   as_many names sections offsets are = AllZip-long (λ s copied. IsCopied strings names s.0 copied) sections offsets are
 
-  same_names : (names : List ℕ) (sections : List (ℕ × S)) (offsets : List ℕ) → AreCopied strings names sections offsets → with_names names (with_offsets offsets sections) ≡ with_names strings sections
+  same_names : (names : List ℕ) (sections : List (ℕ × S)) (offsets : List ℕ) → AreCopied strings names sections offsets → sections_with_names names (with_offsets offsets sections) ≡ sections_with_names strings sections
   same_names names [] [] are = refl
   same_names names [] (o ∷ offsets) are = absurd are
   same_names names (s ∷ sections) [] are = absurd are
-  same_names names (s ∷ sections) (o ∷ offsets) are = λ i. with_name s.1 ((are.0.is ∙ sym are.0.was) i) ++ same_names names sections offsets are.1 i
+  same_names names (s ∷ sections) (o ∷ offsets) are = λ i. section_with_name s.1 ((are.0.is ∙ sym are.0.was) i) ++ same_names names sections offsets are.1 i
 
   -- the sections have the names that they had
   pub same_sections : (names : List ℕ) (sections : List (ℕ × S)) (offsets : List ℕ) → AreCopied strings names sections offsets → by_offsets names (with_offsets offsets sections) ≡ by_offsets strings sections

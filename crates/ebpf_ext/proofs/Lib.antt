@@ -1,7 +1,7 @@
 pub mod CopiedNames
 pub mod ExtSections
 pub mod ExtSpelled
-pub mod Places
+pub mod LastIndices
 pub mod RelocationLists
 pub mod RelocationRows
 pub mod SectionNames

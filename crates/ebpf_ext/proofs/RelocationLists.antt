@@ -3,16 +3,16 @@ use Rattle.std.proofs.Common.{◌≡◌, ◌-◌, ◌+◌, ◌<◌, ℕ, suc, Bo
 use Rattle.std.specs.Prelude.{⊤}
 use Rattle.std.specs.List.{range_with_len}
 use Rattle.ebpf_btf.specs.declared.error.BtfError.{BtfError}
-use Rattle.ebpf_ext.specs.ExtFormat.{after, all_ok, relocation_at, relocations_at}
+use Rattle.ebpf_ext.specs.ExtFormat.{prepended, all_ok, core_relo_at, core_relos_at}
 use Rattle.ebpf_btf.specs.Memory.{is_memory}
 use Rattle.ebpf_btf.specs.Next.{if_ok}
 
-after_none : {X : Type 0} (r : Result (List X) BtfError) → after [] r ≡ r
+after_none : {X : Type 0} (r : Result (List X) BtfError) → prepended [] r ≡ r
 after_none (Ok xs) = refl
 after_none (Err e) = refl
 
 after_one : {X : Type 0} (front : List X) (x : X) (r : Result (List X) BtfError)
-    → after (front ++ x ∷ []) r ≡ after front (if_ok r (λ xs. Ok (x ∷ xs)))
+    → prepended (front ++ x ∷ []) r ≡ prepended front (if_ok r (λ xs. Ok (x ∷ xs)))
 after_one front x (Ok xs) = ap Ok (append_assoc front (x ∷ []) xs)
 after_one front x (Err e) = refl
 
@@ -21,19 +21,19 @@ opens k n below =
     let more : n - k ≡ suc (n - (k + 1)) = omega arith in
     rw more refl
 
-pub relocations_none : (bytes : List ℕ) (size place n : ℕ)
-    → after [] (all_ok (map (relocation_at bytes size place) (range_with_len 0 (n - 0)))) ≡ relocations_at bytes size place n
-unfolding relocations_at
-relocations_none bytes size place n =
+pub relocations_none : (bytes : List ℕ) (size offset n : ℕ)
+    → prepended [] (all_ok (map (core_relo_at bytes size offset) (range_with_len 0 (n - 0)))) ≡ core_relos_at bytes size offset n
+unfolding core_relos_at
+relocations_none bytes size offset n =
     let all : n - 0 ≡ n = omega arith in
-    rw all (after_none (all_ok (map (relocation_at bytes size place) (range_with_len 0 n))))
+    rw all (after_none (all_ok (map (core_relo_at bytes size offset) (range_with_len 0 n))))
 
 pub list_more : {X : Type 0} (f : ℕ → Result X BtfError) (k n : ℕ) (front : List X) (x : X) → k < n → f k ≡ Ok x
-    → after (front ++ x ∷ []) (all_ok (map f (range_with_len (k + 1) (n - (k + 1))))) ≡ after front (all_ok (map f (range_with_len k (n - k))))
+    → prepended (front ++ x ∷ []) (all_ok (map f (range_with_len (k + 1) (n - (k + 1))))) ≡ prepended front (all_ok (map f (range_with_len k (n - k))))
 list_more f k n front x below here = rw (opens k n below, here) (after_one front x (all_ok (map f (range_with_len (k + 1) (n - (k + 1))))))
 
 pub list_cut : {X : Type 0} (f : ℕ → Result X BtfError) (k n : ℕ) (front : List X) (all : Result (List X) BtfError) (e : BtfError) → k < n
-    → after front (all_ok (map f (range_with_len k (n - k)))) ≡ all → f k ≡ Err e → MatchBool (is_memory e) ⊤ (all ≡ Err e)
+    → prepended front (all_ok (map f (range_with_len k (n - k)))) ≡ all → f k ≡ Err e → MatchBool (is_memory e) ⊤ (all ≡ Err e)
 list_cut f k n front all e below rest here = either (is_memory e) (sym rest ∙ rw (opens k n below, here) refl)
   where
     either : (b : Bool) → all ≡ Err e → MatchBool b ⊤ (all ≡ Err e)

@@ -13,7 +13,7 @@ pub record IsCopied (strings names : List ℕ) (offset copied : ℕ) : Type 0 wh
 abbrev pub AreCopied : {S : Type 0} → List ℕ → List ℕ → List (ℕ × S) → List ℕ → Type 0
 AreCopied strings names sections offsets = AllZip (λ s copied. IsCopied strings names s.0 copied) sections offsets
 
--- sections with these offsets in the place of theirs, as far as there are some
+-- sections with these offsets instead of theirs, as far as there are some
 abbrev pub with_offsets : {S : Type 0} → List ℕ → List (ℕ × S) → List (ℕ × S)
 with_offsets [] sections = sections
 with_offsets (o ∷ offsets) [] = []

@@ -27,15 +27,15 @@ ext_header_fault o bytes = first_of (
     ∷ (nat_lt (length bytes) (header_length o bytes), InvalidHeader)
     ∷ [])
 
--- where the header has the offset and length of the part on functions, on lines, and of the CO-RE relocations
+-- where the header has the offset and length of func info, of line info, and of the CO-RE relocations
 abbrev pub func_part : ℕ
 func_part = 8
 
 abbrev pub line_part : ℕ
 line_part = 16
 
-abbrev pub relocation_part : ℕ
-relocation_part = 24
+abbrev pub core_relo_part : ℕ
+core_relo_part = 24
 
 -- the length of a part, 0 where the header ends before it
 unfoldable pub part_length : Endianness → List ℕ → ℕ → ℕ
@@ -65,68 +65,68 @@ sections_end o bytes at = if part_length o bytes at == 0 then 0 else part_start 
 
 -- ---- a section: the offset of its name, the number of its records, and the records
 
-abbrev pub section_name : Endianness → List ℕ → ℕ → ℕ
-section_name o bytes place = word o bytes place
+abbrev pub sec_name_off_at : Endianness → List ℕ → ℕ → ℕ
+sec_name_off_at o bytes offset = word o bytes offset
 
-abbrev pub section_count : Endianness → List ℕ → ℕ → ℕ
-section_count o bytes place = word o bytes (place + 4)
+abbrev pub num_info_at : Endianness → List ℕ → ℕ → ℕ
+num_info_at o bytes offset = word o bytes (offset + 4)
 
 -- where a section with records of a size ends
 abbrev pub section_end : Endianness → List ℕ → ℕ → ℕ → ℕ
-section_end o bytes size place = place + 8 + size * section_count o bytes place
+section_end o bytes size offset = offset + 8 + size * num_info_at o bytes offset
 
 -- a section goes past the end of its part, or its records are shorter than they may be
-unfoldable pub section_fault : Endianness → List ℕ → ℕ → ℕ → ℕ → ℕ → Option BtfError
-section_fault o bytes least size place end = first_of (
-    (nat_lt end (place + 8), InvalidInfo)
-    ∷ (nat_lt size least && not (section_count o bytes place == 0), InvalidInfo)
-    ∷ (nat_lt end (section_end o bytes size place), InvalidInfo)
+unfoldable pub info_sec_fault : Endianness → List ℕ → ℕ → ℕ → ℕ → ℕ → Option BtfError
+info_sec_fault o bytes least size offset end = first_of (
+    (nat_lt end (offset + 8), InvalidInfo)
+    ∷ (nat_lt size least && not (num_info_at o bytes offset == 0), InvalidInfo)
+    ∷ (nat_lt end (section_end o bytes size offset), InvalidInfo)
     ∷ [])
 
--- ---- records on functions and lines; places are in bytes, a slot has 8
+-- ---- records of func info and line info; offsets are in bytes, a slot has 8
 
 unfoldable pub func_record : Endianness → List ℕ → ℕ → bpf_func_info
-func_record o bytes place = record {
-  insn_off = word o bytes place / 8;
-  type_id = word o bytes (place + 4);
+func_record o bytes offset = record {
+  insn_off = word o bytes offset / 8;
+  type_id = word o bytes (offset + 4);
 }
 
 unfoldable pub line_record : Endianness → List ℕ → ℕ → bpf_line_info
-line_record o bytes place = record {
-  insn_off = word o bytes place / 8;
-  file_name_off = word o bytes (place + 4);
-  line_off = word o bytes (place + 8);
-  line_col = word o bytes (place + 12);
+line_record o bytes offset = record {
+  insn_off = word o bytes offset / 8;
+  file_name_off = word o bytes (offset + 4);
+  line_off = word o bytes (offset + 8);
+  line_col = word o bytes (offset + 12);
 }
 
 unfoldable pub func_infos : Endianness → List ℕ → ℕ → ℕ → FuncSecInfo
-func_infos o bytes size place = record {
-  sec_name_offset = section_name o bytes place;
-  num_info = section_count o bytes place;
-  func_info = items_at (func_record o bytes) size (place + 8) (section_count o bytes place);
+func_infos o bytes size offset = record {
+  sec_name_offset = sec_name_off_at o bytes offset;
+  num_info = num_info_at o bytes offset;
+  func_info = items_at (func_record o bytes) size (offset + 8) (num_info_at o bytes offset);
 }
 
 unfoldable pub line_infos : Endianness → List ℕ → ℕ → ℕ → LineSecInfo
-line_infos o bytes size place = record {
-  sec_name_offset = section_name o bytes place;
-  num_info = section_count o bytes place;
-  line_info = items_at (line_record o bytes) size (place + 8) (section_count o bytes place);
+line_infos o bytes size offset = record {
+  sec_name_offset = sec_name_off_at o bytes offset;
+  num_info = num_info_at o bytes offset;
+  line_info = items_at (line_record o bytes) size (offset + 8) (num_info_at o bytes offset);
 }
 
 -- ---- CO-RE relocations, whose records are little endian in each file
 
--- the relocation at a place, with its number in its section; the fault where its kind is none
-unfoldable pub relocation_at : List ℕ → ℕ → ℕ → ℕ → Result Relocation BtfError
-relocation_at bytes size place number =
-    if_some (relocation_kind (word Little bytes (place + size * number + 12)))
+-- the CO-RE relocation at an offset, with its number in its section; the fault where its kind is none
+unfoldable pub core_relo_at : List ℕ → ℕ → ℕ → ℕ → Result Relocation BtfError
+core_relo_at bytes size offset number =
+    if_some (relocation_kind (word Little bytes (offset + size * number + 12)))
     (λ kind. Ok (record {
-      insn_off = word Little bytes (place + size * number);
-      type_id = word Little bytes (place + size * number + 4);
-      access_str_off = word Little bytes (place + size * number + 8);
+      insn_off = word Little bytes (offset + size * number);
+      type_id = word Little bytes (offset + size * number + 4);
+      access_str_off = word Little bytes (offset + size * number + 8);
       kind = kind;
       number = number;
     }))
-    (Err (InvalidRelocationKind (word Little bytes (place + size * number + 12))))
+    (Err (InvalidRelocationKind (word Little bytes (offset + size * number + 12))))
 
 -- all answers where none is a fault, else the first fault
 abbrev pub all_ok : {X : Type 0} → List (Result X BtfError) → Result (List X) BtfError
@@ -134,9 +134,9 @@ all_ok [] = Ok []
 all_ok (r ∷ rs) = if_ok r (λ x. if_ok (all_ok rs) (λ xs. Ok (x ∷ xs)))
 
 -- a list before another
-abbrev pub after : {X : Type 0} → List X → Result (List X) BtfError → Result (List X) BtfError
-after front more = if_ok more (λ xs. Ok (front ++ xs))
+abbrev pub prepended : {X : Type 0} → List X → Result (List X) BtfError → Result (List X) BtfError
+prepended front more = if_ok more (λ xs. Ok (front ++ xs))
 
--- so many relocations from a place on, numbered from 0
-unfoldable pub relocations_at : List ℕ → ℕ → ℕ → ℕ → Result (List Relocation) BtfError
-relocations_at bytes size place n = all_ok (map (relocation_at bytes size place) (range_with_len 0 n))
+-- so many relocations from an offset on, numbered from 0
+unfoldable pub core_relos_at : List ℕ → ℕ → ℕ → ℕ → Result (List Relocation) BtfError
+core_relos_at bytes size offset n = all_ok (map (core_relo_at bytes size offset) (range_with_len 0 n))

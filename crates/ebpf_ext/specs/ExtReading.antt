@@ -9,49 +9,49 @@ use Rattle.ebpf_btf.specs.declared.error.BtfError.TheVariants.{InvalidInfo}
 use Rattle.ebpf_ext.specs.declared.ext_infos.FuncSecInfo.{FuncSecInfo}
 use Rattle.ebpf_ext.specs.declared.ext_infos.LineSecInfo.{LineSecInfo}
 use Rattle.ebpf_ext.specs.declared.relocation.Relocation.{Relocation}
-use Rattle.ebpf_ext.specs.ExtFormat.{ext_header_fault, func_part, line_part, relocation_part, part_fault, record_size, sections_start, sections_end, section_name, section_count, section_end, section_fault, func_infos, line_infos, relocations_at}
+use Rattle.ebpf_ext.specs.ExtFormat.{ext_header_fault, func_part, line_part, core_relo_part, part_fault, record_size, sections_start, sections_end, sec_name_off_at, num_info_at, section_end, info_sec_fault, func_infos, line_infos, core_relos_at}
 use Rattle.ebpf_btf.specs.Next.{if_some, if_ok}
 use Rattle.ebpf_btf.specs.Strings.{text_at}
 
--- ---- one section, and the place after it; its own faults come first, then those of what it says
+-- ---- one section, and the offset after it; its own faults come first, then those of its records
 
-unfoldable pub section_with : {S : Type 0} → Endianness → List ℕ → ℕ → ℕ → ℕ → (ℕ → Result S BtfError) → ℕ → Result (S × ℕ) BtfError
-section_with o bytes least size end said place =
-    if_some (section_fault o bytes least size place end) (λ e. Err e)
-    (if_ok (said place) (λ s. Ok (s, section_end o bytes size place)))
+unfoldable pub checked_section : {S : Type 0} → Endianness → List ℕ → ℕ → ℕ → ℕ → (ℕ → Result S BtfError) → ℕ → Result (S × ℕ) BtfError
+checked_section o bytes least size end records offset =
+    if_some (info_sec_fault o bytes least size offset end) (λ e. Err e)
+    (if_ok (records offset) (λ s. Ok (s, section_end o bytes size offset)))
 
--- the name of a section, and what is said of its functions or lines
-unfoldable pub func_said : Endianness → List ℕ → List ℕ → ℕ → ℕ → Result (List ℕ × FuncSecInfo) BtfError
-func_said o bytes strings size place = if_ok (text_at strings (section_name o bytes place)) (λ name. Ok (name, func_infos o bytes size place))
+-- the name of a section, and its func info or line info
+unfoldable pub named_func_info : Endianness → List ℕ → List ℕ → ℕ → ℕ → Result (List ℕ × FuncSecInfo) BtfError
+named_func_info o bytes strings size offset = if_ok (text_at strings (sec_name_off_at o bytes offset)) (λ name. Ok (name, func_infos o bytes size offset))
 
-unfoldable pub line_said : Endianness → List ℕ → List ℕ → ℕ → ℕ → Result (List ℕ × LineSecInfo) BtfError
-line_said o bytes strings size place = if_ok (text_at strings (section_name o bytes place)) (λ name. Ok (name, line_infos o bytes size place))
+unfoldable pub named_line_info : Endianness → List ℕ → List ℕ → ℕ → ℕ → Result (List ℕ × LineSecInfo) BtfError
+named_line_info o bytes strings size offset = if_ok (text_at strings (sec_name_off_at o bytes offset)) (λ name. Ok (name, line_infos o bytes size offset))
 
 -- the offset of a section's name, and its relocations
-unfoldable pub relocations_said : Endianness → List ℕ → ℕ → ℕ → Result (ℕ × List Relocation) BtfError
-relocations_said o bytes size place =
-    if_ok (relocations_at bytes size (place + 8) (section_count o bytes place)) (λ relocations. Ok (section_name o bytes place, relocations))
+unfoldable pub section_core_relos : Endianness → List ℕ → ℕ → ℕ → Result (ℕ × List Relocation) BtfError
+section_core_relos o bytes size offset =
+    if_ok (core_relos_at bytes size (offset + 8) (num_info_at o bytes offset)) (λ relocations. Ok (sec_name_off_at o bytes offset, relocations))
 
 abbrev pub func_section : Endianness → List ℕ → List ℕ → ℕ → ℕ → ℕ → Result ((List ℕ × FuncSecInfo) × ℕ) BtfError
-func_section o bytes strings size end = section_with o bytes 8 size end (func_said o bytes strings size)
+func_section o bytes strings size end = checked_section o bytes 8 size end (named_func_info o bytes strings size)
 
 abbrev pub line_section : Endianness → List ℕ → List ℕ → ℕ → ℕ → ℕ → Result ((List ℕ × LineSecInfo) × ℕ) BtfError
-line_section o bytes strings size end = section_with o bytes 16 size end (line_said o bytes strings size)
+line_section o bytes strings size end = checked_section o bytes 16 size end (named_line_info o bytes strings size)
 
-abbrev pub relocation_section : Endianness → List ℕ → ℕ → ℕ → ℕ → Result ((ℕ × List Relocation) × ℕ) BtfError
-relocation_section o bytes size end = section_with o bytes 16 size end (relocations_said o bytes size)
+abbrev pub core_relo_section : Endianness → List ℕ → ℕ → ℕ → ℕ → Result ((ℕ × List Relocation) × ℕ) BtfError
+core_relo_section o bytes size end = checked_section o bytes 16 size end (section_core_relos o bytes size)
 
 -- ---- sections one after the other, of which there are at most `left`
 
 unfoldable pub sections_from : {S : Type 0} → ℕ → (ℕ → Result (S × ℕ) BtfError) → ℕ → ℕ → Result (List S) BtfError
-sections_from zero read place end = if place == end then Ok [] else Err InvalidInfo
-sections_from (suc left) read place end =
-    if place == end then Ok []
-    else if_ok (read place) (λ found. if_ok (sections_from left read found.1 end) (λ more. Ok (found.0 ∷ more)))
+sections_from zero read offset end = if offset == end then Ok [] else Err InvalidInfo
+sections_from (suc left) read offset end =
+    if offset == end then Ok []
+    else if_ok (read offset) (λ found. if_ok (sections_from left read found.1 end) (λ more. Ok (found.0 ∷ more)))
 
 -- the sections of a part, of which there are no more than bytes
-abbrev pub sections_in : {S : Type 0} → Endianness → List ℕ → ℕ → (ℕ → Result (S × ℕ) BtfError) → Result (List S) BtfError
-sections_in o bytes at read = sections_from (sections_end o bytes at - sections_start o bytes at) read (sections_start o bytes at) (sections_end o bytes at)
+abbrev pub part_sections : {S : Type 0} → Endianness → List ℕ → ℕ → (ℕ → Result (S × ℕ) BtfError) → Result (List S) BtfError
+part_sections o bytes at read = sections_from (sections_end o bytes at - sections_start o bytes at) read (sections_start o bytes at) (sections_end o bytes at)
 
 -- ---- the three parts
 
@@ -62,20 +62,20 @@ by_names sections = if_ok sections (λ all. Ok (put_all empty all))
 unfoldable pub func_sections : Endianness → List ℕ → List ℕ → Result (FinMap text_cmp FuncSecInfo) BtfError
 func_sections o bytes strings =
     if_some (part_fault o bytes func_part) (λ e. Err e)
-    (by_names (sections_in o bytes func_part (func_section o bytes strings (record_size o bytes func_part) (sections_end o bytes func_part))))
+    (by_names (part_sections o bytes func_part (func_section o bytes strings (record_size o bytes func_part) (sections_end o bytes func_part))))
 
 unfoldable pub line_sections : Endianness → List ℕ → List ℕ → Result (FinMap text_cmp LineSecInfo) BtfError
 line_sections o bytes strings =
     if_some (part_fault o bytes line_part) (λ e. Err e)
-    (by_names (sections_in o bytes line_part (line_section o bytes strings (record_size o bytes line_part) (sections_end o bytes line_part))))
+    (by_names (part_sections o bytes line_part (line_section o bytes strings (record_size o bytes line_part) (sections_end o bytes line_part))))
 
-unfoldable pub relocation_sections : Endianness → List ℕ → Result (List (ℕ × List Relocation)) BtfError
-relocation_sections o bytes =
-    if_some (part_fault o bytes relocation_part) (λ e. Err e)
-    (sections_in o bytes relocation_part (relocation_section o bytes (record_size o bytes relocation_part) (sections_end o bytes relocation_part)))
+unfoldable pub core_relo_sections : Endianness → List ℕ → Result (List (ℕ × List Relocation)) BtfError
+core_relo_sections o bytes =
+    if_some (part_fault o bytes core_relo_part) (λ e. Err e)
+    (part_sections o bytes core_relo_part (core_relo_section o bytes (record_size o bytes core_relo_part) (sections_end o bytes core_relo_part)))
 
--- what is read: on functions and on lines by the names of sections, the relocations of sections in order, each
--- after the offset of its section's name, and the sizes of the records on functions and lines
+-- what is read: func info and line info by the names of sections, the relocations of sections in order, each
+-- after the offset of its section's name, and the sizes of the records of func info and line info
 pub record ExtInfo : Type 0 where
   pub func_info : FinMap text_cmp FuncSecInfo
   pub line_info : FinMap text_cmp LineSecInfo
@@ -88,7 +88,7 @@ read_ext o bytes strings =
     if_some (ext_header_fault o bytes) (λ e. Err e) (
     if_ok (func_sections o bytes strings) (λ funcs.
     if_ok (line_sections o bytes strings) (λ lines.
-    if_ok (relocation_sections o bytes) (λ relocations. Ok (record {
+    if_ok (core_relo_sections o bytes) (λ relocations. Ok (record {
       func_info = funcs;
       line_info = lines;
       relocations = relocations;

@@ -4,7 +4,7 @@ ghost use Rattle.std.specs.Prelude.{◌≡◌, ◌++◌, length, IfOk, IfSome};
 ghost use Rattle.ebpf_ext.specs.CopiedNames.{with_offsets, AreCopied, IsCopied};
 
 use ebpf_base::Items;
-use ebpf_btf::strings::{near_bytes, zero_place};
+use ebpf_btf::strings::{near_bytes, first_zero};
 use std::alloc::{AllocError, Global};
 
 /// What is reserved for the name of a section in bytes.
@@ -24,13 +24,13 @@ pub struct CopiedNames {
 fn next_name<'s>(strings: &'s [u8], names: &[u8], offset: u32) -> Option<(u32, &'s [u8])>
     ensures { IfSome result (λ n. IsCopied strings.now (names.now ++ n.1.now) offset n.0) }
 {
-    let place = u32::try_from(names.len()).ok()?;
+    let copied = u32::try_from(names.len()).ok()?;
     if names.len() >= strings.len() {
         return None;
     }
     let near = near_bytes(strings, offset, strings.len() - names.len() - 1);
-    let end = zero_place(near)?;
-    Some((place, &near[..end + 1]))
+    let end = first_zero(near)?;
+    Some((copied, &near[..end + 1]))
 }
 
 /// The names of these sections. `None` where one can't be read, or where they are longer than the strings.
@@ -45,23 +45,23 @@ pub fn copy_names<S>(
     let mut names = Items::from_vec(Vec::with_capacity(alloc, room)?);
     let mut offsets = Vec::with_capacity(alloc, sections.len())?;
     for (offset, _) in sections {
-        let Some((place, name)) = next_name(strings, names.as_slice(), *offset) else {
+        let Some((copied, name)) = next_name(strings, names.as_slice(), *offset) else {
             return Ok(None);
         };
         names.extend_from_slice(name)?;
-        offsets.push(place)?;
+        offsets.push(copied)?;
     }
     Ok(Some(CopiedNames { names, offsets }))
 }
 
-/// The sections with these offsets in the place of theirs.
+/// The sections with these offsets instead of theirs.
 pub fn with_offsets<S>(sections: Items<(u32, S)>, offsets: &[u32]) -> Items<(u32, S)>
     requires { length offsets.now ≡ length sections }
     ensures { result ≡ with_offsets offsets.now sections }
 {
     let mut sections = sections.into_vec();
-    for (place, offset) in offsets.iter().enumerate() {
-        sections[place].0 = *offset;
+    for (index, offset) in offsets.iter().enumerate() {
+        sections[index].0 = *offset;
     }
     Items::from_vec(sections)
 }

@@ -2,7 +2,7 @@
 
 ghost use Rattle.std.specs.Prelude.{◌≡◌, ◌≤◌, length, IfOk, Ok};
 ghost use Rattle.ebpf_base.specs.Faults.{Gives};
-ghost use Rattle.ebpf_ext.specs.ExtReading.{ExtInfo, read_ext, func_sections, line_sections, relocation_sections};
+ghost use Rattle.ebpf_ext.specs.ExtReading.{ExtInfo, read_ext, func_sections, line_sections, core_relo_sections};
 ghost use Rattle.ebpf_ext.specs.ExtSpelling.{SpellsExt};
 ghost use Rattle.ebpf_ext.specs.ExtFormat.{func_part, line_part, record_size};
 ghost use Rattle.ebpf_btf.specs.Memory.{is_memory};
@@ -17,23 +17,23 @@ use ebpf_btf::{Btf, BtfError, Endianness};
 use std::alloc::Global;
 use std::marker::Model;
 
-/// The place in the header of the offset and length of the part on functions.
+/// The offset in the header of `func_info_off` and `func_info_len`.
 const FUNC_PART: usize = 8;
 
-/// The place in the header of the offset and length of the part on lines.
+/// The offset in the header of `line_info_off` and `line_info_len`.
 const LINE_PART: usize = 16;
 
-/// The place in the header of the offset and length of the part with relocations.
+/// The offset in the header of `core_relo_off` and `core_relo_len`.
 const RELOCATION_PART: usize = 24;
 
-/// What `.BTF.ext` says of functions and lines, and its CO-RE relocations.
+/// The func info and line info of `.BTF.ext`, and its CO-RE relocations.
 ///
 /// Contracts see a record: two finite maps, by the names of sections, a list of relocations, and two sizes.
 #[derive(Debug, Drop)]
 pub struct BtfExt {
-    /// What is said of functions, by the names of their sections.
+    /// Func info, by the names of their sections.
     pub func_info: FuncInfo,
-    /// What is said of lines, by the names of their sections.
+    /// Line info, by the names of their sections.
     pub line_info: LineInfo,
     pub(crate) relocations: Items<(u32, Items<Relocation>)>,
     pub(crate) func_info_rec_size: u32,
@@ -62,7 +62,7 @@ impl Model for BtfExt {
 }
 
 /// The three parts, read.
-#[tactic(auto, unfolding(crate::specs::ExtReading::read_ext, crate::specs::ExtReading::func_sections, crate::specs::ExtReading::line_sections, crate::specs::ExtReading::relocation_sections))]
+#[tactic(auto, unfolding(crate::specs::ExtReading::read_ext, crate::specs::ExtReading::func_sections, crate::specs::ExtReading::line_sections, crate::specs::ExtReading::core_relo_sections))]
 fn read_parts(
     alloc: Global,
     endianness: Endianness,
@@ -76,8 +76,8 @@ fn read_parts(
     let funcs = read_func_sections(alloc, endianness, data, btf, func_part)?;
     let line_part = read_part(endianness, data, header, LINE_PART)?;
     let lines = read_line_sections(alloc, endianness, data, btf, line_part)?;
-    let relocation_part = read_part(endianness, data, header, RELOCATION_PART)?;
-    let relocations = read_relocation_sections(alloc, endianness, data, relocation_part)?;
+    let core_relo_part = read_part(endianness, data, header, RELOCATION_PART)?;
+    let relocations = read_relocation_sections(alloc, endianness, data, core_relo_part)?;
     Ok(BtfExt {
         func_info: FuncInfo {
             sections: funcs,
@@ -94,7 +94,7 @@ fn read_parts(
 }
 
 impl BtfExt {
-    /// What `.BTF.ext` has: three parts, on functions, on lines and with CO-RE relocations. Each has the size of
+    /// What `.BTF.ext` has: three parts, of func info, of line info and of CO-RE relocations. Each has the size of
     /// its records and then sections, each with the offset of its name, the number of its records and the records.
     /// A record may be longer than what is read of it. Numbers are read in the order that is given, but those of
     /// CO-RE relocations, which are little endian in each file. Names of sections are read in the strings of `btf`;
@@ -104,7 +104,7 @@ impl BtfExt {
     /// than 0xeb9f, a header length below 24, or fewer bytes than it says. `InvalidInfo`: a part of 1 to 3 bytes,
     /// a part that goes past the end of the bytes, a section that goes past the end of its part, or records
     /// shorter than 8 bytes (functions) or 16 bytes (lines, relocations) in a section that has some.
-    /// `InvalidStringOffset`: a section's name on functions or lines can't be read. `InvalidRelocationKind`: a
+    /// `InvalidStringOffset`: a section's name of func info or line info can't be read. `InvalidRelocationKind`: a
     /// relocation whose kind is past 11. `OutOfMemory` where memory is refused.
     #[tactic(auto, using(crate::proofs::ExtSpelled::ext_found, crate::proofs::ExtSpelled::ext_only))]
     pub fn parse(
@@ -128,14 +128,14 @@ impl BtfExt {
         self.relocations.as_slice()
     }
 
-    /// The size of a record on functions in bytes, 0 where the part is empty.
+    /// The size of a func info record in bytes, 0 where the part is empty.
     pub fn func_info_rec_size(&self) -> u32
         ensures { result ≡ self.now.func_record_size }
     {
         self.func_info_rec_size
     }
 
-    /// The size of a record on lines in bytes, 0 where the part is empty.
+    /// The size of a line info record in bytes, 0 where the part is empty.
     pub fn line_info_rec_size(&self) -> u32
         ensures { result ≡ self.now.line_record_size }
     {

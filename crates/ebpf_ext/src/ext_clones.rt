@@ -1,4 +1,4 @@
-//! Copies of what `.BTF.ext` says.
+//! Copies of func info, line info and relocations.
 
 ghost use Rattle.std.specs.Prelude.{◌≡◌, IfOk};
 

@@ -1,4 +1,4 @@
-//! What `.BTF.ext` says of functions and lines.
+//! Func info and line info of `.BTF.ext`.
 
 ghost use Rattle.std.specs.Prelude.{◌≡◌, IfOk};
 ghost use Rattle.std.specs.FinMap as map;
@@ -11,23 +11,23 @@ use ebpf_base::Items;
 use std::alloc::{AllocError, Global};
 use std::marker::Model;
 
-/// What is said of a function. It lies in memory as the kernel's `struct bpf_func_info`.
+/// A func info record. It lies in memory as the kernel's `struct bpf_func_info`.
 #[repr(C)]
 #[allow(non_camel_case_types)]
 #[derive(Clone, Copy, Debug, PartialEq, Eq)]
 pub struct bpf_func_info {
-    /// The number of the function's first slot of 8 bytes in its section.
+    /// The index of the function's first slot of 8 bytes in its section.
     pub insn_off: u32,
     /// The id of the function's type.
     pub type_id: u32,
 }
 
-/// What is said of a line. It lies in memory as the kernel's `struct bpf_line_info`.
+/// A line info record. It lies in memory as the kernel's `struct bpf_line_info`.
 #[repr(C)]
 #[allow(non_camel_case_types)]
 #[derive(Clone, Copy, Debug, PartialEq, Eq)]
 pub struct bpf_line_info {
-    /// The number of the line's first slot of 8 bytes in its section.
+    /// The index of the line's first slot of 8 bytes in its section.
     pub insn_off: u32,
     /// The offset of the file's name in the strings.
     pub file_name_off: u32,
@@ -37,7 +37,7 @@ pub struct bpf_line_info {
     pub line_col: u32,
 }
 
-/// What is said of the functions of a section (`struct btf_ext_info_sec`).
+/// The func info of a section (`struct btf_ext_info_sec`).
 #[derive(Debug, Drop, PartialEq)]
 pub struct FuncSecInfo {
     /// The offset of the section's name in the strings.
@@ -48,7 +48,7 @@ pub struct FuncSecInfo {
     pub func_info: Items<bpf_func_info>,
 }
 
-/// What is said of the lines of a section (`struct btf_ext_info_sec`).
+/// The line info of a section (`struct btf_ext_info_sec`).
 #[derive(Debug, Drop, PartialEq)]
 pub struct LineSecInfo {
     /// The offset of the section's name in the strings.
@@ -59,7 +59,7 @@ pub struct LineSecInfo {
     pub line_info: Items<bpf_line_info>,
 }
 
-/// What is said of functions, by the names of their sections. Contracts see a finite map.
+/// Func info, by the names of their sections. Contracts see a finite map.
 #[derive(Debug, Drop)]
 pub struct FuncInfo {
     pub(crate) sections: SectionsByName<FuncSecInfo>,
@@ -67,7 +67,7 @@ pub struct FuncInfo {
     pub(crate) alloc: Global,
 }
 
-/// What is said of lines, by the names of their sections. Contracts see a finite map.
+/// Line info, by the names of their sections. Contracts see a finite map.
 #[derive(Debug, Drop)]
 pub struct LineInfo {
     pub(crate) sections: SectionsByName<LineSecInfo>,
@@ -102,7 +102,7 @@ impl Model for LineInfo {
 }
 
 impl FuncInfo {
-    /// A copy of what is said of the functions of a section; where nothing is said an empty list, with the count
+    /// A copy of the func info of a section; where there is none an empty list, with the count
     /// and the offset 0.
     pub fn get(&self, name: &str) -> Result<FuncSecInfo, AllocError>
         ensures { IfOk result (λ info. info ≡ func_info_at self.now name.now) }
@@ -117,14 +117,14 @@ impl FuncInfo {
         }
     }
 
-    /// What is said of the functions of a section, lent.
+    /// The func info of a section, lent.
     pub fn section(&self, name: &str) -> Option<&FuncSecInfo>
         ensures { option_copied result ≡ map.get self.now name.now }
     {
         self.sections.get(name)
     }
 
-    /// What is said of the functions of all sections, where the sections of these names are found in one pass, in which of
+    /// The func info of all sections, where the sections of these names are found in one pass, in which of
     /// each section's name no more is looked at than the longest of them has. `Err` where memory is refused.
     pub fn found(
         &self,
@@ -138,7 +138,7 @@ impl FuncInfo {
 }
 
 impl LineInfo {
-    /// A copy of what is said of the lines of a section; where nothing is said an empty list, with the count and
+    /// A copy of the line info of a section; where there is none an empty list, with the count and
     /// the offset 0.
     pub fn get(&self, name: &str) -> Result<LineSecInfo, AllocError>
         ensures { IfOk result (λ info. info ≡ line_info_at self.now name.now) }
@@ -153,14 +153,14 @@ impl LineInfo {
         }
     }
 
-    /// What is said of the lines of a section, lent.
+    /// The line info of a section, lent.
     pub fn section(&self, name: &str) -> Option<&LineSecInfo>
         ensures { option_copied result ≡ map.get self.now name.now }
     {
         self.sections.get(name)
     }
 
-    /// What is said of the lines of all sections, where the sections of these names are found in one pass, in which of
+    /// The line info of all sections, where the sections of these names are found in one pass, in which of
     /// each section's name no more is looked at than the longest of them has. `Err` where memory is refused.
     pub fn found(
         &self,

@@ -2,7 +2,7 @@
 
 ghost use Rattle.std.specs.Prelude.{◌≡◌, ◌+◌, ◌*◌, ◌≤◌, ◌<◌, length, IfOk};
 ghost use Rattle.ebpf_base.specs.Faults.{fault_of};
-ghost use Rattle.ebpf_ext.specs.ExtFormat.{ext_header_fault, part_fault, record_size, sections_start, sections_end, section_count, section_end, section_fault, section_name};
+ghost use Rattle.ebpf_ext.specs.ExtFormat.{ext_header_fault, part_fault, record_size, sections_start, sections_end, num_info_at, section_end, info_sec_fault, sec_name_off_at};
 ghost use Rattle.ebpf_btf.specs.Reading.{header_length};
 
 use ebpf_btf::numbers::{read_u16, read_u32};
@@ -20,12 +20,12 @@ pub const SECTION_HEAD: usize = 8;
 /// Where a part's sections begin and end, and the size of their records in bytes.
 #[derive(Clone, Copy)]
 pub struct Part {
-    pub place: usize,
+    pub offset: usize,
     pub end: usize,
     pub record_size: u32,
 }
 
-/// What a section begins with, and the place after the section.
+/// What a section begins with, and the offset after the section.
 #[derive(Clone, Copy)]
 pub struct SectionHead {
     pub name_offset: u32,
@@ -50,7 +50,7 @@ pub fn read_header_length(order: Endianness, bytes: &[u8]) -> Result<usize, BtfE
     Ok(header_length)
 }
 
-/// The part whose offset and length stand at a place of the header.
+/// The part whose offset and length stand at an offset of the header.
 #[tactic(auto, unfolding(crate::specs::ExtFormat::part_fault, crate::specs::ExtFormat::part_length, crate::specs::ExtFormat::part_start, crate::specs::ExtFormat::record_size, crate::specs::ExtFormat::sections_start, crate::specs::ExtFormat::sections_end))]
 pub fn read_part(
     order: Endianness,
@@ -63,12 +63,12 @@ pub fn read_part(
     requires small { at ≤ 24 }
     ensures fault { fault_of result ≡ part_fault order bytes.now at }
     ensures size { IfOk result (λ p. p.record_size ≡ record_size order bytes.now at) }
-    ensures start { IfOk result (λ p. p.place ≡ sections_start order bytes.now at) }
+    ensures start { IfOk result (λ p. p.offset ≡ sections_start order bytes.now at) }
     ensures stop { IfOk result (λ p. p.end ≡ sections_end order bytes.now at) }
-    ensures within { IfOk result (λ p. (p.place ≤ p.end) × (p.end ≤ length bytes.now)) }
+    ensures within { IfOk result (λ p. (p.offset ≤ p.end) × (p.end ≤ length bytes.now)) }
 {
     const EMPTY: Part = Part {
-        place: 0,
+        offset: 0,
         end: 0,
         record_size: 0,
     };
@@ -84,47 +84,47 @@ pub fn read_part(
         return Err(BtfError::InvalidInfo);
     }
     Ok(Part {
-        place: start + 4,
+        offset: start + 4,
         end: start + length,
         record_size: read_u32(order, bytes, start),
     })
 }
 
-/// What the section at a place begins with. `InvalidInfo` where the section goes past the end of its part, or has
+/// What the section at an offset begins with. `InvalidInfo` where the section goes past the end of its part, or has
 /// records that are shorter than `least` bytes.
-#[tactic(auto, unfolding(crate::specs::ExtFormat::section_fault))]
+#[tactic(auto, unfolding(crate::specs::ExtFormat::info_sec_fault))]
 pub fn read_section_head(
     order: Endianness,
     bytes: &[u8],
     part: Part,
     least: u32,
-    place: usize,
+    offset: usize,
 ) -> Result<SectionHead, BtfError>
-    requires before { place ≤ part.end }
+    requires before { offset ≤ part.end }
     requires inside { part.end ≤ length bytes.now }
-    ensures fault { fault_of result ≡ section_fault order bytes.now least part.record_size place part.end }
-    ensures name { IfOk result (λ h. h.name_offset ≡ section_name order bytes.now place) }
-    ensures count { IfOk result (λ h. h.count ≡ section_count order bytes.now place) }
-    ensures next { IfOk result (λ h. h.next ≡ section_end order bytes.now part.record_size place) }
-    ensures whole { IfOk result (λ h. place + 8 + part.record_size * h.count ≤ length bytes.now) }
-    ensures within { IfOk result (λ h. (place + 8 ≤ h.next) × (h.next ≤ part.end)) }
+    ensures fault { fault_of result ≡ info_sec_fault order bytes.now least part.record_size offset part.end }
+    ensures name { IfOk result (λ h. h.name_offset ≡ sec_name_off_at order bytes.now offset) }
+    ensures count { IfOk result (λ h. h.count ≡ num_info_at order bytes.now offset) }
+    ensures next { IfOk result (λ h. h.next ≡ section_end order bytes.now part.record_size offset) }
+    ensures whole { IfOk result (λ h. offset + 8 + part.record_size * h.count ≤ length bytes.now) }
+    ensures within { IfOk result (λ h. (offset + 8 ≤ h.next) × (h.next ≤ part.end)) }
     ensures long { IfOk result (λ h. 0 < h.count → least ≤ part.record_size) }
 {
-    if part.end - place < SECTION_HEAD {
+    if part.end - offset < SECTION_HEAD {
         return Err(BtfError::InvalidInfo);
     }
-    let name_offset = read_u32(order, bytes, place);
-    let count = read_u32(order, bytes, place + 4);
+    let name_offset = read_u32(order, bytes, offset);
+    let count = read_u32(order, bytes, offset + 4);
     if part.record_size < least && count != 0 {
         return Err(BtfError::InvalidInfo);
     }
     let length = part.record_size as usize * count as usize;
-    if part.end - place - SECTION_HEAD < length {
+    if part.end - offset - SECTION_HEAD < length {
         return Err(BtfError::InvalidInfo);
     }
     Ok(SectionHead {
         name_offset,
         count,
-        next: place + SECTION_HEAD + length,
+        next: offset + SECTION_HEAD + length,
     })
 }

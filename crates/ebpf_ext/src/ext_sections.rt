@@ -3,7 +3,7 @@
 ghost use Rattle.std.specs.Prelude.{◌-◌, ◌≤◌, ◌<◌, length};
 ghost use Rattle.ebpf_base.specs.Faults.{Gives};
 ghost use Rattle.ebpf_btf.specs.Memory.{is_memory};
-ghost use Rattle.ebpf_ext.specs.ExtReading.{by_names, func_section, line_section, relocation_section, sections_from};
+ghost use Rattle.ebpf_ext.specs.ExtReading.{by_names, func_section, line_section, core_relo_section, sections_from};
 ghost use Rattle.ebpf_ext.specs.SectionNames.{GivesByOffset};
 
 use crate::ext_infos::{FuncSecInfo, LineSecInfo};
@@ -16,37 +16,37 @@ use ebpf_btf::rows::read_rows;
 use ebpf_btf::{Btf, BtfError, Endianness};
 use std::alloc::Global;
 
-/// The least length of a record on functions in bytes.
+/// The least length of a func info record in bytes.
 const FUNC_RECORD: u32 = 8;
 
-/// The least length of a record on lines in bytes.
+/// The least length of a line info record in bytes.
 const LINE_RECORD: u32 = 16;
 
 /// The least length of a relocation in bytes.
 const RELOCATION: u32 = 16;
 
-/// The offset of the name of the section at a place, what is said of its functions, and the place after it.
-#[tactic(auto, unfolding(crate::specs::ExtReading::section_with, crate::specs::ExtReading::func_said, crate::specs::ExtFormat::func_infos))]
+/// The offset of the name of the section at an offset, its func info, and the offset after it.
+#[tactic(auto, unfolding(crate::specs::ExtReading::checked_section, crate::specs::ExtReading::named_func_info, crate::specs::ExtFormat::func_infos))]
 fn read_func_section(
     alloc: Global,
     order: Endianness,
     bytes: &[u8],
     btf: &Btf,
     part: Part,
-    place: usize,
+    offset: usize,
 ) -> Result<((u32, FuncSecInfo), usize), BtfError>
-    requires before { place < part.end }
+    requires before { offset < part.end }
     requires inside { part.end ≤ length bytes.now }
-    ensures { GivesByOffset btf.now.strings result (func_section order bytes.now btf.now.strings part.record_size part.end place) }
+    ensures { GivesByOffset btf.now.strings result (func_section order bytes.now btf.now.strings part.record_size part.end offset) }
 {
-    let head = read_section_head(order, bytes, part, FUNC_RECORD, place)?;
+    let head = read_section_head(order, bytes, part, FUNC_RECORD, offset)?;
     btf.is_name_at(head.name_offset, "")?;
     let size = part.record_size as usize;
     let count = head.count as usize;
     let infos = FuncSecInfo {
         sec_name_offset: head.name_offset,
         num_info: head.count,
-        func_info: read_rows(alloc, order, bytes, place + SECTION_HEAD, size, count)?,
+        func_info: read_rows(alloc, order, bytes, offset + SECTION_HEAD, size, count)?,
     };
     Ok(((head.name_offset, infos), head.next))
 }
@@ -59,42 +59,42 @@ pub fn read_func_sections(
     btf: &Btf,
     part: Part,
 ) -> Result<SectionsByName<FuncSecInfo>, BtfError>
-    requires before { part.place ≤ part.end }
+    requires before { part.offset ≤ part.end }
     requires inside { part.end ≤ length bytes.now }
-    ensures { Gives is_memory result (by_names (sections_from (part.end - part.place) (func_section order bytes.now btf.now.strings part.record_size part.end) part.place part.end)) }
+    ensures { Gives is_memory result (by_names (sections_from (part.end - part.offset) (func_section order bytes.now btf.now.strings part.record_size part.end) part.offset part.end)) }
 {
     let mut sections = Items::new(alloc);
-    let mut place = part.place;
-    while place < part.end {
-        let (section, next) = read_func_section(alloc, order, bytes, btf, part, place)?;
+    let mut offset = part.offset;
+    while offset < part.end {
+        let (section, next) = read_func_section(alloc, order, bytes, btf, part, offset)?;
         sections.push(section)?;
-        place = next;
+        offset = next;
     }
     Ok(SectionsByName::new(alloc, btf.strings(), sections)?)
 }
 
-/// The offset of the name of the section at a place, what is said of its lines, and the place after it.
-#[tactic(auto, unfolding(crate::specs::ExtReading::section_with, crate::specs::ExtReading::line_said, crate::specs::ExtFormat::line_infos))]
+/// The offset of the name of the section at an offset, its line info, and the offset after it.
+#[tactic(auto, unfolding(crate::specs::ExtReading::checked_section, crate::specs::ExtReading::named_line_info, crate::specs::ExtFormat::line_infos))]
 fn read_line_section(
     alloc: Global,
     order: Endianness,
     bytes: &[u8],
     btf: &Btf,
     part: Part,
-    place: usize,
+    offset: usize,
 ) -> Result<((u32, LineSecInfo), usize), BtfError>
-    requires before { place < part.end }
+    requires before { offset < part.end }
     requires inside { part.end ≤ length bytes.now }
-    ensures { GivesByOffset btf.now.strings result (line_section order bytes.now btf.now.strings part.record_size part.end place) }
+    ensures { GivesByOffset btf.now.strings result (line_section order bytes.now btf.now.strings part.record_size part.end offset) }
 {
-    let head = read_section_head(order, bytes, part, LINE_RECORD, place)?;
+    let head = read_section_head(order, bytes, part, LINE_RECORD, offset)?;
     btf.is_name_at(head.name_offset, "")?;
     let size = part.record_size as usize;
     let count = head.count as usize;
     let infos = LineSecInfo {
         sec_name_offset: head.name_offset,
         num_info: head.count,
-        line_info: read_rows(alloc, order, bytes, place + SECTION_HEAD, size, count)?,
+        line_info: read_rows(alloc, order, bytes, offset + SECTION_HEAD, size, count)?,
     };
     Ok(((head.name_offset, infos), head.next))
 }
@@ -107,37 +107,37 @@ pub fn read_line_sections(
     btf: &Btf,
     part: Part,
 ) -> Result<SectionsByName<LineSecInfo>, BtfError>
-    requires before { part.place ≤ part.end }
+    requires before { part.offset ≤ part.end }
     requires inside { part.end ≤ length bytes.now }
-    ensures { Gives is_memory result (by_names (sections_from (part.end - part.place) (line_section order bytes.now btf.now.strings part.record_size part.end) part.place part.end)) }
+    ensures { Gives is_memory result (by_names (sections_from (part.end - part.offset) (line_section order bytes.now btf.now.strings part.record_size part.end) part.offset part.end)) }
 {
     let mut sections = Items::new(alloc);
-    let mut place = part.place;
-    while place < part.end {
-        let (section, next) = read_line_section(alloc, order, bytes, btf, part, place)?;
+    let mut offset = part.offset;
+    while offset < part.end {
+        let (section, next) = read_line_section(alloc, order, bytes, btf, part, offset)?;
         sections.push(section)?;
-        place = next;
+        offset = next;
     }
     Ok(SectionsByName::new(alloc, btf.strings(), sections)?)
 }
 
-/// The offset of a section's name, its relocations, and the place after the section.
-#[tactic(auto, unfolding(crate::specs::ExtReading::section_with, crate::specs::ExtReading::relocations_said))]
+/// The offset of a section's name, its relocations, and the offset after the section.
+#[tactic(auto, unfolding(crate::specs::ExtReading::checked_section, crate::specs::ExtReading::section_core_relos))]
 fn read_relocation_section(
     alloc: Global,
     order: Endianness,
     bytes: &[u8],
     part: Part,
-    place: usize,
+    offset: usize,
 ) -> Result<((u32, Items<Relocation>), usize), BtfError>
-    requires before { place < part.end }
+    requires before { offset < part.end }
     requires inside { part.end ≤ length bytes.now }
-    ensures found { Gives is_memory result (relocation_section order bytes.now part.record_size part.end place) }
+    ensures found { Gives is_memory result (core_relo_section order bytes.now part.record_size part.end offset) }
 {
-    let head = read_section_head(order, bytes, part, RELOCATION, place)?;
+    let head = read_section_head(order, bytes, part, RELOCATION, offset)?;
     let size = part.record_size as usize;
     let count = head.count as usize;
-    let relocations = read_relocations(alloc, bytes, place + SECTION_HEAD, size, count)?;
+    let relocations = read_relocations(alloc, bytes, offset + SECTION_HEAD, size, count)?;
     Ok(((head.name_offset, relocations), head.next))
 }
 
@@ -148,16 +148,16 @@ pub fn read_relocation_sections(
     bytes: &[u8],
     part: Part,
 ) -> Result<Items<(u32, Items<Relocation>)>, BtfError>
-    requires before { part.place ≤ part.end }
+    requires before { part.offset ≤ part.end }
     requires inside { part.end ≤ length bytes.now }
-    ensures { Gives is_memory result (sections_from (part.end - part.place) (relocation_section order bytes.now part.record_size part.end) part.place part.end) }
+    ensures { Gives is_memory result (sections_from (part.end - part.offset) (core_relo_section order bytes.now part.record_size part.end) part.offset part.end) }
 {
     let mut sections = Items::new(alloc);
-    let mut place = part.place;
-    while place < part.end {
-        let (section, next) = read_relocation_section(alloc, order, bytes, part, place)?;
+    let mut offset = part.offset;
+    while offset < part.end {
+        let (section, next) = read_relocation_section(alloc, order, bytes, part, offset)?;
         sections.push(section)?;
-        place = next;
+        offset = next;
     }
     Ok(sections)
 }

@@ -4,34 +4,34 @@ ghost use Rattle.std.specs.Prelude.{◌≡◌, false, IfOk, OnOk};
 ghost use Rattle.std.specs.FinMap as map;
 ghost use Rattle.std.specs.Option.{option_copied};
 ghost use Rattle.ebpf_btf.specs.Memory.{is_memory};
-ghost use Rattle.ebpf_ext.specs.SectionNames.{by_offsets, noted, section_at, AreNoted, ArePlaces, AreSought, AreWithin};
+ghost use Rattle.ebpf_ext.specs.SectionNames.{by_offsets, with_index, section_at, IsIndexSet, AreLastIndices, AreUnset, NoneLonger};
 
 use crate::sections_by_name::last_named;
 use ebpf_base::ByName;
 use ebpf_btf::BtfError;
-use ebpf_btf::strings::{near_bytes, read_text, zero_place};
+use ebpf_btf::strings::{near_bytes, read_text, first_zero};
 use std::alloc::{AllocError, Global};
 use std::marker::Model;
 
-/// These names, each without a place, and the length of the longest.
-fn sought(alloc: Global, names: &[&str]) -> Result<(ByName<Option<usize>>, usize), AllocError>
-    ensures { IfOk result (λ s. AreSought s.1 s.0) }
+/// These names, each without an index, and the length of the longest.
+fn unset_indices(alloc: Global, names: &[&str]) -> Result<(ByName<Option<usize>>, usize), AllocError>
+    ensures { IfOk result (λ s. AreUnset s.1 s.0) }
 {
-    let mut places = ByName::new(alloc);
+    let mut indices = ByName::new(alloc);
     let mut longest = 0;
     for name in names {
-        places.insert(String::from_str(alloc, *name)?, None)?;
+        indices.insert(String::from_str(alloc, *name)?, None)?;
         longest = name.len().max(longest);
     }
-    Ok((places, longest))
+    Ok((indices, longest))
 }
 
-/// Puts the place of a name, where the name is sought.
-#[tactic(auto, unfolding(crate::specs::SectionNames::noted))]
-fn note(places: &mut ByName<Option<usize>>, name: &str, place: usize)
-    ensures { places.new ≡ noted places.old name.now place }
+/// Sets the index of a name, where the name is among these.
+#[tactic(auto, unfolding(crate::specs::SectionNames::with_index))]
+fn set_index(indices: &mut ByName<Option<usize>>, name: &str, index: usize)
+    ensures { indices.new ≡ with_index indices.old name.now index }
 {
-    let _ = places.replace(name, Some(place));
+    let _ = indices.replace(name, Some(index));
 }
 
 /// Refuses where memory was refused, and for no other fault.
@@ -44,52 +44,52 @@ fn unless_memory(error: BtfError) -> Result<(), AllocError>
     }
 }
 
-/// Puts the place of the section whose name is at an offset, where the name is sought. Of one that no text is sought
-/// for no more is looked at than the longest of these has.
+/// Sets the index of the section whose name is at an offset, where the name is among these. Of one that is none of
+/// these no more is looked at than the longest of them has.
 fn look_at(
     alloc: Global,
-    places: &mut ByName<Option<usize>>,
+    indices: &mut ByName<Option<usize>>,
     longest: usize,
     strings: &[u8],
     offset: u32,
-    place: usize,
+    index: usize,
 ) -> Result<(), AllocError>
-    requires { AreWithin longest places.old }
-    ensures { OnOk result (AreNoted strings.now offset place places.old places.new) }
+    requires { NoneLonger longest indices.old }
+    ensures { OnOk result (IsIndexSet strings.now offset index indices.old indices.new) }
 {
-    if zero_place(near_bytes(strings, offset, longest)).is_none() {
+    if first_zero(near_bytes(strings, offset, longest)).is_none() {
         return Ok(());
     }
     match read_text(alloc, strings, offset) {
-        Ok(text) => note(places, text.as_str(), place),
+        Ok(text) => set_index(indices, text.as_str(), index),
         Err(error) => return unless_memory(error),
     }
     Ok(())
 }
 
-/// The places of the last sections of these names.
-fn find_places<S>(
+/// The indices of the last sections of these names.
+fn find_indices<S>(
     alloc: Global,
     strings: &[u8],
     sections: &[(u32, S)],
     names: &[&str],
 ) -> Result<ByName<Option<usize>>, AllocError>
-    ensures { IfOk result (λ places. ArePlaces strings.now sections.now places) }
+    ensures { IfOk result (λ indices. AreLastIndices strings.now sections.now indices) }
 {
-    let (mut places, longest) = sought(alloc, names)?;
-    for (place, section) in sections.iter().enumerate() {
-        look_at(alloc, &mut places, longest, strings, section.0, place)?;
+    let (mut indices, longest) = unset_indices(alloc, names)?;
+    for (index, section) in sections.iter().enumerate() {
+        look_at(alloc, &mut indices, longest, strings, section.0, index)?;
     }
-    Ok(places)
+    Ok(indices)
 }
 
-/// What is said by the section at a place.
-fn section_at<S>(sections: &[(u32, S)], place: Option<usize>) -> Option<&S>
-    ensures { option_copied result ≡ section_at sections.now place }
+/// The section at an index.
+fn section_at<S>(sections: &[(u32, S)], index: Option<usize>) -> Option<&S>
+    ensures { option_copied result ≡ section_at sections.now index }
 {
-    let place = place?;
-    let (_, said) = sections.get(place)?;
-    Some(said)
+    let index = index?;
+    let (_, section) = sections.get(index)?;
+    Some(section)
 }
 
 /// Sections, each with the offset of its name in some strings, of which those of some names were found before.
@@ -98,8 +98,8 @@ fn section_at<S>(sections: &[(u32, S)], place: Option<usize>) -> Option<&S>
 pub struct FoundSections<'e, S> {
     strings: &'e [u8],
     sections: &'e [(u32, S)],
-    places: ByName<Option<usize>>,
-    ghost found: { ArePlaces strings.now sections.now places },
+    indices: ByName<Option<usize>>,
+    ghost found: { AreLastIndices strings.now sections.now indices },
 }
 
 impl<'e, S> Model for FoundSections<'e, S> {
@@ -124,20 +124,20 @@ impl<'e, S> FoundSections<'e, S> {
     ) -> Result<FoundSections<'e, S>, AllocError>
         ensures { IfOk result (λ f. f ≡ by_offsets strings.now sections.now) }
     {
-        let places = find_places(alloc, strings, sections, names)?;
+        let indices = find_indices(alloc, strings, sections, names)?;
         Ok(FoundSections {
             strings,
             sections,
-            places,
+            indices,
         })
     }
 
-    /// The section with a name. Where the name is none of those that were given, it is sought anew.
+    /// The section with a name. Where the name is none of those that were given, it is looked for anew.
     pub fn get(&self, name: &str) -> Option<&'e S>
         ensures { option_copied result ≡ map.get self.now name.now }
     {
-        match self.places.get(name) {
-            Some(place) => section_at(self.sections, *place),
+        match self.indices.get(name) {
+            Some(index) => section_at(self.sections, *index),
             None => last_named(self.strings, self.sections, name),
         }
     }

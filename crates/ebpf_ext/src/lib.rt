@@ -1,4 +1,4 @@
-//! `.BTF.ext` of an eBPF object file: what is said of functions and lines, and the CO-RE relocations.
+//! `.BTF.ext` of an eBPF object file: func info, line info and the CO-RE relocations.
 #![tactic(auto)]
 
 mod copied_names;

@@ -7,11 +7,11 @@ ghost use Rattle.ebpf_btf.specs.declared.error.BtfError.TheVariants.{InvalidRelo
 
 use ebpf_btf::BtfError;
 
-/// What a CO-RE relocation asks of its type, field or variant, in the order of the numbers that `.BTF.ext` gives
+/// The kind of a CO-RE relocation, by what it takes of its type, field or variant, in the order of the numbers that `.BTF.ext` gives
 /// them (`enum bpf_core_relo_kind`): `FieldByteOffset` is 0, `EnumVariantValue` is 11.
 #[derive(Clone, Copy, Debug, PartialEq, Eq)]
 pub enum RelocationKind {
-    /// The place of a field in bytes.
+    /// The offset of a field in bytes.
     FieldByteOffset,
     /// The size of a field in bytes.
     FieldByteSize,
@@ -76,14 +76,14 @@ impl TryFrom<u32> for RelocationKind {
 /// A CO-RE relocation (`struct bpf_core_relo`).
 #[derive(Clone, Copy, Debug, PartialEq, Eq)]
 pub struct Relocation {
-    /// The place of the instruction in its section, in bytes.
+    /// The offset of the instruction in its section, in bytes.
     pub insn_off: u32,
     /// The id of the local type.
     pub type_id: u32,
-    /// The offset in the strings of the text that says how the field or variant is reached.
+    /// The offset in the strings of the access string.
     pub access_str_off: u32,
-    /// What is asked.
+    /// The kind.
     pub kind: RelocationKind,
-    /// The place among the relocations of its section, from 0 on.
+    /// The index among the relocations of its section, from 0 on.
     pub number: usize,
 }

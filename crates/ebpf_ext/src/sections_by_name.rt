@@ -18,11 +18,11 @@ pub fn last_named<'s, S>(strings: &[u8], sections: &'s [(u32, S)], name: &str) -
     ensures { option_copied result ≡ map.get (by_offsets strings.now sections.now) name.now }
 {
     let mut last = None;
-    for (offset, said) in sections {
+    for (offset, section) in sections {
         if !is_text_at(strings, *offset, name) {
             continue;
         }
-        last = Some(said);
+        last = Some(section);
     }
     last
 }

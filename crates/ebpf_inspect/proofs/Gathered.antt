@@ -6,7 +6,7 @@ use Rattle.std.specs.Prelude.{slice_index_or, MatchBool}
 use Rattle.ebpf_base.specs.Keys.{lent_bytes}
 use Rattle.ebpf_inspect.specs.Named.{IsNamedMap, AreMaps, OneRefused}
 use Rattle.ebpf_inspect.specs.declared.maps.NamedMap.{NamedMap}
-use Rattle.ebpf_object.specs.Prepared.{Refuses, NamesNothing, is_memory}
+use Rattle.ebpf_object.specs.Prepared.{RefusesPreparing, NamesNothing, is_memory}
 use Rattle.ebpf_object.specs.StageFaults.{Wrapped}
 use Rattle.ebpf_object.specs.declared.object.Object.{Object}
 use Rattle.ebpf_object.specs.declared.prepare_error.PrepareError.{PrepareError}
@@ -20,7 +20,7 @@ other_account : (b : Bool) (N F G : Type 0) → (F → G) → MatchBool b N F �
 other_account true N F G to m = m
 other_account false N F G to m = to m
 
-pub refused_by : (P Q : PrepareError → Type 0) (e : PrepareError) → (P e → Q e) → Refuses P e → Refuses Q e
+pub refused_by : (P Q : PrepareError → Type 0) (e : PrepareError) → (P e → Q e) → RefusesPreparing P e → RefusesPreparing Q e
 refused_by P Q e to refused = other_account (is_memory e) (NamesNothing e) (P e) (Q e) to refused
 
 pub of_calls : (P Q : EbpfRelocationError → Type 0) → ((e : EbpfRelocationError) → P e → Q e) → (e : PrepareError) → Wrapped Calls P e → Wrapped Calls Q e
@@ -63,7 +63,7 @@ module _ (o : Object) where
 
     module _ (whole : List ProgramValue) (of_left : (e : EbpfRelocationError) → OneRefused o (flat_map f (lent_bytes (drop i names))) e → OneRefused o whole e) where
       -- a refusal of this name's program
-      pub one_refused : (e : PrepareError) → Refuses (Wrapped Calls (OneRefused o (f here))) e → Refuses (Wrapped Calls (OneRefused o whole)) e
+      pub one_refused : (e : PrepareError) → RefusesPreparing (Wrapped Calls (OneRefused o (f here))) e → RefusesPreparing (Wrapped Calls (OneRefused o whole)) e
       one_refused e refused =
           refused_by (Wrapped Calls (OneRefused o (f here))) (Wrapped Calls (OneRefused o whole)) e
           (of_calls (OneRefused o (f here)) (OneRefused o whole) (λ d r. of_left d (subst (λ ps. OneRefused o ps d) (sym left) (refused_first d (f here) _ r))) e) refused

@@ -1,4 +1,4 @@
 pub mod Answering
 pub mod Gathered
-pub mod Joining
+pub mod LinkingAfter
 pub mod Reports

@@ -7,18 +7,18 @@ use Rattle.std.specs.FinMap.{FinMap, get}
 use Rattle.std.specs.List.{list_any}
 use Rattle.std.specs.Ordering.{eq_by_cmp}
 use Rattle.ebpf_base.specs.Keys.{key_cmp, key_total}
-use Rattle.ebpf_inspect.specs.Inspected.{map_in, IsReport, AreReports}
-use Rattle.ebpf_inspect.specs.Named.{IsNamedMap, AreMaps, OneRefused, slots_of, slots_at, report_of}
+use Rattle.ebpf_inspect.specs.Inspected.{link_map_of, IsReport, AreReports}
+use Rattle.ebpf_inspect.specs.Named.{IsNamedMap, AreMaps, OneRefused, function_slots, function_slots_at, report_of}
 use Rattle.ebpf_inspect.specs.declared.maps.NamedMap.{NamedMap}
-use Rattle.ebpf_linker.specs.Faults.{LeastFault, linking}
+use Rattle.ebpf_linker.specs.Faults.{LeastFault, checked_references}
 use Rattle.ebpf_object.specs.Headline.{linkable}
-use Rattle.ebpf_object.specs.Joined.{programs_in_order, is_program_key, AreJoined}
-use Rattle.ebpf_object.specs.Stages.{Joins}
+use Rattle.ebpf_object.specs.LinkedPrograms.{programs_in_order, is_program_key, ProgramsAreLinked}
+use Rattle.ebpf_object.specs.Stages.{LinksPrograms}
 use Rattle.ebpf_object.specs.declared.object.Object.{Object}
-use Rattle.ebpf_reloc.proofs.OneLinkMap.{maps_tell}
-use Rattle.ebpf_reloc.specs.LinkMaps.{IsMapped}
-use Rattle.ebpf_reloc.specs.Linking.{ProgramValue, key_of, IsLinked, IsRefused, IsFault}
-use Rattle.ebpf_reloc.specs.Places.{LinkableValue}
+use Rattle.ebpf_reloc.proofs.OneLinkMap.{link_maps_match}
+use Rattle.ebpf_reloc.specs.LinkMaps.{IsLinkMapAt}
+use Rattle.ebpf_reloc.specs.Linking.{ProgramValue, key_of, IsLinked, IsProgramRefusal, IsProgramFault}
+use Rattle.ebpf_reloc.specs.SlotTargets.{LinkableValue}
 use Rattle.ebpf_reloc.specs.References.{Key, functions_of}
 use Rattle.ebpf_reloc.specs.declared.error.EbpfRelocationError.{EbpfRelocationError}
 use Rattle.ebpf_reloc.specs.declared.error.RelocationError.{RelocationError}
@@ -43,16 +43,16 @@ among : (before : List ProgramValue) (p : ProgramValue) (behind : List ProgramVa
 among [] p behind = any_first (eq_by_cmp key_cmp (key_of p) (key_of p)) (is_program_key behind (key_of p)) ((eq_by_cmp_equiv key_total).refl (key_of p))
 among (q ∷ before) p behind = any_later (eq_by_cmp key_cmp (key_of p) (key_of q)) (is_program_key (before ++ p ∷ behind) (key_of p)) (among before p behind)
 
-joined_at : (b : Bool) (A B : Type 0) → b ≡ true → MatchBool b A B → A
-joined_at true A B is joined = joined
-joined_at false A B is joined = cc
+linked_at : (b : Bool) (A B : Type 0) → b ≡ true → MatchBool b A B → A
+linked_at true A B is is_linked = is_linked
+linked_at false A B is is_linked = cc
 
-module _ (o linked : Object) (joins : Joins true o linked) where
+module _ (o linked : Object) (links : LinksPrograms true o linked) where
   linked_from : (before ps : List ProgramValue) → (before ++ ps) ≡ programs_in_order o.programs → EachLinked o linked ps
   linked_from before [] is = tt
   linked_from before (p ∷ ps) is =
       let key : is_program_key (programs_in_order o.programs) (key_of p) ≡ true = subst (λ all. is_program_key all (key_of p) ≡ true) is (among before p ps) in
-      let g = joined_at (is_program_key (programs_in_order o.programs) (key_of p)) _ _ key (joins.0 (key_of p)) in
+      let g = linked_at (is_program_key (programs_in_order o.programs) (key_of p)) _ _ key (links.0 (key_of p)) in
       ((g.0, g.1, g.2), linked_from (before ++ p ∷ []) ps (append_assoc before (p ∷ []) ps ∙ is))
 
   pub each_linked : EachLinked o linked (programs_in_order o.programs)
@@ -62,15 +62,15 @@ module _ (o linked : Object) (joins : Joins true o linked) where
 
 module _ (o linked : Object) where
   one_report : (p : ProgramValue) (m : NamedMap) (g : Function) → get linked.functions (key_of p) ≡ Some g → IsLinked (linkable o) (key_of p) g → IsNamedMap o p m → IsReport o linked p (report_of linked m)
-  one_report p m g stands joined is =
+  one_report p m g stands is_linked is =
       record {
         named = is.named;
         function = g;
         stands = stands;
-        slots = ap (λ (k : Key). slots_of (get linked.functions k)) is.key ∙ ap slots_of stands;
-        joined = joined;
+        slots = ap (λ (k : Key). function_slots (get linked.functions k)) is.key ∙ ap function_slots stands;
+        is_linked = is_linked;
         mapped = is.mapped;
-        tells = maps_tell (linkable o) (key_of p) m.map g is.mapped joined;
+        tells = link_maps_match (linkable o) (key_of p) m.map g is.mapped is_linked;
       }
 
   pub reports : (ps : List ProgramValue) (ms : List NamedMap) → EachLinked o linked ps → AreMaps o ps ms → AreReports o linked ps (map (report_of linked) ms)
@@ -81,12 +81,12 @@ module _ (o linked : Object) where
 
 -- ---- no refusal where all are linked
 
-no_fault : (parts : LinkableValue) (key : Key) (g : Function) → IsLinked parts key g → (e : RelocationError) → IsFault parts key e → ⊥
-no_fault parts key g joined e fault =
-    let least : LeastFault (functions_of parts) (linking (functions_of parts) key) key e =
-    subst (λ f. MatchOption f (e ≡ UnknownProgram key.0 key.1) (λ _. LeastFault (functions_of parts) (linking (functions_of parts) key) key e)) joined.stands fault
+no_fault : (parts : LinkableValue) (key : Key) (g : Function) → IsLinked parts key g → (e : RelocationError) → IsProgramFault parts key e → ⊥
+no_fault parts key g is_linked e fault =
+    let least : LeastFault (functions_of parts) (checked_references (functions_of parts) key) key e =
+    subst (λ f. MatchOption f (e ≡ UnknownProgram key.0 key.1) (λ _. LeastFault (functions_of parts) (checked_references (functions_of parts) key) key e)) is_linked.stands fault
     in
-    joined.program.faultless least.path least.slot e least.stands
+    is_linked.program.faultless least.path least.slot e least.stands
 
 pub none_refused : (o linked : Object) (e : EbpfRelocationError) (ps : List ProgramValue) → EachLinked o linked ps → OneRefused o ps e → ⊥
 none_refused o linked e [] each refused = refused

@@ -4,23 +4,23 @@ use Rattle.std.specs.FinMap.{get}
 use Rattle.ebpf_inspect.specs.declared.report.ProgramReport.{ProgramReport}
 use Rattle.ebpf_ksyms.specs.Sources.{Source}
 use Rattle.ebpf_object.specs.Headline.{Headline, linkable}
-use Rattle.ebpf_object.specs.Joined.{programs_in_order}
+use Rattle.ebpf_object.specs.LinkedPrograms.{programs_in_order}
 use Rattle.ebpf_object.specs.Prepared.{Stages}
 use Rattle.ebpf_object.specs.Steps.{Chosen}
 use Rattle.ebpf_object.specs.declared.object.Object.{Object}
-use Rattle.ebpf_reloc.specs.LinkMaps.{IsMapped}
+use Rattle.ebpf_reloc.specs.LinkMaps.{IsLinkMapAt}
 use Rattle.ebpf_reloc.specs.Linking.{ProgramValue, key_of, IsLinked}
-use Rattle.ebpf_reloc.specs.MapLaws.{TellsOf}
+use Rattle.ebpf_reloc.specs.LinkMapLaws.{MatchesLinked}
 use Rattle.ebpf_reloc.specs.declared.function.Function.{Function}
 use Rattle.ebpf_reloc.specs.declared.link_map.LinkMap.{LinkMap}
 use Rattle.ebpf_parts.specs.declared.reading.Reading.{Reading}
 
--- the chosen passes, and the joining of programs
-abbrev pub joining : Chosen → Chosen
-joining steps = record steps { calls = true }
+-- the chosen passes, and the linking of programs
+abbrev pub with_linking : Chosen → Chosen
+with_linking steps = record steps { calls = true }
 
-abbrev pub map_in : ProgramReport → LinkMap
-map_in r = record { copies = r.copies; references = r.references }
+abbrev pub link_map_of : ProgramReport → LinkMap
+link_map_of r = record { copies = r.copies; references = r.references }
 
 -- The report of a program, from the object as linking begins and as it leaves it: its name, the slots of its linked
 -- function, and the map of these. So the copies are the program and each function that it reaches, in order, and have
@@ -30,9 +30,9 @@ pub record IsReport (unlinked linked : Object) (program : ProgramValue) (r : Pro
   pub function : Function
   pub stands : get linked.functions (key_of program) ≡ Some function
   pub slots : r.slots ≡ function.instructions
-  pub joined : IsLinked (linkable unlinked) (key_of program) function
-  pub mapped : IsMapped (linkable unlinked) (key_of program) (map_in r)
-  pub tells : TellsOf (linkable unlinked) (key_of program) (map_in r) function mapped joined
+  pub is_linked : IsLinked (linkable unlinked) (key_of program) function
+  pub mapped : IsLinkMapAt (linkable unlinked) (key_of program) (link_map_of r)
+  pub tells : MatchesLinked (linkable unlinked) (key_of program) (link_map_of r) function mapped is_linked
 
 -- a report of each program
 abbrev pub AreReports : Object → Object → List ProgramValue → List ProgramReport → Type 0
@@ -41,14 +41,14 @@ AreReports unlinked linked (p ∷ ps) (r ∷ rs) = IsReport unlinked linked p r 
 AreReports unlinked linked [] (r ∷ rs) = ⊥
 AreReports unlinked linked (p ∷ ps) [] = ⊥
 
--- the reports of an object's programs, in byte order of their names, after the chosen passes and joined
+-- the reports of an object's programs, in byte order of their names, after the chosen passes and linked
 pub record AreReportsOf (steps : Chosen) (lines : Source) (o : Object) (reports : List ProgramReport) : Type 0 where
   pub linked : Object
-  pub stages : Stages (joining steps) lines o linked
+  pub stages : Stages (with_linking steps) lines o linked
   pub each : AreReports stages.unlinked linked (programs_in_order linked.programs) reports
 
 -- the same of a file in a reading
 pub record IsInspected (steps : Chosen) (lines : Source) (reading : Reading) (bytes : List ℕ) (reports : List ProgramReport) : Type 0 where
   pub linked : Object
-  pub headline : Headline (joining steps) lines reading bytes linked
+  pub headline : Headline (with_linking steps) lines reading bytes linked
   pub each : AreReports headline.prepared.stages.unlinked linked (programs_in_order linked.programs) reports

@@ -6,8 +6,8 @@ use Rattle.ebpf_inspect.specs.declared.report.ProgramReport.{ProgramReport}
 use Rattle.ebpf_object.specs.Headline.{linkable}
 use Rattle.ebpf_object.specs.declared.object.Object.{Object}
 use Rattle.ebpf_parts.specs.declared.insn.bpf_insn.{bpf_insn}
-use Rattle.ebpf_reloc.specs.LinkMaps.{IsMapped}
-use Rattle.ebpf_reloc.specs.Linking.{ProgramValue, key_of, IsRefused}
+use Rattle.ebpf_reloc.specs.LinkMaps.{IsLinkMapAt}
+use Rattle.ebpf_reloc.specs.Linking.{ProgramValue, key_of, IsProgramRefusal}
 use Rattle.ebpf_reloc.specs.References.{Key}
 use Rattle.ebpf_reloc.specs.declared.error.EbpfRelocationError.{EbpfRelocationError}
 use Rattle.ebpf_reloc.specs.declared.function.Function.{Function}
@@ -16,7 +16,7 @@ use Rattle.ebpf_reloc.specs.declared.function.Function.{Function}
 pub record IsNamedMap (o : Object) (program : ProgramValue) (m : NamedMap) : Type 0 where
   pub named : m.name ≡ program.name
   pub key : m.key ≡ key_of program
-  pub mapped : IsMapped (linkable o) (key_of program) m.map
+  pub mapped : IsLinkMapAt (linkable o) (key_of program) m.map
 
 abbrev pub AreMaps : Object → List ProgramValue → List NamedMap → Type 0
 AreMaps o [] [] = Unit {0}
@@ -27,16 +27,16 @@ AreMaps o (p ∷ ps) [] = ⊥
 -- one of these programs can't be linked
 abbrev pub OneRefused : Object → List ProgramValue → EbpfRelocationError → Type 0
 OneRefused o [] e = ⊥
-OneRefused o (p ∷ ps) e = IsRefused (linkable o) p e ⊎ OneRefused o ps e
+OneRefused o (p ∷ ps) e = IsProgramRefusal (linkable o) p e ⊎ OneRefused o ps e
 
-abbrev pub slots_of : Option Function → List bpf_insn
-slots_of None = []
-slots_of (Some f) = f.instructions
+abbrev pub function_slots : Option Function → List bpf_insn
+function_slots None = []
+function_slots (Some f) = f.instructions
 
 -- the slots of the function at a key, none where there is none
-abbrev pub slots_at : Object → Key → List bpf_insn
-slots_at o key = slots_of (get o.functions key)
+abbrev pub function_slots_at : Object → Key → List bpf_insn
+function_slots_at o key = function_slots (get o.functions key)
 
 -- the report of a program of the linked object, by its map
 abbrev pub report_of : Object → NamedMap → ProgramReport
-report_of linked m = record { name = m.name; slots = slots_at linked m.key; copies = m.map.copies; references = m.map.references }
+report_of linked m = record { name = m.name; slots = function_slots_at linked m.key; copies = m.map.copies; references = m.map.references }

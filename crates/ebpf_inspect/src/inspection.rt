@@ -1,12 +1,12 @@
 //! The programs of a file, linked, with what they are made of.
 
 ghost use Rattle.std.specs.Prelude.{◌≡◌, ℕ, List, false, true, map, IfOk, IfErr, OnOk};
-ghost use Rattle.ebpf_inspect.specs.Inspected.{joining, AreReports, AreReportsOf, IsInspected};
-ghost use Rattle.ebpf_inspect.specs.Named.{report_of, slots_at};
-ghost use Rattle.ebpf_object.specs.Joined.{programs_in_order};
-ghost use Rattle.ebpf_object.specs.Prepared.{IsParsed, IsFault, IsFirstFault, Refuses};
+ghost use Rattle.ebpf_inspect.specs.Inspected.{with_linking, AreReports, AreReportsOf, IsInspected};
+ghost use Rattle.ebpf_inspect.specs.Named.{report_of, function_slots_at};
+ghost use Rattle.ebpf_object.specs.LinkedPrograms.{programs_in_order};
+ghost use Rattle.ebpf_object.specs.Prepared.{IsParsed, IsStageFault, IsFirstFault, RefusesPreparing};
 ghost use Rattle.ebpf_object.specs.StageFaults.{Wrapped};
-ghost use Rattle.ebpf_object.specs.Stages.{Joins, JoiningFault};
+ghost use Rattle.ebpf_object.specs.Stages.{LinksPrograms, LinkingFault};
 ghost use Rattle.ebpf_object.specs.Steps.{chosen};
 ghost use Rattle.ebpf_object.specs.declared.prepare_error.PrepareError.TheVariants.{Calls};
 ghost use Rattle.ebpf_parts.specs.declared.reading.Reading.{Reading};
@@ -20,7 +20,7 @@ use ebpf_object::insn::bpf_insn;
 use ebpf_object::prepare::{PrepareError, Steps, SymbolSource, prepare_object};
 use std::alloc::{AllocError, Global};
 
-/// The chosen passes, but for the joining of programs.
+/// The chosen passes, but for the linking of programs.
 fn without_calls<'a>(steps: &Steps<'a>) -> Steps<'a>
     ensures { chosen result ≡ record (chosen steps.now) { calls = false } }
 {
@@ -33,12 +33,12 @@ fn without_calls<'a>(steps: &Steps<'a>) -> Steps<'a>
 }
 
 /// A copy of the slots of the function at a key.
-fn slots_at(
+fn function_slots_at(
     alloc: Global,
     object: &Object,
     key: (usize, u64),
 ) -> Result<Items<bpf_insn>, AllocError>
-    ensures { IfOk result (λ slots. slots ≡ slots_at object.now key) }
+    ensures { IfOk result (λ slots. slots ≡ function_slots_at object.now key) }
 {
     match object.functions.get(key) {
         Some(function) => function.instructions.clone(),
@@ -56,7 +56,7 @@ fn reports_of(
 {
     let mut reports = Vec::with_capacity(alloc, maps.len())?;
     for named in maps {
-        let slots = slots_at(alloc, object, named.key)?;
+        let slots = function_slots_at(alloc, object, named.key)?;
         reports.push(ProgramReport {
             name: named.name,
             slots,
@@ -67,12 +67,12 @@ fn reports_of(
     Ok(Items::from_vec(reports))
 }
 
-/// Joins the programs of a prepared object, and reports what each is made of.
+/// Links the programs of a prepared object, and reports what each is made of.
 #[tactic(auto, using(ebpf_object::proofs::Staging::wrapped))]
 fn report(alloc: Global, object: &mut Object) -> Result<Items<ProgramReport>, PrepareError>
-    ensures joined { OnOk result (Joins true object.old object.new) }
+    ensures is_linked { OnOk result (LinksPrograms true object.old object.new) }
     ensures reports { IfOk result (AreReports object.old object.new (programs_in_order object.old.programs)) }
-    ensures fault { IfErr result (Refuses (Wrapped Calls (JoiningFault true object.old))) }
+    ensures fault { IfErr result (RefusesPreparing (Wrapped Calls (LinkingFault true object.old))) }
 {
     let text_sections = object.text_sections(alloc)?;
     let maps = link_maps(alloc, object, &text_sections);
@@ -87,7 +87,7 @@ fn report(alloc: Global, object: &mut Object) -> Result<Items<ProgramReport>, Pr
     Ok(reports_of(alloc, object, maps)?)
 }
 
-/// Prepares an object with the chosen passes, joins its programs, and reports what each is made of.
+/// Prepares an object with the chosen passes, links its programs, and reports what each is made of.
 fn inspect_all<K: SymbolSource>(
     alloc: Global,
     object: Object,
@@ -95,7 +95,7 @@ fn inspect_all<K: SymbolSource>(
     kallsyms: K,
 ) -> Result<Items<ProgramReport>, PrepareError>
     ensures reports { IfOk result (AreReportsOf (chosen steps.now) (K.source kallsyms) object) }
-    ensures fault { IfErr result (Refuses (IsFault (joining (chosen steps.now)) (K.source kallsyms) object)) }
+    ensures fault { IfErr result (RefusesPreparing (IsStageFault (with_linking (chosen steps.now)) (K.source kallsyms) object)) }
 {
     let mut prepared = match prepare_object(alloc, object, &without_calls(steps), kallsyms) {
         Ok(prepared) => prepared,
@@ -118,19 +118,19 @@ pub fn inspect_object<K: SymbolSource>(
 ) -> Result<Items<ProgramReport>, PrepareError>
     ensures reports { IfOk result (AreReportsOf (chosen steps.now) (K.source kallsyms) object) }
     ensures inspected { (reading : Reading) (file : List ℕ) → IsParsed reading file object → IfOk result (IsInspected (chosen steps.now) (K.source kallsyms) reading file) }
-    ensures fault { IfErr result (Refuses (IsFault (joining (chosen steps.now)) (K.source kallsyms) object)) }
-    ensures first_fault { (reading : Reading) (file : List ℕ) → IsParsed reading file object → IfErr result (Refuses (IsFirstFault (joining (chosen steps.now)) (K.source kallsyms) reading file)) }
+    ensures fault { IfErr result (RefusesPreparing (IsStageFault (with_linking (chosen steps.now)) (K.source kallsyms) object)) }
+    ensures first_fault { (reading : Reading) (file : List ℕ) → IsParsed reading file object → IfErr result (RefusesPreparing (IsFirstFault (with_linking (chosen steps.now)) (K.source kallsyms) reading file)) }
 {
     inspect_all(alloc, object, steps, kallsyms)
 }
 
-/// The programs of a file after the chosen passes, each joined with the functions that it reaches, whatever `steps`
+/// The programs of a file after the chosen passes, each linked with the functions that it reaches, whatever `steps`
 /// says of that: in byte order of their names, with their slots and what these are made of. `kallsyms` has the lines
 /// of the kernel's symbols.
 ///
 /// # Errors
 ///
-/// Those of `prepare` with the same steps where it joins programs: the fault of the first pass that has one, in that
+/// Those of `prepare` with the same steps where it links programs: the fault of the first pass that has one, in that
 /// pass's own error. `OutOfMemory`, and the passes' own, only where memory was refused.
 pub fn inspect<K: SymbolSource>(
     alloc: Global,
@@ -139,7 +139,7 @@ pub fn inspect<K: SymbolSource>(
     kallsyms: K,
 ) -> Result<Items<ProgramReport>, PrepareError>
     ensures reports { IfOk result (IsInspected (chosen steps.now) (K.source kallsyms) Stated bytes.now) }
-    ensures fault { IfErr result (Refuses (IsFirstFault (joining (chosen steps.now)) (K.source kallsyms) Stated bytes.now)) }
+    ensures fault { IfErr result (RefusesPreparing (IsFirstFault (with_linking (chosen steps.now)) (K.source kallsyms) Stated bytes.now)) }
 {
     match Object::parse(alloc, bytes) {
         Ok(object) => inspect_object(alloc, object, steps, kallsyms),

@@ -5,12 +5,12 @@ ghost use Rattle.std.specs.List.{flat_map};
 ghost use Rattle.ebpf_base.specs.Keys.{lent_bytes};
 ghost use Rattle.ebpf_inspect.specs.Named.{AreMaps, OneRefused};
 ghost use Rattle.ebpf_object.specs.Headline.{linkable};
-ghost use Rattle.ebpf_object.specs.Joined.{program_with, programs_in_order};
-ghost use Rattle.ebpf_object.specs.Prepared.{Refuses};
+ghost use Rattle.ebpf_object.specs.LinkedPrograms.{program_with, programs_in_order};
+ghost use Rattle.ebpf_object.specs.Prepared.{RefusesPreparing};
 ghost use Rattle.ebpf_object.specs.StageFaults.{Wrapped};
 ghost use Rattle.ebpf_object.specs.TextSections.{has_function_in};
 ghost use Rattle.ebpf_object.specs.declared.prepare_error.PrepareError.TheVariants.{Calls};
-ghost use Rattle.ebpf_reloc.specs.Places.{sections_in, read};
+ghost use Rattle.ebpf_reloc.specs.SlotTargets.{text_sections_in, read};
 
 use ebpf_base::Text;
 use ebpf_object::Object;
@@ -42,7 +42,7 @@ fn add_map(
     requires object { of.now.object.now ≡ object.now }
     requires parts { read of.now.functions.parts ≡ linkable object.now }
     ensures maps { OnOk result ((added : List NamedMap) × (maps.new.items ≡ maps.old.items ++ added) × AreMaps object.now (program_with object.now.programs name.now) added) }
-    ensures fault { IfErr result (Refuses (Wrapped Calls (OneRefused object.now (program_with object.now.programs name.now)))) }
+    ensures fault { IfErr result (RefusesPreparing (Wrapped Calls (OneRefused object.now (program_with object.now.programs name.now)))) }
 {
     let Some(program) = object.programs.get(name) else {
         return Ok(());
@@ -70,7 +70,7 @@ fn maps_named(
     requires object { of.now.object.now ≡ object.now }
     requires parts { read of.now.functions.parts ≡ linkable object.now }
     ensures maps { IfOk result (λ maps. AreMaps object.now (flat_map (program_with object.now.programs) (lent_bytes names.now)) maps.items) }
-    ensures fault { IfErr result (Refuses (Wrapped Calls (OneRefused object.now (flat_map (program_with object.now.programs) (lent_bytes names.now))))) }
+    ensures fault { IfErr result (RefusesPreparing (Wrapped Calls (OneRefused object.now (flat_map (program_with object.now.programs) (lent_bytes names.now))))) }
 {
     let mut maps = Vec::with_capacity(alloc, names.len())?;
     for name in names {
@@ -86,9 +86,9 @@ pub fn link_maps(
     object: &Object,
     text_sections: &HashSet<usize>,
 ) -> Result<Vec<NamedMap>, PrepareError>
-    requires sections { sections_in text_sections.now ≡ has_function_in object.now.functions }
+    requires sections { text_sections_in text_sections.now ≡ has_function_in object.now.functions }
     ensures maps { IfOk result (λ maps. AreMaps object.now (programs_in_order object.now.programs) maps.items) }
-    ensures fault { IfErr result (Refuses (Wrapped Calls (OneRefused object.now (programs_in_order object.now.programs)))) }
+    ensures fault { IfErr result (RefusesPreparing (Wrapped Calls (OneRefused object.now (programs_in_order object.now.programs)))) }
 {
     let names = object.programs.names(alloc)?;
     let of = match object.program_maps(text_sections) {

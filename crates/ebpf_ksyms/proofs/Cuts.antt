@@ -10,7 +10,7 @@ use Rattle.std.proofs.lemmas.List.Elements.{All-tail}
 use Rattle.std.proofs.lemmas.List.Splits.{slice_split-cons_yes, slice_split_none, slice_split_at}
 use Rattle.std.proofs.lemmas.Str.{NoCharPasses-byte}
 use denote.Ref.{Bor}
-use Rattle.ebpf_ksyms.specs.Lines.{words, first_and_third, said_in}
+use Rattle.ebpf_ksyms.specs.Lines.{words, first_and_third, address_and_name}
 
 is_word : List ℕ → Bool
 is_word part = nat_lt 0 (length part)
@@ -83,14 +83,14 @@ words-step line rest (Some x) h =
     ∙ parts-word is_ascii_whitespace x.now h.3.1 rest h.0 (bytes_apart x.now h.1) h.3.4.0 h.3.4.1 h.3.4.2
 
 -- a line of no, one, two, three words or more
-pub said_none : (line : List ℕ) → words line ≡ [] → said_in line ≡ None
-said_none line e = ap first_and_third e
+pub no_pair : (line : List ℕ) → words line ≡ [] → address_and_name line ≡ None
+no_pair line e = ap first_and_third e
 
-pub said_one : (line t : List ℕ) (a : List ℕ) → words line ≡ a ∷ words t → words t ≡ [] → said_in line ≡ None
-said_one line t a e f = ap first_and_third (e ∙ ap (λ ws. a ∷ ws) f)
+pub no_pair_of_one : (line t : List ℕ) (a : List ℕ) → words line ≡ a ∷ words t → words t ≡ [] → address_and_name line ≡ None
+no_pair_of_one line t a e f = ap first_and_third (e ∙ ap (λ ws. a ∷ ws) f)
 
-pub said_two : (line t u : List ℕ) (a b : List ℕ) → words line ≡ a ∷ words t → words t ≡ b ∷ words u → words u ≡ [] → said_in line ≡ None
-said_two line t u a b e f g = ap first_and_third (e ∙ ap (λ ws. a ∷ ws) (f ∙ ap (λ ws. b ∷ ws) g))
+pub no_pair_of_two : (line t u : List ℕ) (a b : List ℕ) → words line ≡ a ∷ words t → words t ≡ b ∷ words u → words u ≡ [] → address_and_name line ≡ None
+no_pair_of_two line t u a b e f g = ap first_and_third (e ∙ ap (λ ws. a ∷ ws) (f ∙ ap (λ ws. b ∷ ws) g))
 
-pub said_three : (line t u v : List ℕ) (a b c : List ℕ) → words line ≡ a ∷ words t → words t ≡ b ∷ words u → words u ≡ c ∷ words v → said_in line ≡ Some (a, c)
-said_three line t u v a b c e f g = ap first_and_third (e ∙ ap (λ ws. a ∷ ws) (f ∙ ap (λ ws. b ∷ ws) g))
+pub pair_of_three : (line t u v : List ℕ) (a b c : List ℕ) → words line ≡ a ∷ words t → words t ≡ b ∷ words u → words u ≡ c ∷ words v → address_and_name line ≡ Some (a, c)
+pair_of_three line t u v a b c e f g = ap first_and_third (e ∙ ap (λ ws. a ∷ ws) (f ∙ ap (λ ws. b ∷ ws) g))

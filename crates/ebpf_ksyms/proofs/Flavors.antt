@@ -5,7 +5,7 @@ use Rattle.std.specs.List.{range_with_len, starts_with}
 use Rattle.std.specs.Str.Pattern.{FindsText, LacksTextAt}
 use Rattle.std.proofs.lemmas.Slice.Eq.{starts_is}
 use Rattle.std.proofs.lemmas.Bool.Decides.{Decides-eqb}
-use Rattle.ebpf_btf.specs.EssentialNames.{essential_name, flavor_mark, flavor_place}
+use Rattle.ebpf_btf.specs.EssentialNames.{essential_name, flavor_mark, flavor_start}
 
 -- the first number of a range that passes
 find-none : (p : ℕ → Bool) (a n : ℕ) → ((k : ℕ) → a ≤ k → k < a + n → p k ≡ false) → find p (range_with_len a n) ≡ None

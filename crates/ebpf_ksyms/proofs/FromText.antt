@@ -16,13 +16,13 @@ use Rattle.ebpf_base.proofs.Faults.{both_None}
 use Rattle.ebpf_btf.specs.TypeInfo.{TypeInfo}
 use Rattle.ebpf_ksyms.specs.declared.error.KsymsError.{KsymsError}
 use Rattle.ebpf_ksyms.specs.declared.error.KsymsError.TheVariants.{KallsymsAccessError, OutOfMemory}
-use Rattle.ebpf_ksyms.specs.Addresses.{Item, Line, line_fault, line_of, lines_fault, with_before}
+use Rattle.ebpf_ksyms.specs.Addresses.{Item, Line, line_fault, line_of_item, lines_fault, with_before}
 use Rattle.ebpf_ksyms.specs.Counted.{Counts}
-use Rattle.ebpf_ksyms.specs.Externs.{Externs, IsRefused, IsResolved, lines_refused, names_read, names_refused, reads_lines, resolved, types_refused}
-use Rattle.ebpf_ksyms.specs.Faults.{is_memory, read_fault}
-use Rattle.ebpf_ksyms.specs.Named.{is_among}
+use Rattle.ebpf_ksyms.specs.Externs.{Externs, IsRefused, IsResolved, lines_refused, names_read, names_refused, reads_lines, resolved_externs, types_refused}
+use Rattle.ebpf_ksyms.specs.Faults.{is_memory, line_read_fault}
+use Rattle.ebpf_ksyms.specs.Named.{is_one_of}
 use Rattle.ebpf_ksyms.specs.TextLines.{GivesLine, Unread, lines_left}
-use Rattle.ebpf_ksyms.specs.Texts.{IsRefusedBy, IsResolvedBy, counted, text_fault, text_line, text_lines}
+use Rattle.ebpf_ksyms.specs.Texts.{IsRefusedBy, IsResolvedBy, counted, kallsyms_text_fault, text_line, text_lines}
 use Rattle.ebpf_ksyms.proofs.Pieces.{access_or_memory, given, last_call, match_after}
 use Rattle.ebpf_ksyms.proofs.Reading.{lines_fault-push}
 
@@ -62,19 +62,19 @@ lines_fault-front wanted front more e h = fault_front wanted [] front more e h
 record Came (items : List Item) (s t : Unread) : Type 0 where
   taken : List (List ℕ)
   left : lines_left s ≡ taken ++ lines_left t
-  same : (error : Error) → map line_of items ≡ map (text_line error) taken
+  same : (error : Error) → map line_of_item items ≡ map (text_line error) taken
   error : t.error ≡ s.error
 
-came : (wanted : List ℕ → Bool) (items : List Item) (s t : Unread) (before : List Line) → Yields GivesLine s items t → first_some (λ l. line_fault wanted l.0 l.1) (with_before before (map line_of items)) ≡ None → Came items s t
+came : (wanted : List ℕ → Bool) (items : List Item) (s t : Unread) (before : List Line) → Yields GivesLine s items t → first_some (λ l. line_fault wanted l.0 l.1) (with_before before (map line_of_item items)) ≡ None → Came items s t
 unfolding line_fault
 came wanted [] s t before y none = record { taken = []; left = ap lines_left y; same = λ error. refl; error = ap (λ u. u.error) (sym y) }
 came wanted (Err e ∷ items) s t before y none = absurd (some_none none)
   where
-    some_none : Some (read_fault e) ≡ None → ⊥
+    some_none : Some (line_read_fault e) ≡ None → ⊥
     some_none h = cc
 came wanted (Ok x ∷ items) s t before y none =
     let step : GivesLine s (Some (Ok x)) y.0 = y.1 in
-    let rest : Came items y.0 t = came wanted items y.0 t (before ++ Ok (string_bytes x) ∷ []) y.2 (both_None (line_fault wanted before (Ok (string_bytes x))) (first_some (λ l. line_fault wanted l.0 l.1) (with_before (before ++ Ok (string_bytes x) ∷ []) (map line_of items))) none).1 in
+    let rest : Came items y.0 t = came wanted items y.0 t (before ++ Ok (string_bytes x) ∷ []) y.2 (both_None (line_fault wanted before (Ok (string_bytes x))) (first_some (λ l. line_fault wanted l.0 l.1) (with_before (before ++ Ok (string_bytes x) ∷ []) (map line_of_item items))) none).1 in
     record {
       taken = step.0 ∷ rest.taken;
       left = step.1 ∙ ap (λ ls. step.0 ∷ ls) rest.left;
@@ -82,16 +82,16 @@ came wanted (Ok x ∷ items) s t before y none =
       error = rest.error ∙ step.3;
     }
 
-came_all : (wanted : List ℕ → Bool) (items : List Item) (s t : Unread) → Yields GivesLine s items t → lines_fault wanted (map line_of items) ≡ None → Came items s t
+came_all : (wanted : List ℕ → Bool) (items : List Item) (s t : Unread) → Yields GivesLine s items t → lines_fault wanted (map line_of_item items) ≡ None → Came items s t
 unfolding lines_fault
 came_all wanted items s t y none = came wanted items s t [] y none
 
 -- the items that count are the lines that count
-counted_lines : (wanted : List ℕ → Bool) (b : Bool) (items : List Item) (s : Unread) → Counts GivesLine s b items → lines_fault wanted (map line_of items) ≡ None → (error : Error) → map line_of items ≡ counted error s.text b
+counted_lines : (wanted : List ℕ → Bool) (b : Bool) (items : List Item) (s : Unread) → Counts GivesLine s b items → lines_fault wanted (map line_of_item items) ≡ None → (error : Error) → map line_of_item items ≡ counted error s.text b
 counted_lines wanted true items s h none error =
     let c : Came items s h.1.0 = came_all wanted items s h.1.0 h.1.1 none in
     c.same error ∙ ap (map (text_line error)) (sym (append-nil c.taken) ∙ ap (λ ls. c.taken ++ ls) (sym h.1.2) ∙ sym c.left)
-counted_lines wanted false items s h none error = ap (map line_of) h
+counted_lines wanted false items s h none error = ap (map line_of_item) h
 
 -- ---- answers
 
@@ -102,43 +102,43 @@ module _ (s : Unread) (local kernel : Option TypeInfo) (externs : Externs) where
 
   pub resolved_by : (after : Externs) → IsResolved GivesLine s local kernel externs after → IsResolvedBy s.text local kernel externs after
   resolved_by after h =
-      let same : (error : Error) → map line_of h.items ≡ text_lines s.text local kernel externs error = counted_lines (is_among (names_read local externs)) (reads_lines local externs) h.items s h.counted h.read in
+      let same : (error : Error) → map line_of_item h.items ≡ text_lines s.text local kernel externs error = counted_lines (is_one_of (names_read local externs)) (reads_lines local externs) h.items s h.counted h.read in
       record {
         sound = λ error.
             ap (λ ls. or_else (types_refused local kernel externs) (or_else (lines_refused local externs ls) (names_refused local externs ls))) (sym (same error))
-            ∙ after_types (map line_of h.items) h.types
-            ∙ ap (λ o. or_else o (names_refused local externs (map line_of h.items))) h.read
+            ∙ after_types (map line_of_item h.items) h.types
+            ∙ ap (λ o. or_else o (names_refused local externs (map line_of_item h.items))) h.read
             ∙ h.names;
-        stands = λ error. h.stands ∙ ap (λ ls. resolved local kernel ls externs) (same error);
+        stands = λ error. h.stands ∙ ap (λ ls. resolved_externs local kernel ls externs) (same error);
       }
 
   -- a line that is refused, behind others that are not
-  at_line : (e : KsymsError) (items : List Item) (item : Item) (t u : Unread) → reads_lines local externs ≡ true → types_refused local kernel externs ≡ None → (c : Came items s t) → (step : GivesLine t (Some item) u) → line_of item ≡ text_line s.error step.0 → lines_refused local externs (map line_of (items ++ item ∷ [])) ≡ Some e → text_fault s.text local kernel externs s.error ≡ Some e
+  at_line : (e : KsymsError) (items : List Item) (item : Item) (t u : Unread) → reads_lines local externs ≡ true → types_refused local kernel externs ≡ None → (c : Came items s t) → (step : GivesLine t (Some item) u) → line_of_item item ≡ text_line s.error step.0 → lines_refused local externs (map line_of_item (items ++ item ∷ [])) ≡ Some e → kallsyms_text_fault s.text local kernel externs s.error ≡ Some e
   at_line e items item t u reads types c step is refused =
-      let here : map line_of (items ++ item ∷ []) ≡ map (text_line s.error) (c.taken ++ step.0 ∷ []) =
-      map-append line_of items (item ∷ []) ∙ (λ i. c.same s.error i ++ is i ∷ []) ∙ sym (map-append (text_line s.error) c.taken (step.0 ∷ [])) in
-      let all : text_lines s.text local kernel externs s.error ≡ map line_of (items ++ item ∷ []) ++ map (text_line s.error) (lines_left u) =
+      let here : map line_of_item (items ++ item ∷ []) ≡ map (text_line s.error) (c.taken ++ step.0 ∷ []) =
+      map-append line_of_item items (item ∷ []) ∙ (λ i. c.same s.error i ++ is i ∷ []) ∙ sym (map-append (text_line s.error) c.taken (step.0 ∷ [])) in
+      let all : text_lines s.text local kernel externs s.error ≡ map line_of_item (items ++ item ∷ []) ++ map (text_line s.error) (lines_left u) =
       ap (counted s.error s.text) reads
       ∙ ap (map (text_line s.error)) (c.left ∙ ap (λ ls. c.taken ++ ls) step.1 ∙ sym (append_assoc c.taken (step.0 ∷ []) (lines_left u)))
       ∙ map-append (text_line s.error) (c.taken ++ step.0 ∷ []) (lines_left u)
       ∙ ap (λ ls. ls ++ map (text_line s.error) (lines_left u)) (sym here) in
       after_types (text_lines s.text local kernel externs s.error) types
       ∙ ap (λ o. or_else o (names_refused local externs (text_lines s.text local kernel externs s.error)))
-      (ap (lines_refused local externs) all ∙ lines_fault-front (is_among (names_read local externs)) (map line_of (items ++ item ∷ [])) (map (text_line s.error) (lines_left u)) e refused)
+      (ap (lines_refused local externs) all ∙ lines_fault-front (is_one_of (names_read local externs)) (map line_of_item (items ++ item ∷ [])) (map (text_line s.error) (lines_left u)) e refused)
 
   -- an item that is an error: want of memory, or a line that is not UTF-8
-  at_error : (e : KsymsError) (items : List Item) (err : Error) (t u : Unread) → error_kind s.error ≡ InvalidData → reads_lines local externs ≡ true → types_refused local kernel externs ≡ None → Came items s t → GivesLine t (Some (Err err)) u → lines_refused local externs (map line_of items) ≡ None → lines_refused local externs (map line_of (items ++ Err err ∷ [])) ≡ Some e → MatchBool (is_memory e) ⊤ (IsRefusedBy s.text local kernel externs e)
+  at_error : (e : KsymsError) (items : List Item) (err : Error) (t u : Unread) → error_kind s.error ≡ InvalidData → reads_lines local externs ≡ true → types_refused local kernel externs ≡ None → Came items s t → GivesLine t (Some (Err err)) u → lines_refused local externs (map line_of_item items) ≡ None → lines_refused local externs (map line_of_item (items ++ Err err ∷ [])) ≡ Some e → MatchBool (is_memory e) ⊤ (IsRefusedBy s.text local kernel externs e)
   unfolding line_fault
   at_error e items err t u kind reads types c step before refused =
-      let one : lines_refused local externs (map line_of (items ++ Err err ∷ [])) ≡ Some (read_fault err) =
-      ap (lines_fault (is_among (names_read local externs))) (map-append line_of items (Err err ∷ []))
-      ∙ lines_fault-push (is_among (names_read local externs)) (map line_of items) (Err (read_fault err))
-      ∙ ap (λ o. or_else o (Some (read_fault err))) before in
-      let same : Some (read_fault err) ≡ Some e = sym one ∙ refused in
+      let one : lines_refused local externs (map line_of_item (items ++ Err err ∷ [])) ≡ Some (line_read_fault err) =
+      ap (lines_fault (is_one_of (names_read local externs))) (map-append line_of_item items (Err err ∷ []))
+      ∙ lines_fault-push (is_one_of (names_read local externs)) (map line_of_item items) (Err (line_read_fault err))
+      ∙ ap (λ o. or_else o (Some (line_read_fault err))) before in
+      let same : Some (line_read_fault err) ≡ Some e = sym one ∙ refused in
       access_or_memory (IsRefusedBy s.text local kernel externs) err e
       (λ other.
       let bad : (err ≡ t.error) × (IsUtf8 step.0 → ⊥) = subst (λ b. MatchBool b ⊤ ((err ≡ t.error) × (IsUtf8 step.0 → ⊥))) other step.2 in
-      let access : read_fault err ≡ KallsymsAccessError err = ap (λ b. cond b OutOfMemory (KallsymsAccessError err)) other in
+      let access : line_read_fault err ≡ KallsymsAccessError err = ap (λ b. cond b OutOfMemory (KallsymsAccessError err)) other in
       record {
         error = s.error;
         kind = kind;
@@ -147,7 +147,7 @@ module _ (s : Unread) (local kernel : Option TypeInfo) (externs : Externs) where
             (one ∙ ap Some access);
       }) (cc)
 
-  at_item : (e : KsymsError) (items : List Item) (item : Item) (t u : Unread) → error_kind s.error ≡ InvalidData → reads_lines local externs ≡ true → types_refused local kernel externs ≡ None → Came items s t → GivesLine t (Some item) u → lines_refused local externs (map line_of items) ≡ None → lines_refused local externs (map line_of (items ++ item ∷ [])) ≡ Some e → MatchBool (is_memory e) ⊤ (IsRefusedBy s.text local kernel externs e)
+  at_item : (e : KsymsError) (items : List Item) (item : Item) (t u : Unread) → error_kind s.error ≡ InvalidData → reads_lines local externs ≡ true → types_refused local kernel externs ≡ None → Came items s t → GivesLine t (Some item) u → lines_refused local externs (map line_of_item items) ≡ None → lines_refused local externs (map line_of_item (items ++ item ∷ [])) ≡ Some e → MatchBool (is_memory e) ⊤ (IsRefusedBy s.text local kernel externs e)
   at_item e items (Ok x) t u kind reads types c step before refused =
       given (is_memory e) (record {
         error = s.error;
@@ -165,15 +165,15 @@ module _ (s : Unread) (local kernel : Option TypeInfo) (externs : Externs) where
       })
   refused_by kind e (inr (inl h)) =
       let r = last_call GivesLine h.items h.item s h.rest h.came in
-      at_item e h.items h.item r.0 h.rest kind h.wanted h.types (came_all (is_among (names_read local externs)) h.items s r.0 r.1 h.before) r.2 h.before h.refused
+      at_item e h.items h.item r.0 h.rest kind h.wanted h.types (came_all (is_one_of (names_read local externs)) h.items s r.0 r.1 h.before) r.2 h.before h.refused
   refused_by kind e (inr (inr h)) =
-      let same : map line_of h.items ≡ text_lines s.text local kernel externs s.error = counted_lines (is_among (names_read local externs)) (reads_lines local externs) h.items s h.counted h.read s.error in
+      let same : map line_of_item h.items ≡ text_lines s.text local kernel externs s.error = counted_lines (is_one_of (names_read local externs)) (reads_lines local externs) h.items s h.counted h.read s.error in
       given (is_memory e) (record {
         error = s.error;
         kind = kind;
         fault = ap (λ ls. or_else (types_refused local kernel externs) (or_else (lines_refused local externs ls) (names_refused local externs ls))) (sym same)
-            ∙ after_types (map line_of h.items) h.types
-            ∙ ap (λ o. or_else o (names_refused local externs (map line_of h.items))) h.read
+            ∙ after_types (map line_of_item h.items) h.types
+            ∙ ap (λ o. or_else o (names_refused local externs (map line_of_item h.items))) h.read
             ∙ h.refused;
       })
 

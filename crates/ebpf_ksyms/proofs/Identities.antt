@@ -12,10 +12,10 @@ use Rattle.ebpf_btf.specs.declared.kind.BtfKind.TheVariants as kinds
 use Rattle.ebpf_btf.specs.declared.types.BtfType.{BtfType}
 use Rattle.ebpf_btf.specs.declared.types.BtfType.TheVariants.{Unknown, Fwd, Const, Volatile, Restrict, Ptr, Typedef, Func, Int, Float, Enum, Array, Struct, Union, FuncProto, Var, DataSec, DeclTag, TypeTag, Enum64}
 use Rattle.ebpf_ksyms.specs.declared.ids.Ids.{Ids}
-use Rattle.ebpf_ksyms.specs.declared.sought.Sort.{Sort}
-use Rattle.ebpf_ksyms.specs.declared.sought.Sort.TheVariants.{Function, Variable}
-use Rattle.ebpf_ksyms.specs.Ids.{finished, ids_in, sort_of, with_sort, with_type}
-use Rattle.ebpf_ksyms.specs.Named.{is_among, only_at}
+use Rattle.ebpf_ksyms.specs.declared.lookup_key.Sort.{Sort}
+use Rattle.ebpf_ksyms.specs.declared.lookup_key.Sort.TheVariants.{Function, Variable}
+use Rattle.ebpf_ksyms.specs.Ids.{finished, ids_in, sort_of, with_sort, with_type_ids}
+use Rattle.ebpf_ksyms.specs.Named.{is_one_of, only_at}
 
 is_function : Option Sort → Bool
 is_function (Some Function) = true
@@ -54,7 +54,7 @@ one_more (Some Variable) true ids id fs vs = λ i. record { function = or_else i
 one_more (Some Variable) false ids id fs vs = refl
 
 -- one type, then those after it
-pub finished-cons : (kernel : TypeInfo) (name : List ℕ) (id : ℕ) (t : BtfType) (types : List BtfType) (ids : Ids) → finished kernel name id (t ∷ types) ids ≡ finished kernel name (id + 1) types (with_type kernel name id t ids)
+pub finished-cons : (kernel : TypeInfo) (name : List ℕ) (id : ℕ) (t : BtfType) (types : List BtfType) (ids : Ids) → finished kernel name id (t ∷ types) ids ≡ finished kernel name (id + 1) types (with_type_ids kernel name id t ids)
 finished-cons kernel name id t types ids =
     rw (kind_Func t, kind_Var t) (
     one_more (sort_of t) (is_text name (type_name kernel t)) ids id (position_from (is_named kernel name kinds.Func) (id + 1) types) (position_from (is_named kernel name kinds.Var) (id + 1) types))
@@ -72,9 +72,9 @@ option-same f None e = refl
 option-same f (Some x) e = ap Some (e x)
 
 -- a pass with one more type
-pub more-types : (kernel : TypeInfo) (name : List ℕ) (id : ℕ) (t : BtfType) (types : List BtfType) (before after : Option Ids) → after ≡ option_map (with_type kernel name id t) before → option_map (finished kernel name id (t ∷ types)) before ≡ option_map (finished kernel name (id + 1) types) after
+pub more-types : (kernel : TypeInfo) (name : List ℕ) (id : ℕ) (t : BtfType) (types : List BtfType) (before after : Option Ids) → after ≡ option_map (with_type_ids kernel name id t) before → option_map (finished kernel name id (t ∷ types)) before ≡ option_map (finished kernel name (id + 1) types) after
 more-types kernel name id t types before after e =
-    option-step (finished kernel name (id + 1) types) (with_type kernel name id t) (finished kernel name id (t ∷ types)) before (finished-cons kernel name id t types)
+    option-step (finished kernel name (id + 1) types) (with_type_ids kernel name id t) (finished kernel name id (t ∷ types)) before (finished-cons kernel name id t types)
     ∙ ap (option_map (finished kernel name (id + 1) types)) (sym e)
 
 -- a pass at its end
@@ -85,4 +85,4 @@ no-types kernel name id ids = option-same (finished kernel name id []) ids (fini
 pub all-types : (kernel : TypeInfo) (names : List (List ℕ)) (name : List ℕ) (known : Option Ids) → known ≡ only_at names (λ _. record { function = None; variable = None }) name → option_map (finished kernel name 0 kernel.types) known ≡ only_at names (ids_in kernel) name
 all-types kernel names name known e =
     ap (option_map (finished kernel name 0 kernel.types)) e
-    ∙ elim (is_among names name) as (λ b. option_map (finished kernel name 0 kernel.types) (cond b (Some (record { function = None; variable = None })) None) ≡ cond b (Some (ids_in kernel name)) None) [ true ↦ refl | false ↦ refl ]
+    ∙ elim (is_one_of names name) as (λ b. option_map (finished kernel name 0 kernel.types) (cond b (Some (record { function = None; variable = None })) None) ≡ cond b (Some (ids_in kernel name)) None) [ true ↦ refl | false ↦ refl ]

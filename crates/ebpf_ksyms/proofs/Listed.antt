@@ -15,8 +15,8 @@ use Rattle.ebpf_base.proofs.Keyed.{later_text_stands}
 use Rattle.ebpf_base.proofs.Sorted.{entries_rise}
 use Rattle.ebpf_base.proofs.TextMaps.{text_exact}
 use Rattle.ebpf_reloc.specs.declared.extern_desc.ExternDesc.{ExternDesc}
-use Rattle.ebpf_ksyms.specs.Entries.{entry_named, map_of}
-use Rattle.ebpf_ksyms.specs.Externs.{Entry, Externs, renew, renewed}
+use Rattle.ebpf_ksyms.specs.Entries.{entry_named, externs_from}
+use Rattle.ebpf_ksyms.specs.Externs.{NamedExtern, Externs, renew, renewed}
 
 -- a name below another is not equal to it
 apart : (a b : List ℕ) → text_cmp a b ≡ Less → eq_by_cmp text_cmp b a ≡ false
@@ -24,27 +24,27 @@ apart a b less = (eq_by_cmp_equiv text_total).symm b a ∙ ap is_eq less
 
 -- ---- each entry is found by its name
 
-Finds : List Entry → List Entry → Type 0
+Finds : List NamedExtern → List NamedExtern → Type 0
 Finds whole es = AllByRecursion (λ e. find text_cmp e.0 whole ≡ Some e.1) es
 
-more : (e : Entry) (whole es : List Entry) → AllByRecursion (λ k. text_cmp e.0 k ≡ Less) (keys_of es) → Finds whole es → Finds (e ∷ whole) es
+more : (e : NamedExtern) (whole es : List NamedExtern) → AllByRecursion (λ k. text_cmp e.0 k ≡ Less) (keys_of es) → Finds whole es → Finds (e ∷ whole) es
 unfolding Finds
 more e whole [] low h = tt
 more e whole (f ∷ es) low h = (rw (apart e.0 f.0 low.0) h.0, more e whole es low.1 h.1)
 
-finds : (es : List Entry) → IsStrictlySortedBy text_cmp (keys_of es) → Finds es es
+finds : (es : List NamedExtern) → IsStrictlySortedBy text_cmp (keys_of es) → Finds es es
 unfolding Finds IsStrictlySortedBy
 finds [] up = tt
 finds (e ∷ es) up =
     let here : eq_by_cmp text_cmp e.0 e.0 ≡ true = (eq_by_cmp_equiv text_total).refl e.0 in
     (rw here refl, more e es es up.0 (finds es up.1))
 
-named : (whole es : List Entry) → Finds whole es → flat_map (λ name. entry_named name (find text_cmp name whole)) (keys_of es) ≡ es
+named : (whole es : List NamedExtern) → Finds whole es → flat_map (λ name. entry_named name (find text_cmp name whole)) (keys_of es) ≡ es
 unfolding Finds
 named whole [] h = refl
 named whole (e ∷ es) h = rw h.0 (ap (λ fs. e ∷ fs) (named whole es h.1))
 
-same_named : (f g : List ℕ → List Entry) (names : List (List ℕ)) → ((n : List ℕ) → f n ≡ g n) → flat_map f names ≡ flat_map g names
+same_named : (f g : List ℕ → List NamedExtern) (names : List (List ℕ)) → ((n : List ℕ) → f n ≡ g n) → flat_map f names ≡ flat_map g names
 same_named f g [] h = refl
 same_named f g (n ∷ names) h = λ i. h n i ++ same_named f g names h i
 
@@ -56,11 +56,11 @@ all_named externs =
 
 -- ---- the map of entries in order
 
-last-none : (q : List ℕ) (before : Option ExternDesc) (es : List Entry) → AllByRecursion (λ k. eq_by_cmp text_cmp q k ≡ false) (keys_of es) → last_at text_cmp q before es ≡ before
+last-none : (q : List ℕ) (before : Option ExternDesc) (es : List NamedExtern) → AllByRecursion (λ k. eq_by_cmp text_cmp q k ≡ false) (keys_of es) → last_at text_cmp q before es ≡ before
 last-none q before [] h = refl
 last-none q before (e ∷ es) h = rw h.0 (last-none q before es h.1)
 
-all_apart : (k : List ℕ) (es : List Entry) → AllByRecursion (λ y. text_cmp k y ≡ Less) (keys_of es) → AllByRecursion (λ y. eq_by_cmp text_cmp k y ≡ false) (keys_of es)
+all_apart : (k : List ℕ) (es : List NamedExtern) → AllByRecursion (λ y. text_cmp k y ≡ Less) (keys_of es) → AllByRecursion (λ y. eq_by_cmp text_cmp k y ≡ false) (keys_of es)
 all_apart k [] h = tt
 all_apart k (e ∷ es) h = (ap is_eq h.0, all_apart k es h.1)
 
@@ -69,7 +69,7 @@ equal_from Less e = cc
 equal_from Equal e = refl
 equal_from Greater e = cc
 
-last-find : (q : List ℕ) (es : List Entry) → IsStrictlySortedBy text_cmp (keys_of es) → last_at text_cmp q None es ≡ find text_cmp q es
+last-find : (q : List ℕ) (es : List NamedExtern) → IsStrictlySortedBy text_cmp (keys_of es) → last_at text_cmp q None es ≡ find text_cmp q es
 unfolding IsStrictlySortedBy
 last-find q [] up = refl
 last-find q (e ∷ es) up =
@@ -80,45 +80,45 @@ last-find q (e ∷ es) up =
       | false ↦ λ other. last-find q es up.1
     ] refl
 
-get-map_of : (es : List Entry) (q : List ℕ) → IsStrictlySortedBy text_cmp (keys_of es) → get (map_of es) q ≡ find text_cmp q es
-get-map_of es q up =
+get-externs_from : (es : List NamedExtern) (q : List ℕ) → IsStrictlySortedBy text_cmp (keys_of es) → get (externs_from es) q ≡ find text_cmp q es
+get-externs_from es q up =
     later_text_stands empty es q
     ∙ ap (λ o. last_at text_cmp q o es) (get-empty text_cmp q)
     ∙ last-find q es up
 
 -- the entries of a map make that map
-pub map_of-entries : (externs : Externs) → map_of (entries externs) ≡ externs
-map_of-entries externs = same_map text_total text_exact _ _ (λ q. get-map_of (entries externs) q (entries_rise externs) ∙ sym (get-entries externs q))
+pub externs_from-entries : (externs : Externs) → externs_from (entries externs) ≡ externs
+externs_from-entries externs = same_map text_total text_exact _ _ (λ q. get-externs_from (entries externs) q (entries_rise externs) ∙ sym (get-entries externs q))
 
 -- ---- entries with their values made anew
 
-module _ (f : Entry → ExternDesc) where
-  keys-renewed : (es : List Entry) → keys_of (renewed f es) ≡ keys_of es
+module _ (f : NamedExtern → ExternDesc) where
+  keys-renewed : (es : List NamedExtern) → keys_of (renewed f es) ≡ keys_of es
   keys-renewed [] = refl
   keys-renewed (e ∷ es) = ap (λ ks. e.0 ∷ ks) (keys-renewed es)
 
-  below-renewed : (k : List ℕ) (es : List Entry) → below_all text_cmp k (renewed f es) ≡ below_all text_cmp k es
+  below-renewed : (k : List ℕ) (es : List NamedExtern) → below_all text_cmp k (renewed f es) ≡ below_all text_cmp k es
   below-renewed k [] = refl
   below-renewed k (e ∷ es) = ap (λ b. is_lt (text_cmp k e.0) && b) (below-renewed k es)
 
-  sorted-renewed : (es : List Entry) → is_sorted text_cmp (renewed f es) ≡ is_sorted text_cmp es
+  sorted-renewed : (es : List NamedExtern) → is_sorted text_cmp (renewed f es) ≡ is_sorted text_cmp es
   sorted-renewed [] = refl
   sorted-renewed (e ∷ es) = λ i. below-renewed e.0 es i && sorted-renewed es i
 
   -- they make the map with its values made anew
-  pub map_of-renewed : (externs : Externs) → map_of (renewed f (entries externs)) ≡ renew f externs
+  pub externs_from-renewed : (externs : Externs) → externs_from (renewed f (entries externs)) ≡ renew f externs
   unfolding renew
-  map_of-renewed externs =
+  externs_from-renewed externs =
       let up : IsStrictlySortedBy text_cmp (keys_of (renewed f (entries externs))) = subst (IsStrictlySortedBy text_cmp) (sym (keys-renewed (entries externs))) (entries_rise externs) in
       let in_order : T (is_sorted text_cmp (renewed f (entries externs))) = subst T (sym (sorted-renewed (entries externs))) (entries_sorted externs) in
-      same_map text_total text_exact _ _ (λ q. get-map_of (renewed f (entries externs)) q up ∙ sym (get-from_sorted text_cmp (renewed f (entries externs)) q in_order))
+      same_map text_total text_exact _ _ (λ q. get-externs_from (renewed f (entries externs)) q up ∙ sym (get-from_sorted text_cmp (renewed f (entries externs)) q in_order))
 
 -- one after the other, in one
-pub renewed-renewed : (g f : Entry → ExternDesc) (es : List Entry) → renewed g (renewed f es) ≡ renewed (λ e. g (e.0, f e)) es
+pub renewed-renewed : (g f : NamedExtern → ExternDesc) (es : List NamedExtern) → renewed g (renewed f es) ≡ renewed (λ e. g (e.0, f e)) es
 renewed-renewed g f [] = refl
 renewed-renewed g f (e ∷ es) = ap (λ fs. (e.0, g (e.0, f e)) ∷ fs) (renewed-renewed g f es)
 
 -- the same at each entry
-pub renewed-same : (f g : Entry → ExternDesc) (es : List Entry) → AllByRecursion (λ e. f e ≡ g e) es → renewed f es ≡ renewed g es
+pub renewed-same : (f g : NamedExtern → ExternDesc) (es : List NamedExtern) → AllByRecursion (λ e. f e ≡ g e) es → renewed f es ≡ renewed g es
 renewed-same f g [] h = refl
 renewed-same f g (e ∷ es) h = λ i. (e.0, h.0 i) ∷ renewed-same f g es h.1 i

@@ -6,7 +6,7 @@ use Rattle.std.specs.List.{list_all}
 use Rattle.std.specs.Result.{OkIff, result_ok}
 use Rattle.std.specs.Str.Parse.{AllDigits, IsNumeral, ParsesUnsigned, digits_value, without_leading_plus}
 use Rattle.std.proofs.lemmas.Bool.Decides.{nat_tests}
-use Rattle.ebpf_ksyms.specs.Lines.{is_hexadecimal, number_in, stated_address}
+use Rattle.ebpf_ksyms.specs.Lines.{is_hexadecimal, hexadecimal_number, stated_address}
 
 is_hex : ℕ → Bool
 is_hex c = nat_lt (digit_value c) 16

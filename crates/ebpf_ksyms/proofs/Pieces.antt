@@ -16,12 +16,12 @@ use Rattle.ebpf_base.proofs.Faults.{both_None}
 use Rattle.ebpf_btf.specs.TypeInfo.{TypeInfo}
 use Rattle.ebpf_ksyms.specs.declared.error.KsymsError.{KsymsError}
 use Rattle.ebpf_ksyms.specs.declared.error.KsymsError.TheVariants.{KallsymsAccessError, OutOfMemory}
-use Rattle.ebpf_ksyms.specs.Addresses.{Item, Line, line_fault, line_of, lines_fault, with_before}
+use Rattle.ebpf_ksyms.specs.Addresses.{Item, Line, line_fault, line_of_item, lines_fault, with_before}
 use Rattle.ebpf_ksyms.specs.Counted.{Counts}
-use Rattle.ebpf_ksyms.specs.Externs.{Externs, IsRefused, IsResolved, lines_refused, names_read, names_refused, reads_lines, resolved, types_refused}
-use Rattle.ebpf_ksyms.specs.Faults.{is_memory, is_memory_kind, read_fault}
-use Rattle.ebpf_ksyms.specs.Named.{is_among}
-use Rattle.ebpf_ksyms.specs.Readers.{AreFirst, AreTexts, CameAll, CameFirst, CountsLines, IsRefusedIn, IsResolvedIn, StopsAtAccessIn, after_lines, readable}
+use Rattle.ebpf_ksyms.specs.Externs.{Externs, IsRefused, IsResolved, lines_refused, names_read, names_refused, reads_lines, resolved_externs, types_refused}
+use Rattle.ebpf_ksyms.specs.Faults.{is_memory, is_memory_kind, line_read_fault}
+use Rattle.ebpf_ksyms.specs.Named.{is_one_of}
+use Rattle.ebpf_ksyms.specs.Readers.{AreFirst, AreTexts, CameAll, CameFirst, CountsLines, IsRefusedIn, IsResolvedIn, StopsAtAccessIn, after_lines, read_lines}
 use Rattle.ebpf_ksyms.proofs.Reading.{lines_fault-push, match_then}
 
 -- one more line
@@ -48,7 +48,7 @@ pub match_after : {P : Type 0} (Q : Type 0) (b : Bool) → (P → MatchBool b �
 match_after Q true f h = tt
 match_after Q false f h = f h
 
-pub access_or_memory : (P : KsymsError → Type 0) (err : Error) (e : KsymsError) → (is_memory_kind (error_kind err) ≡ false → P (KallsymsAccessError err)) → read_fault err ≡ e → MatchBool (is_memory e) ⊤ (P e)
+pub access_or_memory : (P : KsymsError → Type 0) (err : Error) (e : KsymsError) → (is_memory_kind (error_kind err) ≡ false → P (KallsymsAccessError err)) → line_read_fault err ≡ e → MatchBool (is_memory e) ⊤ (P e)
 access_or_memory P err e other is =
     subst (λ f. MatchBool (is_memory f) ⊤ (P f)) is (
     elim (is_memory_kind (error_kind err)) as (λ b. is_memory_kind (error_kind err) ≡ b → MatchBool (is_memory (cond b OutOfMemory (KallsymsAccessError err))) ⊤ (P (cond b OutOfMemory (KallsymsAccessError err)))) [ true ↦ λ k. tt | false ↦ λ k. other k ] refl)
@@ -59,19 +59,19 @@ module _ {S : Type 0} (known : S → Option (List ℕ)) (steps : S → Option It
   -- they are texts, the first lines of known bytes
   record Came (items : List Item) (s t : S) : Type 0 where
     lines : List (List ℕ)
-    same : map line_of items ≡ readable lines
+    same : map line_of_item items ≡ read_lines lines
     texts : AreTexts lines
     first : (bytes : List ℕ) → known s ≡ Some bytes → AreFirst bytes lines × (known t ≡ Some (after_lines bytes lines))
 
   some_none : {P : Type 0} (e : KsymsError) → Some e ≡ None → P
   some_none e h = cc
 
-  came : (wanted : List ℕ → Bool) (items : List Item) (s t : S) (before : List Line) → Yields steps s items t → first_some (λ e. line_fault wanted e.0 e.1) (with_before before (map line_of items)) ≡ None → Came items s t
+  came : (wanted : List ℕ → Bool) (items : List Item) (s t : S) (before : List Line) → Yields steps s items t → first_some (λ e. line_fault wanted e.0 e.1) (with_before before (map line_of_item items)) ≡ None → Came items s t
   unfolding line_fault
   came wanted [] s t before y none = record { lines = []; same = refl; texts = tt; first = λ bytes is. (tt, ap known (sym y) ∙ is) }
-  came wanted (Err e ∷ items) s t before y none = some_none (read_fault e) none
+  came wanted (Err e ∷ items) s t before y none = some_none (line_read_fault e) none
   came wanted (Ok x ∷ items) s t before y none =
-      let rest : Came items y.0 t = came wanted items y.0 t (before ++ Ok (string_bytes x) ∷ []) y.2 (both_None (line_fault wanted before (Ok (string_bytes x))) (first_some (λ e. line_fault wanted e.0 e.1) (with_before (before ++ Ok (string_bytes x) ∷ []) (map line_of items))) none).1 in
+      let rest : Came items y.0 t = came wanted items y.0 t (before ++ Ok (string_bytes x) ∷ []) y.2 (both_None (line_fault wanted before (Ok (string_bytes x))) (first_some (λ e. line_fault wanted e.0 e.1) (with_before (before ++ Ok (string_bytes x) ∷ []) (map line_of_item items))) none).1 in
       record {
         lines = string_bytes x ∷ rest.lines;
         same = ap (λ ls. Ok (string_bytes x) ∷ ls) rest.same;
@@ -82,7 +82,7 @@ module _ {S : Type 0} (known : S → Option (List ℕ)) (steps : S → Option It
             ((piece.0, more.0), more.1);
       }
 
-  came_all : (wanted : List ℕ → Bool) (items : List Item) (s t : S) → Yields steps s items t → lines_fault wanted (map line_of items) ≡ None → Came items s t
+  came_all : (wanted : List ℕ → Bool) (items : List Item) (s t : S) → Yields steps s items t → lines_fault wanted (map line_of_item items) ≡ None → Came items s t
   unfolding lines_fault
   came_all wanted items s t y none = came wanted items s t [] y none
 
@@ -108,29 +108,29 @@ module _ {S : Type 0} (known : S → Option (List ℕ)) (steps : S → Option It
       (c.texts, (first.0, at_end t u (after_lines bytes c.lines) first.1 step))
 
   -- the lines that count, of the items that do
-  counted : (wanted : List ℕ → Bool) (b : Bool) (items : List Item) (s : S) (o : Option (List ℕ)) → known s ≡ o → Counts steps s b items → lines_fault wanted (map line_of items) ≡ None → (lines : List (List ℕ)) × (map line_of items ≡ readable lines) × CountsLines b o lines
+  counted : (wanted : List ℕ → Bool) (b : Bool) (items : List Item) (s : S) (o : Option (List ℕ)) → known s ≡ o → Counts steps s b items → lines_fault wanted (map line_of_item items) ≡ None → (lines : List (List ℕ)) × (map line_of_item items ≡ read_lines lines) × CountsLines b o lines
   counted wanted true items s o is h none =
       let c : Came items s h.1.0 = came_all wanted items s h.1.0 h.1.1 none in
       (c.lines, c.same, came_whole items s h.1.0 h.0 o is c h.1.2)
-  counted wanted false items s o is h none = ([], ap (map line_of) h, refl)
+  counted wanted false items s o is h none = ([], ap (map line_of_item) h, refl)
 
   module _ (s : S) (o : Option (List ℕ)) (is : known s ≡ o) (local kernel : Option TypeInfo) (externs : Externs) where
     pub resolved_in : (after : Externs) → IsResolved steps s local kernel externs after → IsResolvedIn o local kernel externs after
     resolved_in after h =
-        let c = counted (is_among (names_read local externs)) (reads_lines local externs) h.items s o is h.counted h.read in
+        let c = counted (is_one_of (names_read local externs)) (reads_lines local externs) h.items s o is h.counted h.read in
         record {
           lines = c.0;
           counted = c.2;
           types = h.types;
           read = subst (λ ls. lines_refused local externs ls ≡ None) c.1 h.read;
           names = subst (λ ls. names_refused local externs ls ≡ None) c.1 h.names;
-          stands = h.stands ∙ ap (λ ls. resolved local kernel ls externs) c.1;
+          stands = h.stands ∙ ap (λ ls. resolved_externs local kernel ls externs) c.1;
         }
 
-    at_line : (e : KsymsError) (items : List Item) (item : Item) (t u : S) → reads_lines local externs ≡ true → types_refused local kernel externs ≡ None → Came items s t → steps t (Some item) u → lines_refused local externs (map line_of items) ≡ None → lines_refused local externs (map line_of (items ++ item ∷ [])) ≡ Some e → MatchBool (is_memory e) ⊤ (IsRefusedIn o local kernel externs e)
+    at_line : (e : KsymsError) (items : List Item) (item : Item) (t u : S) → reads_lines local externs ≡ true → types_refused local kernel externs ≡ None → Came items s t → steps t (Some item) u → lines_refused local externs (map line_of_item items) ≡ None → lines_refused local externs (map line_of_item (items ++ item ∷ [])) ≡ Some e → MatchBool (is_memory e) ⊤ (IsRefusedIn o local kernel externs e)
     unfolding line_fault
     at_line e items (Ok x) t u wanted types c step before refused =
-        let same : map line_of (items ++ Ok x ∷ []) ≡ readable (c.lines ++ string_bytes x ∷ []) = map-append line_of items (Ok x ∷ []) ∙ ap (λ ls. ls ++ Ok (string_bytes x) ∷ []) c.same ∙ sym (map-append Ok c.lines (string_bytes x ∷ [])) in
+        let same : map line_of_item (items ++ Ok x ∷ []) ≡ read_lines (c.lines ++ string_bytes x ∷ []) = map-append line_of_item items (Ok x ∷ []) ∙ ap (λ ls. ls ++ Ok (string_bytes x) ∷ []) c.same ∙ sym (map-append Ok c.lines (string_bytes x ∷ [])) in
         given (is_memory e) (inr (inl (record {
           lines = c.lines;
           line = string_bytes x;
@@ -141,11 +141,11 @@ module _ {S : Type 0} (known : S → Option (List ℕ)) (steps : S → Option It
           refused = subst (λ ls. lines_refused local externs ls ≡ Some e) same refused;
         })))
     at_line e items (Err err) t u wanted types c step before refused =
-        let one : lines_fault (is_among (names_read local externs)) (map line_of (items ++ Err err ∷ [])) ≡ Some (read_fault err) =
-        ap (lines_fault (is_among (names_read local externs))) (map-append line_of items (Err err ∷ []))
-        ∙ lines_fault-push (is_among (names_read local externs)) (map line_of items) (Err (read_fault err))
-        ∙ ap (λ o. or_else o (Some (read_fault err))) before in
-        let same : Some (read_fault err) ≡ Some e = sym one ∙ refused in
+        let one : lines_fault (is_one_of (names_read local externs)) (map line_of_item (items ++ Err err ∷ [])) ≡ Some (line_read_fault err) =
+        ap (lines_fault (is_one_of (names_read local externs))) (map-append line_of_item items (Err err ∷ []))
+        ∙ lines_fault-push (is_one_of (names_read local externs)) (map line_of_item items) (Err (line_read_fault err))
+        ∙ ap (λ o. or_else o (Some (line_read_fault err))) before in
+        let same : Some (line_read_fault err) ≡ Some e = sym one ∙ refused in
         match_then (is_memory e) (λ a. inr (inr (inr a))) (access_or_memory (StopsAtAccessIn o local kernel externs) err e
         (λ other. record {
           lines = c.lines;
@@ -162,9 +162,9 @@ module _ {S : Type 0} (known : S → Option (List ℕ)) (steps : S → Option It
     refused_in e (inl types) = given (is_memory e) (inl types)
     refused_in e (inr (inl h)) =
         let r = last_call steps h.items h.item s h.rest h.came in
-        at_line e h.items h.item r.0 h.rest h.wanted h.types (came_all (is_among (names_read local externs)) h.items s r.0 r.1 h.before) r.2 h.before h.refused
+        at_line e h.items h.item r.0 h.rest h.wanted h.types (came_all (is_one_of (names_read local externs)) h.items s r.0 r.1 h.before) r.2 h.before h.refused
     refused_in e (inr (inr h)) =
-        let c = counted (is_among (names_read local externs)) (reads_lines local externs) h.items s o is h.counted h.read in
+        let c = counted (is_one_of (names_read local externs)) (reads_lines local externs) h.items s o is h.counted h.read in
         given (is_memory e) (inr (inr (inl (record {
           lines = c.0;
           counted = c.2;

@@ -11,10 +11,10 @@ use Rattle.ebpf_base.specs.Faults.{first_some, or_else}
 use Rattle.ebpf_base.specs.Keys.{lent_bytes}
 use Rattle.ebpf_base.proofs.Faults.{first_some-push, or_else-None}
 use Rattle.ebpf_ksyms.specs.declared.error.KsymsError.{KsymsError}
-use Rattle.ebpf_ksyms.specs.Addresses.{Item, Line, address_of, addresses, given_by, line_fault, line_of, lines_fault, said_fault, said_of, stated_fault, with_before}
-use Rattle.ebpf_ksyms.specs.Lines.{said_in, stated_address}
-use Rattle.ebpf_ksyms.specs.Named.{is_among, only_at}
-use Rattle.ebpf_ksyms.specs.Noted.{AreRead, Known, noted_line, noted_line_fault, said_noted}
+use Rattle.ebpf_ksyms.specs.Addresses.{Item, Line, address_of, addresses, address_in_line, line_fault, line_of_item, lines_fault, named_address_fault, address_if_named, stated_fault, with_before}
+use Rattle.ebpf_ksyms.specs.Lines.{address_and_name, stated_address}
+use Rattle.ebpf_ksyms.specs.Named.{is_one_of, only_at}
+use Rattle.ebpf_ksyms.specs.AddressesByLine.{AreRead, KnownAddresses, with_read_line, read_line_fault, named_line_fault}
 
 -- ---- one more line at the end
 
@@ -39,12 +39,12 @@ head-cons_option : {A : Type 0} (o : Option A) → slice_get (cons_option o []) 
 head-cons_option None = refl
 head-cons_option (Some x) = refl
 
-address_of-push : (name : List ℕ) (lines : List Line) (line : Line) → address_of name (lines ++ line ∷ []) ≡ or_else (address_of name lines) (given_by name line)
+address_of-push : (name : List ℕ) (lines : List Line) (line : Line) → address_of name (lines ++ line ∷ []) ≡ or_else (address_of name lines) (address_in_line name line)
 unfolding address_of addresses
 address_of-push name lines line =
-    ap (λ xs. slice_get xs 0) (filter_map-append (given_by name) lines (line ∷ []))
-    ∙ head-append (filter_map (given_by name) lines) (cons_option (given_by name line) [])
-    ∙ ap (or_else (slice_get (filter_map (given_by name) lines) 0)) (head-cons_option (given_by name line))
+    ap (λ xs. slice_get xs 0) (filter_map-append (address_in_line name) lines (line ∷ []))
+    ∙ head-append (filter_map (address_in_line name) lines) (cons_option (address_in_line name line) [])
+    ∙ ap (or_else (slice_get (filter_map (address_in_line name) lines) 0)) (head-cons_option (address_in_line name line))
 
 pub address_of-none : (name : List ℕ) → address_of name [] ≡ None
 unfolding address_of addresses
@@ -56,57 +56,57 @@ lines_fault-none wanted = refl
 
 -- ---- what is known
 
-module _ (names : List (List ℕ)) (lines : List Line) (known : Known) (tells : (q : List ℕ) → known q ≡ only_at names (λ name. address_of name lines) q) where
-  said-known : (said : Option (List ℕ × List ℕ)) → said_noted known said ≡ said_fault (is_among names) lines said
-  said-known None = refl
-  said-known (Some said) =
-      rw (tells said.1) (
-      elim (is_among names said.1) as (λ b. known_by said (cond b (Some (address_of said.1 lines)) None) ≡ cond b (stated_fault said.1 (address_of said.1 lines) said.0 (stated_address said.0)) None) [ true ↦ refl | false ↦ refl ])
+module _ (names : List (List ℕ)) (lines : List Line) (known : KnownAddresses) (tells : (q : List ℕ) → known q ≡ only_at names (λ name. address_of name lines) q) where
+  pair-known : (pair : Option (List ℕ × List ℕ)) → named_line_fault known pair ≡ named_address_fault (is_one_of names) lines pair
+  pair-known None = refl
+  pair-known (Some pair) =
+      rw (tells pair.1) (
+      elim (is_one_of names pair.1) as (λ b. known_by pair (cond b (Some (address_of pair.1 lines)) None) ≡ cond b (stated_fault pair.1 (address_of pair.1 lines) pair.0 (stated_address pair.0)) None) [ true ↦ refl | false ↦ refl ])
     where
       known_by : List ℕ × List ℕ → Option (Option ℕ) → Option KsymsError
-      known_by said None = None
-      known_by said (Some before) = stated_fault said.1 before said.0 (stated_address said.0)
+      known_by pair None = None
+      known_by pair (Some before) = stated_fault pair.1 before pair.0 (stated_address pair.0)
 
-  fault-known : (line : Line) → noted_line_fault known line ≡ line_fault (is_among names) lines line
+  fault-known : (line : Line) → read_line_fault known line ≡ line_fault (is_one_of names) lines line
   unfolding line_fault
   fault-known (Err e) = refl
-  fault-known (Ok line) = said-known (said_in line)
+  fault-known (Ok line) = pair-known (address_and_name line)
 
-  known-more : (line : Line) (q : List ℕ) → noted_line known line q ≡ only_at names (λ name. address_of name (lines ++ line ∷ [])) q
+  known-more : (line : Line) (q : List ℕ) → with_read_line known line q ≡ only_at names (λ name. address_of name (lines ++ line ∷ [])) q
   known-more (Err e) q =
-      tells q ∙ ap (λ a. cond (is_among names q) (Some a) None) (sym (address_of-push q lines (Err e) ∙ or_else-None (address_of q lines)))
+      tells q ∙ ap (λ a. cond (is_one_of names q) (Some a) None) (sym (address_of-push q lines (Err e) ∙ or_else-None (address_of q lines)))
   known-more (Ok line) q =
-      ap (option_map (λ before. or_else before (said_of q (said_in line)))) (tells q)
-      ∙ inside (is_among names q)
-      ∙ ap (λ a. cond (is_among names q) (Some a) None) (sym (address_of-push q lines (Ok line)))
+      ap (option_map (λ before. or_else before (address_if_named q (address_and_name line)))) (tells q)
+      ∙ inside (is_one_of names q)
+      ∙ ap (λ a. cond (is_one_of names q) (Some a) None) (sym (address_of-push q lines (Ok line)))
     where
-      inside : (b : Bool) → option_map (λ before. or_else before (said_of q (said_in line))) (cond b (Some (address_of q lines)) None) ≡ cond b (Some (or_else (address_of q lines) (said_of q (said_in line)))) None
+      inside : (b : Bool) → option_map (λ before. or_else before (address_if_named q (address_and_name line))) (cond b (Some (address_of q lines)) None) ≡ cond b (Some (or_else (address_of q lines) (address_if_named q (address_and_name line)))) None
       inside true = refl
       inside false = refl
 
 -- ---- items of an iterator
 
-lines-push : (items : List Item) (item : Item) → map line_of (items ++ item ∷ []) ≡ map line_of items ++ line_of item ∷ []
-lines-push items item = map-append line_of items (item ∷ [])
+lines-push : (items : List Item) (item : Item) → map line_of_item (items ++ item ∷ []) ≡ map line_of_item items ++ line_of_item item ∷ []
+lines-push items item = map-append line_of_item items (item ∷ [])
 
-module _ (names : List (List ℕ)) (items : List Item) (item : Item) (known : Known) (read : lines_fault (is_among names) (map line_of items) ≡ None) (tells : (q : List ℕ) → known q ≡ only_at names (λ name. address_of name (map line_of items)) q) where
-  fault_after : lines_fault (is_among names) (map line_of (items ++ item ∷ [])) ≡ noted_line_fault known (line_of item)
+module _ (names : List (List ℕ)) (items : List Item) (item : Item) (known : KnownAddresses) (read : lines_fault (is_one_of names) (map line_of_item items) ≡ None) (tells : (q : List ℕ) → known q ≡ only_at names (λ name. address_of name (map line_of_item items)) q) where
+  fault_after : lines_fault (is_one_of names) (map line_of_item (items ++ item ∷ [])) ≡ read_line_fault known (line_of_item item)
   fault_after =
-      ap (lines_fault (is_among names)) (lines-push items item)
-      ∙ lines_fault-push (is_among names) (map line_of items) (line_of item)
-      ∙ ap (λ o. or_else o (line_fault (is_among names) (map line_of items) (line_of item))) read
-      ∙ sym (fault-known names (map line_of items) known tells (line_of item))
+      ap (lines_fault (is_one_of names)) (lines-push items item)
+      ∙ lines_fault-push (is_one_of names) (map line_of_item items) (line_of_item item)
+      ∙ ap (λ o. or_else o (line_fault (is_one_of names) (map line_of_item items) (line_of_item item))) read
+      ∙ sym (fault-known names (map line_of_item items) known tells (line_of_item item))
 
-  pub read-more : noted_line_fault known (line_of item) ≡ None → lines_fault (is_among names) (map line_of (items ++ item ∷ [])) ≡ None
+  pub read-more : read_line_fault known (line_of_item item) ≡ None → lines_fault (is_one_of names) (map line_of_item (items ++ item ∷ [])) ≡ None
   read-more h = fault_after ∙ h
 
-  pub refused-here : (e : KsymsError) → noted_line_fault known (line_of item) ≡ Some e → lines_fault (is_among names) (map line_of (items ++ item ∷ [])) ≡ Some e
+  pub refused-here : (e : KsymsError) → read_line_fault known (line_of_item item) ≡ Some e → lines_fault (is_one_of names) (map line_of_item (items ++ item ∷ [])) ≡ Some e
   refused-here e h = fault_after ∙ h
 
-  pub tells-more : (after : Known) → ((q : List ℕ) → after q ≡ noted_line known (line_of item) q) → (q : List ℕ) → after q ≡ only_at names (λ name. address_of name (map line_of (items ++ item ∷ []))) q
+  pub tells-more : (after : KnownAddresses) → ((q : List ℕ) → after q ≡ with_read_line known (line_of_item item) q) → (q : List ℕ) → after q ≡ only_at names (λ name. address_of name (map line_of_item (items ++ item ∷ []))) q
   tells-more after h q =
       h q
-      ∙ known-more names (map line_of items) known tells (line_of item) q
+      ∙ known-more names (map line_of_item items) known tells (line_of_item item) q
       ∙ ap (λ ls. only_at names (λ name. address_of name ls) q) (sym (lines-push items item))
 
 -- one more item
@@ -119,7 +119,7 @@ yields-push steps s t u (z ∷ xs) x y step = (y.0, y.1, yields-push steps y.0 t
 never_zero : (n : ℕ) → eqb (n + 1) 0 ≡ true → ⊥
 never_zero n h = grind (arith, nat_tests)
 
-pub no_lines : {S : Type 0} (steps : S → Option Item → S → Type 0) (lines : S) (names : List (Bor (List ℕ))) (known : Known) → eqb (length names) 0 ≡ true → ((q : List ℕ) → known q ≡ only_at (lent_bytes names) (λ _. None) q) → AreRead steps lines (lent_bytes names) known
+pub no_lines : {S : Type 0} (steps : S → Option Item → S → Type 0) (lines : S) (names : List (Bor (List ℕ))) (known : KnownAddresses) → eqb (length names) 0 ≡ true → ((q : List ℕ) → known q ≡ only_at (lent_bytes names) (λ _. None) q) → AreRead steps lines (lent_bytes names) known
 no_lines steps lines [] known none tells = record { items = []; counted = refl; read = lines_fault-none _; addresses = tells }
 no_lines steps lines (n ∷ names) known none tells = absurd (never_zero (length names) (rw add-one none))
 
@@ -128,8 +128,8 @@ pub some_names : (names : List (Bor (List ℕ))) → eqb (length names) 0 ≡ fa
 some_names [] none = cc
 some_names (n ∷ names) some = grind (arith, nat_tests)
 
-pub first_known : (names : List (List ℕ)) (known : Known) → ((q : List ℕ) → known q ≡ only_at names (λ _. None) q) → (q : List ℕ) → known q ≡ only_at names (λ name. address_of name (map line_of [])) q
-first_known names known tells q = tells q ∙ ap (λ a. cond (is_among names q) (Some a) None) (sym (address_of-none q))
+pub first_known : (names : List (List ℕ)) (known : KnownAddresses) → ((q : List ℕ) → known q ≡ only_at names (λ _. None) q) → (q : List ℕ) → known q ≡ only_at names (λ name. address_of name (map line_of_item [])) q
+first_known names known tells q = tells q ∙ ap (λ a. cond (is_one_of names q) (Some a) None) (sym (address_of-none q))
 
 -- a refusal of which something follows, want of memory aside
 pub match_then : {P Q : Type 0} (b : Bool) → (P → Q) → MatchBool b ⊤ P → MatchBool b ⊤ Q

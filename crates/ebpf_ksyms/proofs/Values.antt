@@ -11,12 +11,12 @@ use Rattle.std.proofs.lemmas.Map.Text.{btree_map_updates_str}
 use Rattle.std.proofs.lemmas.Slice.Eq.{bytes_eq-Decides}
 use denote.Ref.{Bor}
 use Rattle.ebpf_base.specs.Keys.{lent_bytes, text_cmp}
-use Rattle.ebpf_ksyms.specs.Named.{is_among, only_at}
+use Rattle.ebpf_ksyms.specs.Named.{is_one_of, only_at}
 
 -- one more name in front
 pub only_at-cons : {V : Type 0} (name : List ℕ) (names : List (List ℕ)) (value : List ℕ → V) (q : List ℕ) → only_at (name ∷ names) value q ≡ (if bytes_eq name q then Some (value q) else only_at names value q)
 only_at-cons name names value q =
-    elim (bytes_eq name q) as (λ b. cond (b || is_among names q) (Some (value q)) None ≡ cond b (Some (value q)) (only_at names value q)) [ true ↦ refl | false ↦ refl ]
+    elim (bytes_eq name q) as (λ b. cond (b || is_one_of names q) (Some (value q)) None ≡ cond b (Some (value q)) (only_at names value q)) [ true ↦ refl | false ↦ refl ]
 
 module _ {V : Type 0} where
   -- a value put where one is, and none put where none is
@@ -47,14 +47,14 @@ drop-here xs i x inside is = drop-cons xs i x inside ∙ ap (λ y. y ∷ drop (s
 module _ {V : Type 0} (names : List (Bor (List ℕ))) (i : ℕ) (d : Bor (List ℕ)) (value : V) (old new : BTreeMap (Bor (List ℕ)) V) where
   -- one more of some names is put
   pub named-step : i < length names → tree.UpdatesBy (λ x y. slice_cmp nat_cmp x.now y.now) (λ k. slice_cmp nat_cmp (get_or names i d).now k.now) old new (Some value) → (q : List ℕ) →
-      (if is_among (lent_bytes (drop (i + 1) names)) q then Some value else tree.get_by (λ k. text_cmp q k.now) new)
-      ≡ (if is_among (lent_bytes (drop i names)) q then Some value else tree.get_by (λ k. text_cmp q k.now) old)
+      (if is_one_of (lent_bytes (drop (i + 1) names)) q then Some value else tree.get_by (λ k. text_cmp q k.now) new)
+      ≡ (if is_one_of (lent_bytes (drop i names)) q then Some value else tree.get_by (λ k. text_cmp q k.now) old)
   named-step inside updates q =
       let name : Bor (List ℕ) = get_or names i d in
-      let a : Bool = is_among (lent_bytes (drop (i + 1) names)) q in
+      let a : Bool = is_one_of (lent_bytes (drop (i + 1) names)) q in
       ap (λ o. cond a (Some value) o) (btree_map_updates_str name.now old new (Some value) updates q)
       ∙ put-more a (bytes_eq name.now q) (Some value) (tree.get_by (λ k. text_cmp q k.now) old)
-      ∙ ap (λ ns. cond (is_among (lent_bytes ns) q) (Some value) (tree.get_by (λ k. text_cmp q k.now) old)) (sym (drop-cons names i d inside ∙ ap (λ n. name ∷ drop n names) (sym (add-one i))))
+      ∙ ap (λ ns. cond (is_one_of (lent_bytes ns) q) (Some value) (tree.get_by (λ k. text_cmp q k.now) old)) (sym (drop-cons names i d inside ∙ ap (λ n. name ∷ drop n names) (sym (add-one i))))
 
 none_left : (xs : List (Bor (List ℕ))) (n : ℕ) → length xs ≤ n → drop n xs ≡ []
 none_left [] zero h = refl
@@ -65,5 +65,5 @@ none_left (x ∷ xs) (suc n) h = none_left xs n (omega arith)
 module _ {V : Type 0} (names : List (Bor (List ℕ))) (i : ℕ) (value : V) (known : BTreeMap (Bor (List ℕ)) V) where
   -- no name is left
   pub named-end : length names ≤ i → (q : List ℕ) →
-      tree.get_by (λ k. text_cmp q k.now) known ≡ (if is_among (lent_bytes (drop i names)) q then Some value else tree.get_by (λ k. text_cmp q k.now) known)
-  named-end over q = ap (λ ns. cond (is_among (lent_bytes ns) q) (Some value) (tree.get_by (λ k. text_cmp q k.now) known)) (sym (none_left names i over))
+      tree.get_by (λ k. text_cmp q k.now) known ≡ (if is_one_of (lent_bytes (drop i names)) q then Some value else tree.get_by (λ k. text_cmp q k.now) known)
+  named-end over q = ap (λ ns. cond (is_one_of (lent_bytes ns) q) (Some value) (tree.get_by (λ k. text_cmp q k.now) known)) (sym (none_left names i over))

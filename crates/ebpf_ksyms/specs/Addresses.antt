@@ -8,8 +8,8 @@ use Rattle.std.specs.declared.string.String.{String}
 use Rattle.ebpf_base.specs.Faults.{first_some}
 use Rattle.ebpf_ksyms.specs.declared.error.KsymsError.{KsymsError}
 use Rattle.ebpf_ksyms.specs.declared.error.KsymsError.TheVariants.{AmbiguousResolution, KallsymsParseError}
-use Rattle.ebpf_ksyms.specs.Faults.{read_fault}
-use Rattle.ebpf_ksyms.specs.Lines.{said_in, stated_address}
+use Rattle.ebpf_ksyms.specs.Faults.{line_read_fault}
+use Rattle.ebpf_ksyms.specs.Lines.{address_and_name, stated_address}
 
 -- what an iterator gives for a line
 abbrev pub Item : Type 0
@@ -19,9 +19,9 @@ Item = Result (String Global) Error
 abbrev pub Line : Type 0
 Line = Result (List ℕ) KsymsError
 
-abbrev pub line_of : Item → Line
-line_of (Ok text) = Ok (string_bytes text)
-line_of (Err e) = Err (read_fault e)
+abbrev pub line_of_item : Item → Line
+line_of_item (Ok text) = Ok (string_bytes text)
+line_of_item (Err e) = Err (line_read_fault e)
 
 -- ---- the addresses of a name
 
@@ -30,19 +30,19 @@ abbrev pub nonzero : Option ℕ → Option ℕ
 nonzero None = None
 nonzero (Some address) = if address == 0 then None else Some address
 
--- the nonzero address that a word states, where it is said of a name
-abbrev pub said_of : List ℕ → Option (List ℕ × List ℕ) → Option ℕ
-said_of name None = None
-said_of name (Some said) = if bytes_eq said.1 name then nonzero (stated_address said.0) else None
+-- the nonzero address that a word states, where it is that of a name
+abbrev pub address_if_named : List ℕ → Option (List ℕ × List ℕ) → Option ℕ
+address_if_named name None = None
+address_if_named name (Some pair) = if bytes_eq pair.1 name then nonzero (stated_address pair.0) else None
 
 -- the nonzero address that a line gives a name
-abbrev pub given_by : List ℕ → Line → Option ℕ
-given_by name (Err e) = None
-given_by name (Ok line) = said_of name (said_in line)
+abbrev pub address_in_line : List ℕ → Line → Option ℕ
+address_in_line name (Err e) = None
+address_in_line name (Ok line) = address_if_named name (address_and_name line)
 
 -- all nonzero addresses that lines give a name
 unfoldable pub addresses : List ℕ → List Line → List ℕ
-addresses name lines = filter_map (given_by name) lines
+addresses name lines = filter_map (address_in_line name) lines
 
 -- the address of a name: the one that lines give it, of which the first is taken where they differ
 unfoldable pub address_of : List ℕ → List Line → Option ℕ
@@ -64,17 +64,17 @@ abbrev pub stated_fault : List ℕ → Option ℕ → List ℕ → Option ℕ �
 stated_fault name before word None = Some (KallsymsParseError (invalid_address word))
 stated_fault name before word (Some address) = if address == 0 then None else clash name before address
 
--- the fault of what is said of a name: none where it is not wanted
-abbrev pub said_fault : (List ℕ → Bool) → List Line → Option (List ℕ × List ℕ) → Option KsymsError
-said_fault is_wanted before None = None
-said_fault is_wanted before (Some said) =
-    if is_wanted said.1 then stated_fault said.1 (address_of said.1 before) said.0 (stated_address said.0) else None
+-- the fault of an address and a name: none where the name is not wanted
+abbrev pub named_address_fault : (List ℕ → Bool) → List Line → Option (List ℕ × List ℕ) → Option KsymsError
+named_address_fault is_wanted before None = None
+named_address_fault is_wanted before (Some pair) =
+    if is_wanted pair.1 then stated_fault pair.1 (address_of pair.1 before) pair.0 (stated_address pair.0) else None
 
 -- The fault of a line after others: it could not be read, or it is wanted and states no address, or another one than
 -- those before.
 unfoldable pub line_fault : (List ℕ → Bool) → List Line → Line → Option KsymsError
 line_fault is_wanted before (Err e) = Some e
-line_fault is_wanted before (Ok line) = said_fault is_wanted before (said_in line)
+line_fault is_wanted before (Ok line) = named_address_fault is_wanted before (address_and_name line)
 
 -- each line, with those before it
 abbrev pub with_before : List Line → List Line → List (List Line × Line)

@@ -10,17 +10,17 @@ use Rattle.ebpf_btf.specs.TypeInfo.{TypeInfo}
 use Rattle.ebpf_reloc.specs.declared.extern_desc.ExternDesc.{ExternDesc}
 use Rattle.ebpf_ksyms.specs.declared.error.KsymsError.{KsymsError}
 use Rattle.ebpf_ksyms.specs.declared.error.KsymsError.TheVariants.{TypedKsymRequiresKernelBtf, VariableNotFound}
-use Rattle.ebpf_ksyms.specs.Addresses.{Item, Line, line_of, lines_fault, address_of}
+use Rattle.ebpf_ksyms.specs.Addresses.{Item, Line, line_of_item, lines_fault, address_of}
 use Rattle.ebpf_ksyms.specs.Counted.{Counts}
-use Rattle.ebpf_ksyms.specs.Named.{is_among}
-use Rattle.ebpf_ksyms.specs.Sought.{Found, Outcome, at_type, found_in, unless_weak}
+use Rattle.ebpf_ksyms.specs.Named.{is_one_of}
+use Rattle.ebpf_ksyms.specs.KernelOutcomes.{KernelIds, Outcome, at_type, kernel_ids_in, unless_weak}
 
 abbrev pub Externs : Type 0
 Externs = FinMap text_cmp ExternDesc
 
 -- a name, and the extern
-abbrev pub Entry : Type 0
-Entry = List ℕ × ExternDesc
+abbrev pub NamedExtern : Type 0
+NamedExtern = List ℕ × ExternDesc
 
 -- ---- which externs are to be resolved
 
@@ -34,26 +34,26 @@ is_typeless d = not d.is_resolved && not d.is_typed
 
 -- ---- externs with a type
 
--- what the kernel has for an extern; `found` tells ids of the kernel by name
-abbrev pub outcome_by : Found → TypeInfo → Option TypeInfo → Entry → Outcome
-outcome_by found local None e = unless_weak e.1.is_weak TypedKsymRequiresKernelBtf
-outcome_by found local (Some kernel) e = at_type local kernel found e.0 e.1.is_weak (type_at local.types e.1.btf_id)
+-- what the kernel has for an extern; `kernel_ids` gives ids of the kernel by name
+abbrev pub outcome_by : KernelIds → TypeInfo → Option TypeInfo → NamedExtern → Outcome
+outcome_by kernel_ids local None e = unless_weak e.1.is_weak TypedKsymRequiresKernelBtf
+outcome_by kernel_ids local (Some kernel) e = at_type local kernel kernel_ids e.0 e.1.is_weak (type_at local.types e.1.btf_id)
 
-abbrev pub no_types_found : Found
-no_types_found sort name = None
+abbrev pub no_kernel_ids : KernelIds
+no_kernel_ids sort name = None
 
-abbrev pub found_by : Option TypeInfo → Found
-found_by None = no_types_found
-found_by (Some kernel) = found_in kernel
+abbrev pub kernel_ids_of : Option TypeInfo → KernelIds
+kernel_ids_of None = no_kernel_ids
+kernel_ids_of (Some kernel) = kernel_ids_in kernel
 
-abbrev pub outcome : TypeInfo → Option TypeInfo → Entry → Outcome
-outcome local kernel e = outcome_by (found_by kernel) local kernel e
+abbrev pub outcome : TypeInfo → Option TypeInfo → NamedExtern → Outcome
+outcome local kernel e = outcome_by (kernel_ids_of kernel) local kernel e
 
 -- resolved with an id of the kernel; else weak, with address 0
-abbrev pub with_id : ExternDesc → Outcome → ExternDesc
-with_id d (Ok (Some id)) = record d { kernel_btf_id = Some id; is_resolved = true }
-with_id d (Ok None) = record d { ksym_addr = Some 0 }
-with_id d (Err e) = d
+abbrev pub with_outcome : ExternDesc → Outcome → ExternDesc
+with_outcome d (Ok (Some id)) = record d { kernel_btf_id = Some id; is_resolved = true }
+with_outcome d (Ok None) = record d { ksym_addr = Some 0 }
+with_outcome d (Err e) = d
 
 -- ---- externs without a type
 
@@ -63,39 +63,39 @@ with_address d (Some address) = record d { ksym_addr = Some address; is_resolved
 with_address d None = record d { ksym_addr = Some 0 }
 
 -- the name of an extern that lines are read for
-abbrev pub wanted_name : Entry → Option (List ℕ)
+abbrev pub wanted_name : NamedExtern → Option (List ℕ)
 wanted_name e = if is_typeless e.1 then Some e.0 else None
 
 -- the names that lines are read for
-abbrev pub wanted_names : List Entry → List (List ℕ)
+abbrev pub wanted_names : List NamedExtern → List (List ℕ)
 wanted_names es = filter_map wanted_name es
 
 -- ---- all externs
 
 -- what stands at a name afterwards
-abbrev pub resolved_as : TypeInfo → Option TypeInfo → List Line → Entry → ExternDesc
+abbrev pub resolved_as : TypeInfo → Option TypeInfo → List Line → NamedExtern → ExternDesc
 resolved_as local kernel lines e =
-    if is_typed e.1 then with_id e.1 (outcome local kernel e)
+    if is_typed e.1 then with_outcome e.1 (outcome local kernel e)
     else if is_typeless e.1 then with_address e.1 (address_of e.0 lines)
     else e.1
 
 -- entries with their values made anew
-abbrev pub renewed : (Entry → ExternDesc) → List Entry → List Entry
+abbrev pub renewed : (NamedExtern → ExternDesc) → List NamedExtern → List NamedExtern
 renewed f es = map (λ e. (e.0, f e)) es
 
 -- the externs with their values made anew
-unfoldable pub renew : (Entry → ExternDesc) → Externs → Externs
+unfoldable pub renew : (NamedExtern → ExternDesc) → Externs → Externs
 renew f externs = from_sorted (renewed f (entries externs))
 
 -- the externs afterwards; without types of the object they stay
-unfoldable pub resolved : Option TypeInfo → Option TypeInfo → List Line → Externs → Externs
-resolved None kernel lines externs = externs
-resolved (Some local) kernel lines externs = renew (resolved_as local kernel lines) externs
+unfoldable pub resolved_externs : Option TypeInfo → Option TypeInfo → List Line → Externs → Externs
+resolved_externs None kernel lines externs = externs
+resolved_externs (Some local) kernel lines externs = renew (resolved_as local kernel lines) externs
 
 -- ---- refusals
 
 -- an extern with a type, which the kernel does not have
-abbrev pub type_refused : TypeInfo → Option TypeInfo → Entry → Option KsymsError
+abbrev pub type_refused : TypeInfo → Option TypeInfo → NamedExtern → Option KsymsError
 type_refused local kernel e = if is_typed e.1 then fault_of (outcome local kernel e) else None
 
 -- the first of them by name
@@ -114,14 +114,14 @@ reads_lines local externs = nat_lt 0 (length (names_read local externs))
 
 -- the first line that is refused
 abbrev pub lines_refused : Option TypeInfo → Externs → List Line → Option KsymsError
-lines_refused local externs lines = lines_fault (is_among (names_read local externs)) lines
+lines_refused local externs lines = lines_fault (is_one_of (names_read local externs)) lines
 
 -- a strong extern without an address
-abbrev pub left_without : Option ℕ → Entry → Option KsymsError
+abbrev pub left_without : Option ℕ → NamedExtern → Option KsymsError
 left_without (Some address) e = None
 left_without None e = if e.1.is_weak then None else Some (VariableNotFound e.0)
 
-abbrev pub name_refused : List Line → Entry → Option KsymsError
+abbrev pub name_refused : List Line → NamedExtern → Option KsymsError
 name_refused lines e = if is_typeless e.1 then left_without (address_of e.0 lines) e else None
 
 -- the first of them by name
@@ -137,9 +137,9 @@ module _ {S : Type 0} (steps : S → Option Item → S → Type 0) (lines : S) w
     pub items : List Item
     pub counted : Counts steps lines (reads_lines local externs) items
     pub types : types_refused local kernel externs ≡ None
-    pub read : lines_refused local externs (map line_of items) ≡ None
-    pub names : names_refused local externs (map line_of items) ≡ None
-    pub stands : after ≡ resolved local kernel (map line_of items) externs
+    pub read : lines_refused local externs (map line_of_item items) ≡ None
+    pub names : names_refused local externs (map line_of_item items) ≡ None
+    pub stands : after ≡ resolved_externs local kernel (map line_of_item items) externs
 
   -- an extern with a type is refused; no item counts
   abbrev pub StopsAtType : Option TypeInfo → Option TypeInfo → Externs → KsymsError → Type 0
@@ -153,16 +153,16 @@ module _ {S : Type 0} (steps : S → Option Item → S → Type 0) (lines : S) w
     pub wanted : reads_lines local externs ≡ true
     pub came : Yields steps lines (items ++ item ∷ []) rest
     pub types : types_refused local kernel externs ≡ None
-    pub before : lines_refused local externs (map line_of items) ≡ None
-    pub refused : lines_refused local externs (map line_of (items ++ item ∷ [])) ≡ Some e
+    pub before : lines_refused local externs (map line_of_item items) ≡ None
+    pub refused : lines_refused local externs (map line_of_item (items ++ item ∷ [])) ≡ Some e
 
   -- all items are accepted, and an extern is left without an address
   pub record StopsAtName (local kernel : Option TypeInfo) (externs : Externs) (e : KsymsError) : Type 0 where
     pub items : List Item
     pub counted : Counts steps lines (reads_lines local externs) items
     pub types : types_refused local kernel externs ≡ None
-    pub read : lines_refused local externs (map line_of items) ≡ None
-    pub refused : names_refused local externs (map line_of items) ≡ Some e
+    pub read : lines_refused local externs (map line_of_item items) ≡ None
+    pub refused : names_refused local externs (map line_of_item items) ≡ Some e
 
   -- the least refusal: externs with types come first, then the lines, then the names left
   abbrev pub IsRefused : Option TypeInfo → Option TypeInfo → Externs → KsymsError → Type 0

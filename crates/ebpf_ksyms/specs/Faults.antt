@@ -15,14 +15,14 @@ is_memory OutOfMemory = true
 is_memory _ = false
 
 -- the refusal for a fault of types
-abbrev pub type_fault : BtfError → KsymsError
-type_fault types.OutOfMemory = OutOfMemory
-type_fault e = BtfFault e
+abbrev pub of_type_fault : BtfError → KsymsError
+of_type_fault types.OutOfMemory = OutOfMemory
+of_type_fault e = BtfFault e
 
 abbrev pub is_memory_kind : ErrorKind → Bool
 is_memory_kind kinds.OutOfMemory = true
 is_memory_kind _ = false
 
 -- the refusal for a line that could not be read
-abbrev pub read_fault : Error → KsymsError
-read_fault e = if is_memory_kind (error_kind e) then OutOfMemory else KallsymsAccessError e
+abbrev pub line_read_fault : Error → KsymsError
+line_read_fault e = if is_memory_kind (error_kind e) then OutOfMemory else KallsymsAccessError e

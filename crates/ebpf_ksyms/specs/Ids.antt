@@ -9,8 +9,8 @@ use Rattle.ebpf_btf.specs.declared.types.BtfType.{BtfType}
 use Rattle.ebpf_btf.specs.declared.types.BtfType.TheVariants.{Func, Var}
 use Rattle.ebpf_btf.specs.declared.kind.BtfKind.TheVariants as kinds
 use Rattle.ebpf_ksyms.specs.declared.ids.Ids.{Ids}
-use Rattle.ebpf_ksyms.specs.declared.sought.Sort.{Sort}
-use Rattle.ebpf_ksyms.specs.declared.sought.Sort.TheVariants.{Function, Variable}
+use Rattle.ebpf_ksyms.specs.declared.lookup_key.Sort.{Sort}
+use Rattle.ebpf_ksyms.specs.declared.lookup_key.Sort.TheVariants.{Function, Variable}
 
 -- the lowest ids of a FUNC and of a VAR with a name
 abbrev pub ids_in : TypeInfo → List ℕ → Ids
@@ -24,24 +24,24 @@ id_of Variable ids = ids.variable
 abbrev pub id_at : (List ℕ → Option Ids) → Sort → List ℕ → Option ℕ
 id_at known sort name = option_and_then (id_of sort) (known name)
 
--- what is sought that a type is
+-- whether a type is a function or a variable
 unfoldable pub sort_of : BtfType → Option Sort
 sort_of (Func _ _) = Some Function
 sort_of (Var _ _ _) = Some Variable
 sort_of _ = None
 
 -- with one more id, which does not count where a lower one is there
-abbrev pub with_id : Ids → Sort → ℕ → Ids
-with_id ids Function id = record ids { function = or_else ids.function (Some id) }
-with_id ids Variable id = record ids { variable = or_else ids.variable (Some id) }
+abbrev pub with_lower_id : Ids → Sort → ℕ → Ids
+with_lower_id ids Function id = record ids { function = or_else ids.function (Some id) }
+with_lower_id ids Variable id = record ids { variable = or_else ids.variable (Some id) }
 
 abbrev pub with_sort : Ids → ℕ → Option Sort → Ids
 with_sort ids id None = ids
-with_sort ids id (Some sort) = with_id ids sort id
+with_sort ids id (Some sort) = with_lower_id ids sort id
 
 -- the ids of a name, with one more type
-abbrev pub with_type : TypeInfo → List ℕ → ℕ → BtfType → Ids → Ids
-with_type kernel name id t ids = if is_text name (type_name kernel t) then with_sort ids id (sort_of t) else ids
+abbrev pub with_type_ids : TypeInfo → List ℕ → ℕ → BtfType → Ids → Ids
+with_type_ids kernel name id t ids = if is_text name (type_name kernel t) then with_sort ids id (sort_of t) else ids
 
 -- the ids of a name, with types that have ids from a number on
 abbrev pub finished : TypeInfo → List ℕ → ℕ → List BtfType → Ids → Ids

@@ -6,11 +6,11 @@ pub mod Faults
 pub mod Ids
 pub mod Lines
 pub mod Named
-pub mod Noted
+pub mod AddressesByLine
 pub mod Readers
-pub mod Settled
-pub mod Sought
-pub mod SoughtValue
+pub mod TypelessExterns
+pub mod KernelOutcomes
+pub mod LookupKeyValue
 pub mod Sources
 pub mod TextLines
 pub mod Texts

@@ -17,17 +17,17 @@ first_and_third (first ∷ second ∷ []) = None
 first_and_third (first ∷ second ∷ third ∷ more) = Some (first, third)
 
 -- the word that states an address, and the name that it is the address of
-abbrev pub said_in : List ℕ → Option (List ℕ × List ℕ)
-said_in line = first_and_third (words line)
+abbrev pub address_and_name : List ℕ → Option (List ℕ × List ℕ)
+address_and_name line = first_and_third (words line)
 
 -- one or more hexadecimal digits, and nothing else
 abbrev pub is_hexadecimal : List ℕ → Bool
 is_hexadecimal digits = nat_lt 0 (length digits) && list_all (λ c. nat_lt (digit_value c) 16) digits
 
 -- the number of some digits, where they are hexadecimal and it is below 2^64
-abbrev pub number_in : List ℕ → Option ℕ
-number_in digits = if is_hexadecimal digits && nat_lt (digits_value 16 digits) (2 ^ 64) then Some (digits_value 16 digits) else None
+abbrev pub hexadecimal_number : List ℕ → Option ℕ
+hexadecimal_number digits = if is_hexadecimal digits && nat_lt (digits_value 16 digits) (2 ^ 64) then Some (digits_value 16 digits) else None
 
 -- the address that a word states; a plus may stand first
 unfoldable pub stated_address : List ℕ → Option ℕ
-stated_address word = number_in (without_leading_plus word)
+stated_address word = hexadecimal_number (without_leading_plus word)

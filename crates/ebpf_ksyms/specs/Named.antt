@@ -7,13 +7,13 @@ use Rattle.ebpf_base.specs.Keys.{text_cmp}
 use Rattle.ebpf_ksyms.specs.declared.named.Named.{Named}
 
 -- the value at a name
-unfoldable pub value_at : {V : Type 0} → Named V → List ℕ → Option V
-value_at m name = get_by (λ k. text_cmp name k.now) m.values
+unfoldable pub value_named : {V : Type 0} → Named V → List ℕ → Option V
+value_named m name = get_by (λ k. text_cmp name k.now) m.values
 
 -- whether a name is one of some names
-abbrev pub is_among : List (List ℕ) → List ℕ → Bool
-is_among names name = list_any (λ n. bytes_eq n name) names
+abbrev pub is_one_of : List (List ℕ) → List ℕ → Bool
+is_one_of names name = list_any (λ n. bytes_eq n name) names
 
 -- values at some names alone
 abbrev pub only_at : {V : Type 0} → List (List ℕ) → (List ℕ → V) → List ℕ → Option V
-only_at names value name = if is_among names name then Some (value name) else None
+only_at names value name = if is_one_of names name then Some (value name) else None

@@ -1,4 +1,4 @@
--- Resolution with the lines of a reader. `known` are the reader's bytes, where they are known; of other readers all is said
+-- Resolution with the lines of a reader. `known` are the reader's bytes, where they are known; of other readers all is stated
 -- but which lines came.
 use Rattle.std.specs.Prelude.{◌≡◌, ℕ, ◌<◌, ◌⊎◌, ⊤, Bool, true, false, List, [], ◌∷◌, ◌++◌, length, map, Option, Some, None, Ok, IfSome}
 use Rattle.std.specs.Io.BufRead.{drop_through, first_line}
@@ -10,7 +10,7 @@ use Rattle.ebpf_btf.specs.TypeInfo.{TypeInfo}
 use Rattle.ebpf_ksyms.specs.declared.error.KsymsError.{KsymsError}
 use Rattle.ebpf_ksyms.specs.declared.error.KsymsError.TheVariants.{KallsymsAccessError}
 use Rattle.ebpf_ksyms.specs.Addresses.{Line}
-use Rattle.ebpf_ksyms.specs.Externs.{Externs, lines_refused, names_refused, reads_lines, resolved, types_refused}
+use Rattle.ebpf_ksyms.specs.Externs.{Externs, lines_refused, names_refused, reads_lines, resolved_externs, types_refused}
 use Rattle.ebpf_ksyms.specs.Faults.{is_memory_kind}
 
 -- what stands after some lines
@@ -28,8 +28,8 @@ abbrev pub AreLines : List ℕ → List (List ℕ) → Type 0
 AreLines bytes lines = AreFirst bytes lines × (after_lines bytes lines ≡ [])
 
 -- lines that could be read
-abbrev pub readable : List (List ℕ) → List Line
-readable lines = map Ok lines
+abbrev pub read_lines : List (List ℕ) → List Line
+read_lines lines = map Ok lines
 
 -- ---- the lines that came from a reader
 
@@ -57,9 +57,9 @@ pub record IsResolvedIn (known : Option (List ℕ)) (local kernel : Option TypeI
   pub lines : List (List ℕ)
   pub counted : CountsLines (reads_lines local externs) known lines
   pub types : types_refused local kernel externs ≡ None
-  pub read : lines_refused local externs (readable lines) ≡ None
-  pub names : names_refused local externs (readable lines) ≡ None
-  pub stands : after ≡ resolved local kernel (readable lines) externs
+  pub read : lines_refused local externs (read_lines lines) ≡ None
+  pub names : names_refused local externs (read_lines lines) ≡ None
+  pub stands : after ≡ resolved_externs local kernel (read_lines lines) externs
 
 -- the last line that was read is refused, and none before it
 pub record StopsAtLineIn (known : Option (List ℕ)) (local kernel : Option TypeInfo) (externs : Externs) (e : KsymsError) : Type 0 where
@@ -68,16 +68,16 @@ pub record StopsAtLineIn (known : Option (List ℕ)) (local kernel : Option Type
   pub wanted : reads_lines local externs ≡ true
   pub came : CameFirst known (lines ++ line ∷ [])
   pub types : types_refused local kernel externs ≡ None
-  pub before : lines_refused local externs (readable lines) ≡ None
-  pub refused : lines_refused local externs (readable (lines ++ line ∷ [])) ≡ Some e
+  pub before : lines_refused local externs (read_lines lines) ≡ None
+  pub refused : lines_refused local externs (read_lines (lines ++ line ∷ [])) ≡ Some e
 
 -- all lines are accepted, and an extern is left without an address
 pub record StopsAtNameIn (known : Option (List ℕ)) (local kernel : Option TypeInfo) (externs : Externs) (e : KsymsError) : Type 0 where
   pub lines : List (List ℕ)
   pub counted : CountsLines (reads_lines local externs) known lines
   pub types : types_refused local kernel externs ≡ None
-  pub read : lines_refused local externs (readable lines) ≡ None
-  pub refused : names_refused local externs (readable lines) ≡ Some e
+  pub read : lines_refused local externs (read_lines lines) ≡ None
+  pub refused : names_refused local externs (read_lines lines) ≡ Some e
 
 -- a line could not be read, for another reason than want of memory, and none before it is refused
 pub record StopsAtAccessIn (known : Option (List ℕ)) (local kernel : Option TypeInfo) (externs : Externs) (e : KsymsError) : Type 0 where
@@ -86,7 +86,7 @@ pub record StopsAtAccessIn (known : Option (List ℕ)) (local kernel : Option Ty
   pub wanted : reads_lines local externs ≡ true
   pub came : CameFirst known lines
   pub types : types_refused local kernel externs ≡ None
-  pub before : lines_refused local externs (readable lines) ≡ None
+  pub before : lines_refused local externs (read_lines lines) ≡ None
   pub other : is_memory_kind (error_kind error) ≡ false
   pub is : e ≡ KallsymsAccessError error
 

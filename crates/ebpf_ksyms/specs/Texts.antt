@@ -10,7 +10,7 @@ use Rattle.ebpf_btf.specs.TypeInfo.{TypeInfo}
 use Rattle.ebpf_ksyms.specs.declared.error.KsymsError.{KsymsError}
 use Rattle.ebpf_ksyms.specs.declared.error.KsymsError.TheVariants.{KallsymsAccessError}
 use Rattle.ebpf_ksyms.specs.Addresses.{Line}
-use Rattle.ebpf_ksyms.specs.Externs.{Externs, lines_refused, names_refused, reads_lines, resolved, types_refused}
+use Rattle.ebpf_ksyms.specs.Externs.{Externs, lines_refused, names_refused, reads_lines, resolved_externs, types_refused}
 
 -- a line of a text
 abbrev pub text_line : Error → List ℕ → Line
@@ -26,18 +26,18 @@ module _ (text : List ℕ) (local kernel : Option TypeInfo) (externs : Externs) 
   text_lines error = counted error text (reads_lines local externs)
 
   -- the least fault: externs with types come first, then the lines, then the names left
-  abbrev pub text_fault : Error → Option KsymsError
-  text_fault error =
+  abbrev pub kallsyms_text_fault : Error → Option KsymsError
+  kallsyms_text_fault error =
       or_else (types_refused local kernel externs)
       (or_else (lines_refused local externs (text_lines error)) (names_refused local externs (text_lines error)))
 
   -- there is no fault, and these are the externs afterwards
   pub record IsResolvedBy (after : Externs) : Type 0 where
-    pub sound : (error : Error) → text_fault error ≡ None
-    pub stands : (error : Error) → after ≡ resolved local kernel (text_lines error) externs
+    pub sound : (error : Error) → kallsyms_text_fault error ≡ None
+    pub stands : (error : Error) → after ≡ resolved_externs local kernel (text_lines error) externs
 
   -- this is the least fault, where the error is of kind `InvalidData`
   pub record IsRefusedBy (e : KsymsError) : Type 0 where
     pub error : Error
     pub kind : error_kind error ≡ InvalidData
-    pub fault : text_fault error ≡ Some e
+    pub fault : kallsyms_text_fault error ≡ Some e

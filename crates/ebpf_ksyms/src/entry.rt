@@ -4,7 +4,7 @@ ghost use Rattle.std.specs.Prelude.{◌≡◌, IfOk};
 ghost use Rattle.std.specs.FinMap.{entries, get};
 ghost use Rattle.std.specs.List.{flat_map};
 ghost use Rattle.ebpf_base.specs.Keys.{lent_bytes};
-ghost use Rattle.ebpf_ksyms.specs.Entries.{entry_named, map_of};
+ghost use Rattle.ebpf_ksyms.specs.Entries.{entry_named, externs_from};
 ghost use Rattle.ebpf_ksyms.specs.Externs.{is_typed, is_typeless, wanted_names};
 
 use ebpf_base::ByName;
@@ -14,14 +14,14 @@ use std::marker::Model;
 
 /// An extern and its name.
 #[derive(Drop)]
-pub struct Entry<'a> {
+pub struct NamedExtern<'a> {
     /// The name.
     pub name: &'a str,
     /// The extern.
     pub desc: ExternDesc,
 }
 
-impl<'a> Model for Entry<'a> {
+impl<'a> Model for NamedExtern<'a> {
     ghost use Rattle.std.specs.Prelude.{ℕ, List};
     ghost use Rattle.ebpf_reloc.specs.declared.extern_desc.ExternDesc.{ExternDesc};
 
@@ -30,7 +30,7 @@ impl<'a> Model for Entry<'a> {
     ghost view = { λ e. (e.name.now, e.desc) };
 }
 
-impl<'a> Entry<'a> {
+impl<'a> NamedExtern<'a> {
     /// Whether it is unresolved and has a type.
     pub fn is_typed(&self) -> bool
         ensures { result ≡ is_typed self.now.1 }
@@ -46,10 +46,10 @@ impl<'a> Entry<'a> {
     }
 
     /// The same name with another extern.
-    pub fn with(&self, desc: ExternDesc) -> Entry<'a>
+    pub fn with(&self, desc: ExternDesc) -> NamedExtern<'a>
         ensures { result ≡ (self.now.0, desc) }
     {
-        Entry {
+        NamedExtern {
             name: self.name,
             desc,
         }
@@ -61,7 +61,7 @@ fn entries_named<'a>(
     alloc: Global,
     externs: &ByName<ExternDesc>,
     names: &[&'a str],
-) -> Result<Vec<Entry<'a>>, AllocError>
+) -> Result<Vec<NamedExtern<'a>>, AllocError>
     ensures { IfOk result (λ all. all.items ≡ flat_map (λ name. entry_named name (get externs.now name)) (lent_bytes names.now)) }
 {
     let mut all = Vec::with_capacity(alloc, names.len())?;
@@ -69,13 +69,13 @@ fn entries_named<'a>(
         let Some(desc) = externs.get(name) else {
             continue;
         };
-        all.push(Entry { name, desc: *desc })?;
+        all.push(NamedExtern { name, desc: *desc })?;
     }
     Ok(all)
 }
 
 /// The externs in the order of the bytes of their names.
-pub fn entries_of(alloc: Global, externs: &ByName<ExternDesc>) -> Result<Vec<Entry<'_>>, AllocError>
+pub fn entries_of(alloc: Global, externs: &ByName<ExternDesc>) -> Result<Vec<NamedExtern<'_>>, AllocError>
     ensures { IfOk result (λ all. all.items ≡ entries externs.now) }
 {
     let names = externs.names(alloc)?;
@@ -84,7 +84,7 @@ pub fn entries_of(alloc: Global, externs: &ByName<ExternDesc>) -> Result<Vec<Ent
 }
 
 /// The names that lines are read for.
-pub fn wanted_names<'a>(alloc: Global, all: &[Entry<'a>]) -> Result<Vec<&'a str>, AllocError>
+pub fn wanted_names<'a>(alloc: Global, all: &[NamedExtern<'a>]) -> Result<Vec<&'a str>, AllocError>
     ensures { IfOk result (λ names. lent_bytes names.items ≡ wanted_names all.now) }
 {
     let mut names = Vec::new(alloc);
@@ -98,8 +98,8 @@ pub fn wanted_names<'a>(alloc: Global, all: &[Entry<'a>]) -> Result<Vec<&'a str>
 }
 
 /// Externs as a map.
-pub fn map_of(alloc: Global, all: &[Entry<'_>]) -> Result<ByName<ExternDesc>, AllocError>
-    ensures { IfOk result (λ externs. externs ≡ map_of all.now) }
+pub fn externs_from(alloc: Global, all: &[NamedExtern<'_>]) -> Result<ByName<ExternDesc>, AllocError>
+    ensures { IfOk result (λ externs. externs ≡ externs_from all.now) }
 {
     let mut externs = ByName::new(alloc);
     for entry in all {

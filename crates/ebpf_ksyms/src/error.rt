@@ -1,7 +1,7 @@
 //! Why an object's externs could not be resolved.
 
 ghost use Rattle.std.specs.Prelude.{◌≡◌};
-ghost use Rattle.ebpf_ksyms.specs.Faults.{type_fault};
+ghost use Rattle.ebpf_ksyms.specs.Faults.{of_type_fault};
 ghost use Rattle.ebpf_ksyms.specs.declared.error.KsymsError.TheVariants.{OutOfMemory};
 
 use ebpf_base::Text;
@@ -65,7 +65,7 @@ pub enum KsymsError {
 impl KsymsError {
     /// The refusal for a fault of types: want of memory stays that.
     pub(crate) fn of_types(error: BtfError) -> KsymsError
-        ensures { result ≡ type_fault error }
+        ensures { result ≡ of_type_fault error }
     {
         match error {
             BtfError::OutOfMemory => KsymsError::OutOfMemory,

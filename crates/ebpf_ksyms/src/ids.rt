@@ -2,13 +2,13 @@
 
 ghost use Rattle.std.specs.Prelude.{◌≡◌, ℕ, List, IfOk, IfErr, OnOk, option_map};
 ghost use Rattle.ebpf_base.specs.Keys.{lent_bytes};
-ghost use Rattle.ebpf_ksyms.specs.Ids.{ids_in, id_at, sort_of, with_id, with_type};
-ghost use Rattle.ebpf_ksyms.specs.Named.{value_at, only_at};
+ghost use Rattle.ebpf_ksyms.specs.Ids.{ids_in, id_at, sort_of, with_lower_id, with_type_ids};
+ghost use Rattle.ebpf_ksyms.specs.Named.{value_named, only_at};
 ghost use Rattle.ebpf_ksyms.specs.declared.error.KsymsError.TheVariants.{OutOfMemory};
 
 use crate::error::KsymsError;
 use crate::named::Named;
-use crate::sought::Sort;
+use crate::lookup_key::Sort;
 use ebpf_btf::{Btf, BtfError, BtfKind, BtfType};
 use std::alloc::Global;
 
@@ -31,7 +31,7 @@ impl Ids {
 
 /// The id of a sort at a name.
 pub fn id_at(ids: &Named<'_, Ids>, sort: Sort, name: &str) -> Option<u32>
-    ensures { result ≡ id_at (value_at ids.now) sort name.now }
+    ensures { result ≡ id_at (value_named ids.now) sort name.now }
 {
     let found = ids.get(name)?;
     match sort {
@@ -40,7 +40,7 @@ pub fn id_at(ids: &Named<'_, Ids>, sort: Sort, name: &str) -> Option<u32>
     }
 }
 
-/// What is sought that a type is.
+/// Whether a type is a function or a variable.
 #[tactic(auto, unfolding(crate::specs::Ids::sort_of))]
 fn sort_of(ty: &BtfType) -> Option<Sort>
     ensures { result ≡ sort_of ty.now }
@@ -53,8 +53,8 @@ fn sort_of(ty: &BtfType) -> Option<Sort>
 }
 
 /// The ids with one more, which does not count where a lower one is there.
-fn with_id(ids: Ids, sort: Sort, id: u32) -> Ids
-    ensures { result ≡ with_id ids sort id }
+fn with_lower_id(ids: Ids, sort: Sort, id: u32) -> Ids
+    ensures { result ≡ with_lower_id ids sort id }
 {
     match sort {
         Sort::Function => Ids {
@@ -69,13 +69,13 @@ fn with_id(ids: Ids, sort: Sort, id: u32) -> Ids
 }
 
 /// Takes one more type of the kernel into account, whose id is above those before.
-fn note_type(
+fn add_kernel_type(
     kernel: &Btf,
     ids: &mut Named<'_, Ids>,
     id: u32,
     ty: &BtfType,
 ) -> Result<(), KsymsError>
-    ensures ok { OnOk result ((q : List ℕ) → value_at ids.new q ≡ option_map (with_type kernel.now q id ty.now) (value_at ids.old q)) }
+    ensures ok { OnOk result ((q : List ℕ) → value_named ids.new q ≡ option_map (with_type_ids kernel.now q id ty.now) (value_named ids.old q)) }
     ensures memory { IfErr result (λ e. e ≡ OutOfMemory) }
 {
     let Some(sort) = sort_of(ty) else {
@@ -87,7 +87,7 @@ fn note_type(
         Err(_) => return Ok(()),
     };
     if let Some(found) = ids.get(name.as_str()) {
-        ids.replace(name.as_str(), with_id(found, sort, id));
+        ids.replace(name.as_str(), with_lower_id(found, sort, id));
     }
     Ok(())
 }
@@ -98,7 +98,7 @@ pub fn ids_in<'a>(
     kernel: &Btf,
     names: &[&'a str],
 ) -> Result<Named<'a, Ids>, KsymsError>
-    ensures ok { IfOk result (λ ids. (q : List ℕ) → value_at ids q ≡ only_at (lent_bytes names.now) (ids_in kernel.now) q) }
+    ensures ok { IfOk result (λ ids. (q : List ℕ) → value_named ids q ≡ only_at (lent_bytes names.now) (ids_in kernel.now) q) }
     ensures memory { IfErr result (λ e. e ≡ OutOfMemory) }
 {
     let mut ids = Named::new(alloc, names, Ids::NONE)?;
@@ -106,7 +106,7 @@ pub fn ids_in<'a>(
         return Ok(ids);
     }
     for (id, ty) in kernel.types().iter().enumerate() {
-        note_type(kernel, &mut ids, id as u32, ty)?;
+        add_kernel_type(kernel, &mut ids, id as u32, ty)?;
     }
     Ok(ids)
 }

@@ -4,16 +4,16 @@ ghost use Rattle.std.specs.Prelude.{◌≡◌, ℕ, List, IfOk, IfErr, OnOk, Mat
 ghost use Rattle.std.specs.Iterator.{IsFinite};
 ghost use Rattle.ebpf_base.specs.Faults.{Refuses, or_else};
 ghost use Rattle.ebpf_base.specs.Keys.{lent_bytes};
-ghost use Rattle.ebpf_ksyms.specs.Addresses.{invalid_address, line_of, nonzero, stated_fault};
-ghost use Rattle.ebpf_ksyms.specs.Faults.{is_memory, is_memory_kind, read_fault};
+ghost use Rattle.ebpf_ksyms.specs.Addresses.{invalid_address, line_of_item, nonzero, stated_fault};
+ghost use Rattle.ebpf_ksyms.specs.Faults.{is_memory, is_memory_kind, line_read_fault};
 ghost use Rattle.ebpf_ksyms.specs.Lines.{stated_address};
-ghost use Rattle.ebpf_ksyms.specs.Named.{value_at};
-ghost use Rattle.ebpf_ksyms.specs.Noted.{AreRead, StopsAt, noted, noted_fault, noted_line, noted_line_fault};
+ghost use Rattle.ebpf_ksyms.specs.Named.{value_named};
+ghost use Rattle.ebpf_ksyms.specs.AddressesByLine.{AreRead, StopsAt, with_line, text_line_fault, with_read_line, read_line_fault};
 ghost use Rattle.ebpf_ksyms.specs.declared.error.KsymsError.TheVariants.{KallsymsParseError};
 
 use crate::error::KsymsError;
 use crate::named::Named;
-use crate::words::{said_in, stated_address};
+use crate::words::{address_and_name, stated_address};
 use ebpf_base::Text;
 use std::alloc::{AllocError, Global};
 use std::io;
@@ -26,8 +26,8 @@ fn is_memory_kind(kind: io::ErrorKind) -> bool
 }
 
 /// The refusal for a line that could not be read.
-fn read_fault(error: io::Error) -> KsymsError
-    ensures { result ≡ read_fault error }
+fn line_read_fault(error: io::Error) -> KsymsError
+    ensures { result ≡ line_read_fault error }
 {
     if is_memory_kind(error.kind()) {
         return KsymsError::OutOfMemory;
@@ -73,15 +73,15 @@ fn new_address(
 }
 
 /// Takes a line into account.
-fn note_line(
+fn add_line(
     alloc: Global,
     addresses: &mut Named<'_, Option<u64>>,
     line: &str,
 ) -> Result<(), KsymsError>
-    ensures ok { OnOk result ((q : List ℕ) → value_at addresses.new q ≡ noted (value_at addresses.old) line.now q) }
-    ensures fault { Refuses is_memory result (noted_fault (value_at addresses.old) line.now) }
+    ensures ok { OnOk result ((q : List ℕ) → value_named addresses.new q ≡ with_line (value_named addresses.old) line.now q) }
+    ensures fault { Refuses is_memory result (text_line_fault (value_named addresses.old) line.now) }
 {
-    let Some((word, name)) = said_in(line) else {
+    let Some((word, name)) = address_and_name(line) else {
         return Ok(());
     };
     let Some(before) = addresses.get(name) else {
@@ -93,17 +93,17 @@ fn note_line(
 }
 
 /// Takes an item into account: a line, or the error in its place.
-fn note_item(
+fn add_item(
     alloc: Global,
     addresses: &mut Named<'_, Option<u64>>,
     item: io::Result<String>,
 ) -> Result<(), KsymsError>
-    ensures ok { OnOk result ((q : List ℕ) → value_at addresses.new q ≡ noted_line (value_at addresses.old) (line_of item) q) }
-    ensures fault { Refuses is_memory result (noted_line_fault (value_at addresses.old) (line_of item)) }
+    ensures ok { OnOk result ((q : List ℕ) → value_named addresses.new q ≡ with_read_line (value_named addresses.old) (line_of_item item) q) }
+    ensures fault { Refuses is_memory result (read_line_fault (value_named addresses.old) (line_of_item item)) }
 {
     match item {
-        Err(error) => Err(read_fault(error)),
-        Ok(line) => note_line(alloc, addresses, line.as_str()),
+        Err(error) => Err(line_read_fault(error)),
+        Ok(line) => add_line(alloc, addresses, line.as_str()),
     }
 }
 
@@ -116,7 +116,7 @@ pub fn addresses_in<'a, I: Iterator<Item = io::Result<String>> + Drop>(
 ) -> Result<Named<'a, Option<u64>>, KsymsError>
     requires can { I.can_next lines }
     requires ends { IsFinite (I.remaining lines) }
-    ensures ok { IfOk result (λ known. AreRead I.next_gives lines (lent_bytes names.now) (value_at known)) }
+    ensures ok { IfOk result (λ known. AreRead I.next_gives lines (lent_bytes names.now) (value_named known)) }
     ensures fault { IfErr result (λ e. MatchBool (is_memory e) ⊤ (StopsAt I.next_gives lines (lent_bytes names.now) e)) }
 {
     let mut addresses = Named::new(alloc, names, None)?;
@@ -124,7 +124,7 @@ pub fn addresses_in<'a, I: Iterator<Item = io::Result<String>> + Drop>(
         return Ok(addresses);
     }
     for item in lines {
-        match note_item(alloc, &mut addresses, item) {
+        match add_item(alloc, &mut addresses, item) {
             Ok(()) => {}
             Err(error) => return Err(error),
         }

@@ -8,10 +8,10 @@ ghost use Rattle.ebpf_ksyms.specs.Faults.{is_memory};
 ghost use Rattle.ebpf_ksyms.specs.Readers.{IsRefusedIn, IsResolvedIn};
 ghost use Rattle.ebpf_ksyms.specs.Texts.{IsRefusedBy, IsResolvedBy};
 
-use crate::entry::{entries_of, map_of, wanted_names};
+use crate::entry::{entries_of, externs_from, wanted_names};
 use crate::error::KsymsError;
 use crate::lines::addresses_in;
-use crate::settled::settled;
+use crate::typeless::with_addresses;
 use crate::text_lines::TextLines;
 use crate::typed::with_types;
 use ebpf_base::ByName;
@@ -23,9 +23,9 @@ use std::io::{self, BufRead};
 /// The externs of an object, resolved with a kernel's types and the lines that tell its addresses.
 ///
 /// Without the object's types `btf`, and where all are resolved already, the externs stay. Of the others, those with a
-/// type are sought in `kernel_btf`: a function by its name before `___`, a variable by its whole name, each the one with
+/// type are looked up in `kernel_btf`: a function by its name before `___`, a variable by its whole name, each the one with
 /// the lowest id; it gets that id where the types that both hold fit, as `types_are_compatible` says of them once they
-/// are resolved. Those without a type are sought in the lines, if there are any. Each line is cut into words at runs of
+/// are resolved. Those without a type are looked up in the lines, if there are any. Each line is cut into words at runs of
 /// the bytes 0x09, 0x0a, 0x0c, 0x0d and 0x20; its first word is an address, in hexadecimal digits after an optional
 /// plus, and its third word a name. Lines of fewer words and of other names are passed over, and so is the address 0. A
 /// weak extern that is not found gets the address 0 and stays unresolved. All lines are read, one at a time.
@@ -37,7 +37,7 @@ use std::io::{self, BufRead};
 /// - `BtfError` where a type that is needed can't be found or resolved, or the comparison refuses;
 /// - `InvalidExternType` of a type that is neither a FUNC nor a VAR;
 /// - `FunctionNotFound`, `VariableNotFound`, `IncompatibleFunctionSignature` and `IncompatibleVariableType`, with the
-///   name that was sought, of an extern that is not weak;
+///   name that was looked up, of an extern that is not weak;
 /// - `KallsymsAccessError` of a line that could not be read;
 /// - `KallsymsParseError` of a line with a wanted name and no address below 2^64;
 /// - `AmbiguousResolution` of a second address of a name;
@@ -58,12 +58,12 @@ pub fn resolve_lines<I: Iterator<Item = io::Result<String>> + Drop>(
 {
     let all = entries_of(alloc, externs)?;
     let Some(local) = btf else {
-        return Ok(map_of(alloc, &all)?);
+        return Ok(externs_from(alloc, &all)?);
     };
     let typed = with_types(alloc, local, kernel_btf, &all)?;
     let addresses = addresses_in(alloc, &wanted_names(alloc, &all)?, lines)?;
-    let after = settled(alloc, &addresses, &typed)?;
-    Ok(map_of(alloc, &after)?)
+    let after = with_addresses(alloc, &addresses, &typed)?;
+    Ok(externs_from(alloc, &after)?)
 }
 
 /// `resolve_lines` with the lines of a reader: its bytes up to each byte 0x0a. A read that fails, and a line that is

@@ -1,11 +1,11 @@
-//! What a line says.
+//! The words of a line.
 
 ghost use Rattle.std.specs.Prelude.{◌≡◌, option_map};
-ghost use Rattle.ebpf_ksyms.specs.Lines.{said_in, stated_address};
+ghost use Rattle.ebpf_ksyms.specs.Lines.{address_and_name, stated_address};
 
 /// The first and the third word of a line, where it has three: the word that states an address, and a name.
-pub fn said_in(line: &str) -> Option<(&str, &str)>
-    ensures { option_map (λ said. (said.0.now, said.1.now)) result ≡ said_in line.now }
+pub fn address_and_name(line: &str) -> Option<(&str, &str)>
+    ensures { option_map (λ pair. (pair.0.now, pair.1.now)) result ≡ address_and_name line.now }
 {
     let mut words = line.split_ascii_whitespace();
     let address = words.next()?;

@@ -3,7 +3,7 @@ use Rattle.std.proofs.Common.{◌≡◌, ℕ, zero, suc, ◌+◌, ◌<◌, ◌�
 use Rattle.std.specs.Prelude.{slice_get}
 use Rattle.std.proofs.lemmas.Bool.{cases_eq, cases_lt}
 use Rattle.ebpf_linker.specs.Functions.{References, Functions, Among, Distinct, total, body}
-use Rattle.ebpf_linker.specs.Order.{Before, KeyPath, InOrder}
+use Rattle.ebpf_linker.specs.Order.{Before, KeyPath, InKeyPathOrder}
 use Rattle.ebpf_linker.specs.Faults.{Base}
 use Rattle.ebpf_linker.proofs.Paths.{before_cases, before_trans}
 
@@ -83,7 +83,7 @@ module _ {K E : Type 0} (F : Functions K E) (R : References K E) where
   irreflexive (a ∷ x) (inr h) = irreflexive x h.1
 
   -- in the order of key paths, the base of a member is what stands before it
-  pub base_at : (p : K) (ks : List K) (j : ℕ) (k : K) (x : List ℕ) → Distinct ks → InOrder R p ks → ((m : K) (y : List ℕ) → KeyPath R p m y → Before y x → Among ks m) → slice_get ks j ≡ Some k → KeyPath R p k x → Base F R p x (total F (p ∷ take j ks))
+  pub base_at : (p : K) (ks : List K) (j : ℕ) (k : K) (x : List ℕ) → Distinct ks → InKeyPathOrder R p ks → ((m : K) (y : List ℕ) → KeyPath R p m y → Before y x → Among ks m) → slice_get ks j ≡ Some k → KeyPath R p k x → Base F R p x (total F (p ∷ take j ks))
   base_at p ks j k x once order complete at path =
       record {
         earlier = take j ks;

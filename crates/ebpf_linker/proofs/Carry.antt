@@ -7,9 +7,9 @@ use Rattle.ebpf_ext.specs.declared.ext_infos.bpf_line_info.{bpf_line_info}
 use Rattle.ebpf_parts.specs.declared.insn.bpf_insn.{bpf_insn}
 use Rattle.ebpf_linker.specs.declared.body.LinkedProgram.{LinkedProgram}
 use Rattle.ebpf_linker.specs.Slots.{relinked}
-use Rattle.ebpf_linker.specs.Functions.{Reference, Nothing, Faulty, Names, References, Functions, Content, or_empty, content_at, body, Among, Distinct, last_of, total, BeginsAt, Becomes, Linked}
+use Rattle.ebpf_linker.specs.Functions.{SlotReference, Nothing, Faulty, Names, References, Functions, FunctionContent, or_empty, content_at, body, Among, Distinct, last_key_or, total, BeginsAt, Becomes, Linked}
 use Rattle.ebpf_linker.specs.Order.{KeyPath}
-use Rattle.ebpf_linker.specs.Faults.{same, has_some, agree, checked, linking, content_fault, append_fault, Base, StandsAt, Faultless, LeastFault, first_line}
+use Rattle.ebpf_linker.specs.Faults.{same, has_some, func_info_agrees, checked, checked_references, content_fault, append_fault, Base, FaultStandsAt, Faultless, LeastFault, first_line}
 use Rattle.ebpf_linker.specs.Records.{func_moved, line_moved, func_records, line_records, linked_func_info, linked_line_info, has_lines, count_if}
 use Rattle.ebpf_linker.specs.Result.{IsProgram, IsLinking}
 use Rattle.ebpf_linker.specs.Renaming.{answer_named}
@@ -45,32 +45,32 @@ module _ {M D K E : Type 0} (G : Functions M D) (F : Functions K E) (IsNumber : 
   content_to : (m : M) → IsNumber m → content_at F (key m) ≡ content_at G m
   content_to m is = ap or_empty (num.content m is)
 
-  agree_to : (p k : M) → IsNumber p → IsNumber k → agree F (key p) (key k) ≡ agree G p k
-  agree_to p k is ik = ap (λ (c : Content). same (has_some c.func_info) (has_some (content_at F (key p)).func_info)) (content_to k ik) ∙ ap (λ (c : Content). same (has_some (content_at G k).func_info) (has_some c.func_info)) (content_to p is)
+  agree_to : (p k : M) → IsNumber p → IsNumber k → func_info_agrees F (key p) (key k) ≡ func_info_agrees G p k
+  agree_to p k is ik = ap (λ (c : FunctionContent). same (has_some c.func_info) (has_some (content_at F (key p)).func_info)) (content_to k ik) ∙ ap (λ (c : FunctionContent). same (has_some (content_at G k).func_info) (has_some c.func_info)) (content_to p is)
 
-  renamed_if : (b : Bool) (k : M) (d : D) → ◌≡◌ {A = Reference K E} (if b then Names (key k) else Faulty (name d)) (renamed key name (if b then Names k else Faulty d))
+  renamed_if : (b : Bool) (k : M) (d : D) → ◌≡◌ {A = SlotReference K E} (if b then Names (key k) else Faulty (name d)) (renamed key name (if b then Names k else Faulty d))
   renamed_if true k d = refl
   renamed_if false k d = refl
 
-  checked_to : (p : M) (r : Reference M D) → IsNumber p → ((k : M) → r ≡ Names k → IsNumber k) → checked F (key p) (renamed key name r) ≡ renamed key name (checked G p r)
+  checked_to : (p : M) (r : SlotReference M D) → IsNumber p → ((k : M) → r ≡ Names k → IsNumber k) → checked F (key p) (renamed key name r) ≡ renamed key name (checked G p r)
   checked_to p Nothing is closed = refl
   checked_to p (Faulty d) is closed = refl
   checked_to p (Names k) is closed =
       let ik = closed k refl in
       ap (λ (b : Bool). if b then Names (key k) else Faulty (F.mismatch (key k))) (agree_to p k is ik)
-      ∙ ap (λ (e : E). if agree G p k then Names (key k) else Faulty e) (num.mismatch k ik)
-      ∙ renamed_if (agree G p k) k (G.mismatch k)
+      ∙ ap (λ (e : E). if func_info_agrees G p k then Names (key k) else Faulty e) (num.mismatch k ik)
+      ∙ renamed_if (func_info_agrees G p k) k (G.mismatch k)
 
-  named_if : (b : Bool) (d : D) (k m : M) → ◌≡◌ {A = Reference M D} (if b then Names k else Faulty d) (Names m) → ◌≡◌ {A = Reference M D} (Names k) (Names m)
+  named_if : (b : Bool) (d : D) (k m : M) → ◌≡◌ {A = SlotReference M D} (if b then Names k else Faulty d) (Names m) → ◌≡◌ {A = SlotReference M D} (Names k) (Names m)
   named_if true d k m h = h
   named_if false d k m h = cc
 
-  checked_names : (p : M) (r : Reference M D) (m : M) → checked G p r ≡ Names m → r ≡ Names m
+  checked_names : (p : M) (r : SlotReference M D) (m : M) → checked G p r ≡ Names m → r ≡ Names m
   checked_names p Nothing m e = cc
   checked_names p (Faulty d) m e = cc
-  checked_names p (Names k) m e = named_if (agree G p k) (G.mismatch k) k m e
+  checked_names p (Names k) m e = named_if (func_info_agrees G p k) (G.mismatch k) k m e
 
-  pub linking_same : (p : M) → IsNumber p → SameReferences (linking G p) (linking F (key p)) IsNumber key name
+  pub linking_same : (p : M) → IsNumber p → SameReferences (checked_references G p) (checked_references F (key p)) IsNumber key name
   linking_same p is =
       record {
         reference = λ m i im. ap (checked F (key p)) (num.reference m i im) ∙ checked_to p (G.reference m i) is (λ k e. num.closed m k i im e);
@@ -81,7 +81,7 @@ module _ {M D K E : Type 0} (G : Functions M D) (F : Functions K E) (IsNumber : 
   -- sizes and places
 
   pub body_to : (m : M) → IsNumber m → body F (key m) ≡ body G m
-  body_to m is = ap (λ (c : Content). c.slots) (content_to m is)
+  body_to m is = ap (λ (c : FunctionContent). c.slots) (content_to m is)
 
   total_to : (ms : List M) → AllNumbers IsNumber ms → total F (map key ms) ≡ total G ms
   total_to [] all = refl
@@ -89,7 +89,7 @@ module _ {M D K E : Type 0} (G : Functions M D) (F : Functions K E) (IsNumber : 
 
   append_to : (m : M) (b : ℕ) → IsNumber m → append_fault F (key m) b ≡ some_map name (append_fault G m b)
   append_to m b is =
-      ap (λ (c : Content). content_fault c b (F.too_long (key m)) (F.stray_line (key m))) (content_to m is)
+      ap (λ (c : FunctionContent). content_fault c b (F.too_long (key m)) (F.stray_line (key m))) (content_to m is)
       ∙ ap (λ (e : E). content_fault (content_at G m) b e (F.stray_line (key m))) (num.too_long m is)
       ∙ ap (λ (e : E). content_fault (content_at G m) b (name (G.too_long m)) e) (num.stray_line m is)
       ∙ rows_named name _ _ (G.too_long m) (G.stray_line m)
@@ -131,13 +131,13 @@ module _ {M D K E : Type 0} (G : Functions M D) (F : Functions K E) (IsNumber : 
           size = h.size ∙ ap (λ (u : List K). total F (key p ∷ u)) (sym are) ∙ total_to (p ∷ ms) (is, all);
         }
 
-    stands_to : (path : List ℕ) (x : ℕ) (d : D) → StandsAt G R p path x d → StandsAt F S (key p) path x (name d)
+    stands_to : (path : List ℕ) (x : ℕ) (d : D) → FaultStandsAt G R p path x d → FaultStandsAt F S (key p) path x (name d)
     stands_to path x d (inl h) =
         let il = last_number IsNumber key p h.keys is (walk_numbers R S IsNumber key name refs p path h.keys is h.simple.walk) in
         inl (record {
           keys = map key h.keys;
           simple = simple_to R S IsNumber key name refs p path h.keys is h.simple;
-          fault = ap (λ (u : K). S u x) (last_to IsNumber key p h.keys) ∙ refs.reference (last_of p h.keys) x il ∙ ap (renamed key name) h.fault;
+          fault = ap (λ (u : K). S u x) (last_to IsNumber key p h.keys) ∙ refs.reference (last_key_or p h.keys) x il ∙ ap (renamed key name) h.fault;
         })
     stands_to path x d (inr h) =
         let im = key_path_number R S IsNumber key name refs p h.key (path ++ x ∷ []) is h.path_is in
@@ -149,12 +149,12 @@ module _ {M D K E : Type 0} (G : Functions M D) (F : Functions K E) (IsNumber : 
           fault = append_to h.key h.base im ∙ some_to name (append_fault G h.key h.base) d h.fault;
         })
 
-    stands_from : (path : List ℕ) (x : ℕ) (e : E) → StandsAt F S (key p) path x e → (d : D) × StandsAt G R p path x d
+    stands_from : (path : List ℕ) (x : ℕ) (e : E) → FaultStandsAt F S (key p) path x e → (d : D) × FaultStandsAt G R p path x d
     stands_from path x e (inl h) =
         let (ms, are, s) = simple_from R S IsNumber key name refs p path h.keys is h.simple in
         let il = last_number IsNumber key p ms is (walk_numbers R S IsNumber key name refs p path ms is s.walk) in
-        let end : key (last_of p ms) ≡ last_of (key p) h.keys = sym (last_to IsNumber key p ms) ∙ ap (last_of (key p)) are in
-        let (d, f, n) = faulty_from key name (R (last_of p ms) x) e (sym (refs.reference (last_of p ms) x il) ∙ ap (λ (u : K). S u x) end ∙ h.fault) in
+        let end : key (last_key_or p ms) ≡ last_key_or (key p) h.keys = sym (last_to IsNumber key p ms) ∙ ap (last_key_or (key p)) are in
+        let (d, f, n) = faulty_from key name (R (last_key_or p ms) x) e (sym (refs.reference (last_key_or p ms) x il) ∙ ap (λ (u : K). S u x) end ∙ h.fault) in
         (d, inl (record { keys = ms; simple = s; fault = f }))
     stands_from path x e (inr h) =
         let (m, im, k) = end_from R S IsNumber key name refs p (path ++ x ∷ []) h.path_is.keys h.key is h.path_is.simple h.path_is.ends in
@@ -194,7 +194,7 @@ module _ {M D K E : Type 0} (G : Functions M D) (F : Functions K E) (IsNumber : 
   begins_from (n ∷ ms) k b all (inr (c, e, h)) =
       let (m, im, is, g) = begins_from ms k c all.1 h in (m, im, is, inr (c, e ∙ ap (λ (s : List bpf_insn). length s + c) (body_to n all.0), g))
 
-  becomes_to : (p : M) (ms : List M) (x : ℕ) (r : Reference M D) (s t : bpf_insn) → IsNumber p → AllNumbers IsNumber ms → Becomes G p ms x r s t → Becomes F (key p) (map key ms) x (renamed key name r) s t
+  becomes_to : (p : M) (ms : List M) (x : ℕ) (r : SlotReference M D) (s t : bpf_insn) → IsNumber p → AllNumbers IsNumber ms → Becomes G p ms x r s t → Becomes F (key p) (map key ms) x (renamed key name r) s t
   becomes_to p ms x Nothing s t is all h = h
   becomes_to p ms x (Faulty d) s t is all h = h
   becomes_to p ms x (Names m) s t is all (c, b, e) =
@@ -210,8 +210,8 @@ module _ {M D K E : Type 0} (G : Functions M D) (F : Functions K E) (IsNumber : 
             (x, q, map key ns, walk_to G.reference F.reference IsNumber key name references_same p (x ∷ q) ns is w, last_to IsNumber key p ns ∙ ap key end ∙ e);
         complete = λ k (x, q, ks, w, end).
             let (ns, are, v) = walk_from G.reference F.reference IsNumber key name references_same p (x ∷ q) ks is w in
-            let e : key (last_of p ns) ≡ k = sym (last_to IsNumber key p ns) ∙ ap (last_of (key p)) are ∙ end in
-            subst (Among (map key ms)) e (among_to IsNumber key ms (last_of p ns) (h.complete (last_of p ns) (x, q, ns, v, refl)));
+            let e : key (last_key_or p ns) ≡ k = sym (last_to IsNumber key p ns) ∙ ap (last_key_or (key p)) are ∙ end in
+            subst (Among (map key ms)) e (among_to IsNumber key ms (last_key_or p ns) (h.complete (last_key_or p ns) (x, q, ns, v, refl)));
         resolved = λ k i a lt ne.
             let (m, b, e) = among_from IsNumber key (p ∷ ms) k a in
             let im = number_at IsNumber key (p ∷ ms) m (is, all) b in
@@ -227,7 +227,7 @@ module _ {M D K E : Type 0} (G : Functions M D) (F : Functions K E) (IsNumber : 
             let at' : slice_get (body G m) i ≡ Some s = ap (λ (u : List bpf_insn). slice_get u i) (sym (body_to m im)) ∙ ap (λ (u : K). slice_get (body F u) i) e ∙ at in
             let (t, there, becomes) = h.slots m b i s g at' in
             let e' : renamed key name (G.reference m i) ≡ F.reference k i = sym (num.reference m i im) ∙ ap (λ (u : K). F.reference u i) e in
-            (t, there, subst (λ (r : Reference K E). Becomes F (key p) (map key ms) (b + i) r s t) e' (becomes_to p ms (b + i) (G.reference m i) s t is all becomes));
+            (t, there, subst (λ (r : SlotReference K E). Becomes F (key p) (map key ms) (b + i) r s t) e' (becomes_to p ms (b + i) (G.reference m i) s t is all becomes));
       }
 
   -- its records
@@ -235,23 +235,23 @@ module _ {M D K E : Type 0} (G : Functions M D) (F : Functions K E) (IsNumber : 
   funcs_to : (b : ℕ) (ms : List M) → AllNumbers IsNumber ms → func_records F b (map key ms) ≡ func_records G b ms
   funcs_to b [] all = refl
   funcs_to b (m ∷ ms) all =
-      ap (λ (c : Content). map (func_moved b) c.func_info ++ func_records F (b + length c.slots) (map key ms)) (content_to m all.0)
+      ap (λ (c : FunctionContent). map (func_moved b) c.func_info ++ func_records F (b + length c.slots) (map key ms)) (content_to m all.0)
       ∙ ap (λ (u : List bpf_func_info). map (func_moved b) (content_at G m).func_info ++ u) (funcs_to (b + length (body G m)) ms all.1)
 
   lines_to : (b : ℕ) (ms : List M) → AllNumbers IsNumber ms → line_records F b (map key ms) ≡ line_records G b ms
   lines_to b [] all = refl
   lines_to b (m ∷ ms) all =
-      ap (λ (c : Content). map (line_moved (first_line c.line_info) b) c.line_info ++ line_records F (b + length c.slots) (map key ms)) (content_to m all.0)
+      ap (λ (c : FunctionContent). map (line_moved (first_line c.line_info) b) c.line_info ++ line_records F (b + length c.slots) (map key ms)) (content_to m all.0)
       ∙ ap (λ (u : List bpf_line_info). map (line_moved (first_line (content_at G m).line_info) b) (content_at G m).line_info ++ u) (lines_to (b + length (body G m)) ms all.1)
 
   func_info_to : (p : M) (ms : List M) → IsNumber p → AllNumbers IsNumber ms → linked_func_info F (key p) (map key ms) ≡ linked_func_info G p ms
   func_info_to p ms is all =
-      ap (λ (c : Content). c.func_info ++ func_records F (length c.slots) (map key ms)) (content_to p is)
+      ap (λ (c : FunctionContent). c.func_info ++ func_records F (length c.slots) (map key ms)) (content_to p is)
       ∙ ap (λ (u : List bpf_func_info). (content_at G p).func_info ++ u) (funcs_to (length (body G p)) ms all)
 
   line_info_to : (p : M) (ms : List M) → IsNumber p → AllNumbers IsNumber ms → linked_line_info F (key p) (map key ms) ≡ linked_line_info G p ms
   line_info_to p ms is all =
-      ap (λ (c : Content). c.line_info ++ line_records F (length c.slots) (map key ms)) (content_to p is)
+      ap (λ (c : FunctionContent). c.line_info ++ line_records F (length c.slots) (map key ms)) (content_to p is)
       ∙ ap (λ (u : List bpf_line_info). (content_at G p).line_info ++ u) (lines_to (length (body G p)) ms all)
 
   has_some_to : (ms : List M) → has_some (map key ms) ≡ has_some ms
@@ -261,14 +261,14 @@ module _ {M D K E : Type 0} (G : Functions M D) (F : Functions K E) (IsNumber : 
   has_lines_to : (ms : List M) → AllNumbers IsNumber ms → has_lines F (map key ms) ≡ has_lines G ms
   has_lines_to [] all = refl
   has_lines_to (m ∷ ms) all =
-      ap (λ (c : Content). has_some c.line_info || has_lines F (map key ms)) (content_to m all.0)
+      ap (λ (c : FunctionContent). has_some c.line_info || has_lines F (map key ms)) (content_to m all.0)
       ∙ ap (λ (b : Bool). has_some (content_at G m).line_info || b) (has_lines_to ms all.1)
 
   program_to : (p : M) (ms : List M) (l : LinkedProgram) → IsNumber p → IsProgram G p ms l → IsProgram F (key p) (map key ms) l
   program_to p ms l is h =
       let all = all_numbers IsNumber key ms (λ m a. reached_number G.reference F.reference IsNumber key name references_same p m is (h.linked.reached m a)) in
       let linked = linked_to p ms l.slots is all h.linked in
-      let functions : (k : K) → Among (map key ms) k → (c : Content) × (F.content k ≡ Some c) = λ k a.
+      let functions : (k : K) → Among (map key ms) k → (c : FunctionContent) × (F.content k ≡ Some c) = λ k a.
       let (m, b, e) = among_from IsNumber key ms k a in
       let (c, there) = h.functions m b in
       (c, ap F.content (sym e) ∙ num.content m (number_at IsNumber key ms m all b) ∙ there) in
@@ -284,10 +284,10 @@ module _ {M D K E : Type 0} (G : Functions M D) (F : Functions K E) (IsNumber : 
             let le = total_le F F.reference (map key ms) every linked.once (λ k a. let (c, there) = functions k a in covers k c there) in
             let size = linked.size in
             omega (arith, le, size);
-        faultless = faultless_to (linking G p) (linking F (key p)) (linking_same p is) p is h.faultless;
+        faultless = faultless_to (checked_references G p) (checked_references F (key p)) (linking_same p is) p is h.faultless;
       }
 
-  -- what is said of linking by numbers holds by keys
+  -- what holds of linking by numbers holds by keys
   pub carried : (p : M) → IsNumber p → (answer : Result LinkedProgram D) → IsLinking G p answer → IsLinking F (key p) (answer_named name answer)
   carried p is (Ok l) (ms, h) = (map key ms, program_to p ms l is h)
-  carried p is (Err d) h = least_to (linking G p) (linking F (key p)) (linking_same p is) p is d h
+  carried p is (Err d) h = least_to (checked_references G p) (checked_references F (key p)) (linking_same p is) p is d h

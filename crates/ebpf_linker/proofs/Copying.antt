@@ -5,12 +5,12 @@ use Rattle.std.proofs.lemmas.Bool.{ne_eqb, eq-eqb}
 use Rattle.ebpf_parts.specs.declared.insn.bpf_insn.{bpf_insn}
 use Rattle.ebpf_linker.specs.declared.reference.Fault.{Fault}
 use Rattle.ebpf_linker.specs.declared.reference.Call.{Call}
-use Rattle.ebpf_linker.specs.Functions.{Reference, Nothing}
+use Rattle.ebpf_linker.specs.Functions.{SlotReference, Nothing}
 use Rattle.ebpf_linker.specs.Numbered.{of_target, referred, Rises}
-use Rattle.ebpf_linker.specs.Image.{became, copied}
+use Rattle.ebpf_linker.specs.LinkedSlots.{linked_slot, copied_slots}
 
 pub record Copying (old out body : List bpf_insn) (cs : List Call) (bases : List ℕ) (i next : ℕ) : Type 0 where
-  pub whole : out ++ copied bases cs (length out) i (drop i body) ≡ old ++ copied bases cs (length old) 0 body
+  pub whole : out ++ copied_slots bases cs (length out) i (drop i body) ≡ old ++ copied_slots bases cs (length old) 0 body
   pub size : length out ≡ length old + i
   pub same : (x : ℕ) → i ≤ x → referred (drop next cs) x ≡ referred cs x
   pub rises : Rises i (drop next cs)
@@ -46,24 +46,24 @@ rises_more [] low h ne = tt
 rises_more (c ∷ cs) low h ne = let z = ne c cs refl in (omega (arith, h.0, z), h.1)
 
 module _ (old out body : List bpf_insn) (cs : List Call) (bases : List ℕ) (i next : ℕ) where
-  more_whole : (s t : bpf_insn) → Copying old out body cs bases i next → slice_get body i ≡ Some s → t ≡ became bases (length out) (referred cs i) s → (out ++ t ∷ []) ++ copied bases cs (length (out ++ t ∷ [])) (i + 1) (drop (i + 1) body) ≡ old ++ copied bases cs (length old) 0 body
+  more_whole : (s t : bpf_insn) → Copying old out body cs bases i next → slice_get body i ≡ Some s → t ≡ linked_slot bases (length out) (referred cs i) s → (out ++ t ∷ []) ++ copied_slots bases cs (length (out ++ t ∷ [])) (i + 1) (drop (i + 1) body) ≡ old ++ copied_slots bases cs (length old) 0 body
   more_whole s t h at is =
       let size : length (out ++ t ∷ []) ≡ length out + 1 = length-append out (t ∷ []) in
-      append_assoc out (t ∷ []) (copied bases cs (length (out ++ t ∷ [])) (i + 1) (drop (i + 1) body))
-      ∙ ap (λ (n : ℕ). out ++ t ∷ copied bases cs n (i + 1) (drop (i + 1) body)) size
-      ∙ ap (λ (u : bpf_insn). out ++ u ∷ copied bases cs (length out + 1) (i + 1) (drop (i + 1) body)) is
-      ∙ ap (λ (u : List bpf_insn). out ++ copied bases cs (length out) i u) (sym (drop_get body i s at))
+      append_assoc out (t ∷ []) (copied_slots bases cs (length (out ++ t ∷ [])) (i + 1) (drop (i + 1) body))
+      ∙ ap (λ (n : ℕ). out ++ t ∷ copied_slots bases cs n (i + 1) (drop (i + 1) body)) size
+      ∙ ap (λ (u : bpf_insn). out ++ u ∷ copied_slots bases cs (length out + 1) (i + 1) (drop (i + 1) body)) is
+      ∙ ap (λ (u : List bpf_insn). out ++ copied_slots bases cs (length out) i u) (sym (drop_get body i s at))
       ∙ h.whole
 
   -- at a reference
-  pub refers : (s t : bpf_insn) (c : Call) (n : ℕ) → Copying old out body cs bases i next → slice_get body i ≡ Some s → slice_get cs next ≡ Some c → c.slot ≡ i → n ≡ length out → t ≡ became bases n (of_target c.target) s → Copying old (out ++ t ∷ []) body cs bases (i + 1) (next + 1)
+  pub refers : (s t : bpf_insn) (c : Call) (n : ℕ) → Copying old out body cs bases i next → slice_get body i ≡ Some s → slice_get cs next ≡ Some c → c.slot ≡ i → n ≡ length out → t ≡ linked_slot bases n (of_target c.target) s → Copying old (out ++ t ∷ []) body cs bases (i + 1) (next + 1)
   refers s t c n h at call slot size is' =
-      let is : t ≡ became bases (length out) (of_target c.target) s = is' ∙ ap (λ (m : ℕ). became bases m (of_target c.target) s) size in
+      let is : t ≡ linked_slot bases (length out) (of_target c.target) s = is' ∙ ap (λ (m : ℕ). linked_slot bases m (of_target c.target) s) size in
       let rest = drop_get cs next c call in
       let here : referred cs i ≡ of_target c.target = sym (h.same i (omega arith)) ∙ ap (λ (u : List Call). referred u i) rest ∙ rw (eq-eqb c.slot i slot) refl in
       let rises = subst (Rises i) rest h.rises in
       record {
-        whole = more_whole s t h at (is ∙ ap (λ (r : Reference ℕ Fault). became bases (length out) r s) (sym here));
+        whole = more_whole s t h at (is ∙ ap (λ (r : SlotReference ℕ Fault). linked_slot bases (length out) r s) (sym here));
         size = omega (arith, length-append out (t ∷ []), h.size);
         same = λ x le.
             let ne : c.slot ≡ x → ⊥ = λ (e : c.slot ≡ x). omega arith in
@@ -78,7 +78,7 @@ module _ (old out body : List bpf_insn) (cs : List Call) (bases : List ℕ) (i n
       let rises = rises_more (drop next cs) i h.rises (λ c more e slot. ne c (head_get cs next c more e) slot) in
       let none : referred cs i ≡ Nothing = sym (h.same i (omega arith)) ∙ nothing_below (drop next cs) (i + 1) i rises (omega arith) in
       record {
-        whole = more_whole s s h at (ap (λ (r : Reference ℕ Fault). became bases (length out) r s) (sym none));
+        whole = more_whole s s h at (ap (λ (r : SlotReference ℕ Fault). linked_slot bases (length out) r s) (sym none));
         size = omega (arith, length-append out (s ∷ []), h.size);
         same = λ x le. h.same x (omega arith);
         rises = rises;

@@ -10,13 +10,13 @@ use Rattle.ebpf_linker.specs.declared.reference.Target.{Target}
 use Rattle.ebpf_linker.specs.declared.reference.Target.TheVariants.{Function, Nowhere}
 use Rattle.ebpf_linker.specs.declared.reference.Call.{Call}
 use Rattle.ebpf_linker.specs.declared.search.Open.{Open}
-use Rattle.ebpf_linker.specs.Functions.{Nothing, Names, Functions, Among, Walk, last_of, total, body}
+use Rattle.ebpf_linker.specs.Functions.{Nothing, Names, Functions, Among, Walk, last_key_or, total, body}
 use Rattle.ebpf_linker.specs.Order.{Before, KeyPath}
-use Rattle.ebpf_linker.specs.Faults.{Base, CopyFault, StandsAt, Faultless, LeastFault, append_fault}
+use Rattle.ebpf_linker.specs.Faults.{Base, CopyFault, FaultStandsAt, Faultless, LeastFault, append_fault}
 use Rattle.ebpf_linker.specs.Answer.{IsOrder, IsFound}
 use Rattle.ebpf_linker.specs.Numbered.{of_target}
-use Rattle.ebpf_linker.specs.Steps.{Search, opened, StepTo, target_of}
-use Rattle.ebpf_linker.proofs.Following.{refs, Sought, rising}
+use Rattle.ebpf_linker.specs.Steps.{Search, opened, StepTo, call_target}
+use Rattle.ebpf_linker.proofs.Following.{refs, AreSorted, rising}
 use Rattle.ebpf_linker.proofs.Paths.{before_cases, distinct_more, last_of_last, walk_more, walk_same}
 use Rattle.ebpf_linker.proofs.Held.{Found, at_index}
 use Rattle.ebpf_linker.proofs.Cursor.{Apart, path_of, keys_of, walk_of, keys_found, keys_distinct, not_nil}
@@ -67,7 +67,7 @@ module _ (F : Functions ℕ Fault) (N : ℕ) (C : ℕ → List Call) (p : ℕ) w
   counted s t top h None a = subst (λ (u : Search). Counted F u.order u.used) (sym a.0) h
   counted s t top h (Some (Nowhere d)) a = cc (a.1)
   counted s t top h (Some (Function k)) a =
-      elim (cases_Bool (slice_index_or s.found k false)) [
+      elim (cases_Bool (slice_index_or s.is_found k false)) [
         | inl e ↦ let b = rw e at a in subst (λ (u : Search). Counted F u.order u.used) (sym b.0) h
         | inr e ↦ let b = rw e at a in counted_append s t top k h (append_fault F k s.used) refl b
       ]
@@ -78,20 +78,20 @@ module _ (F : Functions ℕ Fault) (N : ℕ) (C : ℕ → List Call) (p : ℕ) w
   not_here ks (suc j) path e apart firsts fits h pos at = fits_at F N C p ks j path e apart firsts h at (fits (suc j) h.key (omega arith) at)
 
   no_copy_fault : (o path : List ℕ) (f : List Bool) (s : List Open) (u : ℕ) (e : Fault) → State N C p o f s → Counted F o u → (h : CopyFault F (refs C) p path e) → Found o (length o) (Names h.key) → ⊥
-  no_copy_fault o path f s u e st n h found =
+  no_copy_fault o path f s u e st n h is_found =
       let (ks, is) = begins_with N C p o p st.start in
-      let (j, pos, lt, at) = found in
+      let (j, pos, lt, at) = is_found in
       let apart = subst Apart is st.apart in
       let firsts = subst (λ (v : List ℕ). (j k : ℕ) → 0 < j → slice_get v j ≡ Some k → First C p v j k) is st.firsts in
       let fits = subst (λ (v : List ℕ). (j k : ℕ) → 0 < j → slice_get v j ≡ Some k → append_fault F k (total F (take j v)) ≡ None) is n.fits in
       not_here ks j path e apart firsts fits h pos (ap (λ (v : List ℕ). slice_get v j) (sym is) ∙ at)
 
   -- no fault of any kind before the cursor
-  none_before : Sought N C → (o : List ℕ) (f : List Bool) (s : List Open) (top : Open) (r : Call) (u : ℕ) → State N C p o f (s ++ top ∷ []) → Counted F o u → slice_get (C top.function) top.next ≡ Some r → (other : List ℕ) (y : ℕ) (d : Fault) → StandsAt F (refs C) p other y d → Before (other ++ y ∷ []) (path_of C p (top ∷ reverse s) ++ r.slot ∷ []) → ⊥
+  none_before : AreSorted N C → (o : List ℕ) (f : List Bool) (s : List Open) (top : Open) (r : Call) (u : ℕ) → State N C p o f (s ++ top ∷ []) → Counted F o u → slice_get (C top.function) top.next ≡ Some r → (other : List ℕ) (y : ℕ) (d : Fault) → FaultStandsAt F (refs C) p other y d → Before (other ++ y ∷ []) (path_of C p (top ∷ reverse s) ++ r.slot ∷ []) → ⊥
   none_before sound o f s top r u h n at other y d (inl g) b = plain_before N C p sound o top (reverse s) r h.start (held_top N C p o s top h.held) at other y d g b
   none_before sound o f s top r u h n at other y d (inr g) b =
-      let found = before_found N C p sound o top (reverse s) r h.start (held_top N C p o s top h.held) at (other ++ y ∷ []) g.path_is.keys g.path_is.simple g.path_is.some b in
-      no_copy_fault o (other ++ y ∷ []) f (s ++ top ∷ []) u d h n g (subst (λ (v : ℕ). Found o (length o) (Names v)) g.path_is.ends found)
+      let is_found = before_found N C p sound o top (reverse s) r h.start (held_top N C p o s top h.held) at (other ++ y ∷ []) g.path_is.keys g.path_is.simple g.path_is.some b in
+      no_copy_fault o (other ++ y ∷ []) f (s ++ top ∷ []) u d h n g (subst (λ (v : ℕ). Found o (length o) (Names v)) g.path_is.ends is_found)
 
   lower : (ks path : List ℕ) (j k m : ℕ) → KeyPath (refs C) p k path → (first : First C p (p ∷ ks) (suc j) m) → (m ≡ k → ⊥) → (Found (p ∷ ks) (length (p ∷ ks)) (Names k) → ⊥) → slice_get ks j ≡ Some m → Before first.path path
   lower ks path j k m kp first ne fresh at =
@@ -99,19 +99,19 @@ module _ (F : Functions ℕ Fault) (N : ℕ) (C : ℕ → List Call) (p : ℕ) w
         | inl b ↦ b
         | inr (inl e) ↦
             let keys : first.keys ≡ kp.keys = walk_same (refs C) p path first.keys kp.keys (subst (λ (v : List ℕ). Walk (refs C) p v first.keys) e first.simple.walk) kp.simple.walk in
-            absurd (ne (sym first.ends ∙ ap (last_of p) keys ∙ kp.ends))
+            absurd (ne (sym first.ends ∙ ap (last_key_or p) keys ∙ kp.ends))
         | inr (inr b) ↦
             let (i, pos, lt, ai) = first.least path kp.keys kp.simple kp.some b in
-            let in' = slice_get_within (p ∷ ks) i (last_of p kp.keys) ai in
+            let in' = slice_get_within (p ∷ ks) i (last_key_or p kp.keys) ai in
             absurd (fresh (i, pos, in', ai ∙ ap Some kp.ends))
       ]
 
   -- the functions found are those with lower key paths
   base_now : (ks o path : List ℕ) (k : ℕ) → o ≡ p ∷ ks → Apart o → ((j m : ℕ) → 0 < j → slice_get o j ≡ Some m → First C p o j m) → KeyPath (refs C) p k path → ((m : ℕ) (y : List ℕ) → KeyPath (refs C) p m y → Before y path → Found o (length o) (Names m)) → (Found o (length o) (Names k) → ⊥) → Base F (refs C) p path (total F o)
-  base_now ks o path k is apart firsts kp found fresh =
+  base_now ks o path k is apart firsts kp is_found fresh =
       let apart' = subst Apart is apart in
       let firsts' = subst (λ (v : List ℕ). (j m : ℕ) → 0 < j → slice_get v j ≡ Some m → First C p v j m) is firsts in
-      let found' = subst (λ (v : List ℕ). (m : ℕ) (y : List ℕ) → KeyPath (refs C) p m y → Before y path → Found v (length v) (Names m)) is found in
+      let is_found' = subst (λ (v : List ℕ). (m : ℕ) (y : List ℕ) → KeyPath (refs C) p m y → Before y path → Found v (length v) (Names m)) is is_found in
       let fresh' = subst (λ (v : List ℕ). Found v (length v) (Names k) → ⊥) is fresh in
       record {
         earlier = ks;
@@ -122,18 +122,18 @@ module _ (F : Functions ℕ Fault) (N : ℕ) (C : ℕ → List Call) (p : ℕ) w
             let q = key_path N C p (p ∷ ks) (suc j) m apart' (omega arith) at first in
             let lt = slice_get_within ks j m at in
             (first.path, q, lower ks path j k m kp first (λ e. fresh' (suc j, omega arith, omega arith, at ∙ ap Some e)) fresh' at);
-        all = λ m y q b. let (j, pos, lt, at) = found' m y q b in earlier F N C p ks j m pos at;
+        all = λ m y q b. let (j, pos, lt, at) = is_found' m y q b in earlier F N C p ks j m pos at;
         size = ap (total F) is;
       }
 
   -- the function that can't have a copy
-  past_now : Sought N C → (o : List ℕ) (f : List Bool) (s : List Open) (top : Open) (r : Call) (k u : ℕ) (e : Fault) → State N C p o f (s ++ top ∷ []) → Counted F o u → slice_get (C top.function) top.next ≡ Some r → r.target ≡ Function k → slice_index_or f k false ≡ false → append_fault F k u ≡ Some e → CopyFault F (refs C) p (path_of C p (top ∷ reverse s) ++ r.slot ∷ []) e
+  past_now : AreSorted N C → (o : List ℕ) (f : List Bool) (s : List Open) (top : Open) (r : Call) (k u : ℕ) (e : Fault) → State N C p o f (s ++ top ∷ []) → Counted F o u → slice_get (C top.function) top.next ≡ Some r → r.target ≡ Function k → slice_index_or f k false ≡ false → append_fault F k u ≡ Some e → CopyFault F (refs C) p (path_of C p (top ∷ reverse s) ++ r.slot ∷ []) e
   past_now sound o f s top r k u e h n at to flag bad =
       let held = held_top N C p o s top h.held in
       let fresh = h.unmarked k flag in
       let es = top ∷ reverse s in
       let w = walk_of C p (rising sound) o (length o) top (reverse s) h.start held in
-      let leads : refs C (last_of p (keys_of C p es)) r.slot ≡ Names k = rw w.1 ((at_index (C top.function) 0 top.next r (sound.rises top.function) at).1 ∙ ap of_target to) in
+      let leads : refs C (last_key_or p (keys_of C p es)) r.slot ≡ Names k = rw w.1 ((at_index (C top.function) 0 top.next r (sound.rises top.function) at).1 ∙ ap of_target to) in
       let start = begins_with N C p o p h.start in
       let path = path_of C p es ++ r.slot ∷ [] in
       let kp : KeyPath (refs C) p k path = record {
@@ -146,61 +146,61 @@ module _ (F : Functions ℕ Fault) (N : ℕ) (C : ℕ → List Call) (p : ℕ) w
         some = not_nil (path_of C p es) r.slot;
         least = λ other others q ne ends b. fresh (subst (λ (v : ℕ). Found o (length o) (Names v)) ends (before_found N C p sound o top (reverse s) r h.start held at other others q ne b));
       } in
-      let found : (m : ℕ) (y : List ℕ) → KeyPath (refs C) p m y → Before y path → Found o (length o) (Names m) = λ m y q b. subst (λ (v : ℕ). Found o (length o) (Names v)) q.ends (before_found N C p sound o top (reverse s) r h.start held at y q.keys q.simple q.some b) in
+      let is_found : (m : ℕ) (y : List ℕ) → KeyPath (refs C) p m y → Before y path → Found o (length o) (Names m) = λ m y q b. subst (λ (v : ℕ). Found o (length o) (Names v)) q.ends (before_found N C p sound o top (reverse s) r h.start held at y q.keys q.simple q.some b) in
       record {
         key = k;
         base = total F o;
         path_is = kp;
-        base_is = base_now start.0 o path k start.1 h.apart h.firsts kp found (λ x. fresh x);
+        base_is = base_now start.0 o path k start.1 h.apart h.firsts kp is_found (λ x. fresh x);
         fault = ap (append_fault F k) (sym n.used) ∙ bad;
       }
 
-  refused_append : Sought N C → (s t : Search) (top : Open) (d : Fault) (r : Call) (k : ℕ) → State N C p s.order s.found (s.pending ++ top ∷ []) → Counted F s.order s.used → slice_get (C top.function) top.next ≡ Some r → r.target ≡ Function k → slice_index_or s.found k false ≡ false → (o : Option Fault) → append_fault F k s.used ≡ o → MatchOption o ((t ≡ opened F top s k) × (◌≡◌ {A = Option Fault} (Some d) None)) (λ e. (t ≡ s) × (◌≡◌ {A = Option Fault} (Some d) (Some e))) → LeastFault F (refs C) p d
+  refused_append : AreSorted N C → (s t : Search) (top : Open) (d : Fault) (r : Call) (k : ℕ) → State N C p s.order s.is_found (s.work_list ++ top ∷ []) → Counted F s.order s.used → slice_get (C top.function) top.next ≡ Some r → r.target ≡ Function k → slice_index_or s.is_found k false ≡ false → (o : Option Fault) → append_fault F k s.used ≡ o → MatchOption o ((t ≡ opened F top s k) × (◌≡◌ {A = Option Fault} (Some d) None)) (λ e. (t ≡ s) × (◌≡◌ {A = Option Fault} (Some d) (Some e))) → LeastFault F (refs C) p d
   refused_append sound s t top d r k h n at to flag None fit a = cc (a.1)
   refused_append sound s t top d r k h n at to flag (Some e) bad a =
       let same : e ≡ d = cc (a.1) in
       record {
-        path = path_of C p (top ∷ reverse s.pending);
+        path = path_of C p (top ∷ reverse s.work_list);
         slot = r.slot;
-        stands = inr (past_now sound s.order s.found s.pending top r k s.used d h n at to flag (bad ∙ ap Some same));
-        none_before = λ other y g q v. none_before sound s.order s.found s.pending top r s.used h n at other y g q v;
+        stands = inr (past_now sound s.order s.is_found s.work_list top r k s.used d h n at to flag (bad ∙ ap Some same));
+        none_before = λ other y g q v. none_before sound s.order s.is_found s.work_list top r s.used h n at other y g q v;
       }
 
-  refused_at : Sought N C → (s t : Search) (top : Open) (d : Fault) → State N C p s.order s.found (s.pending ++ top ∷ []) → Counted F s.order s.used → (r : Call) → slice_get (C top.function) top.next ≡ Some r → (g : Target) → r.target ≡ g → StepTo F top s t (Some d) (Some g) → LeastFault F (refs C) p d
+  refused_at : AreSorted N C → (s t : Search) (top : Open) (d : Fault) → State N C p s.order s.is_found (s.work_list ++ top ∷ []) → Counted F s.order s.used → (r : Call) → slice_get (C top.function) top.next ≡ Some r → (g : Target) → r.target ≡ g → StepTo F top s t (Some d) (Some g) → LeastFault F (refs C) p d
   refused_at sound s t top d h n r at (Nowhere g) to a =
       let same : g ≡ d = cc (a.1) in
-      let held = held_top N C p s.order s.pending top h.held in
+      let held = held_top N C p s.order s.work_list top h.held in
       record {
-        path = path_of C p (top ∷ reverse s.pending);
+        path = path_of C p (top ∷ reverse s.work_list);
         slot = r.slot;
-        stands = inl (fault_here N C p sound s.order top (reverse s.pending) r d h.start h.apart held at (to ∙ ap Nowhere same));
-        none_before = λ other y e q v. none_before sound s.order s.found s.pending top r s.used h n at other y e q v;
+        stands = inl (fault_here N C p sound s.order top (reverse s.work_list) r d h.start h.apart held at (to ∙ ap Nowhere same));
+        none_before = λ other y e q v. none_before sound s.order s.is_found s.work_list top r s.used h n at other y e q v;
       }
   refused_at sound s t top d h n r at (Function k) to a =
-      elim (cases_Bool (slice_index_or s.found k false)) [
+      elim (cases_Bool (slice_index_or s.is_found k false)) [
         | inl e ↦ let b = rw e at a in cc (b.1)
         | inr e ↦ let b = rw e at a in refused_append sound s t top d r k h n at to e (append_fault F k s.used) refl b
       ]
 
-  pub refused : Sought N C → (s t : Search) (top : Open) (d : Fault) → State N C p s.order s.found (s.pending ++ top ∷ []) → Counted F s.order s.used → (c : Option Call) → slice_get (C top.function) top.next ≡ c → StepTo F top s t (Some d) (target_of c) → LeastFault F (refs C) p d
+  pub refused : AreSorted N C → (s t : Search) (top : Open) (d : Fault) → State N C p s.order s.is_found (s.work_list ++ top ∷ []) → Counted F s.order s.used → (c : Option Call) → slice_get (C top.function) top.next ≡ c → StepTo F top s t (Some d) (call_target c) → LeastFault F (refs C) p d
   refused sound s t top d h n None at a = cc (a.1)
   refused sound s t top d h n (Some r) at a = refused_at sound s t top d h n r at r.target refl a
 
   -- the end
 
-  walk_among : (ks path keys : List ℕ) → IsOrder (refs C) p ks → Walk (refs C) p path keys → Among (p ∷ ks) (last_of p keys)
+  walk_among : (ks path keys : List ℕ) → IsOrder (refs C) p ks → Walk (refs C) p path keys → Among (p ∷ ks) (last_key_or p keys)
   walk_among ks [] [] order w = inl refl
   walk_among ks [] (k ∷ keys) order w = absurd w
-  walk_among ks (x ∷ path) keys order w = inr (order.complete (last_of p keys) (x, path, keys, w, refl))
+  walk_among ks (x ∷ path) keys order w = inr (order.complete (last_key_or p keys) (x, path, keys, w, refl))
 
-  key_reached : (ks path : List ℕ) (k : ℕ) → IsOrder (refs C) p ks → (keys : List ℕ) → path ≢ [] → Walk (refs C) p path keys → last_of p keys ≡ k → Among ks k
+  key_reached : (ks path : List ℕ) (k : ℕ) → IsOrder (refs C) p ks → (keys : List ℕ) → path ≢ [] → Walk (refs C) p path keys → last_key_or p keys ≡ k → Among ks k
   key_reached ks [] k order keys ne w e = absurd (ne refl)
   key_reached ks (x ∷ path) k order keys ne w e = order.complete k (x, path, keys, w, e)
 
   faultless : (ks : List ℕ) (f : List Bool) (u : ℕ) → State N C p (p ∷ ks) f [] → Counted F (p ∷ ks) u → IsOrder (refs C) p ks → Faultless F (refs C) p
   faultless ks f u st n order path x e (inl h) =
-      let some : refs C (last_of p h.keys) x ≢ Nothing = λ (z : refs C (last_of p h.keys) x ≡ Nothing). cc (h.fault) in
-      let (m, is, a) = order.resolved (last_of p h.keys) x (walk_among ks path h.keys order h.simple.walk) some in
+      let some : refs C (last_key_or p h.keys) x ≢ Nothing = λ (z : refs C (last_key_or p h.keys) x ≡ Nothing). cc (h.fault) in
+      let (m, is, a) = order.resolved (last_key_or p h.keys) x (walk_among ks path h.keys order h.simple.walk) some in
       cc (h.fault, is)
   faultless ks f u st n order path x e (inr h) =
       let a = key_reached ks (path ++ x ∷ []) h.key order h.path_is.keys h.path_is.some h.path_is.simple.walk h.path_is.ends in

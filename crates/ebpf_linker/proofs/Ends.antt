@@ -10,9 +10,9 @@ use Rattle.ebpf_linker.specs.declared.reference.Call.{Call}
 use Rattle.ebpf_linker.specs.declared.search.Open.{Open}
 use Rattle.ebpf_linker.specs.Functions.{Functions}
 use Rattle.ebpf_linker.specs.Faults.{append_fault}
-use Rattle.ebpf_linker.specs.Numbered.{IsIn}
-use Rattle.ebpf_linker.specs.Steps.{Search, passed, opened, StepTo, target_of, Advanced}
-use Rattle.ebpf_linker.proofs.Following.{Sought}
+use Rattle.ebpf_linker.specs.Numbered.{IsWithin}
+use Rattle.ebpf_linker.specs.Steps.{Search, passed, opened, StepTo, call_target, Advanced}
+use Rattle.ebpf_linker.proofs.Following.{AreSorted}
 
 -- what is left to follow in the open functions
 abbrev pub left_in : (ℕ → List Call) → List Open → ℕ
@@ -38,37 +38,37 @@ unfound_set (b ∷ f) C i j (suc k) is flag lt = omega (arith, unfound_set f C (
 
 -- what is left to follow in all
 abbrev pub left_of : (ℕ → List Call) → Search → ℕ
-left_of C s = unfound s.found C 0 + left_in C s.pending
+left_of C s = unfound s.is_found C 0 + left_in C s.work_list
 
 module _ (F : Functions ℕ Fault) (N : ℕ) (C : ℕ → List Call) (top : Open) (s t : Search) where
   abbrev Falls : Type 0
-  Falls = left_of C t < unfound s.found C 0 + left_in C (s.pending ++ top ∷ [])
+  Falls = left_of C t < unfound s.is_found C 0 + left_in C (s.work_list ++ top ∷ [])
 
-  by_append : (k : ℕ) → k < length s.found → slice_index_or s.found k false ≡ false → (o : Option Fault) → MatchOption o ((t ≡ opened F top s k) × (◌≡◌ {A = Option Fault} None None)) (λ e. (t ≡ s) × (◌≡◌ {A = Option Fault} None (Some e))) → Falls
+  by_append : (k : ℕ) → k < length s.is_found → slice_index_or s.is_found k false ≡ false → (o : Option Fault) → MatchOption o ((t ≡ opened F top s k) × (◌≡◌ {A = Option Fault} None None)) (λ e. (t ≡ s) × (◌≡◌ {A = Option Fault} None (Some e))) → Falls
   by_append k inside flag None a =
       let new : Open = record { copy = length s.order; function = k; next = 0 } in
-      let e = unfound_set s.found C 0 k k (omega arith) flag inside in
-      let m = left_more C (s.pending ++ top ∷ []) (new ∷ []) in
+      let e = unfound_set s.is_found C 0 k k (omega arith) flag inside in
+      let m = left_more C (s.work_list ++ top ∷ []) (new ∷ []) in
       let z = ap (left_of C) a.0 in
       omega (arith, e, m, z)
   by_append k inside flag (Some d) a = cc (a.1)
 
-  by_flag : (k : ℕ) → top.next < length (C top.function) → k < length s.found → (b : Bool) → slice_index_or s.found k false ≡ b → MatchBool b ((t ≡ passed top s) × (◌≡◌ {A = Option Fault} None None)) (MatchOption (append_fault F k s.used) ((t ≡ opened F top s k) × (◌≡◌ {A = Option Fault} None None)) (λ e. (t ≡ s) × (◌≡◌ {A = Option Fault} None (Some e)))) → Falls
+  by_flag : (k : ℕ) → top.next < length (C top.function) → k < length s.is_found → (b : Bool) → slice_index_or s.is_found k false ≡ b → MatchBool b ((t ≡ passed top s) × (◌≡◌ {A = Option Fault} None None)) (MatchOption (append_fault F k s.used) ((t ≡ opened F top s k) × (◌≡◌ {A = Option Fault} None None)) (λ e. (t ≡ s) × (◌≡◌ {A = Option Fault} None (Some e)))) → Falls
   by_flag k lt inside true flag a =
       let next : Open = record top { next = top.next + 1 } in
       let z = ap (left_of C) a.0 in
-      omega (arith, z, left_more C s.pending (next ∷ []), left_more C s.pending (top ∷ []))
+      omega (arith, z, left_more C s.work_list (next ∷ []), left_more C s.work_list (top ∷ []))
   by_flag k lt inside false flag a = by_append k inside flag (append_fault F k s.used) a
 
-  step_to : (r : Call) → Sought N C → length s.found ≡ N → slice_get (C top.function) top.next ≡ Some r → (g : Target) → r.target ≡ g → StepTo F top s t None (Some g) → Falls
+  step_to : (r : Call) → AreSorted N C → length s.is_found ≡ N → slice_get (C top.function) top.next ≡ Some r → (g : Target) → r.target ≡ g → StepTo F top s t None (Some g) → Falls
   step_to r sound size at (Nowhere d) to a = cc (a.1)
   step_to r sound size at (Function k) to a =
-      let inside : k < N = subst (IsIn N) to (sound.within top.function top.next r at) in
-      by_flag k (slice_get_within (C top.function) top.next r at) (omega (arith, size)) (slice_index_or s.found k false) refl a
+      let inside : k < N = subst (IsWithin N) to (sound.within top.function top.next r at) in
+      by_flag k (slice_get_within (C top.function) top.next r at) (omega (arith, size)) (slice_index_or s.is_found k false) refl a
 
-  stepped : Sought N C → length s.found ≡ N → (c : Option Call) → slice_get (C top.function) top.next ≡ c → StepTo F top s t None (target_of c) → Falls
-  stepped sound size None at a = let z = ap (left_of C) a.0 in omega (arith, z, left_more C s.pending (top ∷ []))
+  stepped : AreSorted N C → length s.is_found ≡ N → (c : Option Call) → slice_get (C top.function) top.next ≡ c → StepTo F top s t None (call_target c) → Falls
+  stepped sound size None at a = let z = ap (left_of C) a.0 in omega (arith, z, left_more C s.work_list (top ∷ []))
   stepped sound size (Some r) at a = step_to r sound size at r.target refl a
 
-  pub less_left : Sought N C → length s.found ≡ N → Advanced F C top s t None → Falls
+  pub less_left : AreSorted N C → length s.is_found ≡ N → Advanced F C top s t None → Falls
   less_left sound size a = stepped sound size (slice_get (C top.function) top.next) refl a

@@ -4,7 +4,7 @@ use Rattle.std.specs.Prelude.{slice_get}
 use Rattle.ebpf_linker.specs.declared.reference.Call.{Call}
 use Rattle.ebpf_linker.specs.declared.reference.Fault.{Fault}
 use Rattle.ebpf_linker.specs.Functions.{References}
-use Rattle.ebpf_linker.specs.Numbered.{referred, Rises, IsIn}
+use Rattle.ebpf_linker.specs.Numbered.{referred, Rises, IsWithin}
 
 -- what slots refer to, by the references of each function
 abbrev pub refs : (ℕ → List Call) → References ℕ Fault
@@ -15,9 +15,9 @@ pub record Rising (C : ℕ → List Call) : Type 0 where
   pub rises : (k : ℕ) → Rises 0 (C k)
 
 -- .. and lead to one of N functions
-pub record Sought (N : ℕ) (C : ℕ → List Call) : Type 0 where
+pub record AreSorted (N : ℕ) (C : ℕ → List Call) : Type 0 where
   pub rises : (k : ℕ) → Rises 0 (C k)
-  pub within : (k i : ℕ) (c : Call) → slice_get (C k) i ≡ Some c → IsIn N c.target
+  pub within : (k i : ℕ) (c : Call) → slice_get (C k) i ≡ Some c → IsWithin N c.target
 
-abbrev pub rising : {N : ℕ} {C : ℕ → List Call} → Sought N C → Rising C
+abbrev pub rising : {N : ℕ} {C : ℕ → List Call} → AreSorted N C → Rising C
 rising sound = record { rises = sound.rises }

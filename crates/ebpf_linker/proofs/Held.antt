@@ -7,7 +7,7 @@ use Rattle.ebpf_linker.specs.declared.reference.Fault.{Fault}
 use Rattle.ebpf_linker.specs.declared.reference.Target.TheVariants.{Function}
 use Rattle.ebpf_linker.specs.declared.reference.Call.{Call}
 use Rattle.ebpf_linker.specs.declared.search.Open.{Open}
-use Rattle.ebpf_linker.specs.Functions.{Reference, Nothing, Faulty, Names, Among}
+use Rattle.ebpf_linker.specs.Functions.{SlotReference, Nothing, Faulty, Names, Among}
 use Rattle.ebpf_linker.specs.Numbered.{of_target, referred, Rises}
 
 -- lists by their places
@@ -68,17 +68,17 @@ rises_index (c ∷ cs) low (suc i) zero r s h e f lt =
 rises_index (c ∷ cs) low (suc i) (suc j) r s h e f lt = omega (arith, rises_index cs (c.slot + 1) i j r s h.1 e f lt)
 
 -- one of the functions found, after the first, below n
-abbrev pub Found : List ℕ → ℕ → Reference ℕ Fault → Type 0
+abbrev pub Found : List ℕ → ℕ → SlotReference ℕ Fault → Type 0
 Found o n Nothing = ⊥
 Found o n (Faulty e) = ⊥
 Found o n (Names k) = (j : ℕ) × (0 < j) × (j < n) × (slice_get o j ≡ Some k)
 
-pub found_up : (o : List ℕ) (m n : ℕ) (r : Reference ℕ Fault) → m ≤ n → Found o m r → Found o n r
+pub found_up : (o : List ℕ) (m n : ℕ) (r : SlotReference ℕ Fault) → m ≤ n → Found o m r → Found o n r
 found_up o m n Nothing le h = absurd h
 found_up o m n (Faulty e) le h = absurd h
 found_up o m n (Names k) le (j, pos, lt, e) = (j, pos, omega arith, e)
 
-pub found_more : (o ys : List ℕ) (n : ℕ) (r : Reference ℕ Fault) → Found o n r → Found (o ++ ys) n r
+pub found_more : (o ys : List ℕ) (n : ℕ) (r : SlotReference ℕ Fault) → Found o n r → Found (o ++ ys) n r
 found_more o ys n Nothing h = absurd h
 found_more o ys n (Faulty e) h = absurd h
 found_more o ys n (Names k) (j, pos, lt, e) = (j, pos, lt, get_more o ys j k e)
@@ -92,7 +92,7 @@ pub record Done (C : ℕ → List Call) (o : List ℕ) (n f next : ℕ) : Type 0
   pub leads : (i : ℕ) (r : Call) → i < next → slice_get (C f) i ≡ Some r → Found o n (of_target r.target)
 
 -- in each function found below n that is not open, all references do
-pub record Settled (C : ℕ → List Call) (o : List ℕ) (n : ℕ) (es : List Open) : Type 0 where
+pub record AreDone (C : ℕ → List Call) (o : List ℕ) (n : ℕ) (es : List Open) : Type 0 where
   pub leads : (c f i : ℕ) (r : Call) → c < n → slice_get o c ≡ Some f → (Among (copies es) c → ⊥) → slice_get (C f) i ≡ Some r → Found o n (of_target r.target)
 
 pub record Entry (C : ℕ → List Call) (o : List ℕ) (n : ℕ) (e : Open) : Type 0 where
@@ -108,14 +108,14 @@ pub record Leads (C : ℕ → List Call) (f e : Open) : Type 0 where
 
 -- the open functions, the last one first, when n functions were found: what held when each was opened still holds of those that were found before it
 abbrev pub Held : (ℕ → List Call) → List ℕ → ℕ → List Open → Type 0
-Held C o n [] = Settled C o n []
-Held C o n (e ∷ []) = Settled C o n (e ∷ []) × Entry C o n e × (e.copy ≡ 0)
-Held C o n (e ∷ f ∷ es) = Settled C o n (e ∷ f ∷ es) × Entry C o n e × Leads C f e × Held C o e.copy (f ∷ es)
+Held C o n [] = AreDone C o n []
+Held C o n (e ∷ []) = AreDone C o n (e ∷ []) × Entry C o n e × (e.copy ≡ 0)
+Held C o n (e ∷ f ∷ es) = AreDone C o n (e ∷ f ∷ es) × Entry C o n e × Leads C f e × Held C o e.copy (f ∷ es)
 
 module _ (C : ℕ → List Call) where
-  pub held_settled : (o : List ℕ) (n : ℕ) (e : Open) (es : List Open) → Held C o n (e ∷ es) → Settled C o n (e ∷ es)
-  held_settled o n e [] h = h.0
-  held_settled o n e (f ∷ es) h = h.0
+  pub held_done : (o : List ℕ) (n : ℕ) (e : Open) (es : List Open) → Held C o n (e ∷ es) → AreDone C o n (e ∷ es)
+  held_done o n e [] h = h.0
+  held_done o n e (f ∷ es) h = h.0
 
   pub held_entry : (o : List ℕ) (n : ℕ) (e : Open) (es : List Open) → Held C o n (e ∷ es) → Entry C o n e
   held_entry o n e [] h = h.1
@@ -128,12 +128,12 @@ module _ (C : ℕ → List Call) where
   entry_up o m n e le h = record { function = h.function; below = omega (arith, h.below); done = done_up o m n e.function e.next le h.done }
 
   -- the same functions are open, and what is settled is given
-  raised : (o : List ℕ) (m n : ℕ) (e : Open) (es : List Open) → m ≤ n → Settled C o n (e ∷ es) → Held C o m (e ∷ es) → Held C o n (e ∷ es)
+  raised : (o : List ℕ) (m n : ℕ) (e : Open) (es : List Open) → m ≤ n → AreDone C o n (e ∷ es) → Held C o m (e ∷ es) → Held C o n (e ∷ es)
   raised o m n e [] le s h = (s, entry_up o m n e le h.1, h.2)
   raised o m n e (f ∷ es) le s h = (s, entry_up o m n e le h.1, h.2, h.3)
 
-  settled_pop : (o : List ℕ) (n : ℕ) (e : Open) (es : List Open) → length (C e.function) ≤ e.next → Settled C o n (e ∷ es) → Entry C o n e → Settled C o n es
-  settled_pop o n e es over s t =
+  done_pop : (o : List ℕ) (n : ℕ) (e : Open) (es : List Open) → length (C e.function) ≤ e.next → AreDone C o n (e ∷ es) → Entry C o n e → AreDone C o n es
+  done_pop o n e es over s t =
       record {
         leads = λ c f i r lt at apart call.
             elim (cases_eq c e.copy) [
@@ -147,8 +147,8 @@ module _ (C : ℕ → List Call) where
 
   -- a function whose references are all done is no longer open
   pub held_pop : (o : List ℕ) (n : ℕ) (e : Open) (es : List Open) → length (C e.function) ≤ e.next → Held C o n (e ∷ es) → Held C o n es
-  held_pop o n e [] over h = settled_pop o n e [] over h.0 h.1
-  held_pop o n e (f ∷ es) over h = raised o e.copy n f es (omega (arith, h.1.below)) (settled_pop o n e (f ∷ es) over h.0 h.1) h.3
+  held_pop o n e [] over h = done_pop o n e [] over h.0 h.1
+  held_pop o n e (f ∷ es) over h = raised o e.copy n f es (omega (arith, h.1.below)) (done_pop o n e (f ∷ es) over h.0 h.1) h.3
 
   done_next : (o : List ℕ) (n f next : ℕ) (r : Call) → slice_get (C f) next ≡ Some r → Found o n (of_target r.target) → Done C o n f next → Done C o n f (next + 1)
   done_next o n f next r at found h =
@@ -168,8 +168,8 @@ module _ (C : ℕ → List Call) where
   held_next o n e [] r at found h = (record { leads = h.0.leads }, entry_next o n e r at found h.1, h.2)
   held_next o n e (f ∷ es) r at found h = (record { leads = h.0.leads }, entry_next o n e r at found h.1, record { call = h.2.call; at = h.2.at; to = h.2.to }, h.3)
 
-  settled_more : (o ys : List ℕ) (n : ℕ) (es : List Open) → n ≤ length o → Settled C o n es → Settled C (o ++ ys) n es
-  settled_more o ys n es le s =
+  done_more : (o ys : List ℕ) (n : ℕ) (es : List Open) → n ≤ length o → AreDone C o n es → AreDone C (o ++ ys) n es
+  done_more o ys n es le s =
       record { leads = λ c f i r lt at apart call. found_more o ys n (of_target r.target) (s.leads c f i r lt (get_back o ys c f (omega arith) at) apart call) }
 
   entry_more : (o ys : List ℕ) (n : ℕ) (e : Open) → Entry C o n e → Entry C (o ++ ys) n e
@@ -181,10 +181,10 @@ module _ (C : ℕ → List Call) where
       }
 
   held_more : (o ys : List ℕ) (n : ℕ) (es : List Open) → n ≤ length o → Held C o n es → Held C (o ++ ys) n es
-  held_more o ys n [] le h = settled_more o ys n [] le h
-  held_more o ys n (e ∷ []) le h = (settled_more o ys n (e ∷ []) le h.0, entry_more o ys n e h.1, h.2)
+  held_more o ys n [] le h = done_more o ys n [] le h
+  held_more o ys n (e ∷ []) le h = (done_more o ys n (e ∷ []) le h.0, entry_more o ys n e h.1, h.2)
   held_more o ys n (e ∷ f ∷ es) le h =
-      (settled_more o ys n (e ∷ f ∷ es) le h.0, entry_more o ys n e h.1, h.2, held_more o ys e.copy (f ∷ es) (omega (arith, h.1.below)) h.3)
+      (done_more o ys n (e ∷ f ∷ es) le h.0, entry_more o ys n e h.1, h.2, held_more o ys e.copy (f ∷ es) (omega (arith, h.1.below)) h.3)
 
   -- a reference to a function that was not found, which is opened
   pub held_push : (o : List ℕ) (k : ℕ) (e : Open) (es : List Open) (r : Call) → slice_get (C e.function) e.next ≡ Some r → r.target ≡ Function k → Held C o (length o) (e ∷ es) → Held C (o ++ k ∷ []) (length o + 1) (record { copy = length o; function = k; next = 0 } ∷ e ∷ es)
@@ -196,7 +196,7 @@ module _ (C : ℕ → List Call) where
             | inr other ↦
                 let below : c < length o = omega arith in
                 let was = get_back o (k ∷ []) c f below at' in
-                let found = (held_settled o (length o) e es h).leads c f i s below was (λ a. apart (inr a)) call in
+                let found = (held_done o (length o) e es h).leads c f i s below was (λ a. apart (inr a)) call in
                 found_up (o ++ k ∷ []) (length o) (length o + 1) (of_target s.target) (omega arith) (found_more o (k ∷ []) (length o) (of_target s.target) found)
           ];
     },

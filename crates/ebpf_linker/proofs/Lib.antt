@@ -10,21 +10,21 @@ pub mod Searched
 pub mod Ends
 pub mod Copying
 pub mod Whole
-pub mod Placed
+pub mod BasesInOrder
 pub mod Plain
 pub mod Readying
 pub mod Moved
 pub mod RecordWalks
 pub mod Past
 pub mod Counted
-pub mod Seen
+pub mod Checked
 pub mod Soundly
 pub mod Renamed
 pub mod Carry
-pub mod MapWalks
-pub mod Mapping
-pub mod CarryMap
-pub mod OneMap
+pub mod LinkMapWalks
+pub mod LinkMaps
+pub mod CarryLinkMap
+pub mod OneLinkMap
 pub mod Written
 pub mod Unmarked
 mod Rows

@@ -1,8 +1,8 @@
 -- The same functions under other keys and with other names of faults.
 use Rattle.std.proofs.Common.{◌≡◌, ℕ}
-use Rattle.ebpf_linker.specs.Functions.{Reference, Nothing, Faulty, Names, Functions}
+use Rattle.ebpf_linker.specs.Functions.{SlotReference, Nothing, Faulty, Names, Functions}
 
-abbrev pub renamed : {M D K E : Type 0} → (M → K) → (D → E) → Reference M D → Reference K E
+abbrev pub renamed : {M D K E : Type 0} → (M → K) → (D → E) → SlotReference M D → SlotReference K E
 renamed key name Nothing = Nothing
 renamed key name (Faulty d) = Faulty (name d)
 renamed key name (Names m) = Names (key m)

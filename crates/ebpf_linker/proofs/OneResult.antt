@@ -6,9 +6,9 @@ use Rattle.std.proofs.lemmas.Option.{slice_get_cases}
 use Rattle.ebpf_parts.specs.declared.insn.bpf_insn.{bpf_insn}
 use Rattle.ebpf_linker.specs.declared.body.LinkedProgram.{LinkedProgram}
 use Rattle.ebpf_linker.specs.Slots.{relinked}
-use Rattle.ebpf_linker.specs.Functions.{Reference, Nothing, Faulty, Names, References, Functions, body, Among, Distinct, BeginsAt, Becomes, Linked, Walk, last_of, total}
-use Rattle.ebpf_linker.specs.Order.{Before, HasFault, InOrder}
-use Rattle.ebpf_linker.specs.Faults.{StandsAt, LeastFault, append_fault, linking}
+use Rattle.ebpf_linker.specs.Functions.{SlotReference, Nothing, Faulty, Names, References, Functions, body, Among, Distinct, BeginsAt, Becomes, Linked, Walk, last_key_or, total}
+use Rattle.ebpf_linker.specs.Order.{Before, HasReferenceFault, InKeyPathOrder}
+use Rattle.ebpf_linker.specs.Faults.{FaultStandsAt, LeastFault, append_fault, checked_references}
 use Rattle.ebpf_linker.specs.Records.{has_lines, count_if}
 use Rattle.ebpf_linker.specs.Faults.{has_some}
 use Rattle.ebpf_linker.specs.Result.{IsProgram}
@@ -32,11 +32,11 @@ place_of (m ∷ ks) k (inl e) = (0, ap Some e)
 place_of (m ∷ ks) k (inr a) = let (i, at) = place_of ks k a in (suc i, at)
 
 module _ {K E : Type 0} (R : References K E) (p : K) where
-  later_in_order : (k : K) (ks : List K) → InOrder R p (k ∷ ks) → InOrder R p ks
+  later_in_order : (k : K) (ks : List K) → InKeyPathOrder R p (k ∷ ks) → InKeyPathOrder R p ks
   later_in_order k ks h = (λ m a. h.0 m (inr a), λ i j m n x y lt at at' a b. h.1 (suc i) (suc j) m n x y (omega arith) at at' a b)
 
   -- the first of two lists of the same keys
-  same_first : (k m : K) (ks ms : List K) → InOrder R p (k ∷ ks) → InOrder R p (m ∷ ms) → Among (k ∷ ks) m → Among (m ∷ ms) k → k ≡ m
+  same_first : (k m : K) (ks ms : List K) → InKeyPathOrder R p (k ∷ ks) → InKeyPathOrder R p (m ∷ ms) → Among (k ∷ ks) m → Among (m ∷ ms) k → k ≡ m
   same_first k m ks ms h g (inl e) b = e
   same_first k m ks ms h g (inr a) (inl e) = sym e
   same_first k m ks ms h g (inr a) (inr b) =
@@ -47,7 +47,7 @@ module _ {K E : Type 0} (R : References K E) (p : K) where
       absurd (not_both x y (h.1 0 (suc i) k m x y (omega arith) refl at kx my) (g.1 0 (suc j) m k y x (omega arith) refl at' my kx))
 
   -- one list has these keys in the order of their key paths
-  pub one_order : (ks ms : List K) → Distinct ks → Distinct ms → InOrder R p ks → InOrder R p ms → ((k : K) → Among ks k → Among ms k) → ((k : K) → Among ms k → Among ks k) → ks ≡ ms
+  pub one_order : (ks ms : List K) → Distinct ks → Distinct ms → InKeyPathOrder R p ks → InKeyPathOrder R p ms → ((k : K) → Among ks k → Among ms k) → ((k : K) → Among ms k → Among ks k) → ks ≡ ms
   one_order [] [] a b h g to from = refl
   one_order [] (m ∷ ms) a b h g to from = absurd (from m (inl refl))
   one_order (k ∷ ks) [] a b h g to from = absurd (to k (inl refl))
@@ -100,7 +100,7 @@ module _ {K E : Type 0} (F : Functions K E) where
   one_begin (m ∷ ks) k b c once (inr h) (inl g) = absurd (once.0 (subst (λ (r : K). Among ks r) (sym g.0) (begins_among F ks k h.0 h.2)))
   one_begin (m ∷ ks) k b c once (inr h) (inr g) = h.1 ∙ ap (λ n. length (body F m) + n) (one_begin ks k h.0 g.0 once.1 h.2 g.2) ∙ sym g.1
 
-  becomes_one : (p : K) (ks : List K) (place : ℕ) (r : Reference K E) (s t u : bpf_insn) → Distinct ks → Becomes F p ks place r s t → Becomes F p ks place r s u → t ≡ u
+  becomes_one : (p : K) (ks : List K) (place : ℕ) (r : SlotReference K E) (s t u : bpf_insn) → Distinct ks → Becomes F p ks place r s t → Becomes F p ks place r s u → t ≡ u
   becomes_one p ks place Nothing s t u once h g = h ∙ sym g
   becomes_one p ks place (Faulty e) s t u once h g = absurd h
   becomes_one p ks place (Names k) s t u once h g =
@@ -120,7 +120,7 @@ module _ {K E : Type 0} (F : Functions K E) where
   pub plain_stays : (p : K) (ks : List K) (out : List bpf_insn) → Linked F p ks out → (k : K) (b i : ℕ) (s : bpf_insn) → BeginsAt F (p ∷ ks) k b → slice_get (body F k) i ≡ Some s → F.reference k i ≡ Nothing → slice_get out (b + i) ≡ Some s
   plain_stays p ks out h k b i s begins at none =
       let t = h.slots k b i s begins at in
-      t.1 ∙ ap Some (subst (λ (r : Reference K E). Becomes F p ks (b + i) r s t.0) none t.2)
+      t.1 ∙ ap Some (subst (λ (r : SlotReference K E). Becomes F p ks (b + i) r s t.0) none t.2)
 
   -- ---- the program
 
@@ -145,24 +145,24 @@ same_error : {E : Type 0} (d e : E) (o : Option E) → o ≡ Some d → o ≡ So
 same_error d e o a b = cc
 
 module _ {K E : Type 0} (F : Functions K E) (R : References K E) (p : K) where
-  ends_where : (path : List ℕ) (k m : K) (ks ms : List K) → Walk R p path ks → Walk R p path ms → last_of p ks ≡ k → last_of p ms ≡ m → k ≡ m
-  ends_where path k m ks ms w v a b = sym a ∙ ap (last_of p) (walk_same R p path ks ms w v) ∙ b
+  ends_where : (path : List ℕ) (k m : K) (ks ms : List K) → Walk R p path ks → Walk R p path ms → last_key_or p ks ≡ k → last_key_or p ms ≡ m → k ≡ m
+  ends_where path k m ks ms w v a b = sym a ∙ ap (last_key_or p) (walk_same R p path ks ms w v) ∙ b
 
   -- a slot that refers to what can't be had leads nowhere
-  no_way : (path : List ℕ) (x : ℕ) (d : E) (keys : List K) → HasFault R p path x d → Walk R p (path ++ x ∷ []) keys → ⊥
+  no_way : (path : List ℕ) (x : ℕ) (d : E) (keys : List K) → HasReferenceFault R p path x d → Walk R p (path ++ x ∷ []) keys → ⊥
   no_way path x d keys h w =
       let parts = walk_parts R p path (x ∷ []) keys w in
       let same : parts.front ≡ h.keys = walk_same R p path parts.front h.keys parts.first h.simple.walk in
-      step parts.back parts.second (ap (λ (ks : List K). R (last_of p ks) x) same ∙ h.fault)
+      step parts.back parts.second (ap (λ (ks : List K). R (last_key_or p ks) x) same ∙ h.fault)
     where
       step : {from : K} (back : List K) → Walk R from (x ∷ []) back → R from x ≡ Faulty d → ⊥
       step [] v e = v
       step (k ∷ back) v e = cc (v.0, e)
 
-  one_at : (path : List ℕ) (x : ℕ) (d e : E) → StandsAt F R p path x d → StandsAt F R p path x e → d ≡ e
+  one_at : (path : List ℕ) (x : ℕ) (d e : E) → FaultStandsAt F R p path x d → FaultStandsAt F R p path x e → d ≡ e
   one_at path x d e (inl h) (inl g) =
       let same : h.keys ≡ g.keys = walk_same R p path h.keys g.keys h.simple.walk g.simple.walk in
-      let both : Faulty d ≡ Faulty e = sym h.fault ∙ ap (λ (ks : List K). R (last_of p ks) x) same ∙ g.fault in
+      let both : Faulty d ≡ Faulty e = sym h.fault ∙ ap (λ (ks : List K). R (last_key_or p ks) x) same ∙ g.fault in
       cc
   one_at path x d e (inl h) (inr g) = absurd (no_way path x d g.path_is.keys h g.path_is.simple.walk)
   one_at path x d e (inr h) (inl g) = absurd (no_way path x e h.path_is.keys g h.path_is.simple.walk)
@@ -176,10 +176,10 @@ module _ {K E : Type 0} (F : Functions K E) (R : References K E) (p : K) where
     | inl b ↦ absurd (g.none_before h.path h.slot d h.stands b)
     | inr (inl same) ↦
         let (path, slot) = last_same h.path g.path h.slot g.slot same in
-        one_at g.path g.slot d e (subst (λ (x : List ℕ). StandsAt F R p x g.slot d) path (subst (λ (x : ℕ). StandsAt F R p h.path x d) slot h.stands)) g.stands
+        one_at g.path g.slot d e (subst (λ (x : List ℕ). FaultStandsAt F R p x g.slot d) path (subst (λ (x : ℕ). FaultStandsAt F R p h.path x d) slot h.stands)) g.stands
     | inr (inr b) ↦ absurd (h.none_before g.path g.slot e g.stands b)
   ]
 
 -- a program is linked, or has a least fault, but not both
-pub not_linked : {K E : Type 0} (F : Functions K E) (p : K) (ks : List K) (l : LinkedProgram) (e : E) → IsProgram F p ks l → LeastFault F (linking F p) p e → ⊥
+pub not_linked : {K E : Type 0} (F : Functions K E) (p : K) (ks : List K) (l : LinkedProgram) (e : E) → IsProgram F p ks l → LeastFault F (checked_references F p) p e → ⊥
 not_linked F p ks l e h g = h.faultless g.path g.slot e g.stands

@@ -4,7 +4,7 @@ use Rattle.std.specs.Prelude.{slice_get}
 use Rattle.ebpf_linker.specs.declared.reference.Fault.{Fault}
 use Rattle.ebpf_linker.specs.declared.reference.Call.{Call}
 use Rattle.ebpf_linker.specs.Functions.{Functions, Among, total}
-use Rattle.ebpf_linker.specs.Order.{Before, KeyPath, InOrder}
+use Rattle.ebpf_linker.specs.Order.{Before, KeyPath, InKeyPathOrder}
 use Rattle.ebpf_linker.specs.Faults.{CopyFault, append_fault}
 use Rattle.ebpf_linker.proofs.Following.{refs}
 use Rattle.ebpf_linker.proofs.Cursor.{Apart}
@@ -13,7 +13,7 @@ use Rattle.ebpf_linker.proofs.Bases.{one_base, one_key_path, base_at}
 
 module _ (F : Functions ℕ Fault) (N : ℕ) (C : ℕ → List Call) (p : ℕ) where
   -- what was found so far is in order
-  pub so_far : (ks : List ℕ) → Apart (p ∷ ks) → ((j k : ℕ) → 0 < j → slice_get (p ∷ ks) j ≡ Some k → First C p (p ∷ ks) j k) → InOrder (refs C) p ks
+  pub so_far : (ks : List ℕ) → Apart (p ∷ ks) → ((j k : ℕ) → 0 < j → slice_get (p ∷ ks) j ≡ Some k → First C p (p ∷ ks) j k) → InKeyPathOrder (refs C) p ks
   so_far ks apart firsts = (
     λ k a. let (j, at) = among_place N C p ks k a in let first = firsts (suc j) k (omega arith) at in (first.path, key_path N C p (p ∷ ks) (suc j) k apart (omega arith) at first),
     λ i j k m x y lt ai aj kx ky. in_order N C p (p ∷ ks) (suc i) (suc j) k m x y apart (omega arith) (omega arith) ai aj (firsts (suc i) k (omega arith) ai) kx ky,

@@ -1,7 +1,7 @@
 -- Walks, and the order of lists of numbers.
 use Rattle.std.proofs.Common.{◌≡◌, ℕ, ◌<◌, ◌⊎◌, List, [], ◌∷◌, ◌++◌, refl, sym, ap, ◌∙◌, subst, inl, inr, arith}
 use Rattle.std.proofs.lemmas.Bool.{cases_order}
-use Rattle.ebpf_linker.specs.Functions.{Reference, Names, References, Among, Distinct, Walk, last_of}
+use Rattle.ebpf_linker.specs.Functions.{SlotReference, Names, References, Among, Distinct, Walk, last_key_or}
 use Rattle.ebpf_linker.specs.Order.{Before}
 
 -- the order
@@ -95,16 +95,16 @@ module _ {K : Type 0} where
   distinct_more (n ∷ ks) k h new =
       (λ a. elim (among_cases ks (k ∷ []) n a) [ inl b ↦ h.0 b | inr (inl b) ↦ new (inl (sym b)) | inr (inr b) ↦ b ], distinct_more ks k h.1 (λ a. new (inr a)))
 
-  pub last_of_last : (p : K) (ks : List K) (k : K) → last_of p (ks ++ k ∷ []) ≡ k
+  pub last_of_last : (p : K) (ks : List K) (k : K) → last_key_or p (ks ++ k ∷ []) ≡ k
   last_of_last p [] k = refl
   last_of_last p (n ∷ ks) k = last_of_last n ks k
 
 module _ {K E : Type 0} (R : References K E) where
-  names_same : (k m : K) (r : Reference K E) → r ≡ Names k → r ≡ Names m → k ≡ m
+  names_same : (k m : K) (r : SlotReference K E) → r ≡ Names k → r ≡ Names m → k ≡ m
   names_same k m r e f = cc
 
   -- a walk goes on by one reference
-  pub walk_more : (p : K) (q : List ℕ) (ks : List K) (x : ℕ) (k : K) → Walk R p q ks → R (last_of p ks) x ≡ Names k → Walk R p (q ++ x ∷ []) (ks ++ k ∷ [])
+  pub walk_more : (p : K) (q : List ℕ) (ks : List K) (x : ℕ) (k : K) → Walk R p q ks → R (last_key_or p ks) x ≡ Names k → Walk R p (q ++ x ∷ []) (ks ++ k ∷ [])
   walk_more p [] [] x k w e = (e, tt)
   walk_more p [] (m ∷ ks) x k w e = absurd w
   walk_more p (y ∷ q) [] x k w e = absurd w
@@ -128,7 +128,7 @@ module _ {K E : Type 0} (R : References K E) where
     pub back : List K
     pub whole : ks ≡ front ++ back
     pub first : Walk R p t front
-    pub second : Walk R (last_of p front) q back
+    pub second : Walk R (last_key_or p front) q back
 
   pub walk_parts : (p : K) (t q : List ℕ) (ks : List K) → Walk R p (t ++ q) ks → Parts p t q ks
   walk_parts p [] q ks w = record { front = []; back = ks; whole = refl; first = tt; second = w }
@@ -146,7 +146,7 @@ module _ {K E : Type 0} (R : References K E) where
     pub path_is : q ≡ path ++ slot ∷ []
     pub keys_are : ks ≡ keys ++ key ∷ []
     pub walk : Walk R p path keys
-    pub leads : R (last_of p keys) slot ≡ Names key
+    pub leads : R (last_key_or p keys) slot ≡ Names key
 
   pub walk_last : (p : K) (x : ℕ) (q : List ℕ) (ks : List K) → Walk R p (x ∷ q) ks → Last p (x ∷ q) ks
   walk_last p x q [] w = absurd w

@@ -9,22 +9,22 @@ use Rattle.ebpf_linker.specs.declared.reference.Fault.{Fault}
 use Rattle.ebpf_linker.specs.declared.reference.Target.{Target}
 use Rattle.ebpf_linker.specs.declared.reference.Target.TheVariants.{Function, Nowhere}
 use Rattle.ebpf_linker.specs.declared.reference.Call.{Call}
-use Rattle.ebpf_linker.specs.Functions.{Nothing, Names, Content, Among, last_of, total}
-use Rattle.ebpf_linker.specs.Faults.{linking, append_fault, has_some}
+use Rattle.ebpf_linker.specs.Functions.{Nothing, Names, FunctionContent, Among, last_key_or, total}
+use Rattle.ebpf_linker.specs.Faults.{checked_references, append_fault, has_some}
 use Rattle.ebpf_linker.specs.Answer.{IsOrder, IsFound, Finds}
-use Rattle.ebpf_linker.specs.Image.{body_at, placed, laid, size_of, Fit}
-use Rattle.ebpf_linker.specs.Numbered.{of_target, referred, calls_at, functions, option_content, IsIn, Sound}
+use Rattle.ebpf_linker.specs.LinkedSlots.{body_at, with_bases, linked_copies, bodies_slot_count, Fit}
+use Rattle.ebpf_linker.specs.Numbered.{of_target, referred, calls_at, functions, option_content, IsWithin, Sound}
 use Rattle.ebpf_linker.specs.Records.{linked_func_info, linked_line_info, has_lines, count_if}
 use Rattle.ebpf_linker.specs.Ready.{IsReady}
 use Rattle.ebpf_linker.specs.Result.{IsProgram}
 use Rattle.ebpf_linker.proofs.Paths.{walk_last, last_of_last}
 use Rattle.ebpf_linker.proofs.Held.{at_index, indexed}
 use Rattle.ebpf_linker.proofs.Plain.{plain}
-use Rattle.ebpf_linker.proofs.Seen.{all_at}
+use Rattle.ebpf_linker.proofs.Checked.{all_at}
 use Rattle.ebpf_linker.proofs.Bases.{total_le}
 use Rattle.ebpf_linker.proofs.Whole.{is_linked, size_same}
 
-target_within : (n : ℕ) (t : Target) (k : ℕ) → IsIn n t → of_target t ≡ Names k → k < n
+target_within : (n : ℕ) (t : Target) (k : ℕ) → IsWithin n t → of_target t ≡ Names k → k < n
 target_within n (Function m) k h e = let z : m ≡ k = cc in omega (arith, h, z)
 target_within n (Nowhere d) k h e = cc
 
@@ -63,10 +63,10 @@ module _ (B : List Body) (C : List (Vec Call Global)) (p : ℕ) where
       let R = (functions B C).reference in
       let r = order.reached k a in
       let l = walk_last R p r.0 r.1 r.2 r.3 in
-      let some : referred (calls_at C (last_of p l.keys)) l.slot ≢ Nothing = λ (z : referred (calls_at C (last_of p l.keys)) l.slot ≡ Nothing). cc (l.leads) in
-      let i = indexed (calls_at C (last_of p l.keys)) l.slot some in
-      let end : l.key ≡ k = sym (ap (last_of p) l.keys_are ∙ last_of_last p l.keys l.key) ∙ r.4 in
-      let inside = all_at B p (length B) (calls_at C (last_of p l.keys)) i.index i.call (sound.within (last_of p l.keys)) i.at in
+      let some : referred (calls_at C (last_key_or p l.keys)) l.slot ≢ Nothing = λ (z : referred (calls_at C (last_key_or p l.keys)) l.slot ≡ Nothing). cc (l.leads) in
+      let i = indexed (calls_at C (last_key_or p l.keys)) l.slot some in
+      let end : l.key ≡ k = sym (ap (last_key_or p) l.keys_are ∙ last_of_last p l.keys l.key) ∙ r.4 in
+      let inside = all_at B p (length B) (calls_at C (last_key_or p l.keys)) i.index i.call (sound.within (last_key_or p l.keys)) i.at in
       subst (λ (u : ℕ). u < length B) end (target_within (length B) i.call.target l.key inside (sym i.is ∙ l.leads))
 
   fit_all : (ks : List ℕ) (b : ℕ) → ((j k : ℕ) → slice_get ks j ≡ Some k → append_fault (functions B C) k (b + total (functions B C) (take j ks)) ≡ None) → Fit B b ks
@@ -78,7 +78,7 @@ module _ (B : List Body) (C : List (Vec Call Global)) (p : ℕ) where
         subst (λ (u : ℕ). append_fault (functions B C) m u ≡ None) z (h (suc j) m at)),
   )
 
-  short : (ks : List ℕ) → Sound (length B) C → IsFound (functions B C) (linking (functions B C) p) p ks → (k : ℕ) → 0 < length (calls_at C k) → Among (p ∷ ks) k → size_of B (p ∷ ks) ≤ 2147483647
+  short : (ks : List ℕ) → Sound (length B) C → IsFound (functions B C) (checked_references (functions B C) p) p ks → (k : ℕ) → 0 < length (calls_at C k) → Among (p ∷ ks) k → bodies_slot_count B (p ∷ ks) ≤ 2147483647
   short ks sound found k lt a =
       let (c, at) = some_at (calls_at C k) lt in
       let is = (at_index (calls_at C k) 0 0 c (sound.rises k) at).1 in
@@ -89,7 +89,7 @@ module _ (B : List Body) (C : List (Vec Call Global)) (p : ℕ) where
       let size = size_same B C (p ∷ ks) in
       omega (arith, room, size)
 
-  pub ready : (ks : List ℕ) → Sound (length B) C → p < length B → IsFound (functions B C) (linking (functions B C) p) p ks → IsReady B C p ks
+  pub ready : (ks : List ℕ) → Sound (length B) C → p < length B → IsFound (functions B C) (checked_references (functions B C) p) p ks → IsReady B C p ks
   ready ks sound lt found =
       let order = plain (functions B C) p ks found.order in
       let within = order_within ks sound lt order in
@@ -107,11 +107,11 @@ module _ (B : List Body) (C : List (Vec Call Global)) (p : ℕ) where
   all_in (m ∷ ks) k h (inl e) = subst (λ (u : ℕ). u < length B) e (All-get_or (λ (u : ℕ). u < length B) (m ∷ ks) 0 0 (omega arith) h)
   all_in (m ∷ ks) k h (inr a) = all_in ks k (λ i d lt. h (suc i) d (omega arith)) a
 
-  pub content_some : (k : ℕ) → k < length B → (c : Content) × ((functions B C).content k ≡ Some c)
+  pub content_some : (k : ℕ) → k < length B → (c : FunctionContent) × ((functions B C).content k ≡ Some c)
   content_some k lt = let (b, at) = get_body B k lt in (_, ap option_content at)
 
   -- the program that was written
-  pub is_program : (ks : List ℕ) (bases : List ℕ) (l : LinkedProgram) → IsReady B C p ks → (before : List ℕ) → length before ≡ length B → bases ≡ placed B (length (body_at B p)) before ks → l.slots ≡ laid B C bases 0 (p ∷ ks) → l.func_info ≡ linked_func_info (functions B C) p ks → l.line_info ≡ linked_line_info (functions B C) p ks → l.func_count ≡ count_if (has_some ks) l.func_info → l.line_count ≡ count_if (has_lines (functions B C) ks) l.line_info → IsProgram (functions B C) p ks l
+  pub is_program : (ks : List ℕ) (bases : List ℕ) (l : LinkedProgram) → IsReady B C p ks → (before : List ℕ) → length before ≡ length B → bases ≡ with_bases B (length (body_at B p)) before ks → l.slots ≡ linked_copies B C bases 0 (p ∷ ks) → l.func_info ≡ linked_func_info (functions B C) p ks → l.line_info ≡ linked_line_info (functions B C) p ks → l.func_count ≡ count_if (has_some ks) l.func_info → l.line_count ≡ count_if (has_lines (functions B C) ks) l.line_info → IsProgram (functions B C) p ks l
   is_program ks bases l h before count places slots funcs lines func_count line_count =
       let F = functions B C in
       let order = plain F p ks h.found.order in
@@ -133,8 +133,8 @@ module _ (B : List Body) (C : List (Vec Call Global)) (p : ℕ) where
       }
 
 -- the functions that were found, as the search answers them
-pub ready_of : (B : List Body) (C : List (Vec Call Global)) (p : ℕ) (answer : Result (Vec ℕ Global) Fault) (v : Vec ℕ Global) (o : List ℕ) → Sound (length B) C → p < length B → Finds (functions B C) (linking (functions B C) p) p answer → answer ≡ Ok v → o ≡ v.items → IsReady B C p (take (length o - 1) (drop 1 o)) × (o ≡ p ∷ take (length o - 1) (drop 1 o))
+pub ready_of : (B : List Body) (C : List (Vec Call Global)) (p : ℕ) (answer : Result (Vec ℕ Global) Fault) (v : Vec ℕ Global) (o : List ℕ) → Sound (length B) C → p < length B → Finds (functions B C) (checked_references (functions B C) p) p answer → answer ≡ Ok v → o ≡ v.items → IsReady B C p (take (length o - 1) (drop 1 o)) × (o ≡ p ∷ take (length o - 1) (drop 1 o))
 ready_of B C p answer v o sound lt found is same =
-    let (ks, e, h) = subst (Finds (functions B C) (linking (functions B C) p) p) is found in
+    let (ks, e, h) = subst (Finds (functions B C) (checked_references (functions B C) p) p) is found in
     let t = tail_is o p ks (same ∙ e) in
     (subst (IsReady B C p) (sym t) (ready B C p ks sound lt h), same ∙ e ∙ ap (λ (u : List ℕ). p ∷ u) (sym t))

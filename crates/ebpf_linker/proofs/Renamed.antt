@@ -1,8 +1,8 @@
 -- Walks and paths of functions, from their numbers to their keys and back.
 use Rattle.std.proofs.Common.{◌≡◌, ◌≢◌, ℕ, zero, suc, List, [], ◌∷◌, map, Some, refl, sym, ap, ◌∙◌, subst, inl, inr}
 use Rattle.std.specs.Prelude.{slice_get}
-use Rattle.ebpf_linker.specs.Functions.{Reference, Nothing, Faulty, Names, References, Among, Distinct, Walk, last_of, Reached}
-use Rattle.ebpf_linker.specs.Order.{Simple, KeyPath, InOrder}
+use Rattle.ebpf_linker.specs.Functions.{SlotReference, Nothing, Faulty, Names, References, Among, Distinct, Walk, last_key_or, Reached}
+use Rattle.ebpf_linker.specs.Order.{Simple, KeyPath, InKeyPathOrder}
 use Rattle.ebpf_linker.proofs.Numbering.{renamed}
 
 -- the same references, by numbers and by the keys that they stand for
@@ -35,11 +35,11 @@ module _ {M K : Type 0} (IsNumber : M → Type 0) (key : M → K) where
   among_from (n ∷ ms) k (inl e) = (n, inl refl, e)
   among_from (n ∷ ms) k (inr a) = let (m, b, e) = among_from ms k a in (m, inr b, e)
 
-  pub last_to : (p : M) (ms : List M) → last_of (key p) (map key ms) ≡ key (last_of p ms)
+  pub last_to : (p : M) (ms : List M) → last_key_or (key p) (map key ms) ≡ key (last_key_or p ms)
   last_to p [] = refl
   last_to p (m ∷ ms) = last_to m ms
 
-  pub last_number : (p : M) (ms : List M) → IsNumber p → AllNumbers IsNumber ms → IsNumber (last_of p ms)
+  pub last_number : (p : M) (ms : List M) → IsNumber p → AllNumbers IsNumber ms → IsNumber (last_key_or p ms)
   last_number p [] is h = is
   last_number p (m ∷ ms) is h = last_number m ms h.0 h.1
 
@@ -67,17 +67,17 @@ module _ {M K : Type 0} (IsNumber : M → Type 0) (key : M → K) where
 
 module _ {M D K E : Type 0} (key : M → K) (name : D → E) where
   -- a key that a reference names has a number
-  pub names_from : (r : Reference M D) (k : K) → renamed key name r ≡ Names k → (m : M) × (r ≡ Names m) × (key m ≡ k)
+  pub names_from : (r : SlotReference M D) (k : K) → renamed key name r ≡ Names k → (m : M) × (r ≡ Names m) × (key m ≡ k)
   names_from Nothing k e = cc
   names_from (Faulty d) k e = cc
   names_from (Names m) k e = (m, refl, cc)
 
-  pub faulty_from : (r : Reference M D) (e : E) → renamed key name r ≡ Faulty e → (d : D) × (r ≡ Faulty d) × (name d ≡ e)
+  pub faulty_from : (r : SlotReference M D) (e : E) → renamed key name r ≡ Faulty e → (d : D) × (r ≡ Faulty d) × (name d ≡ e)
   faulty_from Nothing e h = cc
   faulty_from (Faulty d) e h = (d, refl, cc)
   faulty_from (Names m) e h = cc
 
-  pub renamed_some : (r : Reference M D) → renamed key name r ≢ Nothing → r ≢ Nothing
+  pub renamed_some : (r : SlotReference M D) → renamed key name r ≢ Nothing → r ≢ Nothing
   renamed_some r ne e = ne (ap (renamed key name) e)
 
 module _ {M D K E : Type 0} (R : References M D) (S : References K E) (IsNumber : M → Type 0) (key : M → K) (name : D → E) (same : SameReferences R S IsNumber key name) where
@@ -123,10 +123,10 @@ module _ {M D K E : Type 0} (R : References M D) (S : References K E) (IsNumber 
       (ms, are, record { walk = w; once = distinct_from IsNumber key ms (subst Distinct (sym are) s.once) })
 
   -- the number of what a simple walk leads to
-  pub end_from : (p : M) (q : List ℕ) (ks : List K) (k : K) → IsNumber p → Simple S (key p) q ks → last_of (key p) ks ≡ k → (m : M) × IsNumber m × (key m ≡ k)
+  pub end_from : (p : M) (q : List ℕ) (ks : List K) (k : K) → IsNumber p → Simple S (key p) q ks → last_key_or (key p) ks ≡ k → (m : M) × IsNumber m × (key m ≡ k)
   end_from p q ks k is s end =
       let (ms, are, t) = simple_from p q ks is s in
-      (last_of p ms, last_number IsNumber key p ms is (walk_numbers p q ms is t.walk), sym (last_to IsNumber key p ms) ∙ ap (last_of (key p)) are ∙ end)
+      (last_key_or p ms, last_number IsNumber key p ms is (walk_numbers p q ms is t.walk), sym (last_to IsNumber key p ms) ∙ ap (last_key_or (key p)) are ∙ end)
 
   pub key_path_to : (p m : M) (q : List ℕ) → IsNumber p → IsNumber m → KeyPath R p m q → KeyPath S (key p) (key m) q
   key_path_to p m q is im h =
@@ -137,8 +137,8 @@ module _ {M D K E : Type 0} (R : References M D) (S : References K E) (IsNumber 
         some = h.some;
         least = λ other others s ne ends b.
             let (ms, are, s') = simple_from p other others is s in
-            let e : key (last_of p ms) ≡ key m = sym (last_to IsNumber key p ms) ∙ ap (last_of (key p)) are ∙ ends in
-            h.least other ms s' ne (same.apart (last_of p ms) m (last_number IsNumber key p ms is (walk_numbers p other ms is s'.walk)) im e) b;
+            let e : key (last_key_or p ms) ≡ key m = sym (last_to IsNumber key p ms) ∙ ap (last_key_or (key p)) are ∙ ends in
+            h.least other ms s' ne (same.apart (last_key_or p ms) m (last_number IsNumber key p ms is (walk_numbers p other ms is s'.walk)) im e) b;
       }
 
   pub key_path_from : (p m : M) (q : List ℕ) → IsNumber p → IsNumber m → KeyPath S (key p) (key m) q → KeyPath R p m q
@@ -147,7 +147,7 @@ module _ {M D K E : Type 0} (R : References M D) (S : References K E) (IsNumber 
       record {
         keys = ms;
         simple = s;
-        ends = same.apart (last_of p ms) m (last_number IsNumber key p ms is (walk_numbers p q ms is s.walk)) im (sym (last_to IsNumber key p ms) ∙ ap (last_of (key p)) are ∙ h.ends);
+        ends = same.apart (last_key_or p ms) m (last_number IsNumber key p ms is (walk_numbers p q ms is s.walk)) im (sym (last_to IsNumber key p ms) ∙ ap (last_key_or (key p)) are ∙ h.ends);
         some = h.some;
         least = λ other others t ne ends b. h.least other (map key others) (simple_to p other others is t) ne (last_to IsNumber key p others ∙ ap key ends) b;
       }
@@ -156,7 +156,7 @@ module _ {M D K E : Type 0} (R : References M D) (S : References K E) (IsNumber 
   pub key_path_number : (p m : M) (q : List ℕ) → IsNumber p → KeyPath R p m q → IsNumber m
   key_path_number p m q is h = subst IsNumber h.ends (last_number IsNumber key p h.keys is (walk_numbers p q h.keys is h.simple.walk))
 
-  pub in_order_to : (p : M) (ms : List M) → IsNumber p → AllNumbers IsNumber ms → InOrder R p ms → InOrder S (key p) (map key ms)
+  pub in_order_to : (p : M) (ms : List M) → IsNumber p → AllNumbers IsNumber ms → InKeyPathOrder R p ms → InKeyPathOrder S (key p) (map key ms)
   in_order_to p ms is all h = (
     λ k a.
         let (m, b, e) = among_from IsNumber key ms k a in

@@ -3,8 +3,8 @@ use Rattle.std.proofs.Common.{◌≡◌, ℕ, zero, suc, true, false, List, [], 
 use Rattle.std.specs.Prelude.{ℤ, pos, negsuc}
 use Rattle.ebpf_parts.specs.declared.insn.bpf_insn.{bpf_insn}
 use Rattle.ebpf_linker.specs.Slots.{flow}
-use Rattle.ebpf_linker.specs.Functions.{Nothing, Names, References, Functions, Content}
-use Rattle.ebpf_linker.specs.Machine.{Ended, Waiting, run, begin, separate, flat, name}
+use Rattle.ebpf_linker.specs.Functions.{Nothing, Names, References, Functions, FunctionContent}
+use Rattle.ebpf_linker.specs.Machine.{Ended, Waiting, run_steps, begin, separate, flat_code, name}
 
 abbrev call : ℤ → bpf_insn
 call d = record { code = 0x85; regs = 16; off = pos 0; imm = d }
@@ -16,15 +16,15 @@ exit = record { code = 0x95; regs = 0; off = pos 0; imm = pos 0 }
 abbrev skip : bpf_insn
 skip = record { code = 0x55; regs = 0; off = pos 1; imm = pos 0 }
 
-abbrev plain : List bpf_insn → Option Content
+abbrev plain : List bpf_insn → Option FunctionContent
 plain slots = Some (record { slots = slots; func_info = []; line_info = [] })
 
-abbrev of_slots : (ℕ → Option Content) → References ℕ ℕ → Functions ℕ ℕ
+abbrev of_slots : (ℕ → Option FunctionContent) → References ℕ ℕ → Functions ℕ ℕ
 of_slots content refers = record { content = content; reference = refers; mismatch = λ k. k; too_long = λ k. k; stray_line = λ k. k }
 
 -- a program that calls itself
 
-abbrev itself : ℕ → Option Content
+abbrev itself : ℕ → Option FunctionContent
 itself zero = plain (call (negsuc 0) ∷ exit ∷ [])
 itself (suc n) = None
 
@@ -33,20 +33,20 @@ to_itself zero zero = Names 0
 to_itself zero (suc x) = Nothing
 to_itself (suc n) x = Nothing
 
-itself_flat : (run (flat (call (pos 1) ∷ exit ∷ call (negsuc 0) ∷ exit ∷ [])) 5 (begin (pos 0) [])).visited ≡ pos 0 ∷ pos 2 ∷ pos 2 ∷ pos 2 ∷ pos 2 ∷ []
+itself_flat : (run_steps (flat_code (call (pos 1) ∷ exit ∷ call (negsuc 0) ∷ exit ∷ [])) 5 (begin (pos 0) [])).visited ≡ pos 0 ∷ pos 2 ∷ pos 2 ∷ pos 2 ∷ pos 2 ∷ []
 unfolding flow
 itself_flat = refl
 
 itself_names : map (name (of_slots itself to_itself) (0 ∷ 0 ∷ [])) (pos 0 ∷ pos 2 ∷ pos 2 ∷ []) ≡ map Some ((0, pos 0) ∷ (0, pos 0) ∷ (0, pos 0) ∷ [])
 itself_names = refl
 
-itself_separate : (run (separate (of_slots itself to_itself)) 3 (begin (0, pos 0) [])).visited ≡ (0, pos 0) ∷ (0, pos 0) ∷ (0, pos 0) ∷ []
+itself_separate : (run_steps (separate (of_slots itself to_itself)) 3 (begin (0, pos 0) [])).visited ≡ (0, pos 0) ∷ (0, pos 0) ∷ (0, pos 0) ∷ []
 unfolding flow
 itself_separate = refl
 
 -- P calls f and g, f calls g
 
-abbrev three : ℕ → Option Content
+abbrev three : ℕ → Option FunctionContent
 three zero = plain (call (negsuc 0) ∷ call (negsuc 0) ∷ exit ∷ [])
 three (suc zero) = plain (call (negsuc 0) ∷ exit ∷ [])
 three (suc (suc n)) = plain (exit ∷ [])
@@ -59,18 +59,18 @@ in_turn (suc zero) zero = Names 2
 in_turn (suc zero) (suc n) = Nothing
 in_turn (suc (suc m)) n = Nothing
 
-three_separate : (run (separate (of_slots three in_turn)) 20 (begin (0, pos 0) [])).visited ≡ (0, pos 0) ∷ (1, pos 0) ∷ (2, pos 0) ∷ (1, pos 1) ∷ (0, pos 1) ∷ (2, pos 0) ∷ (0, pos 2) ∷ []
+three_separate : (run_steps (separate (of_slots three in_turn)) 20 (begin (0, pos 0) [])).visited ≡ (0, pos 0) ∷ (1, pos 0) ∷ (2, pos 0) ∷ (1, pos 1) ∷ (0, pos 1) ∷ (2, pos 0) ∷ (0, pos 2) ∷ []
 unfolding flow
 three_separate = refl
 
-three_ends : (run (separate (of_slots three in_turn)) 20 (begin (0, pos 0) [])).stop ≡ Ended
+three_ends : (run_steps (separate (of_slots three in_turn)) 20 (begin (0, pos 0) [])).stop ≡ Ended
 unfolding flow
 three_ends = refl
 
 abbrev three_linked : List bpf_insn
 three_linked = call (pos 2) ∷ call (pos 3) ∷ exit ∷ call (pos 1) ∷ exit ∷ exit ∷ []
 
-three_flat : (run (flat three_linked) 20 (begin (pos 0) [])).visited ≡ pos 0 ∷ pos 3 ∷ pos 5 ∷ pos 4 ∷ pos 1 ∷ pos 5 ∷ pos 2 ∷ []
+three_flat : (run_steps (flat_code three_linked) 20 (begin (pos 0) [])).visited ≡ pos 0 ∷ pos 3 ∷ pos 5 ∷ pos 4 ∷ pos 1 ∷ pos 5 ∷ pos 2 ∷ []
 unfolding flow
 three_flat = refl
 
@@ -82,18 +82,18 @@ three_names = refl
 abbrev branches : List bpf_insn
 branches = skip ∷ call (pos 1) ∷ exit ∷ exit ∷ []
 
-branch_taken : (run (flat branches) 20 (begin (pos 0) (true ∷ []))).visited ≡ pos 0 ∷ pos 2 ∷ []
+branch_taken : (run_steps (flat_code branches) 20 (begin (pos 0) (true ∷ []))).visited ≡ pos 0 ∷ pos 2 ∷ []
 unfolding flow
 branch_taken = refl
 
-branch_passed : (run (flat branches) 20 (begin (pos 0) (false ∷ []))).visited ≡ pos 0 ∷ pos 1 ∷ pos 3 ∷ pos 2 ∷ []
+branch_passed : (run_steps (flat_code branches) 20 (begin (pos 0) (false ∷ []))).visited ≡ pos 0 ∷ pos 1 ∷ pos 3 ∷ pos 2 ∷ []
 unfolding flow
 branch_passed = refl
 
-branch_waits : (run (flat branches) 20 (begin (pos 0) [])).visited ≡ pos 0 ∷ []
+branch_waits : (run_steps (flat_code branches) 20 (begin (pos 0) [])).visited ≡ pos 0 ∷ []
 unfolding flow
 branch_waits = refl
 
-branch_stops : (run (flat branches) 20 (begin (pos 0) [])).stop ≡ Waiting
+branch_stops : (run_steps (flat_code branches) 20 (begin (pos 0) [])).stop ≡ Waiting
 unfolding flow
 branch_stops = refl

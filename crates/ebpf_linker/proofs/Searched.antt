@@ -8,20 +8,20 @@ use Rattle.ebpf_linker.specs.declared.reference.Target.{Target}
 use Rattle.ebpf_linker.specs.declared.reference.Target.TheVariants.{Function, Nowhere}
 use Rattle.ebpf_linker.specs.declared.reference.Call.{Call}
 use Rattle.ebpf_linker.specs.declared.search.Open.{Open}
-use Rattle.ebpf_linker.specs.Functions.{Reference, Nothing, Faulty, Names, Among, Distinct, Walk, last_of, Reached}
-use Rattle.ebpf_linker.specs.Order.{Before, Simple, KeyPath, HasFault}
+use Rattle.ebpf_linker.specs.Functions.{SlotReference, Nothing, Faulty, Names, Among, Distinct, Walk, last_key_or, Reached}
+use Rattle.ebpf_linker.specs.Order.{Before, Simple, KeyPath, HasReferenceFault}
 use Rattle.ebpf_linker.specs.Numbered.{of_target}
-use Rattle.ebpf_linker.proofs.Following.{refs, Sought, rising}
+use Rattle.ebpf_linker.proofs.Following.{refs, AreSorted, rising}
 use Rattle.ebpf_linker.proofs.Paths.{before_trans, before_cases, distinct_front, distinct_more, last_of_last, walk_more, walk_same, walk_last}
-use Rattle.ebpf_linker.proofs.Held.{get_more, get_back, get_end, at_index, indexed, rises_index, Found, found_up, found_more, Settled, Held, held_entry}
+use Rattle.ebpf_linker.proofs.Held.{get_more, get_back, get_end, at_index, indexed, rises_index, Found, found_up, found_more, AreDone, Held, held_entry}
 use Rattle.std.specs.Bool.{MatchBool}
 use Rattle.std.specs.Prelude.{slice_index_or, slice_set, MatchOption}
 use Rattle.std.proofs.lemmas.List.{reverse-append, length-replicate}
 use Rattle.std.proofs.lemmas.Option.{slice_get_cases}
-use Rattle.ebpf_linker.specs.Numbered.{IsIn}
+use Rattle.ebpf_linker.specs.Numbered.{IsWithin}
 use Rattle.ebpf_linker.specs.Functions.{Functions}
 use Rattle.ebpf_linker.specs.Faults.{append_fault}
-use Rattle.ebpf_linker.specs.Steps.{Search, passed, opened, StepTo, target_of, Advanced}
+use Rattle.ebpf_linker.specs.Steps.{Search, passed, opened, StepTo, call_target, Advanced}
 use Rattle.ebpf_linker.specs.Answer.{IsOrder}
 use Rattle.ebpf_linker.proofs.Held.{held_pop, held_next, held_push}
 use Rattle.ebpf_linker.proofs.Cursor.{Apart, path_of, keys_of, walk_of, keys_found, keys_distinct, cursor, not_nil}
@@ -32,8 +32,8 @@ pub record First (C : ℕ → List Call) (p : ℕ) (o : List ℕ) (j k : ℕ) : 
   pub keys : List ℕ
   pub simple : Simple (refs C) p path keys
   pub some : path ≢ []
-  pub ends : last_of p keys ≡ k
-  pub least : (q qs : List ℕ) → Simple (refs C) p q qs → q ≢ [] → Before q path → (i : ℕ) × (0 < i) × (i < j) × (slice_get o i ≡ Some (last_of p qs))
+  pub ends : last_key_or p keys ≡ k
+  pub least : (q qs : List ℕ) → Simple (refs C) p q qs → q ≢ [] → Before q path → (i : ℕ) × (0 < i) × (i < j) × (slice_get o i ≡ Some (last_key_or p qs))
 
 pub record State (N : ℕ) (C : ℕ → List Call) (p : ℕ) (o : List ℕ) (f : List Bool) (s : List Open) : Type 0 where
   pub held : Held C o (length o) (reverse s)
@@ -58,29 +58,29 @@ module _ (N : ℕ) (C : ℕ → List Call) (p : ℕ) where
         simple = h.simple;
         some = h.some;
         ends = h.ends;
-        least = λ q qs w ne b. let (i, pos, lt, at) = h.least q qs w ne b in (i, pos, lt, get_more o ys i (last_of p qs) at);
+        least = λ q qs w ne b. let (i, pos, lt, at) = h.least q qs w ne b in (i, pos, lt, get_more o ys i (last_key_or p qs) at);
       }
 
-  pub upto_next : Sought N C → (e : Open) (r : Call) → slice_get (C e.function) e.next ≡ Some r → (i : ℕ) (s : Call) → slice_get (C e.function) i ≡ Some s → s.slot < r.slot → i < e.next
+  pub upto_next : AreSorted N C → (e : Open) (r : Call) → slice_get (C e.function) e.next ≡ Some r → (i : ℕ) (s : Call) → slice_get (C e.function) i ≡ Some s → s.slot < r.slot → i < e.next
   upto_next sound e r at i s at' lt = rises_index (C e.function) 0 i e.next s r (sound.rises e.function) at' at lt
 
   -- the last reference of a simple walk before the cursor
-  pub before_found : Sought N C → (o : List ℕ) (e : Open) (es : List Open) (r : Call) → slice_get o 0 ≡ Some p → Held C o (length o) (e ∷ es) → slice_get (C e.function) e.next ≡ Some r → (q qs : List ℕ) → Simple (refs C) p q qs → q ≢ [] → Before q (path_of C p (e ∷ es) ++ r.slot ∷ []) → Found o (length o) (Names (last_of p qs))
+  pub before_found : AreSorted N C → (o : List ℕ) (e : Open) (es : List Open) (r : Call) → slice_get o 0 ≡ Some p → Held C o (length o) (e ∷ es) → slice_get (C e.function) e.next ≡ Some r → (q qs : List ℕ) → Simple (refs C) p q qs → q ≢ [] → Before q (path_of C p (e ∷ es) ++ r.slot ∷ []) → Found o (length o) (Names (last_key_or p qs))
   before_found sound o e es r start held at [] qs w ne b = absurd (ne refl)
   before_found sound o e es r start held at (x ∷ q) qs w ne b =
       let l = walk_last (refs C) p x q qs w.walk in
       let once : Distinct l.keys = distinct_front l.keys (l.key ∷ []) (subst Distinct l.keys_are w.once) in
-      let some : refs C (last_of p l.keys) l.slot ≢ Nothing = λ (z : refs C (last_of p l.keys) l.slot ≡ Nothing). cc (l.leads) in
+      let some : refs C (last_key_or p l.keys) l.slot ≢ Nothing = λ (z : refs C (last_key_or p l.keys) l.slot ≡ Nothing). cc (l.leads) in
       let b' = subst (λ (u : List ℕ). Before u (path_of C p (e ∷ es) ++ r.slot ∷ [])) l.path_is b in
-      let found = cursor C p (rising sound) o (length o) e es r.slot start held (upto_next sound e r at) l.path l.keys l.slot l.walk once some b' in
-      let end : last_of p qs ≡ l.key = ap (last_of p) l.keys_are ∙ last_of_last p l.keys l.key in
-      rw end (subst (Found o (length o)) l.leads found)
+      let is_found = cursor C p (rising sound) o (length o) e es r.slot start held (upto_next sound e r at) l.path l.keys l.slot l.walk once some b' in
+      let end : last_key_or p qs ≡ l.key = ap (last_key_or p) l.keys_are ∙ last_of_last p l.keys l.key in
+      rw end (subst (Found o (length o)) l.leads is_found)
 
   -- the function that is opened now
-  pub first_now : Sought N C → (o : List ℕ) (k : ℕ) (e : Open) (es : List Open) (r : Call) → slice_get o 0 ≡ Some p → Apart o → Held C o (length o) (e ∷ es) → slice_get (C e.function) e.next ≡ Some r → r.target ≡ Function k → (Found o (length o) (Names k) → ⊥) → First C p (o ++ k ∷ []) (length o) k
+  pub first_now : AreSorted N C → (o : List ℕ) (k : ℕ) (e : Open) (es : List Open) (r : Call) → slice_get o 0 ≡ Some p → Apart o → Held C o (length o) (e ∷ es) → slice_get (C e.function) e.next ≡ Some r → r.target ≡ Function k → (Found o (length o) (Names k) → ⊥) → First C p (o ++ k ∷ []) (length o) k
   first_now sound o k e es r start apart held at to fresh =
       let w = walk_of C p (rising sound) o (length o) e es start held in
-      let leads : refs C (last_of p (keys_of C p (e ∷ es))) r.slot ≡ Names k = rw w.1 ((at_index (C e.function) 0 e.next r (sound.rises e.function) at).1 ∙ ap of_target to) in
+      let leads : refs C (last_key_or p (keys_of C p (e ∷ es))) r.slot ≡ Names k = rw w.1 ((at_index (C e.function) 0 e.next r (sound.rises e.function) at).1 ∙ ap of_target to) in
       record {
         path = path_of C p (e ∷ es) ++ r.slot ∷ [];
         keys = keys_of C p (e ∷ es) ++ k ∷ [];
@@ -92,22 +92,22 @@ module _ (N : ℕ) (C : ℕ → List Call) (p : ℕ) where
         ends = last_of_last p (keys_of C p (e ∷ es)) k;
         least = λ q qs s ne b.
             let (i, pos, lt, is) = before_found sound o e es r start held at q qs s ne b in
-            (i, pos, lt, get_more o (k ∷ []) i (last_of p qs) is);
+            (i, pos, lt, get_more o (k ∷ []) i (last_key_or p qs) is);
       }
 
   -- no reference before the cursor leads nowhere
-  pub plain_before : Sought N C → (o : List ℕ) (e : Open) (es : List Open) (r : Call) → slice_get o 0 ≡ Some p → Held C o (length o) (e ∷ es) → slice_get (C e.function) e.next ≡ Some r → (other : List ℕ) (y : ℕ) (g : Fault) → HasFault (refs C) p other y g → Before (other ++ y ∷ []) (path_of C p (e ∷ es) ++ r.slot ∷ []) → ⊥
+  pub plain_before : AreSorted N C → (o : List ℕ) (e : Open) (es : List Open) (r : Call) → slice_get o 0 ≡ Some p → Held C o (length o) (e ∷ es) → slice_get (C e.function) e.next ≡ Some r → (other : List ℕ) (y : ℕ) (g : Fault) → HasReferenceFault (refs C) p other y g → Before (other ++ y ∷ []) (path_of C p (e ∷ es) ++ r.slot ∷ []) → ⊥
   plain_before sound o e es r start held at other y g h b =
-      let some : refs C (last_of p h.keys) y ≢ Nothing = λ (z : refs C (last_of p h.keys) y ≡ Nothing). cc (h.fault) in
-      let found = cursor C p (rising sound) o (length o) e es r.slot start held (upto_next sound e r at) other h.keys y h.simple.walk h.simple.once some b in
-      let no_ : Found o (length o) (Faulty g) = subst (Found o (length o)) h.fault found in
+      let some : refs C (last_key_or p h.keys) y ≢ Nothing = λ (z : refs C (last_key_or p h.keys) y ≡ Nothing). cc (h.fault) in
+      let is_found = cursor C p (rising sound) o (length o) e es r.slot start held (upto_next sound e r at) other h.keys y h.simple.walk h.simple.once some b in
+      let no_ : Found o (length o) (Faulty g) = subst (Found o (length o)) h.fault is_found in
       no_
 
   -- a reference that leads nowhere
-  pub fault_here : Sought N C → (o : List ℕ) (e : Open) (es : List Open) (r : Call) (d : Fault) → slice_get o 0 ≡ Some p → Apart o → Held C o (length o) (e ∷ es) → slice_get (C e.function) e.next ≡ Some r → r.target ≡ Nowhere d → HasFault (refs C) p (path_of C p (e ∷ es)) r.slot d
+  pub fault_here : AreSorted N C → (o : List ℕ) (e : Open) (es : List Open) (r : Call) (d : Fault) → slice_get o 0 ≡ Some p → Apart o → Held C o (length o) (e ∷ es) → slice_get (C e.function) e.next ≡ Some r → r.target ≡ Nowhere d → HasReferenceFault (refs C) p (path_of C p (e ∷ es)) r.slot d
   fault_here sound o e es r d start apart held at to =
       let w = walk_of C p (rising sound) o (length o) e es start held in
-      let is : refs C (last_of p (keys_of C p (e ∷ es))) r.slot ≡ Faulty d = rw w.1 ((at_index (C e.function) 0 e.next r (sound.rises e.function) at).1 ∙ ap of_target to) in
+      let is : refs C (last_key_or p (keys_of C p (e ∷ es))) r.slot ≡ Faulty d = rw w.1 ((at_index (C e.function) 0 e.next r (sound.rises e.function) at).1 ∙ ap of_target to) in
       record { keys = keys_of C p (e ∷ es); simple = record { walk = w.0; once = keys_distinct C p o (length o) e es apart held }; fault = is }
 
   -- what stands at a place of a list with one more
@@ -152,10 +152,10 @@ module _ (N : ℕ) (C : ℕ → List Call) (p : ℕ) where
 
   step_next : (o : List ℕ) (f : List Bool) (s : List Open) (top : Open) (r : Call) (k : ℕ) → State N C p o f (s ++ top ∷ []) → slice_get (C top.function) top.next ≡ Some r → r.target ≡ Function k → slice_index_or f k false ≡ true → State N C p o f (s ++ record top { next = top.next + 1 } ∷ [])
   step_next o f s top r k h at to flag =
-      let found : Found o (length o) (of_target r.target) = rw to (h.marked k flag) in
-      record { held = top_held o s (record top { next = top.next + 1 }) (held_next C o (length o) top (reverse s) r at found (held_top o s top h.held)); start = h.start; flags = h.flags; marked = h.marked; unmarked = h.unmarked; apart = h.apart; firsts = h.firsts; within = h.within }
+      let is_found : Found o (length o) (of_target r.target) = rw to (h.marked k flag) in
+      record { held = top_held o s (record top { next = top.next + 1 }) (held_next C o (length o) top (reverse s) r at is_found (held_top o s top h.held)); start = h.start; flags = h.flags; marked = h.marked; unmarked = h.unmarked; apart = h.apart; firsts = h.firsts; within = h.within }
 
-  step_push : Sought N C → (o : List ℕ) (f : List Bool) (s : List Open) (top : Open) (r : Call) (k : ℕ) → State N C p o f (s ++ top ∷ []) → slice_get (C top.function) top.next ≡ Some r → r.target ≡ Function k → slice_index_or f k false ≡ false → State N C p (o ++ k ∷ []) (slice_set f k true) ((s ++ top ∷ []) ++ record { copy = length o; function = k; next = 0 } ∷ [])
+  step_push : AreSorted N C → (o : List ℕ) (f : List Bool) (s : List Open) (top : Open) (r : Call) (k : ℕ) → State N C p o f (s ++ top ∷ []) → slice_get (C top.function) top.next ≡ Some r → r.target ≡ Function k → slice_index_or f k false ≡ false → State N C p (o ++ k ∷ []) (slice_set f k true) ((s ++ top ∷ []) ++ record { copy = length o; function = k; next = 0 } ∷ [])
   step_push sound o f s top r k h at to flag =
       let held = held_top o s top h.held in
       let new : Open = record { copy = length o; function = k; next = 0 } in
@@ -164,7 +164,7 @@ module _ (N : ℕ) (C : ℕ → List Call) (p : ℕ) where
       let fresh = h.unmarked k flag in
       let top_at = (held_entry C o (length o) top (reverse s) held) in
       let some : 0 < length o = omega (arith, top_at.below) in
-      let inside : k < N = subst (IsIn N) to (sound.within top.function top.next r at) in
+      let inside : k < N = subst (IsWithin N) to (sound.within top.function top.next r at) in
       let inside' : k < length f = omega (arith, h.flags) in
       let first = first_now sound o k top (reverse s) r h.start h.apart held at to fresh in
       record {
@@ -178,12 +178,12 @@ module _ (N : ℕ) (C : ℕ → List Call) (p : ℕ) where
                   let was : slice_index_or f m false ≡ true = sym (get_or-set_other f k m true false other) ∙ flag' in
                   found_up (o ++ k ∷ []) (length o) (length (o ++ k ∷ [])) (Names m) (omega (arith, size)) (found_more o (k ∷ []) (length o) (Names m) (h.marked m was))
             ];
-        unmarked = λ m flag' found.
+        unmarked = λ m flag' is_found.
             elim (cases_eq m k) [
               | inl same ↦ cc (get_or-set_same f k true false inside')
               | inr other ↦
                   let was : slice_index_or f m false ≡ false = sym (get_or-set_other f k m true false other) ∙ flag' in
-                  elim (found_push o k m found) [ inl old ↦ h.unmarked m was old | inr is ↦ other (sym is) ]
+                  elim (found_push o k m is_found) [ inl old ↦ h.unmarked m was old | inr is ↦ other (sym is) ]
             ];
         apart = apart_push o k h.apart fresh;
         firsts = λ j m pos at'.
@@ -198,28 +198,28 @@ module _ (N : ℕ) (C : ℕ → List Call) (p : ℕ) where
   to_state : (o o' : List ℕ) (f f' : List Bool) (s s' : List Open) → o' ≡ o → f' ≡ f → s' ≡ s → State N C p o f s → State N C p o' f' s'
   to_state o o' f f' s s' e g h st = subst (λ (u : List ℕ). State N C p u f' s') (sym e) (subst (λ (u : List Bool). State N C p o u s') (sym g) (subst (State N C p o f) (sym h) st))
 
-  step_append : (F : Functions ℕ Fault) → Sought N C → (s t : Search) (top : Open) → State N C p s.order s.found (s.pending ++ top ∷ []) → (r : Call) → slice_get (C top.function) top.next ≡ Some r → (k : ℕ) → r.target ≡ Function k → slice_index_or s.found k false ≡ false → (o : Option Fault) → MatchOption o ((t ≡ opened F top s k) × (◌≡◌ {A = Option Fault} None None)) (λ e. (t ≡ s) × (◌≡◌ {A = Option Fault} None (Some e))) → State N C p t.order t.found t.pending
+  step_append : (F : Functions ℕ Fault) → AreSorted N C → (s t : Search) (top : Open) → State N C p s.order s.is_found (s.work_list ++ top ∷ []) → (r : Call) → slice_get (C top.function) top.next ≡ Some r → (k : ℕ) → r.target ≡ Function k → slice_index_or s.is_found k false ≡ false → (o : Option Fault) → MatchOption o ((t ≡ opened F top s k) × (◌≡◌ {A = Option Fault} None None)) (λ e. (t ≡ s) × (◌≡◌ {A = Option Fault} None (Some e))) → State N C p t.order t.is_found t.work_list
   step_append F sound s t top h r at k to flag None a =
-      subst (λ (u : Search). State N C p u.order u.found u.pending) (sym a.0) (step_push sound s.order s.found s.pending top r k h at to flag)
+      subst (λ (u : Search). State N C p u.order u.is_found u.work_list) (sym a.0) (step_push sound s.order s.is_found s.work_list top r k h at to flag)
   step_append F sound s t top h r at k to flag (Some e) a = cc (a.1)
 
-  step_flag : (F : Functions ℕ Fault) → Sought N C → (s t : Search) (top : Open) → State N C p s.order s.found (s.pending ++ top ∷ []) → (r : Call) → slice_get (C top.function) top.next ≡ Some r → (k : ℕ) → r.target ≡ Function k → (b : Bool) → slice_index_or s.found k false ≡ b → MatchBool b ((t ≡ passed top s) × (◌≡◌ {A = Option Fault} None None)) (MatchOption (append_fault F k s.used) ((t ≡ opened F top s k) × (◌≡◌ {A = Option Fault} None None)) (λ e. (t ≡ s) × (◌≡◌ {A = Option Fault} None (Some e)))) → State N C p t.order t.found t.pending
+  step_flag : (F : Functions ℕ Fault) → AreSorted N C → (s t : Search) (top : Open) → State N C p s.order s.is_found (s.work_list ++ top ∷ []) → (r : Call) → slice_get (C top.function) top.next ≡ Some r → (k : ℕ) → r.target ≡ Function k → (b : Bool) → slice_index_or s.is_found k false ≡ b → MatchBool b ((t ≡ passed top s) × (◌≡◌ {A = Option Fault} None None)) (MatchOption (append_fault F k s.used) ((t ≡ opened F top s k) × (◌≡◌ {A = Option Fault} None None)) (λ e. (t ≡ s) × (◌≡◌ {A = Option Fault} None (Some e)))) → State N C p t.order t.is_found t.work_list
   step_flag F sound s t top h r at k to true flag a =
-      subst (λ (u : Search). State N C p u.order u.found u.pending) (sym a.0) (step_next s.order s.found s.pending top r k h at to flag)
+      subst (λ (u : Search). State N C p u.order u.is_found u.work_list) (sym a.0) (step_next s.order s.is_found s.work_list top r k h at to flag)
   step_flag F sound s t top h r at k to false flag a = step_append F sound s t top h r at k to flag (append_fault F k s.used) a
 
-  step_to : (F : Functions ℕ Fault) → Sought N C → (s t : Search) (top : Open) → State N C p s.order s.found (s.pending ++ top ∷ []) → (r : Call) → slice_get (C top.function) top.next ≡ Some r → (g : Target) → r.target ≡ g → StepTo F top s t None (Some g) → State N C p t.order t.found t.pending
+  step_to : (F : Functions ℕ Fault) → AreSorted N C → (s t : Search) (top : Open) → State N C p s.order s.is_found (s.work_list ++ top ∷ []) → (r : Call) → slice_get (C top.function) top.next ≡ Some r → (g : Target) → r.target ≡ g → StepTo F top s t None (Some g) → State N C p t.order t.is_found t.work_list
   step_to F sound s t top h r at (Nowhere d) to a = cc (a.1)
-  step_to F sound s t top h r at (Function k) to a = step_flag F sound s t top h r at k to (slice_index_or s.found k false) refl a
+  step_to F sound s t top h r at (Function k) to a = step_flag F sound s t top h r at k to (slice_index_or s.is_found k false) refl a
 
-  stepped : (F : Functions ℕ Fault) → Sought N C → (s t : Search) (top : Open) → State N C p s.order s.found (s.pending ++ top ∷ []) → (c : Option Call) → slice_get (C top.function) top.next ≡ c → StepTo F top s t None (target_of c) → State N C p t.order t.found t.pending
+  stepped : (F : Functions ℕ Fault) → AreSorted N C → (s t : Search) (top : Open) → State N C p s.order s.is_found (s.work_list ++ top ∷ []) → (c : Option Call) → slice_get (C top.function) top.next ≡ c → StepTo F top s t None (call_target c) → State N C p t.order t.is_found t.work_list
   stepped F sound s t top h None at a =
       let over : length (C top.function) ≤ top.next = not_within (C top.function) top.next at in
-      subst (λ (u : Search). State N C p u.order u.found u.pending) (sym a.0) (step_over s.order s.found s.pending top h over)
+      subst (λ (u : Search). State N C p u.order u.is_found u.work_list) (sym a.0) (step_over s.order s.is_found s.work_list top h over)
   stepped F sound s t top h (Some r) at a = step_to F sound s t top h r at r.target refl a
 
   -- one step of the search, by its contract
-  pub advanced : (F : Functions ℕ Fault) → Sought N C → (s t : Search) (top : Open) → State N C p s.order s.found (s.pending ++ top ∷ []) → Advanced F C top s t None → State N C p t.order t.found t.pending
+  pub advanced : (F : Functions ℕ Fault) → AreSorted N C → (s t : Search) (top : Open) → State N C p s.order s.is_found (s.work_list ++ top ∷ []) → Advanced F C top s t None → State N C p t.order t.is_found t.work_list
   advanced F sound s t top h a = stepped F sound s t top h (slice_get (C top.function) top.next) refl a
 
   -- the end
@@ -243,12 +243,12 @@ module _ (N : ℕ) (C : ℕ → List Call) (p : ℕ) where
   )
 
   -- each reference of each function found leads to one found
-  closed : (o : List ℕ) → Settled C o (length o) [] → (j k x : ℕ) → slice_get o j ≡ Some k → refs C k x ≢ Nothing → Found o (length o) (refs C k x)
+  closed : (o : List ℕ) → AreDone C o (length o) [] → (j k x : ℕ) → slice_get o j ≡ Some k → refs C k x ≢ Nothing → Found o (length o) (refs C k x)
   closed o s j k x at some =
       let r = indexed (C k) x some in
       subst (Found o (length o)) (sym r.is) (s.leads j k r.index r.call (slice_get_within o j k at) at (λ a. a) r.at)
 
-  nil_end : (o : List ℕ) (m : ℕ) (ks : List ℕ) → Walk (refs C) m [] ks → Found o (length o) (Names m) → Found o (length o) (Names (last_of m ks))
+  nil_end : (o : List ℕ) (m : ℕ) (ks : List ℕ) → Walk (refs C) m [] ks → Found o (length o) (Names m) → Found o (length o) (Names (last_key_or m ks))
   nil_end o m [] w h = h
   nil_end o m (k ∷ ks) w h = absurd w
 
@@ -256,24 +256,24 @@ module _ (N : ℕ) (C : ℕ → List Call) (p : ℕ) where
   found_among ks k (zero, pos, lt, at) = absurd (omega arith)
   found_among ks k (suc j, pos, lt, at) = place_among ks j k at
 
-  names_among : (ks : List ℕ) (r : Reference ℕ Fault) → Found (p ∷ ks) (length (p ∷ ks)) r → (m : ℕ) × (r ≡ Names m) × Among ks m
+  names_among : (ks : List ℕ) (r : SlotReference ℕ Fault) → Found (p ∷ ks) (length (p ∷ ks)) r → (m : ℕ) × (r ≡ Names m) × Among ks m
   names_among ks Nothing h = absurd h
   names_among ks (Faulty d) h = absurd h
   names_among ks (Names m) h = (m, refl, found_among ks m h)
 
-  reached_path : (k : ℕ) (q qs : List ℕ) → Walk (refs C) p q qs → q ≢ [] → last_of p qs ≡ k → Reached (refs C) p k
+  reached_path : (k : ℕ) (q qs : List ℕ) → Walk (refs C) p q qs → q ≢ [] → last_key_or p qs ≡ k → Reached (refs C) p k
   reached_path k [] qs w ne e = absurd (ne refl)
   reached_path k (x ∷ q) qs w ne e = (x, q, qs, w, e)
 
   reached_by : {o : List ℕ} {j : ℕ} (k : ℕ) → First C p o j k → Reached (refs C) p k
   reached_by k h = reached_path k h.path h.keys h.simple.walk h.some h.ends
 
-  walk_found : (o : List ℕ) → Settled C o (length o) [] → (j k : ℕ) (q ks : List ℕ) (x : ℕ) → slice_get o j ≡ Some k → Walk (refs C) k (x ∷ q) ks → Found o (length o) (Names (last_of k ks))
+  walk_found : (o : List ℕ) → AreDone C o (length o) [] → (j k : ℕ) (q ks : List ℕ) (x : ℕ) → slice_get o j ≡ Some k → Walk (refs C) k (x ∷ q) ks → Found o (length o) (Names (last_key_or k ks))
   walk_found o s j k q [] x at w = absurd w
   walk_found o s j k [] (m ∷ ks) x at w =
       let some : refs C k x ≢ Nothing = λ (z : refs C k x ≡ Nothing). cc (w.0) in
-      let found = subst (Found o (length o)) w.0 (closed o s j k x at some) in
-      nil_end o m ks w.1 found
+      let is_found = subst (Found o (length o)) w.0 (closed o s j k x at some) in
+      nil_end o m ks w.1 is_found
   walk_found o s j k (y ∷ q) (m ∷ ks) x at w =
       let some : refs C k x ≢ Nothing = λ (z : refs C k x ≡ Nothing). cc (w.0) in
       let (i, pos, lt, is) = subst (Found o (length o)) w.0 (closed o s j k x at some) in
@@ -300,7 +300,7 @@ module _ (N : ℕ) (C : ℕ → List Call) (p : ℕ) where
         | inl b ↦ b
         | inr (inl e) ↦
             let keys : kx.keys ≡ ky.keys = walk_same (refs C) p x kx.keys ky.keys kx.simple.walk (subst (λ (u : List ℕ). Walk (refs C) p u ky.keys) (sym e) ky.simple.walk) in
-            let same : k ≡ m = sym kx.ends ∙ ap (last_of p) keys ∙ ky.ends in
+            let same : k ≡ m = sym kx.ends ∙ ap (last_key_or p) keys ∙ ky.ends in
             let l = apart.apart i j m pos (omega arith) (ai ∙ ap Some same) aj in
             absurd (omega (arith, l))
         | inr (inr b) ↦
@@ -342,7 +342,7 @@ module _ (N : ℕ) (C : ℕ → List Call) (p : ℕ) where
   get_replicate (suc n) zero = refl
   get_replicate (suc n) (suc k) = get_replicate n k
 
-  found_none : (r : Reference ℕ Fault) → Found (p ∷ []) 1 r → ⊥
+  found_none : (r : SlotReference ℕ Fault) → Found (p ∷ []) 1 r → ⊥
   found_none Nothing h = h
   found_none (Faulty d) h = h
   found_none (Names k) h = omega (arith, h.1, h.2)

@@ -8,13 +8,13 @@ use Rattle.std.proofs.lemmas.List.Elements.{All-nil, All-cons, All-head, All-tai
 use Rattle.ebpf_linker.specs.declared.reference.Target.{Target}
 use Rattle.ebpf_linker.specs.declared.reference.Target.TheVariants.{Function, Nowhere}
 use Rattle.ebpf_linker.specs.declared.reference.Call.{Call}
-use Rattle.ebpf_linker.specs.Numbered.{IsIn, is_in, is_above, is_list_sound, Rises, Sound, calls_at}
+use Rattle.ebpf_linker.specs.Numbered.{IsWithin, is_within, is_above, is_list_sound, Rises, Sound, calls_at}
 
-in_of : (n : ℕ) (t : Target) → is_in n t ≡ true → IsIn n t
+in_of : (n : ℕ) (t : Target) → is_within n t ≡ true → IsWithin n t
 in_of n (Function k) e = ltb-true k n e
 in_of n (Nowhere d) e = tt
 
-of_in : (n : ℕ) (t : Target) → IsIn n t → is_in n t ≡ true
+of_in : (n : ℕ) (t : Target) → IsWithin n t → is_within n t ≡ true
 of_in n (Function k) h = lt-ltb k n h
 of_in n (Nowhere d) h = refl
 
@@ -35,26 +35,26 @@ of_above (Some before) slot h = lt-ltb before slot (omega arith)
 
 module _ (n : ℕ) where
   abbrev Within : List Call → Type 0
-  Within cs = All (λ (c : Call). IsIn n c.target) cs
+  Within cs = All (λ (c : Call). IsWithin n c.target) cs
 
   rises : (before : Option ℕ) (cs : List Call) → is_list_sound n before cs ≡ true → Rises (next before) cs
   rises before [] e = tt
   rises before (c ∷ cs) e =
-      let both = and_parts (is_above before c.slot && is_in n c.target) (is_list_sound n (Some c.slot) cs) e in
-      (above_of before c.slot (and_parts (is_above before c.slot) (is_in n c.target) both.0).0, rises (Some c.slot) cs both.1)
+      let both = and_parts (is_above before c.slot && is_within n c.target) (is_list_sound n (Some c.slot) cs) e in
+      (above_of before c.slot (and_parts (is_above before c.slot) (is_within n c.target) both.0).0, rises (Some c.slot) cs both.1)
 
   within : (before : Option ℕ) (cs : List Call) → is_list_sound n before cs ≡ true → Within cs
-  within before [] e = All-nil (λ (c : Call). IsIn n c.target)
+  within before [] e = All-nil (λ (c : Call). IsWithin n c.target)
   within before (c ∷ cs) e =
-      let both = and_parts (is_above before c.slot && is_in n c.target) (is_list_sound n (Some c.slot) cs) e in
-      All-cons (λ (c : Call). IsIn n c.target) c cs (in_of n c.target (and_parts (is_above before c.slot) (is_in n c.target) both.0).1) (within (Some c.slot) cs both.1)
+      let both = and_parts (is_above before c.slot && is_within n c.target) (is_list_sound n (Some c.slot) cs) e in
+      All-cons (λ (c : Call). IsWithin n c.target) c cs (in_of n c.target (and_parts (is_above before c.slot) (is_within n c.target) both.0).1) (within (Some c.slot) cs both.1)
 
   tested : (before : Option ℕ) (cs : List Call) → Rises (next before) cs → Within cs → is_list_sound n before cs ≡ true
   tested before [] r w = refl
   tested before (c ∷ cs) r w =
-      and_from (is_above before c.slot && is_in n c.target) (is_list_sound n (Some c.slot) cs)
-      (and_from (is_above before c.slot) (is_in n c.target) (of_above before c.slot r.0) (of_in n c.target (All-head (λ (c : Call). IsIn n c.target) c cs w)))
-      (tested (Some c.slot) cs r.1 (All-tail (λ (c : Call). IsIn n c.target) c cs w))
+      and_from (is_above before c.slot && is_within n c.target) (is_list_sound n (Some c.slot) cs)
+      (and_from (is_above before c.slot) (is_within n c.target) (of_above before c.slot r.0) (of_in n c.target (All-head (λ (c : Call). IsWithin n c.target) c cs w)))
+      (tested (Some c.slot) cs r.1 (All-tail (λ (c : Call). IsWithin n c.target) c cs w))
 
   abbrev are_sound : List (Vec Call Global) → Bool
   are_sound C = list_all (λ v. is_list_sound n None v.items) C

@@ -67,7 +67,7 @@ module _ (F : Functions ℕ Fault) (top : Open) (s t : Search) (d : Fault) where
   stands_still None a = a.0
   stands_still (Some (Nowhere e)) a = a.0
   stands_still (Some (Function k)) a =
-      elim (cases_Bool (slice_index_or s.found k false)) [
+      elim (cases_Bool (slice_index_or s.is_found k false)) [
         | inl e ↦ let b = rw e at a in cc (b.1)
         | inr e ↦ let b = rw e at a in not_opened k (append_fault F k s.used) b
       ]

@@ -1,11 +1,11 @@
--- A program whose map is told can be linked.
+-- A program that has a link map can be linked.
 use Rattle.std.proofs.Common.{◌≡◌, ◌≢◌, ℕ, zero, suc, ◌+◌, List, [], ◌∷◌, ◌++◌, length, Some, refl, sym, ap, ◌∙◌, subst, inl, inr, arith, length-append}
 use Rattle.std.specs.Prelude.{slice_get, pos, ◌-ℤ◌}
 use Rattle.ebpf_parts.specs.declared.insn.bpf_insn.{bpf_insn}
 use Rattle.ebpf_linker.specs.declared.body.LinkedProgram.{LinkedProgram}
-use Rattle.ebpf_linker.specs.declared.link_map.Reference.{Reference as Noting}
+use Rattle.ebpf_linker.specs.declared.link_map.Reference.{Reference}
 use Rattle.ebpf_linker.specs.Slots.{relinked}
-use Rattle.ebpf_linker.specs.Functions.{Reference, Nothing, Faulty, Names, Functions, body, Among, BeginsAt, Becomes, Linked, total}
+use Rattle.ebpf_linker.specs.Functions.{SlotReference, Nothing, Faulty, Names, Functions, body, Among, BeginsAt, Becomes, Linked, total}
 use Rattle.ebpf_linker.specs.Answer.{IsOrder}
 use Rattle.ebpf_linker.specs.Faults.{has_some}
 use Rattle.ebpf_linker.specs.LinkMap.{CopyOf, IsLinkMap}
@@ -21,10 +21,10 @@ module _ {K E : Type 0} (F : Functions K E) (p : K) (ks : List K) (order : IsOrd
   begins_somewhere (m ∷ ms) k (inr a) = let (c, h) = begins_somewhere ms k a in (length (body F m) + c, inr (c, refl, h))
 
   -- what a slot becomes
-  became : (place : ℕ) (k : K) (i : ℕ) (s : bpf_insn) → Among (p ∷ ks) k → (t : bpf_insn) × Becomes F p ks place (F.reference k i) s t
-  became place k i s a = step (F.reference k i) refl
+  linked_slot : (place : ℕ) (k : K) (i : ℕ) (s : bpf_insn) → Among (p ∷ ks) k → (t : bpf_insn) × Becomes F p ks place (F.reference k i) s t
+  linked_slot place k i s a = step (F.reference k i) refl
     where
-      step : (r : Reference K E) → F.reference k i ≡ r → (t : bpf_insn) × Becomes F p ks place r s t
+      step : (r : SlotReference K E) → F.reference k i ≡ r → (t : bpf_insn) × Becomes F p ks place r s t
       step Nothing e = (s, refl)
       step (Faulty d) e =
           let some : F.reference k i ≢ Nothing = λ (z : F.reference k i ≡ Nothing). cc in
@@ -54,7 +54,7 @@ module _ {K E : Type 0} (F : Functions K E) (p : K) (ks : List K) (order : IsOrd
   copied : (k : K) (place low : ℕ) (code : List bpf_insn) → Among (p ∷ ks) k → Copied k place low code
   copied k place low [] a = record { out = []; size = refl; at = λ i x j s at ex ej. cc }
   copied k place low (s ∷ code) a =
-      let (t, becomes) = became place k low s a in
+      let (t, becomes) = linked_slot place k low s a in
       let rest = copied k (place + 1) (low + 1) code a in
       record { out = t ∷ rest.out; size = ap suc rest.size; at = one_more k place low s code t becomes rest }
 
@@ -95,7 +95,7 @@ module _ {K E : Type 0} (F : Functions K E) (p : K) (ks : List K) (order : IsOrd
   }
 
 -- the linked program
-pub can_be_linked : {K E : Type 0} (F : Functions K E) (p : K) (ks : List K) (cs : List (CopyOf K)) (rs : List Noting) → IsLinkMap F p ks cs rs → (l : LinkedProgram) × IsProgram F p ks l
+pub can_be_linked : {K E : Type 0} (F : Functions K E) (p : K) (ks : List K) (cs : List (CopyOf K)) (rs : List Reference) → IsLinkMap F p ks cs rs → (l : LinkedProgram) × IsProgram F p ks l
 can_be_linked F p ks cs rs h =
     let w = written F p ks h.order 0 (p ∷ ks) (λ k a. a) in
     let linked = is_linked F p ks h.order w in (

@@ -3,7 +3,7 @@ use Rattle.std.specs.Prelude.{◌≡◌, ◌≢◌, ℕ, ◌≤◌, List, ◌∷
 use Rattle.std.specs.declared.alloc.Global.{Global}
 use Rattle.ebpf_linker.specs.declared.reference.Fault.{Fault}
 use Rattle.ebpf_linker.specs.Functions.{Nothing, Names, References, Functions, Among, Distinct, Reached, total}
-use Rattle.ebpf_linker.specs.Order.{InOrder}
+use Rattle.ebpf_linker.specs.Order.{InKeyPathOrder}
 use Rattle.ebpf_linker.specs.Faults.{append_fault, Faultless, LeastFault}
 
 -- each reached function once, in the order of their key paths
@@ -12,7 +12,7 @@ pub record IsOrder {K E : Type 0} (R : References K E) (p : K) (ks : List K) : T
   pub reached : (k : K) → Among ks k → Reached R p k
   pub complete : (k : K) → Reached R p k → Among ks k
   pub resolved : (k : K) (x : ℕ) → Among (p ∷ ks) k → R k x ≢ Nothing → (m : K) × (R k x ≡ Names m) × Among ks m
-  pub order : InOrder R p ks
+  pub order : InKeyPathOrder R p ks
 
 -- an order of functions for which no fault stands, with which the program is not too long
 pub record IsFound {K E : Type 0} (F : Functions K E) (R : References K E) (p : K) (ks : List K) : Type 0 where

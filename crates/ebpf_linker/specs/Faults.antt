@@ -3,8 +3,8 @@ use Rattle.std.specs.Prelude.{◌≡◌, ℕ, ◌+◌, ◌-◌, ◌^◌, Bool, t
 use Rattle.std.specs.List.{list_any}
 use Rattle.ebpf_base.specs.Faults.{first_of}
 use Rattle.ebpf_ext.specs.declared.ext_infos.bpf_line_info.{bpf_line_info}
-use Rattle.ebpf_linker.specs.Functions.{Reference, Nothing, Faulty, Names, References, Content, Functions, content_at, Among, Distinct, total}
-use Rattle.ebpf_linker.specs.Order.{Before, KeyPath, HasFault}
+use Rattle.ebpf_linker.specs.Functions.{SlotReference, Nothing, Faulty, Names, References, FunctionContent, Functions, content_at, Among, Distinct, total}
+use Rattle.ebpf_linker.specs.Order.{Before, KeyPath, HasReferenceFault}
 
 abbrev pub same : Bool → Bool → Bool
 same true b = b
@@ -28,24 +28,24 @@ has_stray base lines = list_any (is_stray (first_line lines) base) lines
 
 -- why a function can't have a copy at a base: the program would have more than 2,147,483,647 slots, or a line record
 -- can't be moved
-abbrev pub content_fault : {E : Type 0} → Content → ℕ → E → E → Option E
+abbrev pub content_fault : {E : Type 0} → FunctionContent → ℕ → E → E → Option E
 content_fault c base too_long stray_line =
     first_of ((nat_lt 2147483647 (base + length c.slots), too_long) ∷ (has_stray base c.line_info, stray_line) ∷ [])
 
 module _ {K E : Type 0} where
   -- both or neither of two functions have records on functions
-  abbrev pub agree : Functions K E → K → K → Bool
-  agree F p k = same (has_some (content_at F k).func_info) (has_some (content_at F p).func_info)
+  abbrev pub func_info_agrees : Functions K E → K → K → Bool
+  func_info_agrees F p k = same (has_some (content_at F k).func_info) (has_some (content_at F p).func_info)
 
   -- a reference, where the program p is linked
-  abbrev pub checked : Functions K E → K → Reference K E → Reference K E
+  abbrev pub checked : Functions K E → K → SlotReference K E → SlotReference K E
   checked F p Nothing = Nothing
   checked F p (Faulty e) = Faulty e
-  checked F p (Names k) = if agree F p k then Names k else Faulty (F.mismatch k)
+  checked F p (Names k) = if func_info_agrees F p k then Names k else Faulty (F.mismatch k)
 
   -- what slots refer to, where the program p is linked
-  abbrev pub linking : Functions K E → K → References K E
-  linking F p k x = checked F p (F.reference k x)
+  abbrev pub checked_references : Functions K E → K → References K E
+  checked_references F p k x = checked F p (F.reference k x)
 
   -- why the function at a key can't have a copy at a base
   abbrev pub append_fault : Functions K E → K → ℕ → Option E
@@ -69,16 +69,16 @@ module _ {K E : Type 0} where
 
   -- e stands at slot x of the function at the end of a path: the slot refers to what can't be had, or it is the last
   -- slot of the key path of a function that can't have a copy
-  abbrev pub StandsAt : Functions K E → References K E → K → List ℕ → ℕ → E → Type 0
-  StandsAt F R p path x e = HasFault R p path x e ⊎ CopyFault F R p (path ++ x ∷ []) e
+  abbrev pub FaultStandsAt : Functions K E → References K E → K → List ℕ → ℕ → E → Type 0
+  FaultStandsAt F R p path x e = HasReferenceFault R p path x e ⊎ CopyFault F R p (path ++ x ∷ []) e
 
   -- no fault stands
   abbrev pub Faultless : Functions K E → References K E → K → Type 0
-  Faultless F R p = (path : List ℕ) (x : ℕ) (e : E) → StandsAt F R p path x e → ⊥
+  Faultless F R p = (path : List ℕ) (x : ℕ) (e : E) → FaultStandsAt F R p path x e → ⊥
 
   -- e stands at a place before which no fault stands
   pub record LeastFault (F : Functions K E) (R : References K E) (p : K) (e : E) : Type 0 where
     pub path : List ℕ
     pub slot : ℕ
-    pub stands : StandsAt F R p path slot e
-    pub none_before : (other : List ℕ) (y : ℕ) (d : E) → StandsAt F R p other y d → Before (other ++ y ∷ []) (path ++ slot ∷ []) → ⊥
+    pub stands : FaultStandsAt F R p path slot e
+    pub none_before : (other : List ℕ) (y : ℕ) (d : E) → FaultStandsAt F R p other y d → Before (other ++ y ∷ []) (path ++ slot ∷ []) → ⊥

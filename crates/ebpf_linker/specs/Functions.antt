@@ -6,17 +6,17 @@ use Rattle.ebpf_parts.specs.declared.insn.bpf_insn.{bpf_insn}
 use Rattle.ebpf_linker.specs.Slots.{relinked}
 
 -- what a slot refers to: no function, one that can't be had, or the function at a key
-pub data Reference (K E : Type 0) : Type 0 where
-  Nothing : Reference K E
-  Faulty : E → Reference K E
-  Names : K → Reference K E
+pub data SlotReference (K E : Type 0) : Type 0 where
+  Nothing : SlotReference K E
+  Faulty : E → SlotReference K E
+  Names : K → SlotReference K E
 
 -- what the slots of functions refer to
 abbrev pub References : Type 0 → Type 0 → Type 0
-References K E = K → ℕ → Reference K E
+References K E = K → ℕ → SlotReference K E
 
 -- a function: its slots, and the records on functions and on lines that stand in it
-pub record Content : Type 0 where
+pub record FunctionContent : Type 0 where
   pub slots : List bpf_insn
   pub func_info : List bpf_func_info
   pub line_info : List bpf_line_info
@@ -24,13 +24,13 @@ pub record Content : Type 0 where
 -- Functions: what stands at each key that is one, what slot i of the function at a key refers to, and the names of
 -- what may be wrong with the function at a key.
 pub record Functions (K E : Type 0) : Type 0 where
-  pub content : K → Option Content
+  pub content : K → Option FunctionContent
   pub reference : References K E
   pub mismatch : K → E
   pub too_long : K → E
   pub stray_line : K → E
 
-abbrev pub or_empty : Option Content → Content
+abbrev pub or_empty : Option FunctionContent → FunctionContent
 or_empty None = record { slots = []; func_info = []; line_info = [] }
 or_empty (Some c) = c
 
@@ -44,13 +44,13 @@ module _ {K : Type 0} where
   Distinct (m ∷ ks) = (Among ks m → ⊥) × Distinct ks
 
   -- the last of some keys, or from where there are none
-  abbrev pub last_of : K → List K → K
-  last_of from [] = from
-  last_of from (k ∷ ks) = last_of k ks
+  abbrev pub last_key_or : K → List K → K
+  last_key_or from [] = from
+  last_key_or from (k ∷ ks) = last_key_or k ks
 
 module _ {K E : Type 0} where
   -- what stands at a key, nothing where no function does
-  abbrev pub content_at : Functions K E → K → Content
+  abbrev pub content_at : Functions K E → K → FunctionContent
   content_at F k = or_empty (F.content k)
 
   abbrev pub body : Functions K E → K → List bpf_insn
@@ -64,20 +64,20 @@ module _ {K E : Type 0} where
   Walk R from (x ∷ path) [] = ⊥
 
   abbrev pub Reached : References K E → K → K → Type 0
-  Reached R p k = (x : ℕ) × (path : List ℕ) × (keys : List K) × Walk R p (x ∷ path) keys × (last_of p keys ≡ k)
+  Reached R p k = (x : ℕ) × (path : List ℕ) × (keys : List K) × Walk R p (x ∷ path) keys × (last_key_or p keys ≡ k)
 
   -- how many slots these functions have
   abbrev pub total : Functions K E → List K → ℕ
   total F [] = 0
   total F (k ∷ ks) = length (body F k) + total F ks
 
-  -- laid out one after the other, one of these functions is k and begins at b
+  -- one after the other, one of these functions is k and begins at b
   abbrev pub BeginsAt : Functions K E → List K → K → ℕ → Type 0
   BeginsAt F [] k b = ⊥
   BeginsAt F (m ∷ ks) k b = ((m ≡ k) × (b ≡ 0)) ⊎ ((c : ℕ) × (b ≡ length (body F m) + c) × BeginsAt F ks k c)
 
 -- a slot s, at this place of the linked program of p and the functions ks, has become t
-abbrev pub Becomes : {K E : Type 0} → Functions K E → K → List K → ℕ → Reference K E → bpf_insn → bpf_insn → Type 0
+abbrev pub Becomes : {K E : Type 0} → Functions K E → K → List K → ℕ → SlotReference K E → bpf_insn → bpf_insn → Type 0
 Becomes F p ks place Nothing s t = t ≡ s
 Becomes F p ks place (Faulty e) s t = ⊥
 Becomes F p ks place (Names k) s t = (c : ℕ) × BeginsAt F ks k c × (t ≡ relinked s (pos (length (body F p) + c) -ℤ pos (place + 1)))

@@ -6,11 +6,11 @@ pub mod Machine
 pub mod Records
 pub mod Numbered
 pub mod Answer
-pub mod Image
+pub mod LinkedSlots
 pub mod Ready
 pub mod Result
 pub mod Steps
 pub mod Renaming
 pub mod LinkMap
-pub mod Noted
-pub mod MapLaws
+pub mod LinkedReferences
+pub mod LinkMapLaws

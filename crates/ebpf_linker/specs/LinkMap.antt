@@ -2,11 +2,11 @@
 use Rattle.std.specs.Prelude.{◌≡◌, ℕ, ◌+◌, ◌≤◌, List, [], ◌∷◌, length, map, Some, slice_get, Result, Ok, Err}
 use Rattle.ebpf_parts.specs.declared.insn.bpf_insn.{bpf_insn}
 use Rattle.ebpf_linker.specs.Slots.{is_pseudo_call}
-use Rattle.ebpf_linker.specs.Functions.{Names, Content, Functions, body, Among, BeginsAt}
-use Rattle.ebpf_linker.specs.Faults.{linking, Faultless, LeastFault}
+use Rattle.ebpf_linker.specs.Functions.{Names, FunctionContent, Functions, body, Among, BeginsAt}
+use Rattle.ebpf_linker.specs.Faults.{checked_references, Faultless, LeastFault}
 use Rattle.ebpf_linker.specs.Answer.{IsOrder}
 use Rattle.ebpf_linker.specs.declared.link_map.NumberedCopy.{NumberedCopy}
-use Rattle.ebpf_linker.specs.declared.link_map.NumberedMap.{NumberedMap}
+use Rattle.ebpf_linker.specs.declared.link_map.NumberedLinkMap.{NumberedLinkMap}
 use Rattle.ebpf_linker.specs.declared.link_map.Reference.{Reference}
 
 -- a copy of the function at a key: the place at which it begins, and how many slots it has
@@ -53,10 +53,10 @@ module _ {K E : Type 0} where
   -- references; no fault stands
   pub record IsLinkMap (F : Functions K E) (p : K) (ks : List K) (cs : List (CopyOf K)) (rs : List Reference) : Type 0 where
     pub order : IsOrder F.reference p ks
-    pub functions : (k : K) → Among ks k → (c : Content) × (F.content k ≡ Some c)
+    pub functions : (k : K) → Among ks k → (c : FunctionContent) × (F.content k ≡ Some c)
     pub copies : cs ≡ copies_from F 0 (p ∷ ks)
     pub references : AreReferences F p ks rs
-    pub faultless : Faultless F (linking F p) p
+    pub faultless : Faultless F (checked_references F p) p
 
 -- a copy by another name of its function
 abbrev pub key_copy : {M K : Type 0} → (M → K) → CopyOf M → CopyOf K
@@ -66,11 +66,11 @@ key_copy key c = record { key = key c.key; base = c.base; slots = c.slots }
 abbrev pub numbered_copy : CopyOf ℕ → NumberedCopy
 numbered_copy c = record { function = c.key; base = c.base; slots = c.slots }
 
--- the map of the program p, of functions by their numbers
-abbrev pub IsNumberedMap : {E : Type 0} → Functions ℕ E → ℕ → NumberedMap → Type 0
-IsNumberedMap F p m = (ks : List ℕ) × (cs : List (CopyOf ℕ)) × IsLinkMap F p ks cs m.references × (m.copies ≡ map numbered_copy cs)
+-- the link map of the program p, of functions by their numbers
+abbrev pub IsNumberedLinkMap : {E : Type 0} → Functions ℕ E → ℕ → NumberedLinkMap → Type 0
+IsNumberedLinkMap F p m = (ks : List ℕ) × (cs : List (CopyOf ℕ)) × IsLinkMap F p ks cs m.references × (m.copies ≡ map numbered_copy cs)
 
--- the map, or the least fault
-abbrev pub IsMapping : {E : Type 0} → Functions ℕ E → ℕ → Result NumberedMap E → Type 0
-IsMapping F p (Ok m) = IsNumberedMap F p m
-IsMapping F p (Err e) = LeastFault F (linking F p) p e
+-- the link map, or the least fault
+abbrev pub IsLinkMapAnswer : {E : Type 0} → Functions ℕ E → ℕ → Result NumberedLinkMap E → Type 0
+IsLinkMapAnswer F p (Ok m) = IsNumberedLinkMap F p m
+IsLinkMapAnswer F p (Err e) = LeastFault F (checked_references F p) p e

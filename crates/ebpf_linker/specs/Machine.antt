@@ -1,8 +1,8 @@
 -- The flow of control of the separate functions and of the linked program.
 use Rattle.std.specs.Prelude.{◌≡◌, ◌≢◌, ℕ, zero, suc, ◌-◌, ℤ, pos, negsuc, ◌+ℤ◌, Bool, true, nat_lt, if◌then◌else◌, ◌⊎◌, List, [], ◌∷◌, map, length, Option, Some, None, slice_get}
 use Rattle.ebpf_parts.specs.declared.insn.bpf_insn.{bpf_insn}
-use Rattle.ebpf_linker.specs.Slots.{Flow, Return, Enter, Wide, Jump, Branch, Next, flow, slot_at, is_pseudo_call}
-use Rattle.ebpf_linker.specs.Functions.{Reference, Nothing, Faulty, Names, Functions, body, Among}
+use Rattle.ebpf_linker.specs.Slots.{Flow, Return, PseudoCall, WideLoad, Jump, Branch, Next, flow, slot_at_integer, is_pseudo_call}
+use Rattle.ebpf_linker.specs.Functions.{SlotReference, Nothing, Faulty, Names, Functions, body, Among}
 
 -- code over places of some kind: the slot at a place, the place so many slots further, and where a call goes
 pub record Code (P : Type 0) : Type 0 where
@@ -15,11 +15,11 @@ pub record State (P : Type 0) : Type 0 where
   pub stack : List P
   pub decisions : List Bool
 
-pub data Turn (P : Type 0) : Type 0 where
-  Goes : State P → Turn P
-  Ends : Turn P
-  Waits : Turn P
-  Leaves : Turn P
+pub data StepResult (P : Type 0) : Type 0 where
+  Goes : State P → StepResult P
+  Ends : StepResult P
+  Waits : StepResult P
+  Leaves : StepResult P
 
 pub data Stop : Type 0 where
   Going : Stop
@@ -32,41 +32,41 @@ pub record Run (P : Type 0) : Type 0 where
   pub stop : Stop
 
 module _ {P : Type 0} where
-  abbrev pub pops : List Bool → List P → Turn P
+  abbrev pub pops : List Bool → List P → StepResult P
   pops ds [] = Ends
   pops ds (x ∷ xs) = Goes (record { place = x; stack = xs; decisions = ds })
 
-  abbrev pub enters : P → List P → List Bool → Option P → Turn P
+  abbrev pub enters : P → List P → List Bool → Option P → StepResult P
   enters back stack ds None = Leaves
   enters back stack ds (Some x) = Goes (record { place = x; stack = back ∷ stack; decisions = ds })
 
-  abbrev pub decides : P → P → List P → List Bool → Turn P
+  abbrev pub decides : P → P → List P → List Bool → StepResult P
   decides there here stack [] = Waits
   decides there here stack (d ∷ ds) = Goes (record { place = (if d then there else here); stack = stack; decisions = ds })
 
   -- one step at a slot
-  abbrev pub follow : Code P → State P → bpf_insn → Flow → Turn P
+  abbrev pub follow : Code P → State P → bpf_insn → Flow → StepResult P
   follow c s i Return = pops s.decisions s.stack
-  follow c s i Enter = enters (c.moved s.place (pos 1)) s.stack s.decisions (c.entry s.place i)
-  follow c s i Wide = Goes (record s { place = c.moved s.place (pos 2) })
+  follow c s i PseudoCall = enters (c.moved s.place (pos 1)) s.stack s.decisions (c.entry s.place i)
+  follow c s i WideLoad = Goes (record s { place = c.moved s.place (pos 2) })
   follow c s i (Jump d) = Goes (record s { place = c.moved (c.moved s.place (pos 1)) d })
   follow c s i (Branch d) = decides (c.moved (c.moved s.place (pos 1)) d) (c.moved s.place (pos 1)) s.stack s.decisions
   follow c s i Next = Goes (record s { place = c.moved s.place (pos 1) })
 
-  abbrev pub turn_at : Code P → State P → Option bpf_insn → Turn P
-  turn_at c s None = Leaves
-  turn_at c s (Some i) = follow c s i (flow i)
+  abbrev pub step_at : Code P → State P → Option bpf_insn → StepResult P
+  step_at c s None = Leaves
+  step_at c s (Some i) = follow c s i (flow i)
 
-  abbrev pub after : (State P → Run P) → P → Turn P → Run P
-  after rest x (Goes s) = record { visited = x ∷ (rest s).visited; stop = (rest s).stop }
-  after rest x Ends = record { visited = x ∷ []; stop = Ended }
-  after rest x Waits = record { visited = x ∷ []; stop = Waiting }
-  after rest x Leaves = record { visited = []; stop = Left }
+  abbrev pub after_step : (State P → Run P) → P → StepResult P → Run P
+  after_step rest x (Goes s) = record { visited = x ∷ (rest s).visited; stop = (rest s).stop }
+  after_step rest x Ends = record { visited = x ∷ []; stop = Ended }
+  after_step rest x Waits = record { visited = x ∷ []; stop = Waiting }
+  after_step rest x Leaves = record { visited = []; stop = Left }
 
   -- at most n steps
-  abbrev pub run : Code P → ℕ → State P → Run P
-  run c zero s = record { visited = []; stop = Going }
-  run c (suc n) s = after (run c n) s.place (turn_at c s (c.fetch s.place))
+  abbrev pub run_steps : Code P → ℕ → State P → Run P
+  run_steps c zero s = record { visited = []; stop = Going }
+  run_steps c (suc n) s = after_step (run_steps c n) s.place (step_at c s (c.fetch s.place))
 
   abbrev pub begin : P → List Bool → State P
   begin x ds = record { place = x; stack = []; decisions = ds }
@@ -78,24 +78,24 @@ module _ {K : Type 0} where
 
 module _ {K E : Type 0} where
   -- the key that a slot refers to
-  abbrev pub referred_key : Reference K E → Option K
+  abbrev pub referred_key : SlotReference K E → Option K
   referred_key Nothing = None
   referred_key (Faulty e) = None
   referred_key (Names k) = Some k
 
-  abbrev pub reference_at : Functions K E → K → ℤ → Reference K E
+  abbrev pub reference_at : Functions K E → K → ℤ → SlotReference K E
   reference_at F k (pos n) = F.reference k n
   reference_at F k (negsuc n) = Nothing
 
   -- the separate functions: a place is a key and a slot
   abbrev pub separate : Functions K E → Code (K × ℤ)
   separate F = record {
-    fetch = λ x. slot_at (body F x.0) x.1;
+    fetch = λ x. slot_at_integer (body F x.0) x.1;
     moved = λ x d. (x.0, x.1 +ℤ d);
     entry = λ x i. start_of (referred_key (reference_at F x.0 x.1));
   }
 
-  -- the name of a place in these functions, laid out one after the other
+  -- the name of a place in these functions, one after the other
   abbrev pub name_from : Functions K E → List K → ℕ → Option (K × ℤ)
   name_from F [] x = None
   name_from F (k ∷ ks) x = if nat_lt x (length (body F k)) then Some (k, pos x) else name_from F ks (x - length (body F k))
@@ -105,9 +105,9 @@ module _ {K E : Type 0} where
   name F ks (negsuc x) = None
 
 -- one list of slots
-abbrev pub flat : List bpf_insn → Code ℤ
-flat out = record {
-  fetch = λ x. slot_at out x;
+abbrev pub flat_code : List bpf_insn → Code ℤ
+flat_code out = record {
+  fetch = λ x. slot_at_integer out x;
   moved = λ x d. x +ℤ d;
   entry = λ x i. Some ((x +ℤ pos 1) +ℤ i.imm);
 }
@@ -117,9 +117,9 @@ module _ {K E : Type 0} where
   abbrev pub SameVisits : Functions K E → K → List K → List bpf_insn → Type 0
   SameVisits F p ks out =
       (ds : List Bool) (n : ℕ)
-      → (run (separate F) n (begin (p, pos 0) ds)).stop ≢ Left
-      → (map (name F (p ∷ ks)) (run (flat out) n (begin (pos 0) ds)).visited ≡ map Some (run (separate F) n (begin (p, pos 0) ds)).visited)
-      × ((run (flat out) n (begin (pos 0) ds)).stop ≡ (run (separate F) n (begin (p, pos 0) ds)).stop)
+      → (run_steps (separate F) n (begin (p, pos 0) ds)).stop ≢ Left
+      → (map (name F (p ∷ ks)) (run_steps (flat_code out) n (begin (pos 0) ds)).visited ≡ map Some (run_steps (separate F) n (begin (p, pos 0) ds)).visited)
+      × ((run_steps (flat_code out) n (begin (pos 0) ds)).stop ≡ (run_steps (separate F) n (begin (p, pos 0) ds)).stop)
 
   -- each reference of these functions stands on a pseudo call or a wide load
   abbrev pub OnCallsOrLoads : Functions K E → List K → Type 0

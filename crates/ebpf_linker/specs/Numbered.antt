@@ -7,34 +7,34 @@ use Rattle.ebpf_linker.specs.declared.reference.Fault.TheVariants.{FunctionInfoM
 use Rattle.ebpf_linker.specs.declared.reference.Target.{Target}
 use Rattle.ebpf_linker.specs.declared.reference.Target.TheVariants.{Function, Nowhere}
 use Rattle.ebpf_linker.specs.declared.reference.Call.{Call}
-use Rattle.ebpf_linker.specs.Functions.{Reference, Nothing, Faulty, Names, Content, Functions, or_empty}
+use Rattle.ebpf_linker.specs.Functions.{SlotReference, Nothing, Faulty, Names, FunctionContent, Functions, or_empty}
 
-abbrev pub of_target : Target → Reference ℕ Fault
+abbrev pub of_target : Target → SlotReference ℕ Fault
 of_target (Function k) = Names k
 of_target (Nowhere e) = Faulty e
 
 -- what a slot refers to, by the references of its function
-abbrev pub referred : List Call → ℕ → Reference ℕ Fault
+abbrev pub referred : List Call → ℕ → SlotReference ℕ Fault
 referred [] x = Nothing
 referred (c ∷ cs) x = if c.slot == x then of_target c.target else referred cs x
 
-abbrev pub items_of : Option (Vec Call Global) → List Call
-items_of None = []
-items_of (Some v) = v.items
+abbrev pub calls_or_empty : Option (Vec Call Global) → List Call
+calls_or_empty None = []
+calls_or_empty (Some v) = v.items
 
 -- the references of function k
 abbrev pub calls_at : List (Vec Call Global) → ℕ → List Call
-calls_at C k = items_of (slice_get C k)
+calls_at C k = calls_or_empty (slice_get C k)
 
-abbrev pub content_of : Body → Content
-content_of b = record { slots = b.slots.now; func_info = b.func_info.now; line_info = b.line_info.now }
+abbrev pub body_content : Body → FunctionContent
+body_content b = record { slots = b.slots.now; func_info = b.func_info.now; line_info = b.line_info.now }
 
-abbrev pub option_content : Option Body → Option Content
+abbrev pub option_content : Option Body → Option FunctionContent
 option_content None = None
-option_content (Some b) = Some (content_of b)
+option_content (Some b) = Some (body_content b)
 
 -- what function k is
-abbrev pub content_in : List Body → ℕ → Content
+abbrev pub content_in : List Body → ℕ → FunctionContent
 content_in B k = or_empty (option_content (slice_get B k))
 
 -- functions by their numbers, with these bodies and these references
@@ -53,13 +53,13 @@ Rises low [] = Unit {0}
 Rises low (c ∷ cs) = (low ≤ c.slot) × Rises (c.slot + 1) cs
 
 -- a target is one of n functions
-abbrev pub IsIn : ℕ → Target → Type 0
-IsIn n (Function k) = k < n
-IsIn n (Nowhere e) = Unit {0}
+abbrev pub IsWithin : ℕ → Target → Type 0
+IsWithin n (Function k) = k < n
+IsWithin n (Nowhere e) = Unit {0}
 
-abbrev pub is_in : ℕ → Target → Bool
-is_in n (Function k) = nat_lt k n
-is_in n (Nowhere e) = true
+abbrev pub is_within : ℕ → Target → Bool
+is_within n (Function k) = nat_lt k n
+is_within n (Nowhere e) = true
 
 abbrev pub is_above : Option ℕ → ℕ → Bool
 is_above None slot = true
@@ -68,9 +68,9 @@ is_above (Some before) slot = nat_lt before slot
 -- whether the slots of references are above the one before, and each leads to one of n functions
 abbrev pub is_list_sound : ℕ → Option ℕ → List Call → Bool
 is_list_sound n before [] = true
-is_list_sound n before (c ∷ cs) = (is_above before c.slot && is_in n c.target) && is_list_sound n (Some c.slot) cs
+is_list_sound n before (c ∷ cs) = (is_above before c.slot && is_within n c.target) && is_list_sound n (Some c.slot) cs
 
 -- the references of each function rise, and lead to one of n functions
 pub record Sound (n : ℕ) (C : List (Vec Call Global)) : Type 0 where
   pub rises : (k : ℕ) → Rises 0 (calls_at C k)
-  pub within : (k : ℕ) → All (λ c. IsIn n c.target) (calls_at C k)
+  pub within : (k : ℕ) → All (λ c. IsWithin n c.target) (calls_at C k)

@@ -15,8 +15,8 @@ is_pseudo_call slot = (slot.code == 0x85) && ((src_of slot == 1) && ((dst_of slo
 -- where control goes after a slot
 pub data Flow : Type 0 where
   Return : Flow
-  Enter : Flow
-  Wide : Flow
+  PseudoCall : Flow
+  WideLoad : Flow
   Jump : (by : ℤ) → Flow
   Branch : (by : ℤ) → Flow
   Next : Flow
@@ -29,16 +29,16 @@ is_branch code =
 unfoldable pub flow : bpf_insn → Flow
 flow slot =
     if slot.code == 0x95 then Return
-    else (if is_pseudo_call slot then Enter
-    else (if slot.code == 0x18 then Wide
+    else (if is_pseudo_call slot then PseudoCall
+    else (if slot.code == 0x18 then WideLoad
     else (if slot.code == 0x05 then Jump slot.off
     else (if slot.code == 0x06 then Jump slot.imm
     else (if is_branch slot.code then Branch slot.off else Next)))))
 
 -- the slot at a whole number, which has none below 0 or past the end
-abbrev pub slot_at : List bpf_insn → ℤ → Option bpf_insn
-slot_at slots (pos n) = slice_get slots n
-slot_at slots (negsuc n) = None
+abbrev pub slot_at_integer : List bpf_insn → ℤ → Option bpf_insn
+slot_at_integer slots (pos n) = slice_get slots n
+slot_at_integer slots (negsuc n) = None
 
 -- a slot that names this distance to what it refers to
 abbrev pub relinked : bpf_insn → ℤ → bpf_insn

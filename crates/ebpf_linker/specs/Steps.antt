@@ -14,38 +14,38 @@ use Rattle.ebpf_linker.specs.Faults.{same, has_some, append_fault}
 use Rattle.ebpf_linker.specs.Numbered.{calls_at, content_in}
 
 -- where a reference leads, where the program p is linked
-abbrev pub target_seen : List Body → ℕ → Target → Target
-target_seen B p (Nowhere e) = Nowhere e
-target_seen B p (Function k) =
+abbrev pub checked_target : List Body → ℕ → Target → Target
+checked_target B p (Nowhere e) = Nowhere e
+checked_target B p (Function k) =
     if same (has_some (content_in B k).func_info) (has_some (content_in B p).func_info) then Function k else Nowhere (FunctionInfoMismatch k)
 
-abbrev pub call_seen : List Body → ℕ → Call → Call
-call_seen B p c = record { slot = c.slot; target = target_seen B p c.target }
+abbrev pub checked_call : List Body → ℕ → Call → Call
+checked_call B p c = record { slot = c.slot; target = checked_target B p c.target }
 
 -- the references of function k, where the program p is linked
-abbrev pub seen : List Body → List (Vec Call Global) → ℕ → ℕ → List Call
-seen B C p k = map (call_seen B p) (calls_at C k)
+abbrev pub checked_calls : List Body → List (Vec Call Global) → ℕ → ℕ → List Call
+checked_calls B C p k = map (checked_call B p) (calls_at C k)
 
--- the search: the functions in their order, which of all were found, those that are open, and the slots so far
+-- the search: the functions in their order, the flags of found functions, the work list, and the slots so far
 pub record Search : Type 0 where
   pub order : List ℕ
-  pub found : List Bool
-  pub pending : List Open
+  pub is_found : List Bool
+  pub work_list : List Open
   pub used : ℕ
 
 abbrev pub search_at : List ℕ → List Bool → List Open → ℕ → Search
-search_at order found pending used = record { order = order; found = found; pending = pending; used = used }
+search_at order is_found work_list used = record { order = order; is_found = is_found; work_list = work_list; used = used }
 
 -- the reference was followed to a function that was found before
 abbrev pub passed : Open → Search → Search
-passed top s = record s { pending = s.pending ++ record top { next = top.next + 1 } ∷ [] }
+passed top s = record s { work_list = s.work_list ++ record top { next = top.next + 1 } ∷ [] }
 
 -- .. to function k, which is opened
 abbrev pub opened : Functions ℕ Fault → Open → Search → ℕ → Search
 opened F top s k = record {
   order = s.order ++ k ∷ [];
-  found = slice_set s.found k true;
-  pending = (s.pending ++ top ∷ []) ++ record { copy = length s.order; function = k; next = 0 } ∷ [];
+  is_found = slice_set s.is_found k true;
+  work_list = (s.work_list ++ top ∷ []) ++ record { copy = length s.order; function = k; next = 0 } ∷ [];
   used = s.used + length (body F k);
 }
 
@@ -58,13 +58,13 @@ abbrev pub StepTo : Functions ℕ Fault → Open → Search → Search → Optio
 StepTo F top s t r None = (t ≡ s) × (r ≡ None)
 StepTo F top s t r (Some (Nowhere e)) = (t ≡ s) × (r ≡ Some e)
 StepTo F top s t r (Some (Function k)) =
-    MatchBool (slice_index_or s.found k false)
+    MatchBool (slice_index_or s.is_found k false)
     ((t ≡ passed top s) × (r ≡ None))
     (Entered F top s t r k)
 
-abbrev pub target_of : Option Call → Option Target
-target_of None = None
-target_of (Some c) = Some c.target
+abbrev pub call_target : Option Call → Option Target
+call_target None = None
+call_target (Some c) = Some c.target
 
 abbrev pub Advanced : Functions ℕ Fault → (ℕ → List Call) → Open → Search → Search → Option Fault → Type 0
-Advanced F C top s t r = StepTo F top s t r (target_of (slice_get (C top.function) top.next))
+Advanced F C top s t r = StepTo F top s t r (call_target (slice_get (C top.function) top.next))

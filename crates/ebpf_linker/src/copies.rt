@@ -2,8 +2,8 @@
 
 ghost use Rattle.std.specs.Prelude.{◌≡◌, ℕ, ◌+◌, ◌<◌, ◌≤◌, ◌^◌, ◌++◌, length, IfOk, OnOk, All};
 ghost use Rattle.ebpf_linker.specs.Functions.{Among};
-ghost use Rattle.ebpf_linker.specs.Image.{became, copied, laid, size_of};
-ghost use Rattle.ebpf_linker.specs.Numbered.{IsIn, Rises, Sound, of_target, calls_at};
+ghost use Rattle.ebpf_linker.specs.LinkedSlots.{linked_slot, copied_slots, linked_copies, bodies_slot_count};
+ghost use Rattle.ebpf_linker.specs.Numbered.{IsWithin, Rises, Sound, of_target, calls_at};
 
 use crate::body::Body;
 use crate::reference::{Call, Target};
@@ -14,9 +14,9 @@ use std::alloc::{AllocError, Global};
 // A slot at a place, by where its reference leads.
 fn linked_slot(slot: bpf_insn, place: usize, target: Target, bases: &[usize]) -> bpf_insn
     requires place { place < 2 ^ 31 }
-    requires within { IsIn (length bases.now) target }
+    requires within { IsWithin (length bases.now) target }
     requires bases { All (λ base. base < 2 ^ 31) bases.now }
-    ensures { result ≡ became bases.now place (of_target target) slot }
+    ensures { result ≡ linked_slot bases.now place (of_target target) slot }
 {
     match target {
         Target::Nowhere(_) => slot,
@@ -32,10 +32,10 @@ fn append(
     bases: &[usize],
 ) -> Result<(), AllocError>
     requires rises { Rises 0 calls.now }
-    requires within { All (λ call. IsIn (length bases.now) call.target) calls.now }
+    requires within { All (λ call. IsWithin (length bases.now) call.target) calls.now }
     requires short { 0 < length calls.now → length out.old.items + length body.now ≤ 2147483647 }
     requires bases { All (λ base. base < 2 ^ 31) bases.now }
-    ensures { OnOk result (out.new.items ≡ out.old.items ++ copied bases.now calls.now (length out.old.items) 0 body.now) }
+    ensures { OnOk result (out.new.items ≡ out.old.items ++ copied_slots bases.now calls.now (length out.old.items) 0 body.now) }
 {
     let mut next = 0;
     for (i, slot) in body.iter().enumerate() {
@@ -53,7 +53,7 @@ fn append(
 
 /// Copies of these functions, one after the other, each reference leading to where its function begins. Memory is
 /// taken for so many slots first.
-pub fn lay(
+pub fn write_copies(
     alloc: Global,
     size: usize,
     bodies: &[Body<'_>],
@@ -65,9 +65,9 @@ pub fn lay(
     requires sound { Sound (length bodies.now) calls.now }
     requires bases { length bases.now ≡ length bodies.now }
     requires order { All (λ k. k < length bodies.now) order.now }
-    requires short { (k : ℕ) → 0 < length (calls_at calls.now k) → Among order.now k → size_of bodies.now order.now ≤ 2147483647 }
+    requires short { (k : ℕ) → 0 < length (calls_at calls.now k) → Among order.now k → bodies_slot_count bodies.now order.now ≤ 2147483647 }
     requires below { All (λ b. b < 2 ^ 31) bases.now }
-    ensures { IfOk result (λ out. out.items ≡ laid bodies.now calls.now bases.now 0 order.now) }
+    ensures { IfOk result (λ out. out.items ≡ linked_copies bodies.now calls.now bases.now 0 order.now) }
 {
     let mut out = Vec::with_capacity(alloc, size)?;
     for function in order {

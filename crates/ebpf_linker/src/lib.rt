@@ -7,8 +7,8 @@ pub mod link_map;
 #[cfg(test)]
 mod machines;
 #[cfg(test)]
-mod map_tests;
-mod places;
+mod link_map_tests;
+mod bases;
 mod program;
 mod records;
 mod reference;

@@ -1,14 +1,14 @@
 //! What a linked program is made of, without its slots.
 
 ghost use Rattle.std.specs.Prelude.{◌≡◌, ℕ, ◌+◌, ◌<◌, ◌≤◌, ◌^◌, [], ◌∷◌, ◌++◌, length, map, IfOk, OnOk, All};
-ghost use Rattle.ebpf_linker.specs.Image.{Fit, body_at};
-ghost use Rattle.ebpf_linker.specs.LinkMap.{copies_from, numbered_copy, IsMapping, IsNumberedMap};
-ghost use Rattle.ebpf_linker.specs.Noted.{noted, noted_of, noted_all};
-ghost use Rattle.ebpf_linker.specs.Numbered.{IsIn, Sound, functions};
+ghost use Rattle.ebpf_linker.specs.LinkedSlots.{Fit, body_at};
+ghost use Rattle.ebpf_linker.specs.LinkMap.{copies_from, numbered_copy, IsLinkMapAnswer, IsNumberedLinkMap};
+ghost use Rattle.ebpf_linker.specs.LinkedReferences.{linked_reference, references_of_copy, references_of_copies};
+ghost use Rattle.ebpf_linker.specs.Numbered.{IsWithin, Sound, functions};
 ghost use Rattle.ebpf_linker.specs.Ready.{IsReady};
 
 use crate::body::Body;
-use crate::places::places;
+use crate::bases::copy_bases;
 use crate::reference::{Call, Fault, Target};
 use crate::search::search;
 use crate::slot::is_pseudo_call;
@@ -41,7 +41,7 @@ pub struct Reference {
 
 /// What a linked program is made of, by the numbers of functions.
 #[derive(Debug, Drop)]
-pub struct NumberedMap {
+pub struct NumberedLinkMap {
     /// The program and the copies of functions, in order.
     pub copies: Items<NumberedCopy>,
     /// The references of all copies, in the order of their places.
@@ -81,9 +81,9 @@ fn copies_of(
 
 // The reference of a slot of a function whose copy begins at a base; none where it leads nowhere.
 fn reference_at(body: &[bpf_insn], call: Call, bases: &[usize], base: usize) -> Option<Reference>
-    requires within { IsIn (length bases.now) call.target }
+    requires within { IsWithin (length bases.now) call.target }
     requires room { base ≤ 2147483647 }
-    ensures { result ≡ noted bases.now base body.now call }
+    ensures { result ≡ linked_reference bases.now base body.now call }
 {
     let slot = body.get(call.slot)?;
     match call.target {
@@ -97,7 +97,7 @@ fn reference_at(body: &[bpf_insn], call: Call, bases: &[usize], base: usize) -> 
 }
 
 // Adds the references of a function whose copy begins at a base.
-#[tactic(auto, using(crate::proofs::MapWalks::noted_here, crate::proofs::MapWalks::none_noted, ebpf_parts::proofs::Walks::rest_none))]
+#[tactic(auto, using(crate::proofs::LinkMapWalks::reference_here, crate::proofs::LinkMapWalks::no_linked_reference, ebpf_parts::proofs::Walks::rest_none))]
 fn add_references(
     references: &mut Vec<Reference>,
     body: &[bpf_insn],
@@ -105,9 +105,9 @@ fn add_references(
     bases: &[usize],
     base: usize,
 ) -> Result<(), AllocError>
-    requires within { All (λ call. IsIn (length bases.now) call.target) calls.now }
+    requires within { All (λ call. IsWithin (length bases.now) call.target) calls.now }
     requires room { base ≤ 2147483647 }
-    ensures { OnOk result (references.new.items ≡ references.old.items ++ noted_of bases.now base body.now calls.now) }
+    ensures { OnOk result (references.new.items ≡ references.old.items ++ references_of_copy bases.now base body.now calls.now) }
 {
     for call in calls {
         let Some(reference) = reference_at(body, *call, bases, base) else {
@@ -133,7 +133,7 @@ fn references_of(
     requires start { start < length bodies.now }
     requires reached { All (λ k. k < length bodies.now) reached.now }
     requires fit { Fit bodies.now (length (body_at bodies.now start)) reached.now }
-    ensures { IfOk result (λ references. references.items ≡ noted_all bodies.now calls.now bases.now 0 (start ∷ reached.now)) }
+    ensures { IfOk result (λ references. references.items ≡ references_of_copies bodies.now calls.now bases.now 0 (start ∷ reached.now)) }
 {
     let mut references = Vec::new(alloc);
     add_references(
@@ -153,24 +153,24 @@ fn references_of(
 }
 
 // The copies and the references of the program with copies of these functions.
-fn mapped(
+fn link_map_of(
     alloc: Global,
     tables: &Tables,
     bodies: &[Body<'_>],
     calls: &[Vec<Call>],
     start: usize,
     reached: &[usize],
-) -> Result<NumberedMap, AllocError>
+) -> Result<NumberedLinkMap, AllocError>
     requires calls { length calls.now ≡ length bodies.now }
     requires sound { Sound (length bodies.now) calls.now }
     requires ready { IsReady bodies.now calls.now start reached.now }
-    ensures { IfOk result (λ m. IsNumberedMap (functions bodies.now calls.now) start m) }
+    ensures { IfOk result (λ m. IsNumberedLinkMap (functions bodies.now calls.now) start m) }
 {
-    let bases = places(alloc, tables, bodies, bodies[start].slots.len(), reached)?;
+    let bases = copy_bases(alloc, tables, bodies, bodies[start].slots.len(), reached)?;
     let copies = copies_of(alloc, bodies, start, reached)?;
     let references = references_of(alloc, bodies, calls, start, reached, &bases)?;
-    tables.keep_places(bases);
-    Ok(NumberedMap {
+    tables.keep_bases(bases);
+    Ok(NumberedLinkMap {
         copies: Items::from_vec(copies),
         references: Items::from_vec(references),
     })
@@ -189,15 +189,15 @@ pub fn link_map(
     bodies: &[Body<'_>],
     calls: &[Vec<Call>],
     start: usize,
-) -> Result<Result<NumberedMap, Fault>, AllocError>
+) -> Result<Result<NumberedLinkMap, Fault>, AllocError>
     requires start { start < length bodies.now }
     requires calls { length calls.now ≡ length bodies.now }
     requires sound { Sound (length bodies.now) calls.now }
-    ensures { IfOk result (λ answer. IsMapping (functions bodies.now calls.now) start answer) }
+    ensures { IfOk result (λ answer. IsLinkMapAnswer (functions bodies.now calls.now) start answer) }
 {
     let order = match search(alloc, tables, bodies, calls, start)? {
         Ok(order) => order,
         Err(fault) => return Ok(Err(fault)),
     };
-    Ok(Ok(mapped(alloc, tables, bodies, calls, start, &order[1..])?))
+    Ok(Ok(link_map_of(alloc, tables, bodies, calls, start, &order[1..])?))
 }

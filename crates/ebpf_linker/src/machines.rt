@@ -1,7 +1,7 @@
 //! The separate functions and the linked program, run beside each other.
 
 use crate::test_functions::{
-    CALL, CALLS, CALLS_TWICE, ENDS, EXIT, LOAD, NOTHING, Reference, linked, lists, plain,
+    CALL, CALLS, CALLS_TWICE, ENDS, EXIT, LOAD, NOTHING, TestReference, linked, lists, plain,
 };
 use crate::{Body, Call, Target};
 use ebpf_parts::insn::bpf_insn;
@@ -15,8 +15,8 @@ const STEPS: usize = 20;
 #[derive(Clone, Copy, Debug, PartialEq, Eq)]
 enum Flow {
     Return,
-    Enter,
-    Wide,
+    PseudoCall,
+    WideLoad,
     Jump(i64),
     Branch(i64),
     Next,
@@ -30,8 +30,8 @@ fn is_branch(code: u8) -> bool {
 fn flow_of(slot: bpf_insn) -> Flow {
     match slot.code {
         0x95 => Flow::Return,
-        0x85 if slot.regs == 0x10 && slot.off == 0 => Flow::Enter,
-        0x18 => Flow::Wide,
+        0x85 if slot.regs == 0x10 && slot.off == 0 => Flow::PseudoCall,
+        0x18 => Flow::WideLoad,
         0x05 => Flow::Jump(i64::from(slot.off)),
         0x06 => Flow::Jump(i64::from(slot.imm)),
         code if is_branch(code) => Flow::Branch(i64::from(slot.off)),
@@ -148,8 +148,8 @@ impl Walker<'_> {
         let next = further(self.place, 1);
         Ok(match flow_of(slot) {
             Flow::Return => self.returns(),
-            Flow::Enter => self.enters(code.entry(self.place, slot))?,
-            Flow::Wide => self.goes(further(next, 1)),
+            Flow::PseudoCall => self.enters(code.entry(self.place, slot))?,
+            Flow::WideLoad => self.goes(further(next, 1)),
             Flow::Jump(by) => self.goes(further(next, by)),
             Flow::Branch(by) => self.decides(by),
             Flow::Next => self.goes(next),
@@ -290,7 +290,7 @@ fn agreeing(alloc: Global, row: &Row<'_>) -> Result<usize, AllocError> {
 fn outcome(
     alloc: Global,
     bodies: &[Body<'_>],
-    references: &[Reference],
+    references: &[TestReference],
     order: &[usize],
     decisions: &[bool],
 ) -> Result<String, AllocError> {

@@ -6,8 +6,8 @@ ghost use Rattle.ebpf_linker.specs.Ready.{IsReady};
 ghost use Rattle.ebpf_linker.specs.Result.{IsLinking, IsProgram};
 
 use crate::body::{Body, LinkedProgram};
-use crate::copies::lay;
-use crate::places::places;
+use crate::copies::write_copies;
+use crate::bases::copy_bases;
 use crate::records::{count_if, func_records, has_lines, line_records};
 use crate::reference::{Call, Fault};
 use crate::search::search;
@@ -16,10 +16,10 @@ use ebpf_base::Items;
 use std::alloc::{AllocError, Global};
 
 // How many slots a program has, where its last copy begins at this place.
-fn size_of(bodies: &[Body<'_>], bases: &[usize], start: usize, copies: &[usize]) -> usize
+fn bodies_slot_count(bodies: &[Body<'_>], bases: &[usize], start: usize, copies: &[usize]) -> usize
     requires start { start < length bodies.now }
     requires copies { All (λ k. k < length bodies.now) copies.now }
-    requires places { length bases.now ≡ length bodies.now }
+    requires copy_bases { length bases.now ≡ length bodies.now }
 {
     match copies.last() {
         Some(copy) => bases[*copy].saturating_add(bodies[*copy].slots.len()),
@@ -43,10 +43,10 @@ fn assemble(
     requires order { order.now ≡ start ∷ copies.now }
     ensures { IfOk result (λ program. IsProgram (functions bodies.now calls.now) start copies.now program) }
 {
-    let bases = places(alloc, tables, bodies, bodies[start].slots.len(), copies)?;
-    let size = size_of(bodies, &bases, start, copies);
-    let slots = lay(alloc, size, bodies, calls, order, &bases)?;
-    tables.keep_places(bases);
+    let bases = copy_bases(alloc, tables, bodies, bodies[start].slots.len(), copies)?;
+    let size = bodies_slot_count(bodies, &bases, start, copies);
+    let slots = write_copies(alloc, size, bodies, calls, order, &bases)?;
+    tables.keep_bases(bases);
     let func_info = func_records(alloc, bodies, start, copies)?;
     let line_info = line_records(alloc, bodies, start, copies)?;
     let func_count = count_if(!copies.is_empty(), &func_info);

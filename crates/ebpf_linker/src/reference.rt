@@ -5,7 +5,7 @@
 pub enum Fault {
     /// A reference's symbol names no function.
     UnsupportedTextSymbol {
-        /// The symbol's number.
+        /// The symbol's index.
         index: usize,
     },
     /// No function begins where a reference leads.

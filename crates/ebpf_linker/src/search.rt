@@ -2,10 +2,10 @@
 
 ghost use Rattle.std.specs.Prelude.{◌≡◌, ℕ, ◌+◌, ◌<◌, ◌≤◌, length, [], IfOk, Some, All, true, false, slice_index_or};
 ghost use Rattle.ebpf_linker.specs.Answer.{Finds};
-ghost use Rattle.ebpf_linker.specs.Faults.{content_fault, has_stray, is_stray, linking, append_fault};
+ghost use Rattle.ebpf_linker.specs.Faults.{content_fault, has_stray, is_stray, checked_references, append_fault};
 ghost use Rattle.ebpf_linker.specs.Functions.{Among};
-ghost use Rattle.ebpf_linker.specs.Numbered.{Sound, IsIn, content_of, content_in, functions};
-ghost use Rattle.ebpf_linker.specs.Steps.{Advanced, Entered, search_at, seen, target_seen};
+ghost use Rattle.ebpf_linker.specs.Numbered.{Sound, IsWithin, body_content, content_in, functions};
+ghost use Rattle.ebpf_linker.specs.Steps.{Advanced, Entered, search_at, checked_calls, checked_target};
 ghost use Rattle.ebpf_linker.specs.declared.reference.Fault.TheVariants.{ProgramTooLong, InvalidLineInfo};
 
 use crate::body::Body;
@@ -47,7 +47,7 @@ fn has_stray(lines: &[bpf_line_info], base: usize) -> bool
 
 // Why a function can't have a copy at a base.
 fn append_fault(body: &Body<'_>, base: usize, callee: usize) -> Option<Fault>
-    ensures { result ≡ content_fault (content_of body.now) base (ProgramTooLong callee) (InvalidLineInfo callee) }
+    ensures { result ≡ content_fault (body_content body.now) base (ProgramTooLong callee) (InvalidLineInfo callee) }
 {
     if base > LIMIT || body.slots.len() > LIMIT - base {
         return Some(Fault::ProgramTooLong { callee });
@@ -60,10 +60,10 @@ fn append_fault(body: &Body<'_>, base: usize, callee: usize) -> Option<Fault>
 
 // Where a reference leads, where the program `start` is linked: nowhere where one of both has records on functions
 // and the other none.
-fn target_seen(bodies: &[Body<'_>], start: usize, target: Target) -> Target
+fn checked_target(bodies: &[Body<'_>], start: usize, target: Target) -> Target
     requires start { start < length bodies.now }
-    requires within { IsIn (length bodies.now) target }
-    ensures { result ≡ target_seen bodies.now start target }
+    requires within { IsWithin (length bodies.now) target }
+    ensures { result ≡ checked_target bodies.now start target }
 {
     match target {
         Target::Nowhere(fault) => Target::Nowhere(fault),
@@ -82,10 +82,10 @@ fn target_seen(bodies: &[Body<'_>], start: usize, target: Target) -> Target
 struct Progress {
     /// The functions that were found, in the order of their copies.
     order: Vec<usize>,
-    /// Whether a function was found, by its number.
-    found: Vec<bool>,
-    /// The functions whose references are being followed.
-    pending: Vec<Open>,
+    /// The flags of found functions, by their numbers.
+    is_found: Vec<bool>,
+    /// The work list: the functions whose references are being followed.
+    work_list: Vec<Open>,
     /// The slots of the program and of the copies.
     used: usize,
 }
@@ -99,8 +99,8 @@ impl Progress {
         callee: usize,
     ) -> Result<Option<Fault>, AllocError>
         requires callee { callee < length bodies.now }
-        requires flags { length self.old.found.items ≡ length bodies.now }
-        ensures { IfOk result (λ fault. Entered (functions bodies.now []) top (search_at self.old.order.items self.old.found.items self.old.pending.items self.old.used) (search_at self.new.order.items self.new.found.items self.new.pending.items self.new.used) fault callee) }
+        requires flags { length self.old.is_found.items ≡ length bodies.now }
+        ensures { IfOk result (λ fault. Entered (functions bodies.now []) top (search_at self.old.order.items self.old.is_found.items self.old.work_list.items self.old.used) (search_at self.new.order.items self.new.is_found.items self.new.work_list.items self.new.used) fault callee) }
     {
         let body = &bodies[callee];
         if let Some(fault) = append_fault(body, self.used, callee) {
@@ -108,10 +108,10 @@ impl Progress {
         }
         self.used += body.slots.len();
         let copy = self.order.len();
-        self.found[callee] = true;
+        self.is_found[callee] = true;
         self.order.push(callee)?;
-        self.pending.push(top)?;
-        self.pending.push(Open {
+        self.work_list.push(top)?;
+        self.work_list.push(Open {
             copy,
             function: callee,
             next: 0,
@@ -131,18 +131,18 @@ impl Progress {
         requires calls { length calls.now ≡ length bodies.now }
         requires sound { Sound (length bodies.now) calls.now }
         requires function { top.function < length bodies.now }
-        requires flags { length self.old.found.items ≡ length bodies.now }
-        ensures { IfOk result (λ fault. Advanced (functions bodies.now calls.now) (seen bodies.now calls.now start) top (search_at self.old.order.items self.old.found.items self.old.pending.items self.old.used) (search_at self.new.order.items self.new.found.items self.new.pending.items self.new.used) fault) }
+        requires flags { length self.old.is_found.items ≡ length bodies.now }
+        ensures { IfOk result (λ fault. Advanced (functions bodies.now calls.now) (checked_calls bodies.now calls.now start) top (search_at self.old.order.items self.old.is_found.items self.old.work_list.items self.old.used) (search_at self.new.order.items self.new.is_found.items self.new.work_list.items self.new.used) fault) }
     {
         let list = &calls[top.function];
         let Some(call) = list.get(top.next) else {
             return Ok(None);
         };
-        match target_seen(bodies, start, call.target) {
+        match checked_target(bodies, start, call.target) {
             Target::Nowhere(fault) => Ok(Some(fault)),
             Target::Function(callee) => {
-                if self.found[callee] {
-                    self.pending.push(Open {
+                if self.is_found[callee] {
+                    self.work_list.push(Open {
                         next: top.next + 1,
                         ..top
                     })?;
@@ -155,18 +155,18 @@ impl Progress {
 
     // The functions in their order. The flags are taken back and kept for the next search.
     fn finish(self, tables: &Tables) -> Vec<usize>
-        requires within { All (λ k. k < length self.found.items) self.order.items }
-        requires marked { (k : ℕ) → slice_index_or self.found.items k false ≡ true → Among self.order.items k }
+        requires within { All (λ k. k < length self.is_found.items) self.order.items }
+        requires marked { (k : ℕ) → slice_index_or self.is_found.items k false ≡ true → Among self.order.items k }
         ensures { result ≡ self.order }
     {
         let Progress {
             order,
-            mut found,
-            pending: _,
+            mut is_found,
+            work_list: _,
             used: _,
         } = self;
-        unmark(&mut found, &order);
-        tables.keep_flags(found);
+        unmark(&mut is_found, &order);
+        tables.keep_flags(is_found);
         order
     }
 }
@@ -182,13 +182,13 @@ pub fn search(
     requires start { start < length bodies.now }
     requires calls { length calls.now ≡ length bodies.now }
     requires sound { Sound (length bodies.now) calls.now }
-    ensures { IfOk result (λ answer. Finds (functions bodies.now calls.now) (linking (functions bodies.now calls.now) start) start answer) }
+    ensures { IfOk result (λ answer. Finds (functions bodies.now calls.now) (checked_references (functions bodies.now calls.now) start) start answer) }
 {
     let mut order = Vec::new(alloc);
     order.push(start)?;
-    let found = tables.take_flags(alloc, bodies.len())?;
-    let mut pending = Vec::new(alloc);
-    pending.push(Open {
+    let is_found = tables.take_flags(alloc, bodies.len())?;
+    let mut work_list = Vec::new(alloc);
+    work_list.push(Open {
         copy: 0,
         function: start,
         next: 0,
@@ -196,11 +196,11 @@ pub fn search(
     let used = bodies[start].slots.len();
     let mut progress = Progress {
         order,
-        found,
-        pending,
+        is_found,
+        work_list,
         used,
     };
-    while let Some(top) = progress.pending.pop() {
+    while let Some(top) = progress.work_list.pop() {
         let step = progress.advance(bodies, calls, start, top)?;
         if let Some(fault) = step {
             let _order = progress.finish(tables);

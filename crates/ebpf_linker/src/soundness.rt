@@ -2,13 +2,13 @@
 
 ghost use Rattle.std.specs.Prelude.{◌≡◌, ◌↔◌, IsTrue, None};
 ghost use Rattle.std.specs.List.{list_all};
-ghost use Rattle.ebpf_linker.specs.Numbered.{Sound, is_in, is_above, is_list_sound};
+ghost use Rattle.ebpf_linker.specs.Numbered.{Sound, is_within, is_above, is_list_sound};
 
 use crate::reference::{Call, Target};
 
 // Whether a reference leads to one of so many functions, or nowhere.
-fn is_in(count: usize, target: Target) -> bool
-    ensures { result ≡ is_in count target }
+fn is_within(count: usize, target: Target) -> bool
+    ensures { result ≡ is_within count target }
 {
     match target {
         Target::Function(callee) => callee < count,
@@ -32,7 +32,7 @@ fn is_list_sound(calls: &[Call], count: usize) -> bool
 {
     let mut before = None;
     for call in calls {
-        if !is_above(before, call.slot) || !is_in(count, call.target) {
+        if !is_above(before, call.slot) || !is_within(count, call.target) {
             return false;
         }
         before = Some(call.slot);

@@ -13,26 +13,26 @@ struct Unmarked {
     ghost none: { flags.items ≡ replicate (length flags.items) false },
 }
 
-/// Places of functions by number.
+/// The bases of copies, by the functions' numbers.
 #[derive(Drop)]
-struct Places {
-    places: Vec<usize>,
-    ghost below: { All (λ place. place < 2 ^ 31) places.items },
+struct Bases {
+    bases: Vec<usize>,
+    ghost below: { All (λ base. base < 2 ^ 31) bases.items },
 }
 
 /// Tables over all functions: made for the first program that is linked, and kept for the next ones, so that these
 /// cost what they reach. What is linked doesn't depend on them.
 #[derive(Drop)]
 pub struct Tables {
-    found: Cell<Option<Unmarked>>,
-    bases: Cell<Option<Places>>,
+    is_found: Cell<Option<Unmarked>>,
+    bases: Cell<Option<Bases>>,
 }
 
 impl Tables {
     /// No tables yet.
     pub fn new() -> Tables {
         Tables {
-            found: Cell::new(None),
+            is_found: Cell::new(None),
             bases: Cell::new(None),
         }
     }
@@ -41,8 +41,8 @@ impl Tables {
     pub(crate) fn take_flags(&self, alloc: Global, count: usize) -> Result<Vec<bool>, AllocError>
         ensures { IfOk result (λ flags. flags.items ≡ replicate count false) }
     {
-        match self.found.take() {
-            Some(kept) if kept.flags.len() == count => Ok(kept.flags),
+        match self.is_found.take() {
+            Some(unmarked) if unmarked.flags.len() == count => Ok(unmarked.flags),
             _ => vec![in alloc; false; count],
         }
     }
@@ -51,25 +51,25 @@ impl Tables {
     pub(crate) fn keep_flags(&self, flags: Vec<bool>)
         requires { flags.items ≡ replicate (length flags.items) false }
     {
-        self.found.set(Some(Unmarked { flags }));
+        self.is_found.set(Some(Unmarked { flags }));
     }
 
-    /// Places of so many functions, whatever they are.
-    pub(crate) fn take_places(&self, alloc: Global, count: usize) -> Result<Vec<usize>, AllocError>
-        ensures count { IfOk result (λ places. length places.items ≡ count) }
-        ensures below { IfOk result (λ places. All (λ place. place < 2 ^ 31) places.items) }
+    /// Bases of so many functions, whatever they are.
+    pub(crate) fn take_bases(&self, alloc: Global, count: usize) -> Result<Vec<usize>, AllocError>
+        ensures count { IfOk result (λ bases. length bases.items ≡ count) }
+        ensures below { IfOk result (λ bases. All (λ base. base < 2 ^ 31) bases.items) }
     {
         match self.bases.take() {
-            Some(kept) if kept.places.len() == count => Ok(kept.places),
+            Some(last) if last.bases.len() == count => Ok(last.bases),
             _ => vec![in alloc; 0; count],
         }
     }
 
-    /// Keeps places for the next program.
-    pub(crate) fn keep_places(&self, places: Vec<usize>)
-        requires { All (λ place. place < 2 ^ 31) places.items }
+    /// Keeps bases for the next program.
+    pub(crate) fn keep_bases(&self, bases: Vec<usize>)
+        requires { All (λ base. base < 2 ^ 31) bases.items }
     {
-        self.bases.set(Some(Places { places }));
+        self.bases.set(Some(Bases { bases }));
     }
 }
 

@@ -1,6 +1,6 @@
 //! Functions and references for tests.
 
-use crate::link_map::{NumberedMap, link_map};
+use crate::link_map::{NumberedLinkMap, link_map};
 use crate::{Body, Call, Fault, LinkedProgram, Tables, Target, is_sound, link};
 use ebpf_parts::insn::bpf_insn;
 use std::alloc::{AllocError, Global};
@@ -40,7 +40,7 @@ pub const CALLS_TWICE: [bpf_insn; 3] = [CALL, CALL, EXIT];
 pub const ENDS: [bpf_insn; 1] = [EXIT];
 
 /// A reference from a slot of a function to a function.
-pub type Reference = (usize, usize, Target);
+pub type TestReference = (usize, usize, Target);
 
 /// A function without records.
 pub fn plain(slots: &[bpf_insn]) -> Body<'_> {
@@ -55,7 +55,7 @@ pub fn plain(slots: &[bpf_insn]) -> Body<'_> {
 pub fn lists(
     alloc: Global,
     count: usize,
-    references: &[Reference],
+    references: &[TestReference],
 ) -> Result<Vec<Vec<Call>>, AllocError> {
     let mut lists = Vec::new(alloc);
     for function in 0..count {
@@ -98,11 +98,11 @@ pub fn linked(
 }
 
 /// What the first function is made of, linked; none where the references are not sound.
-pub fn mapped(
+pub fn link_map_of(
     alloc: Global,
     bodies: &[Body<'_>],
     calls: &[Vec<Call>],
-) -> Result<Option<Result<NumberedMap, Fault>>, AllocError> {
+) -> Result<Option<Result<NumberedLinkMap, Fault>>, AllocError> {
     if bodies.is_empty() || calls.len() != bodies.len() || !is_sound(calls, bodies.len()) {
         return Ok(None);
     }

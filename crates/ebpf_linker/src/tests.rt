@@ -1,7 +1,7 @@
 //! Programs and functions linked, as texts.
 
 use crate::test_functions::{
-    CALLS, CALLS_TWICE, ENDS, EXIT, LOAD, NOTHING, Reference, linked, linked_at, lists, plain,
+    CALLS, CALLS_TWICE, ENDS, EXIT, LOAD, NOTHING, TestReference, linked, linked_at, lists, plain,
 };
 use crate::{Body, Call, Fault, LinkedProgram, Tables, Target};
 use ebpf_ext::{bpf_func_info, bpf_line_info};
@@ -10,7 +10,7 @@ use std::alloc::{AllocError, Global};
 use std::test::Fail;
 
 /// A linked program: the imm and the registers of each slot, or the fault.
-fn told(alloc: Global, answer: Option<Result<LinkedProgram, Fault>>) -> Result<String, AllocError> {
+fn printed(alloc: Global, answer: Option<Result<LinkedProgram, Fault>>) -> Result<String, AllocError> {
     let program = match answer {
         Some(Ok(program)) => program,
         Some(Err(fault)) => return format!(in alloc; "{fault:?}"),
@@ -38,10 +38,10 @@ fn told(alloc: Global, answer: Option<Result<LinkedProgram, Fault>>) -> Result<S
 fn outcome(
     alloc: Global,
     bodies: &[Body<'_>],
-    references: &[Reference],
+    references: &[TestReference],
 ) -> Result<String, AllocError> {
     let calls = lists(alloc, bodies.len(), references)?;
-    told(alloc, linked(alloc, bodies, &calls)?)
+    printed(alloc, linked(alloc, bodies, &calls)?)
 }
 
 /// Each of these functions linked in turn, with the same tables.
@@ -49,13 +49,13 @@ fn outcomes(
     alloc: Global,
     tables: &Tables,
     bodies: &[Body<'_>],
-    references: &[Reference],
+    references: &[TestReference],
     starts: &[usize],
 ) -> Result<String, AllocError> {
     let calls = lists(alloc, bodies.len(), references)?;
     let mut texts = String::new(alloc);
     for start in starts {
-        let text = told(alloc, linked_at(alloc, tables, bodies, &calls, *start)?)?;
+        let text = printed(alloc, linked_at(alloc, tables, bodies, &calls, *start)?)?;
         texts.push_str(text.as_str())?;
         texts.push_str("; ")?;
     }

@@ -7,8 +7,8 @@ use Rattle.std.specs.Str.{bytes_eq}
 use Rattle.std.proofs.lemmas.Bool.{and_parts, cases_Bool}
 use Rattle.std.proofs.lemmas.Slice.Eq.{bytes_eq-Decides}
 use Rattle.ebpf_parts.proofs.KindRows.{of_longest}
-use Rattle.ebpf_parts.specs.ProgramKinds.{fits, is_marked, longer, longest_fit, name_of, program_kind, unmarked}
-use Rattle.ebpf_parts.specs.ProgramSections.{first_piece, said}
+use Rattle.ebpf_parts.specs.ProgramKinds.{fits, is_marked, longer, longest_fit, row_name, program_kind, unmarked}
+use Rattle.ebpf_parts.specs.ProgramSections.{first_piece, lookup_piece}
 use Rattle.ebpf_parts.specs.declared.programs.kind.NamedKind.{NamedKind}
 use Rattle.ebpf_parts.specs.declared.programs.kind.ProgramKind.{ProgramKind}
 use Rattle.ebpf_parts.specs.declared.programs.named_kinds.TheConstants.{NAMED_KINDS}
@@ -30,10 +30,10 @@ same_is false false e = refl
 
 -- whether programs of a section whose first piece this is have targets
 abbrev has : List ℕ → Bool
-has piece = is_some (said targets piece)
+has piece = is_some (lookup_piece targets piece)
 
 agrees : NamedKind → Bool
-agrees row = not (row.takes_target && has_slash (name_of row)) && same row.kind.wants_target_type (has (first_piece (name_of row)))
+agrees row = not (row.takes_target && has_slash (row_name row)) && same row.kind.wants_target_type (has (first_piece (row_name row)))
 
 all_agree : list_all agrees NAMED_KINDS ≡ true
 unfolding agrees same targets
@@ -45,7 +45,7 @@ AgreesOn name row = row.kind.wants_target_type ≡ has (first_piece name)
 row_agrees : (name : List ℕ) (row : NamedKind) → agrees row ≡ true → fits name row ≡ true → AgreesOn name row
 unfolding agrees
 row_agrees name row checked fit =
-    let parts = and_parts (not (row.takes_target && has_slash (name_of row))) _ checked in
+    let parts = and_parts (not (row.takes_target && has_slash (row_name row))) _ checked in
     rw (piece_of_fit name row parts.0 fit) (same_is _ _ parts.1)
 
 rows_agree : (name : List ℕ) (rows : List NamedKind) → list_all agrees rows ≡ true
@@ -58,14 +58,14 @@ rows_agree name (row ∷ rows) checked =
 -- ---- each name of the table of targets is that of a row
 
 has_row : List NamedKind → List ℕ → Bool
-has_row rows piece = list_any (λ row. row.takes_target && bytes_eq (name_of row) piece) rows
+has_row rows piece = list_any (λ row. row.takes_target && bytes_eq (row_name row) piece) rows
 
 all_have_rows : list_all (λ (t : List ℕ × Target). has_row NAMED_KINDS t.0) targets ≡ true
 unfolding has_row targets
 all_have_rows = refl
 
 row_of : (rows : List NamedKind) (table : List (List ℕ × Target)) (piece : List ℕ)
-    → list_all (λ (t : List ℕ × Target). has_row rows t.0) table ≡ true → is_some (said table piece) ≡ true → has_row rows piece ≡ true
+    → list_all (λ (t : List ℕ × Target). has_row rows t.0) table ≡ true → is_some (lookup_piece table piece) ≡ true → has_row rows piece ≡ true
 row_of rows [] piece checked found = absurd (cc)
 row_of rows (t ∷ table) piece checked found = elim (cases_Bool (bytes_eq piece t.0)) [
   | inl is ↦ rw ((bytes_eq-Decides piece t.0).0 is) (and_parts (has_row rows t.0) _ checked).0
@@ -75,7 +75,7 @@ row_of rows (t ∷ table) piece checked found = elim (cases_Bool (bytes_eq piece
 fits_some : (name : List ℕ) (rows : List NamedKind) → has_row rows (first_piece name) ≡ true → list_any (fits name) rows ≡ true
 unfolding has_row
 fits_some name [] found = absurd (cc)
-fits_some name (row ∷ rows) found = elim (cases_Bool (row.takes_target && bytes_eq (name_of row) (first_piece name))) [
+fits_some name (row ∷ rows) found = elim (cases_Bool (row.takes_target && bytes_eq (row_name row) (first_piece name))) [
   | inl here ↦ rw (fit_of_piece name row here) refl
   | inr later ↦ elim (cases_Bool (fits name row)) [
     | inl fit ↦ rw fit refl
@@ -87,7 +87,7 @@ fits_some name (row ∷ rows) found = elim (cases_Bool (row.takes_target && byte
 
 stays : (row : NamedKind) (rows : List NamedKind) → is_some (fold longer (Some row) rows) ≡ true
 stays row [] = refl
-stays row (next ∷ rows) = by_length (nat_le (length (name_of next)) (length (name_of row))) (stays row rows) (stays next rows)
+stays row (next ∷ rows) = by_length (nat_le (length (row_name next)) (length (row_name row))) (stays row rows) (stays next rows)
   where
     by_length : (b : Bool) → is_some (fold longer (Some row) rows) ≡ true → is_some (fold longer (Some next) rows) ≡ true
         → is_some (fold longer (if b then Some row else Some next) rows) ≡ true

@@ -7,7 +7,7 @@ use Rattle.ebpf_btf.specs.TypeInfo.{TypeInfo}
 use Rattle.ebpf_btf.specs.declared.kind.BtfKind.{BtfKind}
 use Rattle.ebpf_btf.specs.declared.kind.BtfKind.TheVariants as kinds
 use Rattle.ebpf_parts.specs.ProgramKinds.{unmarked}
-use Rattle.ebpf_parts.specs.ProgramSections.{first_piece, said}
+use Rattle.ebpf_parts.specs.ProgramSections.{first_piece, lookup_piece}
 use Rattle.ebpf_loading.specs.declared.attach.AttachTarget.{AttachTarget}
 use Rattle.ebpf_loading.specs.declared.attach.AttachTarget.TheVariants.{NotWanted, Unnamed, Found, NotFound}
 use Rattle.ebpf_loading.specs.declared.target.Target.{Target}
@@ -50,7 +50,7 @@ kind_of Function = kinds.Func
 
 -- what the programs of a section are attached to, where they are loaded with the id of a type
 abbrev pub wanted : List ℕ → Option Target
-wanted section = said targets (first_piece (unmarked section))
+wanted section = lookup_piece targets (first_piece (unmarked section))
 
 -- the kernel itself may be named before what is in it
 abbrev pub kernel_mark : List ℕ

@@ -1,7 +1,7 @@
 //! What programs are attached to.
 
 ghost use Rattle.std.specs.Prelude.{◌≡◌};
-ghost use Rattle.ebpf_parts.specs.ProgramSections.{said};
+ghost use Rattle.ebpf_parts.specs.ProgramSections.{lookup_piece};
 ghost use Rattle.ebpf_loading.specs.AttachTargets.{kind_of, prefix_of, targets};
 
 use ebpf_btf::BtfKind;
@@ -22,7 +22,7 @@ pub enum Target {
 /// What the programs of a section are attached to, by the first piece of the section's name.
 #[tactic(auto, unfolding(crate::specs::AttachTargets::targets))]
 pub fn target_by(piece: &str) -> Option<Target>
-    ensures { result ≡ said targets piece.now }
+    ensures { result ≡ lookup_piece targets piece.now }
 {
     match piece {
         "tp_btf" => Some(Target::TracePoint),

@@ -11,16 +11,16 @@ use Rattle.ebpf_ext.specs.ExtReading.{ExtInfo}
 use Rattle.ebpf_btf.specs.TypeInfo.{TypeInfo}
 use Rattle.ebpf_core_relo.proofs.RecordRuns.{put_slots_stand, records_alone_are_carried}
 use Rattle.ebpf_core_relo.specs.Alone.{Touches, Carries}
-use Rattle.ebpf_core_relo.specs.Records.{Written, own_slots, slots_at, slots_written, with_slots}
+use Rattle.ebpf_core_relo.specs.Records.{Written, own_slots, slots_so_far, slots_written, with_slots}
 use Rattle.ebpf_ksyms.specs.Sources.{Source}
 use Rattle.ebpf_linker.specs.Functions.{or_empty}
-use Rattle.ebpf_object.specs.AdaptedSlots.{AreAdapted, adapted_by}
+use Rattle.ebpf_object.specs.RelocatedSlots.{AreRelocatedToTypes, relocated_slots_by}
 use Rattle.ebpf_object.specs.Chain.{Chain, Links, with_descriptors}
-use Rattle.ebpf_object.specs.Headline.{key_of, ProgramsAreWhole, slot_in, scene_of, IsCopiedTo, StandsAt, RecordsAreCarried, IsFinished, PassesFinish, passes_of, Headline}
-use Rattle.ebpf_object.specs.Joined.{with_name, linkable_of, programs_in_order, is_program_key}
+use Rattle.ebpf_object.specs.Headline.{key_of_program, ProgramsAreWhole, slot_in, record_inputs_of, IsCopiedTo, StandsAt, RecordsAreCarried, IsFinished, PassesFinish, passes_of, Headline}
+use Rattle.ebpf_object.specs.LinkedPrograms.{program_value, linkable_of, programs_in_order, is_program_key}
 use Rattle.ebpf_object.specs.Objects.{object_as}
 use Rattle.ebpf_object.specs.Prepared.{IsPrepared, Stages}
-use Rattle.ebpf_object.specs.Stages.{Adapts, Joins, Resolves, described, externs_known, own_maps}
+use Rattle.ebpf_object.specs.Stages.{RelocatesTypes, LinksPrograms, Resolves, fds_written, with_externs_if, own_maps}
 use Rattle.ebpf_object.specs.Steps.{Chosen, Descriptor}
 use Rattle.ebpf_object.specs.TextSections.{has_function_in}
 use Rattle.ebpf_object.specs.WrittenSlots.{with_externs}
@@ -30,7 +30,7 @@ use Rattle.ebpf_parts.specs.declared.insn.bpf_insn.{bpf_insn}
 use Rattle.ebpf_reloc.proofs.OneResult.{copied_slots_stay}
 use Rattle.ebpf_reloc.specs.Linking as linking
 use Rattle.ebpf_reloc.specs.Linking.{ProgramValue}
-use Rattle.ebpf_reloc.specs.Places.{TextSections}
+use Rattle.ebpf_reloc.specs.VariableLookup.{TextSections}
 use Rattle.ebpf_reloc.specs.References.{Key, content_of}
 use Rattle.ebpf_reloc.specs.declared.function.Function.{Function}
 use Rattle.ebpf_parts.specs.declared.reading.Reading.{Reading}
@@ -40,7 +40,7 @@ use Rattle.ebpf_parts.specs.declared.reading.Reading.{Reading}
 -- a program of a table has its key among those of all programs
 module _ (program : Program) where
   abbrev key_among : List (List ℕ × Program) → Bool
-  key_among es = list_any (λ (p : ProgramValue). eq_by_cmp key_cmp (key_of program) (linking.key_of p)) (map (λ e. with_name e.0 e.1) es)
+  key_among es = list_any (λ (p : ProgramValue). eq_by_cmp key_cmp (key_of_program program) (linking.key_of_program p)) (map (λ e. program_value e.0 e.1) es)
 
   or_true : (c more : Bool) → more ≡ true → (c || more) ≡ true
   or_true true more is = refl
@@ -58,17 +58,17 @@ module _ (program : Program) where
   later_found true first rest other is = cc
   later_found false first rest other is = is
 
-  same_key : (other : Program) → program ≡ other → eq_by_cmp key_cmp (key_of program) (key_of other) ≡ true
-  same_key other is = ap (λ (p : Program). eq_by_cmp key_cmp (key_of program) (key_of p)) (sym is) ∙ (eq_by_cmp_equiv key_total).refl (key_of program)
+  same_key : (other : Program) → program ≡ other → eq_by_cmp key_cmp (key_of_program program) (key_of_program other) ≡ true
+  same_key other is = ap (λ (p : Program). eq_by_cmp key_cmp (key_of_program program) (key_of_program p)) (sym is) ∙ (eq_by_cmp_equiv key_total).refl (key_of_program program)
 
   found_among : (es : List (List ℕ × Program)) (name : List ℕ) → find text_cmp name es ≡ Some program → key_among es ≡ true
   found_among [] name is = absurd (none-some program is)
   found_among (e ∷ es) name is =
-      any_by (eq_by_cmp text_cmp name e.0) (eq_by_cmp key_cmp (key_of program) (key_of e.1)) (key_among es)
+      any_by (eq_by_cmp text_cmp name e.0) (eq_by_cmp key_cmp (key_of_program program) (key_of_program e.1)) (key_among es)
       (λ same. same_key e.1 (first_found (eq_by_cmp text_cmp name e.0) e.1 (find text_cmp name es) same is))
       (λ other. found_among es name (later_found (eq_by_cmp text_cmp name e.0) e.1 (find text_cmp name es) other is))
 
-  program_key : (programs : FinMap text_cmp Program) (name : List ℕ) → get programs name ≡ Some program → is_program_key (programs_in_order programs) (key_of program) ≡ true
+  program_key : (programs : FinMap text_cmp Program) (name : List ℕ) → get programs name ≡ Some program → is_program_key (programs_in_order programs) (key_of_program program) ≡ true
   program_key programs name is = found_among (entries programs) name (sym (get-entries programs name) ∙ is)
 
 -- what linking says of the key of a program, and of another
@@ -83,7 +83,7 @@ left_at false A B is left = left
 whole_programs : (text_sections : TextSections) (d o : Object) → Links (Some text_sections) d o → ProgramsAreWhole (linkable_of d text_sections) o
 whole_programs text_sections d o links name program is =
     let same : get d.programs name ≡ Some program = sym (ap (λ (x : Object). get x.programs name) links.1) ∙ is in
-    linked_at (is_program_key (programs_in_order d.programs) (key_of program)) _ _ (program_key program d.programs name same) (links.0 (key_of program))
+    linked_at (is_program_key (programs_in_order d.programs) (key_of_program program)) _ _ (program_key program d.programs name same) (links.0 (key_of_program program))
 
 whole_by : (calls : Option TextSections) (text_sections : TextSections) (d o : Object) → calls ≡ Some text_sections → Links calls d o → ProgramsAreWhole (linkable_of d text_sections) o
 whole_by calls text_sections d o is links = whole_programs text_sections d o (subst (λ (c : Option TextSections). Links c d o) is links)
@@ -93,8 +93,8 @@ whole_by calls text_sections d o is links = whole_programs text_sections d o (su
 module _ (parsed : Object) (target local : TypeInfo) (ext : ExtInfo) where
   -- the slots that the records of an object with types write
   written_by : (btf : Option TypeInfo) (btf_ext : Option ExtInfo) (slots : Written) → btf ≡ Some local → btf_ext ≡ Some ext
-      → adapted_by parsed target btf btf_ext ≡ Ok slots → slots_written (scene_of parsed local target) ext.relocations ≡ Ok slots
-  written_by btf btf_ext slots has says is = sym (λ i. adapted_by parsed target (has i) (says i)) ∙ is
+      → relocated_slots_by parsed target btf btf_ext ≡ Ok slots → slots_written (record_inputs_of parsed local target) ext.relocations ≡ Ok slots
+  written_by btf btf_ext slots has says is = sym (λ i. relocated_slots_by parsed target (has i) (says i)) ∙ is
 
 own_body : (f : Option Function) → (or_empty (option_map content_of f)).slots ≡ own_slots f
 own_body None = refl
@@ -128,19 +128,19 @@ module _ (unlinked o : Object) (key : Key) (i : ℕ) (carrying : bpf_insn) (is :
   finished_slot (Some text_sections) links here = by_program text_sections links (is_program_key (programs_in_order unlinked.programs) at) refl here
 
 carried : (parsed relocated unlinked o : Object) (target local : TypeInfo) (ext : ExtInfo) (calls : Option TextSections) (left : Written)
-    → slots_written (scene_of parsed local target) ext.relocations ≡ Ok left
+    → slots_written (record_inputs_of parsed local target) ext.relocations ≡ Ok left
     → ((key : Key) → get relocated.functions key ≡ with_slots (get left key) (get parsed.functions key))
     → Links calls unlinked o
-    → RecordsAreCarried (scene_of parsed local target) ext.relocations calls relocated unlinked o
+    → RecordsAreCarried (record_inputs_of parsed local target) ext.relocations calls relocated unlinked o
 carried parsed relocated unlinked o target local ext calls left are puts links = record {
   left = left;
   written = are;
   each = λ n record_at at alone.
-      let c : Carries (scene_of parsed local target) left record_at = records_alone_are_carried (scene_of parsed local target) ext.relocations left are n record_at at alone.among_records in
-      let in_relocated : own_slots (get relocated.functions c.key) ≡ slots_at parsed.functions left c.key =
-      put_slots_stand (scene_of parsed local target) ext.relocations left are relocated.functions puts c.key
+      let c : Carries (record_inputs_of parsed local target) left record_at = records_alone_are_carried (record_inputs_of parsed local target) ext.relocations left are n record_at at alone.among_records in
+      let in_relocated : own_slots (get relocated.functions c.key) ≡ slots_so_far parsed.functions left c.key =
+      put_slots_stand (record_inputs_of parsed local target) ext.relocations left are relocated.functions puts c.key
       in
-      let stands : (i : ℕ) → Touches (scene_of parsed local target) record_at c.key i → slot_in unlinked c.key i ≡ slice_get c.slots i =
+      let stands : (i : ℕ) → Touches (record_inputs_of parsed local target) record_at c.key i → slot_in unlinked c.key i ≡ slice_get c.slots i =
       λ i touched. alone.unwritten c.key i touched ∙ ap (λ (xs : List bpf_insn). slice_get xs i) in_relocated ∙ c.stands i touched
       in
       record {
@@ -149,14 +149,14 @@ carried parsed relocated unlinked o target local ext calls left are puts links =
       };
 }
 
-carried_by : (parsed relocated unlinked o : Object) (target local : TypeInfo) (ext : ExtInfo) (calls : Option TextSections) → AreAdapted parsed target relocated.functions
+carried_by : (parsed relocated unlinked o : Object) (target local : TypeInfo) (ext : ExtInfo) (calls : Option TextSections) → AreRelocatedToTypes parsed target relocated.functions
     → parsed.btf ≡ Some local → parsed.btf_ext ≡ Some ext → Links calls unlinked o
-    → RecordsAreCarried (scene_of parsed local target) ext.relocations calls relocated unlinked o
+    → RecordsAreCarried (record_inputs_of parsed local target) ext.relocations calls relocated unlinked o
 carried_by parsed relocated unlinked o target local ext calls are has says links =
     carried parsed relocated unlinked o target local ext calls are.slots (written_by parsed target local ext parsed.btf parsed.btf_ext are.slots has says are.written) are.each links
 
-adapts_to : (chosen : Option TypeInfo) (target : TypeInfo) (o a : Object) → chosen ≡ Some target → Adapts chosen o a → Adapts (Some target) o a
-adapts_to chosen target o a is adapts = subst (λ (t : Option TypeInfo). Adapts t o a) is adapts
+relocates_to : (chosen : Option TypeInfo) (target : TypeInfo) (o a : Object) → chosen ≡ Some target → RelocatesTypes chosen o a → RelocatesTypes (Some target) o a
+relocates_to chosen target o a is relocates = subst (λ (t : Option TypeInfo). RelocatesTypes t o a) is relocates
 
 -- ---- a finished object
 
@@ -165,15 +165,15 @@ passes_finish passes parsed o c = record {
   chain = c;
   programs = λ text_sections calls. whole_by passes.calls text_sections c.unlinked o calls c.calls;
   types = λ target local ext chosen has says.
-      carried_by parsed c.relocated c.unlinked o target local ext passes.calls (adapts_to passes.target target parsed c.relocated chosen c.types).0 has says c.calls;
+      carried_by parsed c.relocated c.unlinked o target local ext passes.calls (relocates_to passes.target target parsed c.relocated chosen c.types).0 has says c.calls;
 }
 
 -- ---- a prepared file
 
-described_by : (descriptors : Option (List Descriptor)) (a b : Object) → b ≡ described descriptors a
+fds_written_by : (descriptors : Option (List Descriptor)) (a b : Object) → b ≡ fds_written descriptors a
     → b ≡ with_descriptors (option_map (λ ds. (has_function_in a.functions, own_maps a.maps ds)) descriptors) a
-described_by None a b is = is
-described_by (Some descriptors) a b is = is
+fds_written_by None a b is = is
+fds_written_by (Some descriptors) a b is = is
 
 same_externs : (b : Object) → b ≡ record b { externs = b.externs }
 same_externs b = refl
@@ -182,13 +182,13 @@ resolved_by : (kernel : Option (Option TypeInfo)) (lines : Source) (b c : Object
 resolved_by None lines b c is = subst (λ (x : Object). x ≡ record b { externs = x.externs }) (sym is) (same_externs b)
 resolved_by (Some kernel) lines b c resolves = resolves.1
 
-known_by : (written : Bool) (c d : Object) → d ≡ externs_known written c → d ≡ (if written then with_externs c else c)
-known_by false c d is = is
-known_by true c d is = is
+externs_if_by : (written : Bool) (c d : Object) → d ≡ with_externs_if written c → d ≡ (if written then with_externs c else c)
+externs_if_by false c d is = is
+externs_if_by true c d is = is
 
-linked_by : (calls : Bool) (d o : Object) → Joins calls d o → Links (if calls then Some (has_function_in d.functions) else None) d o
-linked_by true d o joins = joins
-linked_by false d o joins = joins
+linked_by : (calls : Bool) (d o : Object) → LinksPrograms calls d o → Links (if calls then Some (has_function_in d.functions) else None) d o
+linked_by true d o links = links
+linked_by false d o links = links
 
 module _ (steps : Chosen) (lines : Source) (reading : Reading) (bytes : List ℕ) (o : Object) (p : IsPrepared steps lines reading bytes o) where
   abbrev s : Stages steps lines (object_as reading bytes) o
@@ -197,13 +197,13 @@ module _ (steps : Chosen) (lines : Source) (reading : Reading) (bytes : List ℕ
   chain : Chain (passes_of p) (object_as reading bytes) o
   chain = record {
     relocated = s.relocated;
-    described = s.described;
+    fds_written = s.fds_written;
     resolved = s.resolved;
     unlinked = s.unlinked;
     types = s.types;
-    maps = described_by steps.descriptors s.relocated s.described s.maps;
-    resolution = resolved_by steps.kernel lines s.described s.resolved s.resolution;
-    externs = known_by steps.externs s.resolved s.unlinked s.externs;
+    maps = fds_written_by steps.descriptors s.relocated s.fds_written s.maps;
+    resolution = resolved_by steps.kernel lines s.fds_written s.resolved s.resolution;
+    externs = externs_if_by steps.externs s.resolved s.unlinked s.externs;
     calls = linked_by steps.calls s.unlinked o s.calls;
   }
 

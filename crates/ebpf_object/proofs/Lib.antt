@@ -9,8 +9,8 @@ pub mod Overwrites
 pub mod PatchedPlaces
 pub mod PatchedBytes
 pub mod VariablePatches
-pub mod OneJoining
-pub mod MapsOfJoined
+pub mod OneLinking
+pub mod MapsOfLinked
 pub mod Staging
 pub mod OneResolution
 pub mod OnePreparation

@@ -14,7 +14,7 @@ use Rattle.ebpf_base.specs.Faults.{or_else}
 use Rattle.ebpf_base.specs.Keys.{text_cmp, text_total}
 use Rattle.ebpf_base.proofs.Faults.{or_else-None, or_else-assoc}
 use Rattle.ebpf_base.proofs.Sorted.{entries_rise}
-use Rattle.ebpf_object.specs.MapNames.{with_map, with_names}
+use Rattle.ebpf_object.specs.MapNames.{with_map_name, with_map_names}
 use Rattle.ebpf_object.specs.Patches.{first_map}
 use Rattle.ebpf_parts.specs.Maps.{section_index_of}
 use Rattle.ebpf_parts.specs.declared.maps.either.Map.{Map}
@@ -41,7 +41,7 @@ module _ (section : ℕ) where
   is_here None = false
   is_here (Some m) = section == section_index_of m
 
-  step : (found : FinMap nat_cmp (List ℕ)) (name : List ℕ) (o : Option Map) → get (with_map found name o) section ≡ or_else (get found section) (if is_here o then Some name else None)
+  step : (found : FinMap nat_cmp (List ℕ)) (name : List ℕ) (o : Option Map) → get (with_map_name found name o) section ≡ or_else (get found section) (if is_here o then Some name else None)
   step found name None = sym (or_else-None (get found section))
   step found name (Some m) =
       let at = section_index_of m in
@@ -55,10 +55,10 @@ module _ (section : ℕ) where
     abbrev first_named : List (List ℕ) → Option (List ℕ)
     first_named names = list.find (λ n. is_here (get maps n)) names
 
-    gathered : (found : FinMap nat_cmp (List ℕ)) (names : List (List ℕ)) → get (with_names maps found names) section ≡ or_else (get found section) (first_named names)
+    gathered : (found : FinMap nat_cmp (List ℕ)) (names : List (List ℕ)) → get (with_map_names maps found names) section ≡ or_else (get found section) (first_named names)
     gathered found [] = sym (or_else-None (get found section))
     gathered found (n ∷ ns) =
-        gathered (with_map found n (get maps n)) ns
+        gathered (with_map_name found n (get maps n)) ns
         ∙ ap (λ o. or_else o (first_named ns)) (step found n (get maps n))
         ∙ or_else-assoc (get found section) (if is_here (get maps n) then Some n else None) (first_named ns)
         ∙ ap (or_else (get found section)) (first_or (is_here (get maps n)) n (first_named ns))
@@ -90,7 +90,7 @@ module _ (section : ℕ) where
   same_test maps [] = refl
   same_test maps (n ∷ ns) = λ i. if is_here (get-entries maps n i) then Some n else same_test maps ns i
 
-  all_names : (maps : FinMap text_cmp Map) → get (with_names maps empty (keys_of (entries maps))) section ≡ first_map maps section
+  all_names : (maps : FinMap text_cmp Map) → get (with_map_names maps empty (keys_of (entries maps))) section ≡ first_map maps section
   all_names maps =
       gathered maps empty (keys_of (entries maps))
       ∙ ap (λ o. or_else o (first_named maps (keys_of (entries maps)))) (get-empty nat_cmp section)
@@ -98,6 +98,6 @@ module _ (section : ℕ) where
       ∙ by_names (entries maps) (IsDistinct-from_sorted text_cmp _ (entries_rise maps))
 
 pub first_maps : {E : Type 0} (maps : FinMap text_cmp Map) (names : List (List ℕ)) (r : Result (FinMap nat_cmp (List ℕ)) E) → names ≡ keys_of (entries maps)
-    → IfOk r (λ found. found ≡ with_names maps empty names) → IfOk r (λ found. (section : ℕ) → get found section ≡ first_map maps section)
-first_maps maps names (Ok found) all made = λ section. ap (λ f. get f section) (made ∙ ap (with_names maps empty) all) ∙ all_names section maps
+    → IfOk r (λ found. found ≡ with_map_names maps empty names) → IfOk r (λ found. (section : ℕ) → get found section ≡ first_map maps section)
+first_maps maps names (Ok found) all made = λ section. ap (λ f. get f section) (made ∙ ap (with_map_names maps empty) all) ∙ all_names section maps
 first_maps maps names (Err e) all made = tt

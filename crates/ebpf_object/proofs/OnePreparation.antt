@@ -7,20 +7,20 @@ use Rattle.std.specs.Ordering.{eq_by_cmp}
 use Rattle.ebpf_base.proofs.Maps.{key_exact}
 use Rattle.ebpf_base.specs.Keys.{key_cmp, key_total}
 use Rattle.ebpf_btf.specs.TypeInfo.{TypeInfo}
-use Rattle.ebpf_core_relo.specs.Answers.{told_at}
+use Rattle.ebpf_core_relo.specs.Answers.{without_texts_at}
 use Rattle.ebpf_core_relo.specs.Records.{Written, with_slots}
 use Rattle.ebpf_core_relo.specs.declared.error.BtfRelocationError.{BtfRelocationError}
 use Rattle.ebpf_ksyms.specs.Externs as resolution
 use Rattle.ebpf_ksyms.specs.Sources.{Reader}
 use Rattle.ebpf_ksyms.specs.declared.error.KsymsError.{KsymsError}
-use Rattle.ebpf_object.proofs.OneJoining.{one_joining}
+use Rattle.ebpf_object.proofs.OneLinking.{one_linking}
 use Rattle.ebpf_object.proofs.OneResolution.{not_resolved, one_refusal, one_resolved}
-use Rattle.ebpf_object.specs.AdaptedSlots.{adapted_slots}
-use Rattle.ebpf_object.specs.Joined.{AreJoined, is_program_key, linkable_of, programs_in_order}
+use Rattle.ebpf_object.specs.RelocatedSlots.{relocated_slots}
+use Rattle.ebpf_object.specs.LinkedPrograms.{ProgramsAreLinked, is_program_key, linkable_of, programs_in_order}
 use Rattle.ebpf_object.specs.Objects.{object_as, parse_fault_as}
-use Rattle.ebpf_object.specs.OnePreparation.{OnePreparation, OneStaging, is_access, is_access_error, told}
-use Rattle.ebpf_object.specs.Prepared.{IsFault, IsFaultAfter, IsFirstFault, IsPrepared, NamesNothing, Refuses, Stages, before_calls, before_externs, before_maps, before_resolution, is_memory}
-use Rattle.ebpf_object.specs.Stages.{Adapts, AdaptingFault, Joins, JoiningFault, Resolves, ResolvingFault, described, describing_fault, externs_known, knowing_fault}
+use Rattle.ebpf_object.specs.OnePreparation.{OnePreparation, OneStaging, is_access, is_access_error, without_texts}
+use Rattle.ebpf_object.specs.Prepared.{IsStageFault, IsFaultAfter, IsFirstFault, IsPrepared, NamesNothing, RefusesPreparing, Stages, before_calls, before_externs, before_maps, before_resolution, is_memory}
+use Rattle.ebpf_object.specs.Stages.{RelocatesTypes, TypesFault, LinksPrograms, LinkingFault, Resolves, ResolvingFault, fds_written, fds_fault, with_externs_if, externs_fault_if}
 use Rattle.ebpf_object.specs.Steps.{Chosen}
 use Rattle.ebpf_object.specs.TextSections.{has_function_in}
 use Rattle.ebpf_object.specs.declared.object.Object.{Object}
@@ -29,8 +29,8 @@ use Rattle.ebpf_object.specs.declared.prepare_error.PrepareError.TheVariants.{Pa
 use Rattle.ebpf_parts.specs.declared.error.ParseError.{ParseError}
 use Rattle.ebpf_parts.specs.declared.reading.Reading.{Reading}
 use Rattle.ebpf_reloc.proofs.OneResult.{any_at, not_refused, one_result}
-use Rattle.ebpf_reloc.specs.Linking.{IsFirstFault as IsFirstProgram, ProgramValue, key_of}
-use Rattle.ebpf_reloc.specs.Places.{LinkableValue}
+use Rattle.ebpf_reloc.specs.Linking.{IsFirstRefusal as IsFirstProgram, ProgramValue, key_of}
+use Rattle.ebpf_reloc.specs.VariableLookup.{LinkableValue}
 use Rattle.ebpf_reloc.specs.declared.error.EbpfRelocationError.{EbpfRelocationError}
 use Rattle.ebpf_reloc.specs.declared.function.Function.{Function}
 
@@ -56,21 +56,21 @@ same_some o x y a b = cc
 with_functions : (o a b : Object) → a ≡ record o { functions = a.functions } → b ≡ record o { functions = b.functions } → a.functions ≡ b.functions → a ≡ b
 with_functions o a b is_a is_b same = is_a ∙ ap (λ (fs : FinMap key_cmp Function). record o { functions = fs }) same ∙ sym is_b
 
-one_adapted : (target : Option TypeInfo) (o a b : Object) → Adapts target o a → Adapts target o b → a ≡ b
-one_adapted None o a b h g = h ∙ sym g
-one_adapted (Some target) o a b h g =
-    let slots : h.0.slots ≡ g.0.slots = same_ok (adapted_slots o target) h.0.slots g.0.slots h.0.written g.0.written in
+one_relocated : (target : Option TypeInfo) (o a b : Object) → RelocatesTypes target o a → RelocatesTypes target o b → a ≡ b
+one_relocated None o a b h g = h ∙ sym g
+one_relocated (Some target) o a b h g =
+    let slots : h.0.slots ≡ g.0.slots = same_ok (relocated_slots o target) h.0.slots g.0.slots h.0.written g.0.written in
     with_functions o a b h.1 g.1
     (same_map key_total key_exact a.functions b.functions
     (λ key. h.0.each key ∙ ap (λ (w : Written). with_slots (get w key) (get o.functions key)) slots ∙ sym (g.0.each key)))
 
-not_adapted : (target : Option TypeInfo) (o a : Object) (e : BtfRelocationError) → Adapts target o a → AdaptingFault target o e → ⊥
-not_adapted None o a e h f = f
-not_adapted (Some target) o a e h f = ok_or_err (adapted_slots o target) h.0.slots (told_at e) h.0.written f
+not_relocated : (target : Option TypeInfo) (o a : Object) (e : BtfRelocationError) → RelocatesTypes target o a → TypesFault target o e → ⊥
+not_relocated None o a e h f = f
+not_relocated (Some target) o a e h f = ok_or_err (relocated_slots o target) h.0.slots (without_texts_at e) h.0.written f
 
-one_adapting : (target : Option TypeInfo) (o : Object) (d e : BtfRelocationError) → AdaptingFault target o d → AdaptingFault target o e → told_at d ≡ told_at e
-one_adapting None o d e f g = absurd f
-one_adapting (Some target) o d e f g = same_err (adapted_slots o target) (told_at d) (told_at e) f g
+one_types_fault : (target : Option TypeInfo) (o : Object) (d e : BtfRelocationError) → TypesFault target o d → TypesFault target o e → without_texts_at d ≡ without_texts_at e
+one_types_fault None o d e f g = absurd f
+one_types_fault (Some target) o d e f g = same_err (relocated_slots o target) (without_texts_at d) (without_texts_at e) f g
 
 -- ---- resolution
 
@@ -91,30 +91,30 @@ module _ (lines : List ℕ) where
 
 -- ---- calls
 
-one_joined : (calls : Bool) (o a b : Object) → Joins calls o a → Joins calls o b → a ≡ b
-one_joined false o a b h g = h ∙ sym g
-one_joined true o a b h g =
-    with_functions o a b h.1 g.1 (one_joining (linkable_of o (has_function_in o.functions)) (programs_in_order o.programs) a.functions b.functions h.0 g.0)
+one_linked : (calls : Bool) (o a b : Object) → LinksPrograms calls o a → LinksPrograms calls o b → a ≡ b
+one_linked false o a b h g = h ∙ sym g
+one_linked true o a b h g =
+    with_functions o a b h.1 g.1 (one_linking (linkable_of o (has_function_in o.functions)) (programs_in_order o.programs) a.functions b.functions h.0 g.0)
 
-joined_at : (b : Bool) (A B : Type 0) → b ≡ true → MatchBool b A B → A
-joined_at true A B is h = h
-joined_at false A B is h = cc
+linked_from : (b : Bool) (A B : Type 0) → b ≡ true → MatchBool b A B → A
+linked_from true A B is h = h
+linked_from false A B is h = cc
 
--- programs that are joined have no first fault
-no_fault_joined : (parts : LinkableValue) (programs : List ProgramValue) (after : FinMap key_cmp Function) (e : EbpfRelocationError) → AreJoined parts programs after → IsFirstProgram parts programs e → ⊥
-no_fault_joined parts programs after e joined f =
+-- programs that are linked have no first fault
+no_fault_linked : (parts : LinkableValue) (programs : List ProgramValue) (after : FinMap key_cmp Function) (e : EbpfRelocationError) → ProgramsAreLinked parts programs after → IsFirstProgram parts programs e → ⊥
+no_fault_linked parts programs after e are_linked f =
     let key = key_of f.program in
     let among : is_program_key programs key ≡ true =
     any_at (λ (p : ProgramValue). eq_by_cmp key_cmp key (key_of p)) programs f.place f.program f.at ((eq_by_cmp_equiv key_total).refl key)
     in
-    let linked = joined_at (is_program_key programs key) _ _ among (joined key) in
+    let linked = linked_from (is_program_key programs key) _ _ among (are_linked key) in
     not_refused parts key linked.0 e.error linked.2 f.refused.1
 
-not_joined : (calls : Bool) (o a : Object) (e : EbpfRelocationError) → Joins calls o a → JoiningFault calls o e → ⊥
-not_joined false o a e h f = f
-not_joined true o a e h f = no_fault_joined (linkable_of o (has_function_in o.functions)) (programs_in_order o.programs) a.functions e h.0 f
+not_linked : (calls : Bool) (o a : Object) (e : EbpfRelocationError) → LinksPrograms calls o a → LinkingFault calls o e → ⊥
+not_linked false o a e h f = f
+not_linked true o a e h f = no_fault_linked (linkable_of o (has_function_in o.functions)) (programs_in_order o.programs) a.functions e h.0 f
 
-one_refused : (calls : Bool) (o : Object) (d e : EbpfRelocationError) → JoiningFault calls o d → JoiningFault calls o e → d ≡ e
+one_refused : (calls : Bool) (o : Object) (d e : EbpfRelocationError) → LinkingFault calls o d → LinkingFault calls o e → d ≡ e
 one_refused false o d e f g = absurd f
 one_refused true o d e f g =
     let same : Err d ≡ Err e = one_result (linkable_of o (has_function_in o.functions)) (programs_in_order o.programs) (Err d) (Err e) f g in
@@ -128,20 +128,20 @@ module _ (lines : List ℕ) (o : Object) where
 
   one_staged : (steps : Chosen) (a b : Object) → Leads steps a → Leads steps b → a ≡ b
   one_staged steps a b h g =
-      let relocated : h.relocated ≡ g.relocated = one_adapted steps.target o h.relocated g.relocated h.types g.types in
-      let with_maps : h.described ≡ g.described = h.maps ∙ ap (described steps.descriptors) relocated ∙ sym g.maps in
+      let relocated : h.relocated ≡ g.relocated = one_relocated steps.target o h.relocated g.relocated h.types g.types in
+      let with_maps : h.fds_written ≡ g.fds_written = h.maps ∙ ap (fds_written steps.descriptors) relocated ∙ sym g.maps in
       let resolved : h.resolved ≡ g.resolved =
-      one_resolution lines steps.kernel g.described h.resolved g.resolved (subst (λ (x : Object). Resolves steps.kernel (Reader (Some lines)) x h.resolved) with_maps h.resolution) g.resolution
+      one_resolution lines steps.kernel g.fds_written h.resolved g.resolved (subst (λ (x : Object). Resolves steps.kernel (Reader (Some lines)) x h.resolved) with_maps h.resolution) g.resolution
       in
-      let unlinked : h.unlinked ≡ g.unlinked = h.externs ∙ ap (externs_known steps.externs) resolved ∙ sym g.externs in
-      one_joined steps.calls g.unlinked a b (subst (λ (x : Object). Joins steps.calls x a) unlinked h.calls) g.calls
+      let unlinked : h.unlinked ≡ g.unlinked = h.externs ∙ ap (with_externs_if steps.externs) resolved ∙ sym g.externs in
+      one_linked steps.calls g.unlinked a b (subst (λ (x : Object). LinksPrograms steps.calls x a) unlinked h.calls) g.calls
 
   -- the stages up to one
 
   up_to_types : (steps : Chosen) (after : Object) (s : Leads steps after) → Leads (before_maps steps) s.relocated
   up_to_types steps after s = record {
     relocated = s.relocated;
-    described = s.relocated;
+    fds_written = s.relocated;
     resolved = s.relocated;
     unlinked = s.relocated;
     types = s.types;
@@ -153,12 +153,12 @@ module _ (lines : List ℕ) (o : Object) where
     calls = refl;
   }
 
-  up_to_maps : (steps : Chosen) (after : Object) (s : Leads steps after) → Leads (before_resolution steps) s.described
+  up_to_maps : (steps : Chosen) (after : Object) (s : Leads steps after) → Leads (before_resolution steps) s.fds_written
   up_to_maps steps after s = record {
     relocated = s.relocated;
-    described = s.described;
-    resolved = s.described;
-    unlinked = s.described;
+    fds_written = s.fds_written;
+    resolved = s.fds_written;
+    unlinked = s.fds_written;
     types = s.types;
     maps_sound = s.maps_sound;
     maps = s.maps;
@@ -171,7 +171,7 @@ module _ (lines : List ℕ) (o : Object) where
   up_to_resolution : (steps : Chosen) (after : Object) (s : Leads steps after) → Leads (before_externs steps) s.resolved
   up_to_resolution steps after s = record {
     relocated = s.relocated;
-    described = s.described;
+    fds_written = s.fds_written;
     resolved = s.resolved;
     unlinked = s.resolved;
     types = s.types;
@@ -186,7 +186,7 @@ module _ (lines : List ℕ) (o : Object) where
   up_to_externs : (steps : Chosen) (after : Object) (s : Leads steps after) → Leads (before_calls steps) s.unlinked
   up_to_externs steps after s = record {
     relocated = s.relocated;
-    described = s.described;
+    fds_written = s.fds_written;
     resolved = s.resolved;
     unlinked = s.unlinked;
     types = s.types;
@@ -203,27 +203,27 @@ module _ (lines : List ℕ) (o : Object) where
   fault_in steps Fault x s f = subst Fault (one_staged steps f.before x f.stages s) f.fault
 
   -- stages that lead on have no fault
-  led_on : (steps : Chosen) (after : Object) → Leads steps after → (e : PrepareError) → is_access e ≡ false → IsFault steps (Reader (Some lines)) o e → ⊥
-  led_on steps after s (Types e) other f = not_adapted steps.target o s.relocated e s.types f
+  led_on : (steps : Chosen) (after : Object) → Leads steps after → (e : PrepareError) → is_access e ≡ false → IsStageFault steps (Reader (Some lines)) o e → ⊥
+  led_on steps after s (Types e) other f = not_relocated steps.target o s.relocated e s.types f
   led_on steps after s (Maps e) other f =
-      none_or_some (describing_fault steps.descriptors s.relocated) e s.maps_sound (fault_in (before_maps steps) _ s.relocated (up_to_types steps after s) f)
+      none_or_some (fds_fault steps.descriptors s.relocated) e s.maps_sound (fault_in (before_maps steps) _ s.relocated (up_to_types steps after s) f)
   led_on steps after s (Ksyms e) other f =
-      not_resolving lines steps.kernel s.described s.resolved e other s.resolution (fault_in (before_resolution steps) _ s.described (up_to_maps steps after s) f)
+      not_resolving lines steps.kernel s.fds_written s.resolved e other s.resolution (fault_in (before_resolution steps) _ s.fds_written (up_to_maps steps after s) f)
   led_on steps after s (Externs e) other f =
-      none_or_some (knowing_fault steps.externs s.resolved) e s.externs_sound (fault_in (before_externs steps) _ s.resolved (up_to_resolution steps after s) f)
+      none_or_some (externs_fault_if steps.externs s.resolved) e s.externs_sound (fault_in (before_externs steps) _ s.resolved (up_to_resolution steps after s) f)
   led_on steps after s (Calls e) other f =
-      not_joined steps.calls s.unlinked after e s.calls (fault_in (before_calls steps) _ s.unlinked (up_to_externs steps after s) f)
+      not_linked steps.calls s.unlinked after e s.calls (fault_in (before_calls steps) _ s.unlinked (up_to_externs steps after s) f)
   led_on steps after s (Parse e) other f = f
   led_on steps after s OutOfMemory other f = f
 
-  one_fault : (steps : Chosen) (d e : PrepareError) → is_access d ≡ false → is_access e ≡ false → IsFault steps (Reader (Some lines)) o d → IsFault steps (Reader (Some lines)) o e → told d ≡ told e
-  one_fault steps (Types d) (Types e) od oe f g = ap Types (one_adapting steps.target o d e f g)
+  one_fault : (steps : Chosen) (d e : PrepareError) → is_access d ≡ false → is_access e ≡ false → IsStageFault steps (Reader (Some lines)) o d → IsStageFault steps (Reader (Some lines)) o e → without_texts d ≡ without_texts e
+  one_fault steps (Types d) (Types e) od oe f g = ap Types (one_types_fault steps.target o d e f g)
   one_fault steps (Types d) (Maps e) od oe f g = absurd (led_on (before_maps steps) g.before g.stages (Types d) od f)
   one_fault steps (Types d) (Ksyms e) od oe f g = absurd (led_on (before_resolution steps) g.before g.stages (Types d) od f)
   one_fault steps (Types d) (Externs e) od oe f g = absurd (led_on (before_externs steps) g.before g.stages (Types d) od f)
   one_fault steps (Types d) (Calls e) od oe f g = absurd (led_on (before_calls steps) g.before g.stages (Types d) od f)
   one_fault steps (Maps d) (Types e) od oe f g = absurd (led_on (before_maps steps) f.before f.stages (Types e) oe g)
-  one_fault steps (Maps d) (Maps e) od oe f g = ap Maps (same_some (describing_fault steps.descriptors g.before) d e (fault_in (before_maps steps) _ g.before g.stages f) g.fault)
+  one_fault steps (Maps d) (Maps e) od oe f g = ap Maps (same_some (fds_fault steps.descriptors g.before) d e (fault_in (before_maps steps) _ g.before g.stages f) g.fault)
   one_fault steps (Maps d) (Ksyms e) od oe f g = absurd (led_on (before_resolution steps) g.before g.stages (Maps d) od f)
   one_fault steps (Maps d) (Externs e) od oe f g = absurd (led_on (before_externs steps) g.before g.stages (Maps d) od f)
   one_fault steps (Maps d) (Calls e) od oe f g = absurd (led_on (before_calls steps) g.before g.stages (Maps d) od f)
@@ -235,7 +235,7 @@ module _ (lines : List ℕ) (o : Object) where
   one_fault steps (Externs d) (Types e) od oe f g = absurd (led_on (before_externs steps) f.before f.stages (Types e) oe g)
   one_fault steps (Externs d) (Maps e) od oe f g = absurd (led_on (before_externs steps) f.before f.stages (Maps e) oe g)
   one_fault steps (Externs d) (Ksyms e) od oe f g = absurd (led_on (before_externs steps) f.before f.stages (Ksyms e) oe g)
-  one_fault steps (Externs d) (Externs e) od oe f g = ap Externs (same_some (knowing_fault steps.externs g.before) d e (fault_in (before_externs steps) _ g.before g.stages f) g.fault)
+  one_fault steps (Externs d) (Externs e) od oe f g = ap Externs (same_some (externs_fault_if steps.externs g.before) d e (fault_in (before_externs steps) _ g.before g.stages f) g.fault)
   one_fault steps (Externs d) (Calls e) od oe f g = absurd (led_on (before_calls steps) g.before g.stages (Externs d) od f)
   one_fault steps (Calls d) (Types e) od oe f g = absurd (led_on (before_calls steps) f.before f.stages (Types e) oe g)
   one_fault steps (Calls d) (Maps e) od oe f g = absurd (led_on (before_calls steps) f.before f.stages (Maps e) oe g)
@@ -249,29 +249,29 @@ module _ (lines : List ℕ) (o : Object) where
 
 -- ---- answers that exclude others
 
-settled : (memory access : Bool) → (memory || access) ≡ false → (memory ≡ false) × (access ≡ false)
-settled true access is = cc
-settled false access is = (refl, is)
+same_answer : (memory access : Bool) → (memory || access) ≡ false → (memory ≡ false) × (access ≡ false)
+same_answer true access is = cc
+same_answer false access is = (refl, is)
 
 stated : (b : Bool) (N F : Type 0) → b ≡ false → MatchBool b N F → F
 stated true N F is m = cc
 stated false N F is m = m
 
 module _ (Fault : PrepareError → Type 0) (e : PrepareError) (is : (is_memory e || is_access e) ≡ false) where
-  refusal_stated : Refuses Fault e → Fault e
-  refusal_stated r = stated (is_memory e) (NamesNothing e) (Fault e) (settled (is_memory e) (is_access e) is).0 r
+  refusal_stated : RefusesPreparing Fault e → Fault e
+  refusal_stated r = stated (is_memory e) (NamesNothing e) (Fault e) (same_answer (is_memory e) (is_access e) is).0 r
 
   no_access : is_access e ≡ false
-  no_access = (settled (is_memory e) (is_access e) is).1
+  no_access = (same_answer (is_memory e) (is_access e) is).1
 
 pub one_staging : OneStaging
 one_staging steps lines o (Ok a) (Ok b) h g hs gs = ap Ok (one_staged lines o steps a b h g)
 one_staging steps lines o (Ok a) (Err e) h g hs gs =
-    absurd (led_on lines o steps a h e (no_access (IsFault steps (Reader (Some lines)) o) e gs) (refusal_stated (IsFault steps (Reader (Some lines)) o) e gs g))
+    absurd (led_on lines o steps a h e (no_access (IsStageFault steps (Reader (Some lines)) o) e gs) (refusal_stated (IsStageFault steps (Reader (Some lines)) o) e gs g))
 one_staging steps lines o (Err d) (Ok b) h g hs gs =
-    absurd (led_on lines o steps b g d (no_access (IsFault steps (Reader (Some lines)) o) d hs) (refusal_stated (IsFault steps (Reader (Some lines)) o) d hs h))
+    absurd (led_on lines o steps b g d (no_access (IsStageFault steps (Reader (Some lines)) o) d hs) (refusal_stated (IsStageFault steps (Reader (Some lines)) o) d hs h))
 one_staging steps lines o (Err d) (Err e) h g hs gs =
-    let Fault = IsFault steps (Reader (Some lines)) o in
+    let Fault = IsStageFault steps (Reader (Some lines)) o in
     ap Err (one_fault lines o steps d e (no_access Fault d hs) (no_access Fault e gs) (refusal_stated Fault d hs h) (refusal_stated Fault e gs g))
 
 -- ---- of a file
@@ -285,7 +285,7 @@ module _ (steps : Chosen) (lines : List ℕ) (reading : Reading) (bytes : List �
   OfFile e = (p : ParseError) × (parse_fault_as reading bytes ≡ Some p) × (e ≡ Parse p)
 
   abbrev OfStage : PrepareError → Type 0
-  OfStage e = (parse_fault_as reading bytes ≡ None) × IsFault steps (Reader (Some lines)) (object_as reading bytes) e
+  OfStage e = (parse_fault_as reading bytes ≡ None) × IsStageFault steps (Reader (Some lines)) (object_as reading bytes) e
 
   either : (e : PrepareError) → First e → OfFile e ⊎ OfStage e
   either (Parse e) f = inl (e, f, refl)
@@ -296,10 +296,10 @@ module _ (steps : Chosen) (lines : List ℕ) (reading : Reading) (bytes : List �
   either (Calls e) f = inr f
   either OutOfMemory f = inr f
 
-  one_first : (d e : PrepareError) → is_access d ≡ false → is_access e ≡ false → OfFile d ⊎ OfStage d → OfFile e ⊎ OfStage e → told d ≡ told e
+  one_first : (d e : PrepareError) → is_access d ≡ false → is_access e ≡ false → OfFile d ⊎ OfStage d → OfFile e ⊎ OfStage e → without_texts d ≡ without_texts e
   one_first d e od oe (inl f) (inl g) =
       let same : f.0 ≡ g.0 = same_some (parse_fault_as reading bytes) f.0 g.0 f.1 g.1 in
-      ap told (f.2 ∙ ap Parse same ∙ sym g.2)
+      ap without_texts (f.2 ∙ ap Parse same ∙ sym g.2)
   one_first d e od oe (inl f) (inr g) = absurd (none_or_some (parse_fault_as reading bytes) f.0 g.0 f.1)
   one_first d e od oe (inr f) (inl g) = absurd (none_or_some (parse_fault_as reading bytes) g.0 f.0 g.1)
   one_first d e od oe (inr f) (inr g) = one_fault lines (object_as reading bytes) steps d e od oe f.1 g.1

@@ -6,9 +6,9 @@ use Rattle.ebpf_base.proofs.Faults.{both_None}
 use Rattle.ebpf_btf.specs.TypeInfo.{TypeInfo}
 use Rattle.ebpf_ksyms.proofs.Reading.{lines_fault-push}
 use Rattle.ebpf_ksyms.specs.Addresses.{Line, line_fault, lines_fault}
-use Rattle.ebpf_ksyms.specs.Externs.{Externs, lines_refused, names_read, names_refused, reads_lines, resolved, types_refused}
-use Rattle.ebpf_ksyms.specs.Named.{is_among}
-use Rattle.ebpf_ksyms.specs.Readers.{AreFirst, AreLines, CountsLines, IsRefusedIn, IsResolvedIn, StopsAtLineIn, StopsAtNameIn, StopsAtAccessIn, readable}
+use Rattle.ebpf_ksyms.specs.Externs.{Externs, lines_refused, names_read, names_refused, reads_lines, resolved_externs, types_refused}
+use Rattle.ebpf_ksyms.specs.Named.{is_one_of}
+use Rattle.ebpf_ksyms.specs.Readers.{AreFirst, AreLines, CountsLines, IsRefusedIn, IsResolvedIn, StopsAtLineIn, StopsAtNameIn, StopsAtAccessIn, read_lines}
 use Rattle.ebpf_ksyms.specs.declared.error.KsymsError.{KsymsError}
 use Rattle.ebpf_object.specs.OnePreparation.{is_access_error}
 
@@ -78,30 +78,30 @@ same_fault o d e a b = cc
 
 module _ (local : Option TypeInfo) (externs : Externs) (all first rest : List (List ℕ)) (is : all ≡ first ++ rest) where
   -- no line of a beginning is refused where none of all is
-  none_of_first : lines_refused local externs (readable all) ≡ None → lines_refused local externs (readable first) ≡ None
+  none_of_first : lines_refused local externs (read_lines all) ≡ None → lines_refused local externs (read_lines first) ≡ None
   none_of_first none =
-      let parts : readable all ≡ readable first ++ readable rest = ap readable is ∙ map-append Ok first rest in
-      begins_without (is_among (names_read local externs)) (readable rest) (readable first) (ap (lines_refused local externs) (sym parts) ∙ none)
+      let parts : read_lines all ≡ read_lines first ++ read_lines rest = ap read_lines is ∙ map-append Ok first rest in
+      begins_without (is_one_of (names_read local externs)) (read_lines rest) (read_lines first) (ap (lines_refused local externs) (sym parts) ∙ none)
 
 -- ---- one result
 
 module _ (bytes : List ℕ) (local kernel : Option TypeInfo) (externs : Externs) where
   pub one_resolved : (a b : Externs) → IsResolvedIn (Some bytes) local kernel externs a → IsResolvedIn (Some bytes) local kernel externs b → a ≡ b
   one_resolved a b h g =
-      h.stands ∙ ap (λ lines. resolved local kernel (readable lines) externs) (same_counted (reads_lines local externs) bytes h.lines g.lines h.counted g.counted) ∙ sym g.stands
+      h.stands ∙ ap (λ lines. resolved_externs local kernel (read_lines lines) externs) (same_counted (reads_lines local externs) bytes h.lines g.lines h.counted g.counted) ∙ sym g.stands
 
   -- a line that is refused is among all lines
   line_among : (e : KsymsError) (h : StopsAtLineIn (Some bytes) local kernel externs e) (all : List (List ℕ))
-      → CountsLines (reads_lines local externs) (Some bytes) all → lines_refused local externs (readable all) ≡ None → ⊥
+      → CountsLines (reads_lines local externs) (Some bytes) all → lines_refused local externs (read_lines all) ≡ None → ⊥
   line_among e h all counted none =
       let came = subst (λ (b : Bool). CountsLines b (Some bytes) all) h.wanted counted in
       let more = all_begin bytes (h.lines ++ h.line ∷ []) all h.came.1 came.1 in
-      clash (lines_refused local externs (readable (h.lines ++ h.line ∷ []))) e (none_of_first local externs all (h.lines ++ h.line ∷ []) more.0 more.1 none) h.refused
+      clash (lines_refused local externs (read_lines (h.lines ++ h.line ∷ []))) e (none_of_first local externs all (h.lines ++ h.line ∷ []) more.0 more.1 none) h.refused
 
   -- of two lines that are refused none is before the other
   line_before : (d e : KsymsError) (h : StopsAtLineIn (Some bytes) local kernel externs d) (g : StopsAtLineIn (Some bytes) local kernel externs e) → GoesOn h.lines h.line g.lines → ⊥
   line_before d e h g on =
-      clash (lines_refused local externs (readable (h.lines ++ h.line ∷ []))) d
+      clash (lines_refused local externs (read_lines (h.lines ++ h.line ∷ []))) d
       (none_of_first local externs g.lines (h.lines ++ h.line ∷ []) on.0 (on.1 ∙ sym (append_assoc h.lines (h.line ∷ []) on.0)) g.before) h.refused
 
   one_line : (d e : KsymsError) → StopsAtLineIn (Some bytes) local kernel externs d → StopsAtLineIn (Some bytes) local kernel externs e → d ≡ e
@@ -109,14 +109,14 @@ module _ (bytes : List ℕ) (local kernel : Option TypeInfo) (externs : Externs)
     | inl on ↦ absurd (line_before d e h g on)
     | inr other ↦ elim other [
       | inl on ↦ absurd (line_before e d g h on)
-      | inr is ↦ same_fault (lines_refused local externs (readable (g.lines ++ g.line ∷ []))) d e (ap (λ lines. lines_refused local externs (readable lines)) (sym is) ∙ h.refused) g.refused
+      | inr is ↦ same_fault (lines_refused local externs (read_lines (g.lines ++ g.line ∷ []))) d e (ap (λ lines. lines_refused local externs (read_lines lines)) (sym is) ∙ h.refused) g.refused
     ]
   ]
 
   one_name : (d e : KsymsError) → StopsAtNameIn (Some bytes) local kernel externs d → StopsAtNameIn (Some bytes) local kernel externs e → d ≡ e
   one_name d e h g =
       let lines : h.lines ≡ g.lines = same_counted (reads_lines local externs) bytes h.lines g.lines h.counted g.counted in
-      same_fault (names_refused local externs (readable g.lines)) d e (ap (λ ls. names_refused local externs (readable ls)) (sym lines) ∙ h.refused) g.refused
+      same_fault (names_refused local externs (read_lines g.lines)) d e (ap (λ ls. names_refused local externs (read_lines ls)) (sym lines) ∙ h.refused) g.refused
 
   no_access : (e : KsymsError) → is_access_error e ≡ false → StopsAtAccessIn (Some bytes) local kernel externs e → ⊥
   no_access e other h = let clash : true ≡ false = ap is_access_error (sym h.is) ∙ other in cc
@@ -129,7 +129,7 @@ module _ (bytes : List ℕ) (local kernel : Option TypeInfo) (externs : Externs)
   not_resolved a e other h (inr (inl at_line)) = line_among e at_line h.lines h.counted h.read
   not_resolved a e other h (inr (inr (inl at_name))) =
       let lines : h.lines ≡ at_name.lines = same_counted (reads_lines local externs) bytes h.lines at_name.lines h.counted at_name.counted in
-      clash (names_refused local externs (readable at_name.lines)) e (ap (λ ls. names_refused local externs (readable ls)) (sym lines) ∙ h.names) at_name.refused
+      clash (names_refused local externs (read_lines at_name.lines)) e (ap (λ ls. names_refused local externs (read_lines ls)) (sym lines) ∙ h.names) at_name.refused
   not_resolved a e other h (inr (inr (inr at_access))) = no_access e other at_access
 
   pub one_refusal : (d e : KsymsError) → is_access_error d ≡ false → is_access_error e ≡ false → IsRefusedIn (Some bytes) local kernel externs d → IsRefusedIn (Some bytes) local kernel externs e → d ≡ e

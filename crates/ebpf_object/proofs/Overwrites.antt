@@ -24,57 +24,57 @@ at_drop (suc n) [] i p e = refl
 at_drop (suc n) (x ∷ xs) i zero e = absurd (let no : ⊥ = omega arith in no)
 at_drop (suc n) (x ∷ xs) i (suc p) e = at_drop n xs i p (omega arith)
 
-module _ (old bytes : List ℕ) (place : ℕ) where
+module _ (old bytes : List ℕ) (offset : ℕ) where
   over : List ℕ
-  over = take place old ++ (bytes ++ drop (place + length bytes) old)
+  over = take offset old ++ (bytes ++ drop (offset + length bytes) old)
 
-  module _ (fits : place + length bytes ≤ length old) where
-    front : length (take place old) ≡ place
+  module _ (fits : offset + length bytes ≤ length old) where
+    front : length (take offset old) ≡ offset
     front = simp length-take (omega arith)
 
     over_long : length over ≡ length old
     unfolding over
     over_long = simp (length-append, length-take, length-drop) (omega arith)
 
-    over_before : (i : ℕ) → i < place → slice_get over i ≡ slice_get old i
+    over_before : (i : ℕ) → i < offset → slice_get over i ≡ slice_get old i
     unfolding over
-    over_before i h = at_left (take place old) _ i (omega (arith, front)) ∙ at_take place old i h
+    over_before i h = at_left (take offset old) _ i (omega (arith, front)) ∙ at_take offset old i h
 
-    over_within : (i : ℕ) → place ≤ i → i < place + length bytes → slice_get over i ≡ slice_get bytes (i - place)
+    over_within : (i : ℕ) → offset ≤ i → i < offset + length bytes → slice_get over i ≡ slice_get bytes (i - offset)
     unfolding over
     over_within i low high =
-        at_right (take place old) _ i (i - place) (omega (arith, front))
-        ∙ at_left bytes _ (i - place) (omega arith)
+        at_right (take offset old) _ i (i - offset) (omega (arith, front))
+        ∙ at_left bytes _ (i - offset) (omega arith)
 
-    over_behind : (i : ℕ) → place + length bytes ≤ i → slice_get over i ≡ slice_get old i
+    over_behind : (i : ℕ) → offset + length bytes ≤ i → slice_get over i ≡ slice_get old i
     unfolding over
     over_behind i low =
-        at_right (take place old) _ i (i - place) (omega (arith, front))
-        ∙ at_right bytes _ (i - place) (i - (place + length bytes)) (omega arith)
-        ∙ at_drop (place + length bytes) old (i - (place + length bytes)) i (omega arith)
+        at_right (take offset old) _ i (i - offset) (omega (arith, front))
+        ∙ at_right bytes _ (i - offset) (i - (offset + length bytes)) (omega arith)
+        ∙ at_drop (offset + length bytes) old (i - (offset + length bytes)) i (omega arith)
 
   abbrev test : Bool
-  test = nat_le (place + length bytes) (length old)
+  test = nat_le (offset + length bytes) (length old)
 
   -- by whether the bytes pass the end
-  by_test : (P : List ℕ → Type 0) → (place + length bytes ≤ length old → P over) → P old → P (overwritten old place bytes)
+  by_test : (P : List ℕ → Type 0) → (offset + length bytes ≤ length old → P over) → P old → P (overwritten old offset bytes)
   unfolding over
   by_test P inside outside = elim test as (λ b. test ≡ b → P (if b then over else old)) [
     | true ↦ λ e. inside (leb-true _ _ e)
     | false ↦ λ e. outside
   ] refl
 
-  pub overwritten_long : length (overwritten old place bytes) ≡ length old
+  pub overwritten_long : length (overwritten old offset bytes) ≡ length old
   overwritten_long = by_test (λ l. length l ≡ length old) over_long refl
 
-  pub overwritten_beside : (i : ℕ) → (i < place) ⊎ (place + length bytes ≤ i) → slice_get (overwritten old place bytes) i ≡ slice_get old i
+  pub overwritten_beside : (i : ℕ) → (i < offset) ⊎ (offset + length bytes ≤ i) → slice_get (overwritten old offset bytes) i ≡ slice_get old i
   overwritten_beside i side = by_test (λ l. slice_get l i ≡ slice_get old i)
       (λ fits. ⊎_elim (over_before fits i) (over_behind fits i) side)
       refl
 
-  pub overwritten_within : (i : ℕ) → place + length bytes ≤ length old → place ≤ i → i < place + length bytes → slice_get (overwritten old place bytes) i ≡ slice_get bytes (i - place)
+  pub overwritten_within : (i : ℕ) → offset + length bytes ≤ length old → offset ≤ i → i < offset + length bytes → slice_get (overwritten old offset bytes) i ≡ slice_get bytes (i - offset)
   unfolding over
-  overwritten_within i fits low high = elim test as (λ b. test ≡ b → slice_get (if b then over else old) i ≡ slice_get bytes (i - place)) [
+  overwritten_within i fits low high = elim test as (λ b. test ≡ b → slice_get (if b then over else old) i ≡ slice_get bytes (i - offset)) [
     | true ↦ λ e. over_within fits i low high
-    | false ↦ λ e. absurd (let low : length old < place + length bytes = leb-false _ _ e in let no : ⊥ = omega arith in no)
+    | false ↦ λ e. absurd (let low : length old < offset + length bytes = leb-false _ _ e in let no : ⊥ = omega arith in no)
   ] refl

@@ -1,4 +1,4 @@
--- The greatest name that has a byte for a place gives it.
+-- The greatest name that has a byte for an offset gives it.
 use Rattle.std.proofs.Common.{◌≡◌, ℕ, ◌+◌, ◌-◌, ◌≤◌, true, false, ◌||◌, List, [], ◌∷◌, ◌++◌, length, Option, Some, None, Ok, Err, refl, sym, ap, subst, ◌∙◌, slice_get, nat_le, leb-true, if◌then◌else◌, ◌==◌, ◌⊎◌, inl, inr, ⊎_elim, flat_map}
 use Rattle.std.specs.FinMap.{FinMap, get, entries, contains_key-keys}
 use Rattle.std.specs.List.{AllByRecursion, list_any}
@@ -13,30 +13,30 @@ use Rattle.ebpf_base.proofs.Sorted.{entries_rise}
 use Rattle.ebpf_parts.specs.declared.maps.either.Map.{Map}
 use Rattle.ebpf_parts.specs.declared.error.ParseError.TheVariants.{InvalidGlobalData, SymbolNotFound}
 use Rattle.ebpf_reloc.specs.declared.symbol.Symbol.{Symbol}
-use Rattle.ebpf_object.specs.Patches.{PatchValue, Global, patched, all_patched, data_of, patches_in, patches_at, patch_of, by_symbol, of_symbol, in_map, map_in, symbol_named, patches_of}
+use Rattle.ebpf_object.specs.Patches.{PatchValue, Global, with_patch, all_patched, map_data_of, patches_in, patches_at, patch_of, by_symbol, of_symbol, in_map, map_in_section, symbol_named, patches_of}
 use Rattle.ebpf_object.specs.PatchedBytes.{byte_at, Covers, GreatestNameStands, OtherBytesStay, LengthsStay, MapsStay}
 use Rattle.ebpf_object.proofs.PatchedPlaces.{one_or_other, patched_beside, patched_within, patched_long, all_long, all_but}
 
 -- ---- what a variable asks for is nothing, or one patch in the data of its map
 
 abbrev size : FinMap text_cmp Map → List ℕ → ℕ
-size maps k = length (data_of (get maps k))
+size maps k = length (map_data_of (get maps k))
 
 abbrev OneAtMost : FinMap text_cmp Map → List PatchValue → Type 0
-OneAtMost maps patches = (patches ≡ []) ⊎ ((p : PatchValue) × (patches ≡ p ∷ []) × (p.place + length p.bytes ≤ size maps p.map_name))
+OneAtMost maps patches = (patches ≡ []) ⊎ ((p : PatchValue) × (patches ≡ p ∷ []) × (p.offset + length p.bytes ≤ size maps p.map_name))
 
 module _ (maps : FinMap text_cmp Map) (name : List ℕ) where
   one_in_map : (bytes : List ℕ) (s : Symbol) (z : Option (List ℕ)) → OneAtMost maps (patches_in (in_map maps name bytes s z))
   one_in_map bytes s None = inl refl
   one_in_map bytes s (Some k) = elim (nat_le (s.address + length bytes) (size maps k)) as (λ b. nat_le (s.address + length bytes) (size maps k) ≡ b
-      → OneAtMost maps (patches_in (if b then Ok (record { map_name = k; place = s.address; bytes = bytes } ∷ []) else Err (InvalidGlobalData name s.size (length bytes))))) [
-        | true ↦ λ e. inr (record { map_name = k; place = s.address; bytes = bytes }, refl, leb-true _ _ e)
+      → OneAtMost maps (patches_in (if b then Ok (record { map_name = k; offset = s.address; bytes = bytes } ∷ []) else Err (InvalidGlobalData name s.size (length bytes))))) [
+        | true ↦ λ e. inr (record { map_name = k; offset = s.address; bytes = bytes }, refl, leb-true _ _ e)
         | false ↦ λ e. inl refl
       ] refl
 
   one_of_symbol : (bytes : List ℕ) (s : Symbol) → OneAtMost maps (patches_in (of_symbol maps name bytes s))
-  one_of_symbol bytes s = elim (length bytes == s.size) as (λ b. OneAtMost maps (patches_in (if b then in_map maps name bytes s (map_in maps s.section_index) else Err (InvalidGlobalData name s.size (length bytes))))) [
-    | true ↦ one_in_map bytes s (map_in maps s.section_index)
+  one_of_symbol bytes s = elim (length bytes == s.size) as (λ b. OneAtMost maps (patches_in (if b then in_map maps name bytes s (map_in_section maps s.section_index) else Err (InvalidGlobalData name s.size (length bytes))))) [
+    | true ↦ one_in_map bytes s (map_in_section maps s.section_index)
     | false ↦ inl refl
   ]
 
@@ -55,43 +55,43 @@ module _ (start : FinMap text_cmp Map) (f : List ℕ → List PatchValue) (one :
   abbrev Beside : List ℕ → Type 0
   Beside n = (p : PatchValue) → f n ≡ p ∷ [] → Covers p k i → ⊥
 
-  -- none of them has a byte for the place
+  -- none of them has a byte for the offset
   all_beside : (ns : List (List ℕ)) → AllByRecursion Beside ns → (maps : FinMap text_cmp Map) → byte_at (all_patched maps (flat_map f ns)) k i ≡ byte_at maps k i
   all_beside [] h maps = refl
   all_beside (n ∷ ns) h maps = ⊎_elim
       (λ e. ap (λ ps. byte_at (all_patched maps (ps ++ flat_map f ns)) k i) e ∙ all_beside ns h.1 maps)
-      (λ q. ap (λ ps. byte_at (all_patched maps (ps ++ flat_map f ns)) k i) q.1 ∙ all_beside ns h.1 (patched maps q.0) ∙ patched_beside maps q.0 k i (h.0 q.0 q.1))
+      (λ q. ap (λ ps. byte_at (all_patched maps (ps ++ flat_map f ns)) k i) q.1 ∙ all_beside ns h.1 (with_patch maps q.0) ∙ patched_beside maps q.0 k i (h.0 q.0 q.1))
       (one n)
 
-  fits_of : (p : PatchValue) (ps : List PatchValue) → ps ≡ p ∷ [] → OneAtMost start ps → p.place + length p.bytes ≤ size start p.map_name
+  fits_of : (p : PatchValue) (ps : List PatchValue) → ps ≡ p ∷ [] → OneAtMost start ps → p.offset + length p.bytes ≤ size start p.map_name
   fits_of p ps e = ⊎_elim
       (λ none. absurd (let no : ⊥ = cc in no))
-      (λ q. let same : q.0 ≡ p = cc in subst (λ r. r.place + length r.bytes ≤ size start r.map_name) same q.2)
+      (λ q. let same : q.0 ≡ p = cc in subst (λ r. r.offset + length r.bytes ≤ size start r.map_name) same q.2)
 
   module _ (name : List ℕ) (p : PatchValue) (asks : f name ≡ p ∷ []) (covers : Covers p k i) (greater : (n : List ℕ) (q : PatchValue) → text_cmp name n ≡ Less → f n ≡ q ∷ [] → Covers q k i → ⊥) where
     beside_greater : (ns : List (List ℕ)) → AllByRecursion (λ n. text_cmp name n ≡ Less) ns → AllByRecursion Beside ns
     beside_greater [] h = tt
     beside_greater (n ∷ ns) h = ((λ q. greater n q h.0), beside_greater ns h.1)
 
-    -- its patch is written, and then none has a byte for the place
+    -- its patch is written, and then none has a byte for the offset
     written_last : (ns : List (List ℕ)) → IsStrictlySortedBy text_cmp (name ∷ ns) → (maps : FinMap text_cmp Map) → ((q : List ℕ) → size maps q ≡ size start q)
-        → byte_at (all_patched maps (flat_map f (name ∷ ns))) k i ≡ slice_get p.bytes (i - p.place)
+        → byte_at (all_patched maps (flat_map f (name ∷ ns))) k i ≡ slice_get p.bytes (i - p.offset)
     written_last ns rises maps long =
         ap (λ ps. byte_at (all_patched maps (ps ++ flat_map f ns)) k i) asks
-        ∙ all_beside ns (beside_greater ns (sorted_head text_cmp name ns rises)) (patched maps p)
-        ∙ patched_within maps p k i covers (subst (λ n. p.place + length p.bytes ≤ n) (sym (long p.map_name)) (fits_of p (f name) asks (one name)))
+        ∙ all_beside ns (beside_greater ns (sorted_head text_cmp name ns rises)) (with_patch maps p)
+        ∙ patched_within maps p k i covers (subst (λ n. p.offset + length p.bytes ≤ n) (sym (long p.map_name)) (fits_of p (f name) asks (one name)))
 
     greatest : (ns : List (List ℕ)) → IsStrictlySortedBy text_cmp ns → list_any (eq_by_cmp text_cmp name) ns ≡ true → (maps : FinMap text_cmp Map) → ((q : List ℕ) → size maps q ≡ size start q)
-        → byte_at (all_patched maps (flat_map f ns)) k i ≡ slice_get p.bytes (i - p.place)
+        → byte_at (all_patched maps (flat_map f ns)) k i ≡ slice_get p.bytes (i - p.offset)
     greatest [] rises among maps long = absurd (let no : ⊥ = cc in no)
     greatest (n ∷ ns) rises among maps long = ⊎_elim
-        (λ same. subst (λ x. IsStrictlySortedBy text_cmp (x ∷ ns) → byte_at (all_patched maps (flat_map f (x ∷ ns))) k i ≡ slice_get p.bytes (i - p.place)) same (λ r. written_last ns r maps long) rises)
+        (λ same. subst (λ x. IsStrictlySortedBy text_cmp (x ∷ ns) → byte_at (all_patched maps (flat_map f (x ∷ ns))) k i ≡ slice_get p.bytes (i - p.offset)) same (λ r. written_last ns r maps long) rises)
         (λ differ.
         let left : list_any (eq_by_cmp text_cmp name) ns ≡ true = sym (ap (λ b. b || list_any (eq_by_cmp text_cmp name) ns) differ) ∙ among in
         let later = greatest ns (sorted_tail text_cmp n ns rises) left in
         ⊎_elim
         (λ e. ap (λ ps. byte_at (all_patched maps (ps ++ flat_map f ns)) k i) e ∙ later maps long)
-        (λ q. ap (λ ps. byte_at (all_patched maps (ps ++ flat_map f ns)) k i) q.1 ∙ later (patched maps q.0) (λ x. patched_long maps q.0 x ∙ long x))
+        (λ q. ap (λ ps. byte_at (all_patched maps (ps ++ flat_map f ns)) k i) q.1 ∙ later (with_patch maps q.0) (λ x. patched_long maps q.0 x ∙ long x))
         (one n))
         (one_or_other name n)
 

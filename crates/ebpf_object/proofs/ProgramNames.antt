@@ -10,7 +10,7 @@ use Rattle.std.proofs.lemmas.Map.Keys.{IsDistinct-from_sorted}
 use Rattle.ebpf_base.proofs.Lists.{flat_map-same}
 use Rattle.ebpf_base.proofs.Sorted.{entries_rise}
 use Rattle.ebpf_base.specs.Keys.{text_cmp, text_total}
-use Rattle.ebpf_object.specs.Joined.{with_name, program_if, program_with, programs_in_order}
+use Rattle.ebpf_object.specs.LinkedPrograms.{program_value, program_if, program_with, programs_in_order}
 use Rattle.ebpf_parsing.specs.declared.program.Program.{Program}
 use Rattle.std.proofs.lemmas.List.{append_assoc}
 use Rattle.ebpf_base.specs.Keys.{lent_bytes}
@@ -34,7 +34,7 @@ module _ (programs : FinMap text_cmp Program) where
       let other : eq_by_cmp text_cmp name e.0 ≡ false = (eq_by_cmp_equiv text_total).symm name e.0 ∙ h.0 in
       λ i. program_if name (cond (other i) (Some e.1) (find text_cmp name es)) ++ later_names e es names h.1 i
 
-  by_names : (es : List (List ℕ × Program)) → IsDistinct (eq_by_cmp text_cmp) (keys_of es) → flat_map (found_in es) (keys_of es) ≡ map (λ e. with_name e.0 e.1) es
+  by_names : (es : List (List ℕ × Program)) → IsDistinct (eq_by_cmp text_cmp) (keys_of es) → flat_map (found_in es) (keys_of es) ≡ map (λ e. program_value e.0 e.1) es
   unfolding IsDistinct
   by_names [] apart = refl
   by_names (e ∷ es) apart =

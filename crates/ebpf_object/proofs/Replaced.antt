@@ -9,10 +9,10 @@ use Rattle.std.specs.Ordering.{eq_by_cmp, is_eq}
 use Rattle.std.specs.declared.cmp.Ordering.TheVariants.{Less}
 use Rattle.ebpf_base.proofs.Maps.{key_exact}
 use Rattle.ebpf_base.specs.Keys.{key_cmp, key_total}
-use Rattle.ebpf_object.specs.Joined.{replaced, is_program_key, AreJoined}
+use Rattle.ebpf_object.specs.LinkedPrograms.{replaced, is_program_key, ProgramsAreLinked}
 use Rattle.ebpf_reloc.proofs.Keys.{is_equal}
 use Rattle.ebpf_reloc.specs.Linking.{ProgramValue, IsLinked, AreLinked}
-use Rattle.ebpf_reloc.specs.Places.{LinkableValue}
+use Rattle.ebpf_reloc.specs.VariableLookup.{LinkableValue}
 use Rattle.ebpf_reloc.specs.References.{Key}
 use Rattle.ebpf_reloc.specs.declared.function.Function.{Function}
 
@@ -65,9 +65,9 @@ one_more before after key f rest sorted h q = ap (λ o. replaced o (find key_cmp
     by_key false e = refl
 
 -- the functions of linked programs take their places
-pub joined : (parts : LinkableValue) (programs : List ProgramValue) (linked after : FinMap key_cmp Function) → AreLinked parts programs linked
-    → ((q : Key) → get after q ≡ replaced (get parts.functions q) (get linked q)) → AreJoined parts programs after
-joined parts programs linked after are h key = by_place (get linked key) refl
+pub are_linked : (parts : LinkableValue) (programs : List ProgramValue) (linked after : FinMap key_cmp Function) → AreLinked parts programs linked
+    → ((q : Key) → get after q ≡ replaced (get parts.functions q) (get linked q)) → ProgramsAreLinked parts programs after
+are_linked parts programs linked after are h key = by_place (get linked key) refl
   where
     at_program : (b : Bool) (g : Function) → b ≡ true → get linked key ≡ Some g → MatchBool b ((x : Function) × (get after key ≡ Some x) × IsLinked parts key x) (get after key ≡ get parts.functions key)
     at_program true g e some =

@@ -1,11 +1,11 @@
 -- The stages of preparing an object, put together.
 use Rattle.std.proofs.Common.{◌≡◌, ℕ, Bool, true, false, List, Option, Some, None, refl, subst, sym}
 use Rattle.std.specs.Prelude.{MatchBool, Result, Ok, Err, OnOk, IfOk, IfErr, IsErrAnd}
-use Rattle.ebpf_object.specs.Prepared.{Stages, before_calls, before_externs, before_resolution, before_maps, IsFault, IsFirstFault, IsPrepared, IsParsed, Refuses, NamesNothing, is_memory}
+use Rattle.ebpf_object.specs.Prepared.{Stages, before_calls, before_externs, before_resolution, before_maps, IsStageFault, IsFirstFault, IsPrepared, IsParsed, RefusesPreparing, NamesNothing, is_memory}
 use Rattle.ebpf_ksyms.specs.Sources.{Source}
 use Rattle.ebpf_object.specs.Objects.{object_as, parse_fault_as}
 use Rattle.ebpf_object.specs.StageFaults.{Wrapped}
-use Rattle.ebpf_object.specs.Stages.{Adapts, AdaptingFault, described, describing_fault, Resolves, ResolvingFault, externs_known, knowing_fault, Joins, JoiningFault}
+use Rattle.ebpf_object.specs.Stages.{RelocatesTypes, TypesFault, fds_written, fds_fault, Resolves, ResolvingFault, with_externs_if, externs_fault_if, LinksPrograms, LinkingFault}
 use Rattle.ebpf_object.specs.Steps.{Chosen}
 use Rattle.ebpf_object.specs.declared.object.Object.{Object}
 use Rattle.ebpf_object.specs.declared.prepare_error.PrepareError.{PrepareError}
@@ -43,21 +43,21 @@ module _ {E : Type 0} (variant : E → PrepareError) (Own : E → Type 0) where
   pub wrapped : (b : Bool) (N : Type 0) (e : E) → MatchBool b N (Own e) → MatchBool b N (Wrapped variant Own (variant e))
   wrapped b N e r = other_fault b N (Own e) (Wrapped variant Own (variant e)) (λ fault. (e, refl, fault)) r
 
-  pub refused_as : (Fault : PrepareError → Type 0) → ((own : E) → Own own → Fault (variant own)) → (e : PrepareError) → Refuses (Wrapped variant Own) e → Refuses Fault e
+  pub refused_as : (Fault : PrepareError → Type 0) → ((own : E) → Own own → Fault (variant own)) → (e : PrepareError) → RefusesPreparing (Wrapped variant Own) e → RefusesPreparing Fault e
   refused_as Fault to e r =
       other_fault (is_memory e) (NamesNothing e) (Wrapped variant Own e) (Fault e) (λ own. subst Fault (sym own.1) (to own.0 own.2)) r
 
 -- ---- the stages one after the other
 
 module _ (steps : Chosen) (lines : Source) (o : Object) where
-  pub adapting_refused : (e : PrepareError) → Refuses (Wrapped Types (AdaptingFault steps.target o)) e → Refuses (IsFault steps lines o) e
-  adapting_refused e r = refused_as Types (AdaptingFault steps.target o) (IsFault steps lines o) (λ own fault. fault) e r
+  pub relocating_refused : (e : PrepareError) → RefusesPreparing (Wrapped Types (TypesFault steps.target o)) e → RefusesPreparing (IsStageFault steps lines o) e
+  relocating_refused e r = refused_as Types (TypesFault steps.target o) (IsStageFault steps lines o) (λ own fault. fault) e r
 
-  module _ (a : Object) (types : Adapts steps.target o a) where
+  module _ (a : Object) (types : RelocatesTypes steps.target o a) where
     after_types : Stages (before_maps steps) lines o a
     after_types = record {
       relocated = a;
-      described = a;
+      fds_written = a;
       resolved = a;
       unlinked = a;
       types = types;
@@ -69,15 +69,15 @@ module _ (steps : Chosen) (lines : Source) (o : Object) where
       calls = refl;
     }
 
-    pub describing_refused : (e : PrepareError) → Refuses (Wrapped Maps (λ d. describing_fault steps.descriptors a ≡ Some d)) e → Refuses (IsFault steps lines o) e
-    describing_refused e r =
-        refused_as Maps (λ d. describing_fault steps.descriptors a ≡ Some d) (IsFault steps lines o) (λ own fault. record { before = a; stages = after_types; fault = fault }) e r
+    pub fds_refused : (e : PrepareError) → RefusesPreparing (Wrapped Maps (λ d. fds_fault steps.descriptors a ≡ Some d)) e → RefusesPreparing (IsStageFault steps lines o) e
+    fds_refused e r =
+        refused_as Maps (λ d. fds_fault steps.descriptors a ≡ Some d) (IsStageFault steps lines o) (λ own fault. record { before = a; stages = after_types; fault = fault }) e r
 
-    module _ (maps_sound : describing_fault steps.descriptors a ≡ None) (b : Object) (maps : b ≡ described steps.descriptors a) where
+    module _ (maps_sound : fds_fault steps.descriptors a ≡ None) (b : Object) (maps : b ≡ fds_written steps.descriptors a) where
       after_maps : Stages (before_resolution steps) lines o b
       after_maps = record {
         relocated = a;
-        described = b;
+        fds_written = b;
         resolved = b;
         unlinked = b;
         types = types;
@@ -89,15 +89,15 @@ module _ (steps : Chosen) (lines : Source) (o : Object) where
         calls = refl;
       }
 
-      pub resolving_refused : (e : PrepareError) → Refuses (Wrapped Ksyms (ResolvingFault steps.kernel lines b)) e → Refuses (IsFault steps lines o) e
+      pub resolving_refused : (e : PrepareError) → RefusesPreparing (Wrapped Ksyms (ResolvingFault steps.kernel lines b)) e → RefusesPreparing (IsStageFault steps lines o) e
       resolving_refused e r =
-          refused_as Ksyms (ResolvingFault steps.kernel lines b) (IsFault steps lines o) (λ own fault. record { before = b; stages = after_maps; fault = fault }) e r
+          refused_as Ksyms (ResolvingFault steps.kernel lines b) (IsStageFault steps lines o) (λ own fault. record { before = b; stages = after_maps; fault = fault }) e r
 
       module _ (c : Object) (resolution : Resolves steps.kernel lines b c) where
         after_resolution : Stages (before_externs steps) lines o c
         after_resolution = record {
           relocated = a;
-          described = b;
+          fds_written = b;
           resolved = c;
           unlinked = c;
           types = types;
@@ -109,15 +109,15 @@ module _ (steps : Chosen) (lines : Source) (o : Object) where
           calls = refl;
         }
 
-        pub knowing_refused : (e : PrepareError) → Refuses (Wrapped Externs (λ d. knowing_fault steps.externs c ≡ Some d)) e → Refuses (IsFault steps lines o) e
-        knowing_refused e r =
-            refused_as Externs (λ d. knowing_fault steps.externs c ≡ Some d) (IsFault steps lines o) (λ own fault. record { before = c; stages = after_resolution; fault = fault }) e r
+        pub writing_externs_refused : (e : PrepareError) → RefusesPreparing (Wrapped Externs (λ d. externs_fault_if steps.externs c ≡ Some d)) e → RefusesPreparing (IsStageFault steps lines o) e
+        writing_externs_refused e r =
+            refused_as Externs (λ d. externs_fault_if steps.externs c ≡ Some d) (IsStageFault steps lines o) (λ own fault. record { before = c; stages = after_resolution; fault = fault }) e r
 
-        module _ (externs_sound : knowing_fault steps.externs c ≡ None) (d : Object) (externs : d ≡ externs_known steps.externs c) where
+        module _ (externs_sound : externs_fault_if steps.externs c ≡ None) (d : Object) (externs : d ≡ with_externs_if steps.externs c) where
           after_externs : Stages (before_calls steps) lines o d
           after_externs = record {
             relocated = a;
-            described = b;
+            fds_written = b;
             resolved = c;
             unlinked = d;
             types = types;
@@ -129,14 +129,14 @@ module _ (steps : Chosen) (lines : Source) (o : Object) where
             calls = refl;
           }
 
-          pub joining_refused : (e : PrepareError) → Refuses (Wrapped Calls (JoiningFault steps.calls d)) e → Refuses (IsFault steps lines o) e
-          joining_refused e r =
-              refused_as Calls (JoiningFault steps.calls d) (IsFault steps lines o) (λ own fault. record { before = d; stages = after_externs; fault = fault }) e r
+          pub linking_refused : (e : PrepareError) → RefusesPreparing (Wrapped Calls (LinkingFault steps.calls d)) e → RefusesPreparing (IsStageFault steps lines o) e
+          linking_refused e r =
+              refused_as Calls (LinkingFault steps.calls d) (IsStageFault steps lines o) (λ own fault. record { before = d; stages = after_externs; fault = fault }) e r
 
-          pub after_calls : (after : Object) → Joins steps.calls d after → Stages steps lines o after
+          pub after_calls : (after : Object) → LinksPrograms steps.calls d after → Stages steps lines o after
           after_calls after calls = record {
             relocated = a;
-            described = b;
+            fds_written = b;
             resolved = c;
             unlinked = d;
             types = types;
@@ -150,7 +150,7 @@ module _ (steps : Chosen) (lines : Source) (o : Object) where
 
 -- ---- with parsing before the stages
 
-first_of : (steps : Chosen) (lines : Source) (reading : Reading) (bytes : List ℕ) → parse_fault_as reading bytes ≡ None → (e : PrepareError) → IsFault steps lines (object_as reading bytes) e → IsFirstFault steps lines reading bytes e
+first_of : (steps : Chosen) (lines : Source) (reading : Reading) (bytes : List ℕ) → parse_fault_as reading bytes ≡ None → (e : PrepareError) → IsStageFault steps lines (object_as reading bytes) e → IsFirstFault steps lines reading bytes e
 first_of steps lines reading bytes sound (Parse e) f = elim f [ ]
 first_of steps lines reading bytes sound (Types e) f = (sound, f)
 first_of steps lines reading bytes sound (Maps e) f = (sound, f)
@@ -168,7 +168,7 @@ module _ (steps : Chosen) (lines : Source) (reading : Reading) (bytes : List ℕ
   pub prepared_file : (after : Object) → Stages steps lines o after → IsPrepared steps lines reading bytes after
   prepared_file after stages = record { sound = from.sound; stages = subst (λ (x : Object). Stages steps lines x after) from.is stages }
 
-  pub file_refused : (e : PrepareError) → Refuses (IsFault steps lines o) e → Refuses (IsFirstFault steps lines reading bytes) e
+  pub file_refused : (e : PrepareError) → RefusesPreparing (IsStageFault steps lines o) e → RefusesPreparing (IsFirstFault steps lines reading bytes) e
   file_refused e r =
-      other_fault (is_memory e) (NamesNothing e) (IsFault steps lines (object_as reading bytes) e) (IsFirstFault steps lines reading bytes e) (first_of steps lines reading bytes from.sound e)
-      (subst (λ (x : Object). Refuses (IsFault steps lines x) e) from.is r)
+      other_fault (is_memory e) (NamesNothing e) (IsStageFault steps lines (object_as reading bytes) e) (IsFirstFault steps lines reading bytes e) (first_of steps lines reading bytes from.sound e)
+      (subst (λ (x : Object). RefusesPreparing (IsStageFault steps lines x) e) from.is r)

@@ -17,10 +17,10 @@ use Rattle.ebpf_elf.specs.Names.{is_name}
 use Rattle.ebpf_elf.specs.Sections.{SectionOf, sections, section_name}
 use Rattle.ebpf_elf.specs.declared.entries.SectionIndex.{SectionIndex}
 use Rattle.ebpf_btf.specs.TypeInfo.{TypeInfo}
-use Rattle.ebpf_parsing.specs.Contents.{is_type_information, section_infos, name_entries}
-use Rattle.ebpf_parsing.specs.FileTypes.{names_met, type_names, ext_names, names_in, ext_names_beside, btf_of}
+use Rattle.ebpf_parsing.specs.FileContents.{is_type_information, section_infos, name_entries}
+use Rattle.ebpf_parsing.specs.FileTypes.{type_info_names, type_names, ext_names, names_in, ext_names_beside, btf_of}
 use Rattle.ebpf_parsing.specs.OfSection.{name_in}
-use Rattle.ebpf_parsing.specs.Terms.{section_named}
+use Rattle.ebpf_parsing.specs.LicenseAndVersion.{first_section_named}
 use Rattle.ebpf_parts.specs.Sections.{name_or_empty, section_of, section_with}
 
 abbrev license : List ℕ
@@ -111,9 +111,9 @@ other_ext_names : (bytes : List ℕ) (types : Option TypeInfo) → list_any name
 other_ext_names bytes None = refl
 other_ext_names bytes (Some types) = other_names (codes ".BTF.ext") refl (sections bytes)
 
-none_met : (bytes : List ℕ) → is_some (get (names_met bytes) license) ≡ false
-unfolding names_met type_names ext_names
-none_met bytes =
+none_named : (bytes : List ℕ) → is_some (get (type_info_names bytes) license) ≡ false
+unfolding type_info_names type_names ext_names
+none_named bytes =
     put_there (put_all empty (type_names bytes)) (ext_names bytes)
     ∙ ap (λ b. b || list_any names_license (ext_names bytes)) (put_there empty (type_names bytes))
     ∙ ap (λ o. (is_some o || list_any names_license (type_names bytes)) || list_any names_license (ext_names bytes)) (get-empty text_cmp license)
@@ -122,9 +122,9 @@ none_met bytes =
 
 -- ---- the file
 
-pub stated_license : (bytes : List ℕ) → contains_key (section_infos bytes) (codes "license") ≡ is_some (section_named (codes "license") bytes)
+pub stated_license : (bytes : List ℕ) → contains_key (section_infos bytes) (codes "license") ≡ is_some (first_section_named (codes "license") bytes)
 unfolding section_infos name_entries
 stated_license bytes =
-    put_there (names_met bytes) (name_entries bytes)
-    ∙ ap (λ b. b || list_any names_license (name_entries bytes)) (none_met bytes)
+    put_there (type_info_names bytes) (name_entries bytes)
+    ∙ ap (λ b. b || list_any names_license (name_entries bytes)) (none_named bytes)
     ∙ any_section (sections bytes)

@@ -1,12 +1,12 @@
 -- The object of a file in both readings.
 use Rattle.std.specs.Prelude.{◌≡◌, ℕ, List, None}
 use Rattle.ebpf_btf.specs.declared.endianness.Endianness.TheVariants.{Little}
-use Rattle.ebpf_elf.specs.File.{order_of}
+use Rattle.ebpf_elf.specs.File.{ei_data}
 use Rattle.ebpf_object.specs.Objects.{object_as, object_of, parse_fault, parse_fault_as}
 use Rattle.ebpf_parts.specs.declared.reading.Reading.TheVariants.{Broad}
 
 -- of a little-endian file that the stated reading takes both readings give one object, and the broad one finds no fault
-abbrev pub ReadingsAgree : Type 0
-ReadingsAgree =
-    (bytes : List ℕ) → order_of bytes ≡ Little → parse_fault bytes ≡ None
+abbrev pub ObjectsAgree : Type 0
+ObjectsAgree =
+    (bytes : List ℕ) → ei_data bytes ≡ Little → parse_fault bytes ≡ None
     → (object_as Broad bytes ≡ object_of bytes) × (parse_fault_as Broad bytes ≡ None)

@@ -12,12 +12,12 @@ use Rattle.std.specs.FinMap.{get}
 use Rattle.ebpf_ext.specs.ExtReading.{ExtInfo}
 use Rattle.ebpf_btf.specs.TypeInfo.{TypeInfo}
 use Rattle.ebpf_ext.specs.declared.relocation.Relocation.{Relocation}
-use Rattle.ebpf_core_relo.specs.Alone.{placed_records, Touches, WritesAlone, Carries}
-use Rattle.ebpf_core_relo.specs.Records.{Scene, Written, own_slots, scene_between, slots_written}
+use Rattle.ebpf_core_relo.specs.Alone.{records_with_sections, Touches, WritesAlone, Carries}
+use Rattle.ebpf_core_relo.specs.Records.{RelocationInputs, Written, own_slots, relocation_inputs_between, slots_written}
 use Rattle.ebpf_ksyms.specs.Sources.{Source}
 use Rattle.ebpf_linker.specs.Functions.{Functions, Nothing, BeginsAt}
 use Rattle.ebpf_object.specs.Chain.{Passes, Chain}
-use Rattle.ebpf_object.specs.Joined.{linkable_of, programs_in_order, is_program_key}
+use Rattle.ebpf_object.specs.LinkedPrograms.{linkable_of, programs_in_order, is_program_key}
 use Rattle.ebpf_object.specs.Objects.{object_as}
 use Rattle.ebpf_object.specs.Prepared.{IsPrepared}
 use Rattle.ebpf_object.specs.Stages.{own_maps}
@@ -28,7 +28,7 @@ use Rattle.ebpf_parsing.specs.declared.program.Program.{Program}
 use Rattle.ebpf_parts.specs.declared.insn.bpf_insn.{bpf_insn}
 use Rattle.ebpf_parts.specs.declared.reading.Reading.{Reading}
 use Rattle.ebpf_reloc.specs.Linking.{IsLinked}
-use Rattle.ebpf_reloc.specs.Places.{LinkableValue, TextSections}
+use Rattle.ebpf_reloc.specs.VariableLookup.{LinkableValue, TextSections}
 use Rattle.ebpf_reloc.specs.References.{Key, functions_of}
 use Rattle.ebpf_reloc.specs.declared.error.RelocationError.{RelocationError}
 use Rattle.ebpf_reloc.specs.declared.function.Function.{Function}
@@ -43,8 +43,8 @@ linkable o = linkable_of o (has_function_in o.functions)
 abbrev pub separate_functions : LinkableValue → Functions Key RelocationError
 separate_functions parts = functions_of parts
 
-abbrev pub key_of : Program → Key
-key_of program = (program.section_index, program.address)
+abbrev pub key_of_program : Program → Key
+key_of_program program = (program.section_index, program.address)
 
 -- Each program has become its linked function: its own function followed by every function that its references reach,
 -- each once, in the order of their key paths; where each reference stands on a pseudo call or a wide load, it visits the
@@ -52,7 +52,7 @@ key_of program = (program.section_index, program.address)
 abbrev pub ProgramsAreWhole : LinkableValue → Object → Type 0
 ProgramsAreWhole parts o =
     (name : List ℕ) (program : Program) → get o.programs name ≡ Some program
-    → (linked : Function) × (get o.functions (key_of program) ≡ Some linked) × IsLinked parts (key_of program) linked
+    → (linked : Function) × (get o.functions (key_of_program program) ≡ Some linked) × IsLinked parts (key_of_program program) linked
 
 -- ---- types
 
@@ -61,11 +61,11 @@ abbrev pub slot_in : Object → Key → ℕ → Option bpf_insn
 slot_in o key i = slice_get (own_slots (get o.functions key)) i
 
 -- what records read of a parsed object
-abbrev pub scene_of : Object → TypeInfo → TypeInfo → Scene
-scene_of parsed local target = scene_between local target parsed.functions parsed.section_infos
+abbrev pub record_inputs_of : Object → TypeInfo → TypeInfo → RelocationInputs
+record_inputs_of parsed local target = relocation_inputs_between local target parsed.functions parsed.section_infos
 
 -- The slots that a record touches: no other record touches them, and neither descriptors nor externs change them.
-pub record IsAlone (scene : Scene) (records : List (ℕ × Relocation)) (relocated unlinked : Object) (n : ℕ) (record_at : ℕ × Relocation) : Type 0 where
+pub record IsAlone (scene : RelocationInputs) (records : List (ℕ × Relocation)) (relocated unlinked : Object) (n : ℕ) (record_at : ℕ × Relocation) : Type 0 where
   pub among_records : WritesAlone scene records n record_at
   pub unwritten : (key : Key) (i : ℕ) → Touches scene record_at key i → slot_in unlinked key i ≡ slot_in relocated key i
 
@@ -95,17 +95,17 @@ StandsAt (Some text_sections) unlinked o key i at place =
     ((at ≡ key) × (place ≡ i))
 
 -- The slots that a record touches carry its outcome in the finished object, wherever they stand in it.
-pub record IsCarried (scene : Scene) (left : Written) (calls : Option TextSections) (unlinked o : Object) (record_at : ℕ × Relocation) : Type 0 where
+pub record IsCarried (scene : RelocationInputs) (left : Written) (calls : Option TextSections) (unlinked o : Object) (record_at : ℕ × Relocation) : Type 0 where
   pub carries : Carries scene left record_at
   pub finished : (i : ℕ) (carrying : bpf_insn) → Touches scene record_at carries.key i → slice_get carries.slots i ≡ Some carrying
       → (at : Key) (place : ℕ) → StandsAt calls unlinked o carries.key i at place → slot_in o at place ≡ Some carrying
 
 -- each record that writes alone is carried
-pub record RecordsAreCarried (scene : Scene) (parts : List (ℕ × List Relocation)) (calls : Option TextSections) (relocated unlinked o : Object) : Type 0 where
+pub record RecordsAreCarried (scene : RelocationInputs) (parts : List (ℕ × List Relocation)) (calls : Option TextSections) (relocated unlinked o : Object) : Type 0 where
   pub left : Written
   pub written : slots_written scene parts ≡ Ok left
-  pub each : (n : ℕ) (record_at : ℕ × Relocation) → slice_get (placed_records scene parts) n ≡ Some record_at
-      → IsAlone scene (placed_records scene parts) relocated unlinked n record_at → IsCarried scene left calls unlinked o record_at
+  pub each : (n : ℕ) (record_at : ℕ × Relocation) → slice_get (records_with_sections scene parts) n ≡ Some record_at
+      → IsAlone scene (records_with_sections scene parts) relocated unlinked n record_at → IsCarried scene left calls unlinked o record_at
 
 -- ---- a finished object
 
@@ -114,7 +114,7 @@ pub record IsFinished (passes : Passes) (parsed o : Object) : Type 0 where
   pub chain : Chain passes parsed o
   pub programs : (text_sections : TextSections) → passes.calls ≡ Some text_sections → ProgramsAreWhole (linkable_of chain.unlinked text_sections) o
   pub types : (target local : TypeInfo) (ext : ExtInfo) → passes.target ≡ Some target → parsed.btf ≡ Some local → parsed.btf_ext ≡ Some ext
-      → RecordsAreCarried (scene_of parsed local target) ext.relocations passes.calls chain.relocated chain.unlinked o
+      → RecordsAreCarried (record_inputs_of parsed local target) ext.relocations passes.calls chain.relocated chain.unlinked o
 
 -- of any passes, in their order, over any object
 abbrev pub PassesFinish : Type 0

@@ -1,7 +1,7 @@
 pub mod Objects
-pub mod Joined
+pub mod LinkedPrograms
 pub mod ProgramMaps
-pub mod JoinedMaps
+pub mod LinkedProgramMaps
 pub mod OlderHelpers
 pub mod Patches
 pub mod PatchValues
@@ -9,7 +9,7 @@ pub mod TypedExterns
 pub mod PatchedBytes
 pub mod TextSections
 pub mod WrittenSlots
-pub mod AdaptedSlots
+pub mod RelocatedSlots
 pub mod TargetRecords
 pub mod Steps
 pub mod Stages

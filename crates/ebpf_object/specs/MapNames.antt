@@ -7,10 +7,10 @@ use Rattle.ebpf_parts.specs.Maps.{section_index_of}
 use Rattle.ebpf_parts.specs.declared.maps.either.Map.{Map}
 
 -- a name at its map's section, where none is there
-abbrev pub with_map : FinMap nat_cmp (List ℕ) → List ℕ → Option Map → FinMap nat_cmp (List ℕ)
-with_map found name None = found
-with_map found name (Some m) = if contains_key found (section_index_of m) then found else insert found (section_index_of m) name
+abbrev pub with_map_name : FinMap nat_cmp (List ℕ) → List ℕ → Option Map → FinMap nat_cmp (List ℕ)
+with_map_name found name None = found
+with_map_name found name (Some m) = if contains_key found (section_index_of m) then found else insert found (section_index_of m) name
 
 -- names, one after the other
-abbrev pub with_names : FinMap text_cmp Map → FinMap nat_cmp (List ℕ) → List (List ℕ) → FinMap nat_cmp (List ℕ)
-with_names maps found names = fold (λ kept name. with_map kept name (get maps name)) found names
+abbrev pub with_map_names : FinMap text_cmp Map → FinMap nat_cmp (List ℕ) → List (List ℕ) → FinMap nat_cmp (List ℕ)
+with_map_names maps found names = fold (λ kept name. with_map_name kept name (get maps name)) found names

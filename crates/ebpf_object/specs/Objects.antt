@@ -1,19 +1,19 @@
 -- The object that the bytes of a file are. Its tables and the first fault of a file are those of what it has.
 use Rattle.std.specs.Prelude.{ℕ, List}
-use Rattle.ebpf_elf.specs.File.{order_of}
+use Rattle.ebpf_elf.specs.File.{ei_data}
 use Rattle.ebpf_object.specs.declared.object.Object.{Object}
 use Rattle.ebpf_parsing.specs.FileExterns.{types_of, externs_of}
 use Rattle.ebpf_parsing.specs.FileSymbols.{file_symbols, symbol_table}
 use Rattle.ebpf_parsing.specs.FileTypes.{ext_of}
-use Rattle.ebpf_parsing.specs.Terms.{license_as, kernel_version_of}
+use Rattle.ebpf_parsing.specs.LicenseAndVersion.{license_as, kernel_version_of}
 use Rattle.ebpf_parts.specs.declared.reading.Reading.{Reading}
 use Rattle.ebpf_parts.specs.declared.reading.Reading.TheVariants.{Stated}
-pub use Rattle.ebpf_parsing.specs.Contents.{maps, programs, parse_fault, parse_fault_as}
-unfoldable pub use Rattle.ebpf_parsing.specs.Contents.{maps_as, programs_as, functions, kept, section_infos}
+pub use Rattle.ebpf_parsing.specs.FileContents.{maps, programs, parse_fault, parse_fault_as}
+unfoldable pub use Rattle.ebpf_parsing.specs.FileContents.{maps_as, programs_as, functions, relocation_tables, section_infos}
 
 abbrev pub object_as : Reading → List ℕ → Object
 object_as reading bytes = record {
-  endianness = order_of bytes;
+  endianness = ei_data bytes;
   license = license_as reading bytes;
   kernel_version = kernel_version_of bytes;
   btf = types_of bytes;
@@ -23,7 +23,7 @@ object_as reading bytes = record {
   programs = programs_as reading bytes;
   functions = functions bytes;
   symbol_table = symbol_table (file_symbols bytes);
-  relocations = kept bytes;
+  relocations = relocation_tables bytes;
   section_infos = section_infos bytes;
 }
 

@@ -1,11 +1,11 @@
 -- Preparing has one result, where the bytes of the kernel's symbols are known: texts for people aside, want of memory, and
 -- a line that can't be read.
 use Rattle.std.specs.Prelude.{◌≡◌, ℕ, Bool, true, false, ◌||◌, List, Some, Result, Ok, Err}
-use Rattle.ebpf_core_relo.specs.Answers.{told_at}
+use Rattle.ebpf_core_relo.specs.Answers.{without_texts_at}
 use Rattle.ebpf_ksyms.specs.Sources.{Source, Reader}
 use Rattle.ebpf_ksyms.specs.declared.error.KsymsError.{KsymsError}
 use Rattle.ebpf_ksyms.specs.declared.error.KsymsError.TheVariants.{KallsymsAccessError}
-use Rattle.ebpf_object.specs.Prepared.{IsFault, IsFirstFault, IsPrepared, Refuses, Stages, is_memory}
+use Rattle.ebpf_object.specs.Prepared.{IsStageFault, IsFirstFault, IsPrepared, RefusesPreparing, Stages, is_memory}
 use Rattle.ebpf_object.specs.Steps.{Chosen}
 use Rattle.ebpf_object.specs.declared.object.Object.{Object}
 use Rattle.ebpf_object.specs.declared.prepare_error.PrepareError.{PrepareError}
@@ -30,27 +30,27 @@ is_open (Ok o) = false
 is_open (Err e) = is_memory e || is_access e
 
 -- a refusal without the texts in it that are for people to read
-abbrev pub told : PrepareError → PrepareError
-told (Types e) = Types (told_at e)
-told e = e
+abbrev pub without_texts : PrepareError → PrepareError
+without_texts (Types e) = Types (without_texts_at e)
+without_texts e = e
 
-abbrev pub told_in : Answer → Answer
-told_in (Ok o) = Ok o
-told_in (Err e) = Err (told e)
+abbrev pub answer_without_texts : Answer → Answer
+answer_without_texts (Ok o) = Ok o
+answer_without_texts (Err e) = Err (without_texts e)
 
 -- what the stages may answer of an object
 abbrev pub MayStage : Chosen → Source → Object → Answer → Type 0
 MayStage steps lines o (Ok after) = Stages steps lines o after
-MayStage steps lines o (Err e) = Refuses (IsFault steps lines o) e
+MayStage steps lines o (Err e) = RefusesPreparing (IsStageFault steps lines o) e
 
 -- what preparing may answer of a file in a reading
 abbrev pub MayPrepare : Chosen → Source → Reading → List ℕ → Answer → Type 0
 MayPrepare steps lines reading bytes (Ok o) = IsPrepared steps lines reading bytes o
-MayPrepare steps lines reading bytes (Err e) = Refuses (IsFirstFault steps lines reading bytes) e
+MayPrepare steps lines reading bytes (Err e) = RefusesPreparing (IsFirstFault steps lines reading bytes) e
 
 -- any two of these answers are the same
 abbrev pub IsOne : (Answer → Type 0) → Type 0
-IsOne May = (r s : Answer) → May r → May s → is_open r ≡ false → is_open s ≡ false → told_in r ≡ told_in s
+IsOne May = (r s : Answer) → May r → May s → is_open r ≡ false → is_open s ≡ false → answer_without_texts r ≡ answer_without_texts s
 
 -- of an object, and of a file
 abbrev pub OneStaging : Type 0

@@ -7,7 +7,7 @@ use Rattle.ebpf_object.specs.Patches.{PatchValue}
 use Rattle.ebpf_object.specs.declared.patch.Patch.{Patch}
 
 abbrev pub value_of : Patch → PatchValue
-value_of p = record { map_name = p.map_name; place = p.place; bytes = p.bytes.now }
+value_of p = record { map_name = p.map_name; offset = p.offset; bytes = p.bytes.now }
 
 abbrev pub values_of : Option Patch → List PatchValue
 values_of None = []

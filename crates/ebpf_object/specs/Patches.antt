@@ -14,30 +14,30 @@ use Rattle.ebpf_parts.specs.declared.error.ParseError.TheVariants.{SymbolNotFoun
 use Rattle.ebpf_parts.specs.declared.maps.either.Map.{Map}
 use Rattle.ebpf_reloc.specs.declared.symbol.Symbol.{Symbol}
 
--- bytes for the data of a map from a place on
+-- bytes for the data of a map from an offset on
 pub record PatchValue : Type 0 where
   pub map_name : List ℕ
-  pub place : ℕ
+  pub offset : ℕ
   pub bytes : List ℕ
 
--- the data with other bytes from a place on; it stays where they pass its end
+-- the data with other bytes from an offset on; it stays where they pass its end
 abbrev pub overwritten : List ℕ → ℕ → List ℕ → List ℕ
-overwritten old place bytes =
-    if nat_le (place + length bytes) (length old)
-    then take place old ++ (bytes ++ drop (place + length bytes) old)
+overwritten old offset bytes =
+    if nat_le (offset + length bytes) (length old)
+    then take offset old ++ (bytes ++ drop (offset + length bytes) old)
     else old
 
 abbrev pub patched_at : FinMap text_cmp Map → PatchValue → Option Map → FinMap text_cmp Map
 patched_at maps p None = maps
-patched_at maps p (Some m) = insert maps p.map_name (with_bytes m (overwritten (bytes_of m) p.place p.bytes))
+patched_at maps p (Some m) = insert maps p.map_name (with_bytes m (overwritten (bytes_of m) p.offset p.bytes))
 
 -- the maps with one patch written
-abbrev pub patched : FinMap text_cmp Map → PatchValue → FinMap text_cmp Map
-patched maps p = patched_at maps p (get maps p.map_name)
+abbrev pub with_patch : FinMap text_cmp Map → PatchValue → FinMap text_cmp Map
+with_patch maps p = patched_at maps p (get maps p.map_name)
 
 -- the maps with patches written, later ones over earlier ones
 abbrev pub all_patched : FinMap text_cmp Map → List PatchValue → FinMap text_cmp Map
-all_patched maps patches = fold patched maps patches
+all_patched maps patches = fold with_patch maps patches
 
 abbrev pub named_by : ℕ → Option (List ℕ) → List (List ℕ × ℕ)
 named_by number None = []
@@ -47,40 +47,40 @@ abbrev pub named_at : ℕ → Option Symbol → List (List ℕ × ℕ)
 named_at number None = []
 named_at number (Some s) = named_by number s.name
 
--- the numbers of the symbols by their names: of equal names the greatest
-abbrev pub symbol_numbers : FinMap nat_cmp Symbol → FinMap text_cmp ℕ
-symbol_numbers symbols = put_all empty (flat_map (λ number. named_at number (get symbols number)) (keys_of (entries symbols)))
+-- the indices of the symbols by their names: of equal names the greatest
+abbrev pub symbol_indices : FinMap nat_cmp Symbol → FinMap text_cmp ℕ
+symbol_indices symbols = put_all empty (flat_map (λ number. named_at number (get symbols number)) (keys_of (entries symbols)))
 
 abbrev pub symbol_named : FinMap nat_cmp Symbol → List ℕ → Option Symbol
-symbol_named symbols name = option_and_then (get symbols) (get (symbol_numbers symbols) name)
+symbol_named symbols name = option_and_then (get symbols) (get (symbol_indices symbols) name)
 
 -- the name of the first map, in byte order of the names, whose section it is
 abbrev pub first_map : FinMap text_cmp Map → ℕ → Option (List ℕ)
 first_map maps section = option_map (λ e. e.0) (find (λ e. section == section_index_of e.1) (entries maps))
 
-abbrev pub map_in : FinMap text_cmp Map → Option ℕ → Option (List ℕ)
-map_in maps None = None
-map_in maps (Some section) = first_map maps section
+abbrev pub map_in_section : FinMap text_cmp Map → Option ℕ → Option (List ℕ)
+map_in_section maps None = None
+map_in_section maps (Some section) = first_map maps section
 
 -- a variable's value, and whether the object has to have it
 abbrev pub Global : Type 0
 Global = List ℕ × Bool
 
-abbrev pub data_of : Option Map → List ℕ
-data_of None = []
-data_of (Some m) = bytes_of m
+abbrev pub map_data_of : Option Map → List ℕ
+map_data_of None = []
+map_data_of (Some m) = bytes_of m
 
 abbrev pub in_map : FinMap text_cmp Map → List ℕ → List ℕ → Symbol → Option (List ℕ) → Result (List PatchValue) ParseError
 in_map maps name bytes s None = Err (MapNotFound (unwrap_or s.section_index 0))
 in_map maps name bytes s (Some map_name) =
-    if nat_le (s.address + length bytes) (length (data_of (get maps map_name)))
-    then Ok (record { map_name = map_name; place = s.address; bytes = bytes } ∷ [])
+    if nat_le (s.address + length bytes) (length (map_data_of (get maps map_name)))
+    then Ok (record { map_name = map_name; offset = s.address; bytes = bytes } ∷ [])
     else Err (InvalidGlobalData name s.size (length bytes))
 
 abbrev pub of_symbol : FinMap text_cmp Map → List ℕ → List ℕ → Symbol → Result (List PatchValue) ParseError
 of_symbol maps name bytes s =
     if length bytes == s.size
-    then in_map maps name bytes s (map_in maps s.section_index)
+    then in_map maps name bytes s (map_in_section maps s.section_index)
     else Err (InvalidGlobalData name s.size (length bytes))
 
 abbrev pub by_symbol : FinMap text_cmp Map → List ℕ → Global → Option Symbol → Result (List PatchValue) ParseError
@@ -99,9 +99,9 @@ abbrev pub patches_at : FinMap nat_cmp Symbol → FinMap text_cmp Map → List �
 patches_at symbols maps name None = []
 patches_at symbols maps name (Some g) = patches_in (patch_of symbols maps name g)
 
-abbrev pub fault_at : FinMap nat_cmp Symbol → FinMap text_cmp Map → List ℕ → Option Global → Option ParseError
-fault_at symbols maps name None = None
-fault_at symbols maps name (Some g) = fault_of (patch_of symbols maps name g)
+abbrev pub patch_fault_at : FinMap nat_cmp Symbol → FinMap text_cmp Map → List ℕ → Option Global → Option ParseError
+patch_fault_at symbols maps name None = None
+patch_fault_at symbols maps name (Some g) = fault_of (patch_of symbols maps name g)
 
 -- what is to be written, in byte order of the variables' names
 abbrev pub patches_of : FinMap nat_cmp Symbol → FinMap text_cmp Map → FinMap text_cmp Global → List PatchValue
@@ -109,4 +109,4 @@ patches_of symbols maps globals = flat_map (λ name. patches_at symbols maps nam
 
 -- the first fault, in byte order of the variables' names
 abbrev pub patches_fault : FinMap nat_cmp Symbol → FinMap text_cmp Map → FinMap text_cmp Global → Option ParseError
-patches_fault symbols maps globals = first_some (λ name. fault_at symbols maps name (get globals name)) (keys_of (entries globals))
+patches_fault symbols maps globals = first_some (λ name. patch_fault_at symbols maps name (get globals name)) (keys_of (entries globals))

@@ -1,11 +1,11 @@
 -- A file, prepared: its object after the chosen stages, one after the other, or the fault of the first that has one.
 use Rattle.std.specs.Prelude.{◌≡◌, ⊤, ℕ, Bool, true, false, List, [], Option, Some, None, MatchBool}
-use Rattle.ebpf_core_relo.specs.Answers as adapting
+use Rattle.ebpf_core_relo.specs.Answers as types_relocation
 use Rattle.ebpf_ksyms.specs.Faults as resolving
 use Rattle.ebpf_ksyms.specs.Sources.{Source}
 use Rattle.ebpf_object.specs.Objects.{object_as, parse_fault_as}
 use Rattle.ebpf_object.specs.Stages as stage
-use Rattle.ebpf_object.specs.Stages.{Adapts, AdaptingFault, describing_fault, Resolves, ResolvingFault, externs_known, knowing_fault, Joins, JoiningFault}
+use Rattle.ebpf_object.specs.Stages.{RelocatesTypes, TypesFault, fds_fault, Resolves, ResolvingFault, with_externs_if, externs_fault_if, LinksPrograms, LinkingFault}
 use Rattle.ebpf_object.specs.Steps.{Chosen}
 use Rattle.ebpf_object.specs.declared.object.Object.{Object}
 use Rattle.ebpf_object.specs.declared.prepare_error.PrepareError.{PrepareError}
@@ -17,23 +17,23 @@ use Rattle.ebpf_reloc.specs.Memory as relocating
 -- ---- the stages in order, for what is chosen and the lines of the kernel's symbols
 
 -- From an object to what the stages leave of it: relocated to types, then with descriptors, then with externs resolved,
--- then as linking begins. All descriptors can be written, and all that is known of externs.
+-- then as linking begins. All descriptors and all externs can be written.
 pub record Stages (steps : Chosen) (lines : Source) (o after : Object) : Type 0 where
   pub relocated : Object
-  pub described : Object
+  pub fds_written : Object
   pub resolved : Object
   pub unlinked : Object
-  pub types : Adapts steps.target o relocated
-  pub maps_sound : describing_fault steps.descriptors relocated ≡ None
-  pub maps : described ≡ stage.described steps.descriptors relocated
-  pub resolution : Resolves steps.kernel lines described resolved
-  pub externs_sound : knowing_fault steps.externs resolved ≡ None
-  pub externs : unlinked ≡ externs_known steps.externs resolved
-  pub calls : Joins steps.calls unlinked after
+  pub types : RelocatesTypes steps.target o relocated
+  pub maps_sound : fds_fault steps.descriptors relocated ≡ None
+  pub maps : fds_written ≡ stage.fds_written steps.descriptors relocated
+  pub resolution : Resolves steps.kernel lines fds_written resolved
+  pub externs_sound : externs_fault_if steps.externs resolved ≡ None
+  pub externs : unlinked ≡ with_externs_if steps.externs resolved
+  pub calls : LinksPrograms steps.calls unlinked after
 
 -- ---- the fault of a stage
 
--- the steps before programs are joined, before externs are written, before they are resolved, before maps are described
+-- the steps before programs are linked, before externs are written, before they are resolved, before descriptors are written
 abbrev pub before_calls : Chosen → Chosen
 before_calls steps = record steps { calls = false }
 
@@ -54,13 +54,13 @@ pub record IsFaultAfter (steps : Chosen) (lines : Source) (o : Object) (Fault : 
 
 module _ (steps : Chosen) (lines : Source) where
   -- the fault of a stage, in what the steps before it leave
-  abbrev pub IsFault : Object → PrepareError → Type 0
-  IsFault o (Types e) = AdaptingFault steps.target o e
-  IsFault o (Maps e) = IsFaultAfter (before_maps steps) lines o (λ before. describing_fault steps.descriptors before ≡ Some e)
-  IsFault o (Ksyms e) = IsFaultAfter (before_resolution steps) lines o (λ before. ResolvingFault steps.kernel lines before e)
-  IsFault o (Externs e) = IsFaultAfter (before_externs steps) lines o (λ before. knowing_fault steps.externs before ≡ Some e)
-  IsFault o (Calls e) = IsFaultAfter (before_calls steps) lines o (λ before. JoiningFault steps.calls before e)
-  IsFault o _ = ⊥
+  abbrev pub IsStageFault : Object → PrepareError → Type 0
+  IsStageFault o (Types e) = TypesFault steps.target o e
+  IsStageFault o (Maps e) = IsFaultAfter (before_maps steps) lines o (λ before. fds_fault steps.descriptors before ≡ Some e)
+  IsStageFault o (Ksyms e) = IsFaultAfter (before_resolution steps) lines o (λ before. ResolvingFault steps.kernel lines before e)
+  IsStageFault o (Externs e) = IsFaultAfter (before_externs steps) lines o (λ before. externs_fault_if steps.externs before ≡ Some e)
+  IsStageFault o (Calls e) = IsFaultAfter (before_calls steps) lines o (λ before. LinkingFault steps.calls before e)
+  IsStageFault o _ = ⊥
 
   -- the object of a file, prepared
   pub record IsPrepared (reading : Reading) (bytes : List ℕ) (o : Object) : Type 0 where
@@ -70,7 +70,7 @@ module _ (steps : Chosen) (lines : Source) where
   -- the first fault: the file's own, or that of a stage of its object
   abbrev pub IsFirstFault : Reading → List ℕ → PrepareError → Type 0
   IsFirstFault reading bytes (Parse e) = parse_fault_as reading bytes ≡ Some e
-  IsFirstFault reading bytes e = (parse_fault_as reading bytes ≡ None) × IsFault (object_as reading bytes) e
+  IsFirstFault reading bytes e = (parse_fault_as reading bytes ≡ None) × IsStageFault (object_as reading bytes) e
 
 -- an object as the bytes of a file are parsed in a reading
 pub record IsParsed (reading : Reading) (bytes : List ℕ) (o : Object) : Type 0 where
@@ -82,7 +82,7 @@ pub record IsParsed (reading : Reading) (bytes : List ℕ) (o : Object) : Type 0
 -- the one answer that no definition states, of a stage or between them
 abbrev pub is_memory : PrepareError → Bool
 is_memory (Parse e) = parsing.is_memory e
-is_memory (Types e) = adapting.is_memory_at e
+is_memory (Types e) = types_relocation.is_memory_at e
 is_memory (Maps e) = relocating.is_memory_at e
 is_memory (Ksyms e) = resolving.is_memory e
 is_memory (Externs e) = relocating.is_memory_at e
@@ -98,5 +98,5 @@ NamesNothing (Calls e) = e.function ≡ []
 NamesNothing _ = ⊤
 
 -- want of memory, or else a fault
-abbrev pub Refuses : (PrepareError → Type 0) → PrepareError → Type 0
-Refuses Fault e = MatchBool (is_memory e) (NamesNothing e) (Fault e)
+abbrev pub RefusesPreparing : (PrepareError → Type 0) → PrepareError → Type 0
+RefusesPreparing Fault e = MatchBool (is_memory e) (NamesNothing e) (Fault e)

@@ -5,32 +5,32 @@ use Rattle.std.specs.FinMap.{FinMap, get}
 use Rattle.std.specs.List.{filter_map}
 use Rattle.ebpf_base.specs.Keys.{text_cmp}
 use Rattle.ebpf_btf.specs.TypeInfo.{TypeInfo}
-use Rattle.ebpf_core_relo.specs.Answers.{told_at}
+use Rattle.ebpf_core_relo.specs.Answers.{without_texts_at}
 use Rattle.ebpf_core_relo.specs.declared.error.BtfRelocationError.{BtfRelocationError}
 use Rattle.ebpf_ksyms.specs.Sources.{IsRefusedFrom, IsResolvedFrom, Source}
 use Rattle.ebpf_ksyms.specs.declared.error.KsymsError.{KsymsError}
-use Rattle.ebpf_object.specs.AdaptedSlots.{adapted_slots, AreAdapted}
-use Rattle.ebpf_object.specs.Joined.{linkable_of, programs_in_order, AreJoined}
+use Rattle.ebpf_object.specs.RelocatedSlots.{relocated_slots, AreRelocatedToTypes}
+use Rattle.ebpf_object.specs.LinkedPrograms.{linkable_of, programs_in_order, ProgramsAreLinked}
 use Rattle.ebpf_object.specs.Steps.{Descriptor}
 use Rattle.ebpf_object.specs.TextSections.{has_function_in}
 use Rattle.ebpf_object.specs.WrittenSlots.{with_maps, maps_fault, with_externs, externs_fault}
 use Rattle.ebpf_object.specs.declared.object.Object.{Object}
 use Rattle.ebpf_parts.specs.declared.maps.either.Map.{Map}
 use Rattle.ebpf_passes.specs.Maps.{GivenMap}
-use Rattle.ebpf_reloc.specs.Linking.{IsFirstFault}
+use Rattle.ebpf_reloc.specs.Linking.{IsFirstRefusal}
 use Rattle.ebpf_reloc.specs.declared.error.EbpfRelocationError.{EbpfRelocationError}
 
 -- ---- types
 
--- the object adapted to a kernel's types
-abbrev pub Adapts : Option TypeInfo → Object → Object → Type 0
-Adapts None o after = after ≡ o
-Adapts (Some target) o after = AreAdapted o target after.functions × (after ≡ record o { functions = after.functions })
+-- the object relocated to a kernel's types
+abbrev pub RelocatesTypes : Option TypeInfo → Object → Object → Type 0
+RelocatesTypes None o after = after ≡ o
+RelocatesTypes (Some target) o after = AreRelocatedToTypes o target after.functions × (after ≡ record o { functions = after.functions })
 
 -- the first record that can't be applied
-abbrev pub AdaptingFault : Option TypeInfo → Object → BtfRelocationError → Type 0
-AdaptingFault None o e = ⊥
-AdaptingFault (Some target) o e = adapted_slots o target ≡ Err (told_at e)
+abbrev pub TypesFault : Option TypeInfo → Object → BtfRelocationError → Type 0
+TypesFault None o e = ⊥
+TypesFault (Some target) o e = relocated_slots o target ≡ Err (without_texts_at e)
 
 -- ---- maps
 
@@ -43,14 +43,14 @@ abbrev pub own_maps : FinMap text_cmp Map → List Descriptor → List GivenMap
 own_maps maps descriptors = filter_map (own_map maps) descriptors
 
 -- the object with the descriptors of its own maps
-abbrev pub described : Option (List Descriptor) → Object → Object
-described None o = o
-described (Some descriptors) o = with_maps o (has_function_in o.functions) (own_maps o.maps descriptors)
+abbrev pub fds_written : Option (List Descriptor) → Object → Object
+fds_written None o = o
+fds_written (Some descriptors) o = with_maps o (has_function_in o.functions) (own_maps o.maps descriptors)
 
 -- the first relocation whose descriptor can't be written
-abbrev pub describing_fault : Option (List Descriptor) → Object → Option EbpfRelocationError
-describing_fault None o = None
-describing_fault (Some descriptors) o = maps_fault o (has_function_in o.functions) (own_maps o.maps descriptors)
+abbrev pub fds_fault : Option (List Descriptor) → Object → Option EbpfRelocationError
+fds_fault None o = None
+fds_fault (Some descriptors) o = maps_fault o (has_function_in o.functions) (own_maps o.maps descriptors)
 
 -- ---- externs
 
@@ -65,26 +65,26 @@ abbrev pub ResolvingFault : Option (Option TypeInfo) → Source → Object → K
 ResolvingFault None lines o e = ⊥
 ResolvingFault (Some kernel) lines o e = IsRefusedFrom lines o.btf kernel o.externs e
 
--- the object with what is known of its externs
-abbrev pub externs_known : Bool → Object → Object
-externs_known false o = o
-externs_known true o = with_externs o
+-- the object with its externs written
+abbrev pub with_externs_if : Bool → Object → Object
+with_externs_if false o = o
+with_externs_if true o = with_externs o
 
 -- the first relocation whose extern can't be written
-abbrev pub knowing_fault : Bool → Object → Option EbpfRelocationError
-knowing_fault false o = None
-knowing_fault true o = externs_fault o
+abbrev pub externs_fault_if : Bool → Object → Option EbpfRelocationError
+externs_fault_if false o = None
+externs_fault_if true o = externs_fault o
 
 -- ---- calls
 
--- the object with its programs joined with the functions that they reach
-abbrev pub Joins : Bool → Object → Object → Type 0
-Joins false o after = after ≡ o
-Joins true o after =
-    AreJoined (linkable_of o (has_function_in o.functions)) (programs_in_order o.programs) after.functions
+-- the object with its programs linked with the functions that they reach
+abbrev pub LinksPrograms : Bool → Object → Object → Type 0
+LinksPrograms false o after = after ≡ o
+LinksPrograms true o after =
+    ProgramsAreLinked (linkable_of o (has_function_in o.functions)) (programs_in_order o.programs) after.functions
     × (after ≡ record o { functions = after.functions })
 
--- the first program that can't be joined
-abbrev pub JoiningFault : Bool → Object → EbpfRelocationError → Type 0
-JoiningFault false o e = ⊥
-JoiningFault true o e = IsFirstFault (linkable_of o (has_function_in o.functions)) (programs_in_order o.programs) e
+-- the first program that can't be linked
+abbrev pub LinkingFault : Bool → Object → EbpfRelocationError → Type 0
+LinkingFault false o e = ⊥
+LinkingFault true o e = IsFirstRefusal (linkable_of o (has_function_in o.functions)) (programs_in_order o.programs) e

@@ -15,8 +15,8 @@ descriptor_of lent = (lent.0.now, lent.1)
 abbrev pub descriptors_of : Option (Bor (List (Bor (List ℕ) × ℤ))) → Option (List Descriptor)
 descriptors_of lent = option_map (λ ds. map descriptor_of ds.now) lent
 
--- The types to adapt to, the descriptors of maps, and the kernel's types to resolve externs with, if it has any: each
--- where its pass is chosen. The last two say whether what is known of externs is written, and whether programs are joined.
+-- The types to relocate to, the descriptors of maps, and the kernel's types to resolve externs with, if it has any: each
+-- where its pass is chosen. The last two say whether externs are written, and whether programs are linked.
 pub record Chosen : Type 0 where
   pub target : Option TypeInfo
   pub descriptors : Option (List Descriptor)

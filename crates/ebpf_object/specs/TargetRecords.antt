@@ -4,7 +4,7 @@ use Rattle.std.specs.FinMap.{empty}
 use Rattle.ebpf_ext.specs.ExtReading.{ExtInfo}
 use Rattle.ebpf_btf.specs.TypeInfo.{TypeInfo}
 use Rattle.ebpf_core_relo.specs.RecordOutcomes.{record_outcomes, record_slots, told_outcome}
-use Rattle.ebpf_core_relo.specs.Records.{Written, scene_between}
+use Rattle.ebpf_core_relo.specs.Records.{Written, relocation_inputs_between}
 use Rattle.ebpf_core_relo.specs.declared.record_outcome.RecordOutcome.{RecordOutcome}
 use Rattle.ebpf_core_relo.specs.declared.record_outcome.RecordOutcomes.{RecordOutcomes}
 use Rattle.ebpf_object.specs.declared.object.Object.{Object}
@@ -13,13 +13,13 @@ use Rattle.ebpf_object.specs.declared.object.Object.{Object}
 abbrev pub outcomes_by : Object → TypeInfo → Option TypeInfo → Option ExtInfo → List RecordOutcome
 outcomes_by o target None ext = []
 outcomes_by o target (Some local) None = []
-outcomes_by o target (Some local) (Some ext) = record_outcomes (scene_between local target o.functions o.section_infos) ext.relocations
+outcomes_by o target (Some local) (Some ext) = record_outcomes (relocation_inputs_between local target o.functions o.section_infos) ext.relocations
 
 -- the slots that they write
 abbrev pub slots_by : Object → TypeInfo → Option TypeInfo → Option ExtInfo → Written
 slots_by o target None ext = empty
 slots_by o target (Some local) None = empty
-slots_by o target (Some local) (Some ext) = record_slots (scene_between local target o.functions o.section_infos) ext.relocations
+slots_by o target (Some local) (Some ext) = record_slots (relocation_inputs_between local target o.functions o.section_infos) ext.relocations
 
 -- the texts in faults aside that are for people to read
 pub record AreRecordOutcomes (o : Object) (target : TypeInfo) (outcomes : RecordOutcomes) : Type 0 where

@@ -2,21 +2,21 @@
 use Rattle.std.specs.Prelude.{List, Option, None, is_some, if◌then◌else◌}
 use Rattle.ebpf_base.specs.Mapped.{map_values}
 use Rattle.ebpf_passes.specs.Maps.{GivenMap}
-use Rattle.ebpf_passes.specs.Passes.{mapped, map_fault, externs_written, extern_fault}
-use Rattle.ebpf_reloc.specs.Places.{TextSections}
+use Rattle.ebpf_passes.specs.Passes.{with_map_fds, map_fault, externs_written, extern_fault}
+use Rattle.ebpf_reloc.specs.VariableLookup.{TextSections}
 use Rattle.ebpf_reloc.specs.declared.error.EbpfRelocationError.{EbpfRelocationError}
 use Rattle.ebpf_object.specs.declared.object.Object.{Object}
 
 -- the object with the descriptors of some maps
 abbrev pub with_maps : Object → TextSections → List GivenMap → Object
 with_maps o text_sections given =
-    record o { functions = map_values (mapped o.symbol_table text_sections given o.relocations) o.functions }
+    record o { functions = map_values (with_map_fds o.symbol_table text_sections given o.relocations) o.functions }
 
 -- the first of its relocations whose descriptor can't be written
 abbrev pub maps_fault : Object → TextSections → List GivenMap → Option EbpfRelocationError
 maps_fault o text_sections given = map_fault o.symbol_table text_sections given o.relocations o.functions
 
--- the object with what is known of its externs; without type information it has none
+-- the object with its externs written; without type information it has none
 abbrev pub with_externs : Object → Object
 with_externs o =
     if is_some o.btf

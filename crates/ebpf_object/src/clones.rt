@@ -6,7 +6,7 @@ use crate::object::Object;
 use ebpf_base::{ByIndex, ByKey, ByName, ByOffset, BySection, Items};
 use ebpf_btf::Btf;
 use ebpf_ext::BtfExt;
-use ebpf_parsing::Parts;
+use ebpf_parsing::ObjectTables;
 use ebpf_parts::Relocation;
 use std::alloc::AllocError;
 
@@ -30,7 +30,7 @@ pub fn copy_keys<V: Clone>(values: &ByKey<V>) -> Result<ByKey<V>, AllocError>
 
 /// A copy of what is kept by numbers.
 #[tactic(auto, using(ebpf_base::proofs::Copies::exact_copy))]
-fn copy_numbers<V: Clone>(values: &ByIndex<V>) -> Result<ByIndex<V>, AllocError>
+fn copy_indices<V: Clone>(values: &ByIndex<V>) -> Result<ByIndex<V>, AllocError>
     requires { (x y : V) → V.is_clone x y → y ≡ x }
     ensures { IfOk result (λ copy. copy ≡ values.now) }
 {
@@ -57,7 +57,7 @@ fn copy_btf(btf: &Option<Btf>) -> Result<Option<Btf>, AllocError>
     }
 }
 
-/// A copy of what may be said of instructions.
+/// A copy of the records of `.BTF.ext`, where there are some.
 fn copy_ext(ext: &Option<BtfExt>) -> Result<Option<BtfExt>, AllocError>
     ensures { IfOk result (λ copy. copy ≡ ext.now) }
 {
@@ -89,10 +89,10 @@ fn copy_carried(object: &Object) -> Result<Carried, AllocError>
 }
 
 /// A copy of what the sections gave.
-fn copy_parts(object: &Object) -> Result<Parts, AllocError>
+fn copy_object_tables(object: &Object) -> Result<ObjectTables, AllocError>
     ensures { IfOk result (λ copy. copy ≡ record { maps = object.now.maps; programs = object.now.programs; functions = object.now.functions; relocations = object.now.relocations; section_infos = object.now.section_infos }) }
 {
-    Ok(Parts {
+    Ok(ObjectTables {
         maps: copy_names(&object.maps)?,
         programs: copy_names(&object.programs)?,
         functions: copy_keys(&object.functions)?,
@@ -106,9 +106,9 @@ impl Clone for Object {
 
     fn clone(&self) -> Result<Object, AllocError> {
         let externs = copy_names(&self.externs)?;
-        let symbol_table = copy_numbers(&self.symbol_table)?;
+        let symbol_table = copy_indices(&self.symbol_table)?;
         let carried = copy_carried(self)?;
-        let parts = copy_parts(self)?;
+        let parts = copy_object_tables(self)?;
         Ok(Object {
             endianness: self.endianness,
             license: carried.license,

@@ -1,4 +1,4 @@
-//! Adapting slots to another kernel's types, and why it can refuse; what one relocation by types asks, and what comes
+//! Relocating slots to another kernel's types, and why it can refuse; what one relocation by types asks, and what comes
 //! out.
 
 pub use ebpf_core::{

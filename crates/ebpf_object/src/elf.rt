@@ -2,7 +2,7 @@
 
 pub use crate::section_names::section_name;
 pub use ebpf_elf::{
-    ElfFile, ElfReadError, ElfRelocation, ElfRelocationSection, ElfSection, ElfSymbol, EntryPlaces,
+    ElfFile, ElfReadError, ElfRelocation, ElfRelocationSection, ElfSection, ElfSymbol, EntryExtent,
     RelocationEntries, RelocationSections, Relocations, SectionIndex, Sections, SymbolKind,
     Symbols,
 };

@@ -1,15 +1,15 @@
 //! What holds of each parsed object, and of what passes make of it.
 
-ghost use Rattle.ebpf_object.specs.BothReadings.{ReadingsAgree};
+ghost use Rattle.ebpf_object.specs.BothReadings.{ObjectsAgree};
 ghost use Rattle.ebpf_object.specs.Headline.{PassesFinish};
-ghost use Rattle.ebpf_object.specs.Joined.{OneJoining};
-ghost use Rattle.ebpf_object.specs.JoinedMaps.{MapsTellOfJoined};
+ghost use Rattle.ebpf_object.specs.LinkedPrograms.{OneLinking};
+ghost use Rattle.ebpf_object.specs.LinkedProgramMaps.{MapsTellOfLinked};
 ghost use Rattle.ebpf_object.specs.OlderHelpers.{TwiceIsOnce};
 ghost use Rattle.ebpf_object.specs.OnePreparation.{OnePreparation, OneStaging};
 ghost use Rattle.ebpf_object.specs.PatchedBytes.{GreatestNameStands, OtherBytesStay, LengthsStay, MapsStay, PatchesAreValues, ValuesArePatches};
 
 pub use ebpf_core::laws::{
-    first_fault_refuses, one_first_variant, one_local_side, outcomes_rest_on_what_is_asked,
+    first_fault_refuses, one_first_variant, one_local_side, outcomes_rest_on_questions,
 };
 pub use ebpf_core_relo::laws::{
     first_refusal_is_the_fault, other_slots_stay, outcomes_are_in_order, put_slots_stand,
@@ -19,11 +19,11 @@ pub use ebpf_parsing::laws::{
     broad_refuses_no_name, externs_are_unresolved, functions_stand_at_their_keys, functions_tile,
     later_entries_stand, maps_have_their_symbols, programs_have_functions,
     relocation_tables_are_of_code, relocations_name_symbols, relocations_stand_at_their_offsets,
-    sections_tile, stated_gives_nothing_broad, symbols_stand_at_their_numbers,
+    sections_tile, stated_gives_nothing_broad, symbols_stand_at_their_indices,
 };
 pub use ebpf_parts::laws::names_are_read;
-pub use ebpf_passes::laws::{passes_keep_shapes, places_add_up};
-pub use ebpf_reloc::laws::{maps_refuse_alike, maps_tell, one_map, one_result, plain_slots_stay};
+pub use ebpf_passes::laws::{passes_keep_shapes, offsets_add_up};
+pub use ebpf_reloc::laws::{link_maps_refuse_alike, link_maps_match, one_link_map, one_result, plain_slots_stay};
 
 /// What `Object::patch_map_data` makes of the maps' data, byte by byte: of the variables whose value has a byte for a
 /// place, the one whose name is the greatest in byte order gives it, and each other byte is as before.
@@ -36,11 +36,11 @@ pub fn greatest_name_stands()
     ensures values_are_patches { ValuesArePatches }
 {}
 
-/// What `Object::link_map` tells of a program before `Object::relocate_calls` joins it holds of the joined function:
-/// its copies stand in the order in which they were joined and have all its slots, and the slot at each reference's
+/// What `Object::link_map` tells of a program before `Object::relocate_calls` links it holds of the linked function:
+/// its copies stand in the order in which they were linked and have all its slots, and the slot at each reference's
 /// place holds the distance from the slot after it to the base of a listed copy of the function that it refers to.
-pub fn maps_tell_of_joined()
-    ensures { MapsTellOfJoined }
+pub fn maps_tell_of_linked()
+    ensures { MapsTellOfLinked }
 {}
 
 /// What the passes leave of an object, each called at most once, in the order types, maps, externs, calls, and each with
@@ -57,7 +57,7 @@ pub fn passes_finish()
 /// What `Object::relocate_calls` promises of the functions leaves one map of them: it follows from the functions,
 /// symbols, relocations and programs as values, and from which sections are named.
 pub fn linking_has_one_result()
-    ensures { OneJoining }
+    ensures { OneLinking }
 {}
 
 /// What `prepare` promises leaves one answer, where the bytes of the kernel's symbols are known: from one file and the same
@@ -77,5 +77,5 @@ pub fn sanitizing_twice_is_once()
 /// Of a little-endian file that `Object::parse` takes, `Object::parse_as` gives the same object in both readings, and
 /// refuses it in neither.
 pub fn readings_agree()
-    ensures { ReadingsAgree }
+    ensures { ObjectsAgree }
 {}

@@ -2,12 +2,12 @@
 
 ghost use Rattle.std.specs.Prelude.{◌≡◌, true, IfOk, IfErr, ⊤, MatchBool, MatchOption, Ok, None};
 ghost use Rattle.std.specs.FinMap as map;
-ghost use Rattle.ebpf_object.specs.Joined.{linkable_of, with_name};
+ghost use Rattle.ebpf_object.specs.LinkedPrograms.{linkable_of, program_value};
 ghost use Rattle.ebpf_object.specs.ProgramMaps.{MapsProgram};
-ghost use Rattle.ebpf_reloc.specs.LinkMaps.{IsMapped};
-ghost use Rattle.ebpf_reloc.specs.Linking.{key_of, IsRefused};
+ghost use Rattle.ebpf_reloc.specs.LinkMaps.{IsLinkMapAt};
+ghost use Rattle.ebpf_reloc.specs.Linking.{key_of, IsProgramRefusal};
 ghost use Rattle.ebpf_reloc.specs.Memory.{is_memory_at, NamesNoneForMemory};
-ghost use Rattle.ebpf_reloc.specs.Places.{sections_in, read};
+ghost use Rattle.ebpf_reloc.specs.VariableLookup.{text_sections_in, read};
 
 use crate::object::Object;
 use ebpf_parsing::Program;
@@ -28,8 +28,8 @@ pub struct ProgramMaps<'a> {
 impl ProgramMaps<'_> {
     /// What a program with this name is made of once it is linked.
     fn map_of(&self, name: &str, program: &Program) -> Result<LinkMap, EbpfRelocationError>
-        ensures mapped { IfOk result (λ m. IsMapped (read self.now.functions.parts) (key_of (with_name name.now program.now)) m) }
-        ensures fault { IfErr result (λ e. MatchBool (is_memory_at e) ⊤ (IsRefused (read self.now.functions.parts) (with_name name.now program.now) e)) }
+        ensures mapped { IfOk result (λ m. IsLinkMapAt (read self.now.functions.parts) (key_of (program_value name.now program.now)) m) }
+        ensures fault { IfErr result (λ e. MatchBool (is_memory_at e) ⊤ (IsProgramRefusal (read self.now.functions.parts) (program_value name.now program.now) e)) }
         ensures memory { IfErr result NamesNoneForMemory }
     {
         let alloc = *self.object.license.as_vec().allocator();
@@ -38,7 +38,7 @@ impl ProgramMaps<'_> {
             section_index: program.section_index,
             address: program.address,
         };
-        self.functions.program_map(alloc, &key)
+        self.functions.program_link_map(alloc, &key)
     }
 
     /// What the program with this name is made of, as `Object::link_map` gives it.
@@ -47,7 +47,7 @@ impl ProgramMaps<'_> {
     ///
     /// Those of `Object::link_map`.
     pub fn of(&self, name: &str) -> Result<Option<LinkMap>, EbpfRelocationError>
-        ensures program { MatchOption (map.get self.now.object.now.programs name.now) (result ≡ Ok None) (λ p. MapsProgram (read self.now.functions.parts) (with_name name.now p) result) }
+        ensures program { MatchOption (map.get self.now.object.now.programs name.now) (result ≡ Ok None) (λ p. MapsProgram (read self.now.functions.parts) (program_value name.now p) result) }
         ensures memory { IfErr result NamesNoneForMemory }
     {
         let Some(program) = self.object.programs.get(name) else {
@@ -72,7 +72,7 @@ impl Object {
         text_sections: &'a HashSet<usize>,
     ) -> Result<ProgramMaps<'a>, EbpfRelocationError>
         ensures object { IfOk result (λ m. m.object.now ≡ self.now) }
-        ensures parts { IfOk result (λ m. read m.functions.parts ≡ linkable_of self.now (sections_in text_sections.now)) }
+        ensures parts { IfOk result (λ m. read m.functions.parts ≡ linkable_of self.now (text_sections_in text_sections.now)) }
         ensures memory { IfErr result (λ e. is_memory_at e ≡ true) }
         ensures unnamed { IfErr result NamesNoneForMemory }
     {
@@ -90,11 +90,11 @@ impl Object {
         })
     }
 
-    /// What the program with this name is made of once `relocate_calls` has joined it: its own function, at base 0,
+    /// What the program with this name is made of once `relocate_calls` has linked it: its own function, at base 0,
     /// and then a copy of each function that its references reach, in the order of their key paths, with the places
     /// at which they begin and their numbers of slots; and the references of all copies, in the order of their
     /// places, with the places at which the copies begin that they lead to. `None` exactly where no program has
-    /// the name. Nothing is joined, and no slot is written. `text_sections` has the numbers of the sections whose
+    /// the name. Nothing is linked, and no slot is written. `text_sections` has the numbers of the sections whose
     /// symbols are functions. For several programs `program_maps` looks the functions over once.
     ///
     /// # Errors
@@ -108,7 +108,7 @@ impl Object {
         name: &str,
         text_sections: &HashSet<usize>,
     ) -> Result<Option<LinkMap>, EbpfRelocationError>
-        ensures program { MatchOption (map.get self.now.programs name.now) (result ≡ Ok None) (λ p. MapsProgram (linkable_of self.now (sections_in text_sections.now)) (with_name name.now p) result) }
+        ensures program { MatchOption (map.get self.now.programs name.now) (result ≡ Ok None) (λ p. MapsProgram (linkable_of self.now (text_sections_in text_sections.now)) (program_value name.now p) result) }
         ensures memory { IfErr result NamesNoneForMemory }
     {
         if !self.programs.contains_key(name) {

@@ -10,7 +10,7 @@ use ebpf_base::{ByIndex, ByKey, ByName, ByOffset, BySection, Items};
 use ebpf_btf::{Btf, Endianness};
 use ebpf_elf::SectionIndex;
 use ebpf_ext::BtfExt;
-use ebpf_parsing::{Contents, Program};
+use ebpf_parsing::{FileContents, Program};
 use ebpf_parts::maps::Map;
 use ebpf_parts::{ParseError, Reading, Relocation};
 use ebpf_reloc::{ExternDesc, Function, Symbol};
@@ -27,7 +27,7 @@ pub struct Object {
     pub kernel_version: Option<u32>,
     /// The type information, where the file has some.
     pub btf: Option<Btf>,
-    /// What is said of instructions, where the file has type information and this.
+    /// Func info, line info and CO-RE relocations, where the file has type information and these.
     pub btf_ext: Option<BtfExt>,
     /// The externs by name.
     pub externs: ByName<ExternDesc>,
@@ -94,7 +94,7 @@ impl Object {
         ensures object { IfOk result (λ o. o ≡ object_as reading bytes.now) }
         ensures fault { Refuses is_memory result (parse_fault_as reading bytes.now) }
     {
-        let contents = Contents::read(alloc, bytes, reading)?;
+        let contents = FileContents::read(alloc, bytes, reading)?;
         let shared = contents.shared;
         let parts = contents.parts;
         Ok(Object {

@@ -1,17 +1,17 @@
 //! The descriptors of an object's own maps.
 
 ghost use Rattle.std.specs.Prelude.{◌≡◌, map, None, Some, OnOk, OnErr, IfOk, IfErr, MatchBool};
-ghost use Rattle.ebpf_object.specs.Prepared.{Refuses};
+ghost use Rattle.ebpf_object.specs.Prepared.{RefusesPreparing};
 ghost use Rattle.ebpf_object.specs.StageFaults.{Wrapped};
-ghost use Rattle.ebpf_object.specs.Stages.{own_maps, described, describing_fault};
+ghost use Rattle.ebpf_object.specs.Stages.{own_maps, fds_written, fds_fault};
 ghost use Rattle.ebpf_object.specs.Steps.{descriptor_of};
 ghost use Rattle.ebpf_object.specs.TextSections.{has_function_in};
 ghost use Rattle.ebpf_object.specs.WrittenSlots.{with_maps, maps_fault};
 ghost use Rattle.ebpf_object.specs.declared.prepare_error.PrepareError.TheVariants.{Maps};
-ghost use Rattle.ebpf_passes.specs.Maps.{given_by};
+ghost use Rattle.ebpf_passes.specs.Maps.{given_map};
 ghost use Rattle.ebpf_passes.specs.Relocated.{out_of_memory};
 ghost use Rattle.ebpf_reloc.specs.Memory.{is_memory_at};
-ghost use Rattle.ebpf_reloc.specs.Places.{sections_in};
+ghost use Rattle.ebpf_reloc.specs.VariableLookup.{text_sections_in};
 
 use crate::object::Object;
 use crate::prepare_error::PrepareError;
@@ -23,7 +23,7 @@ use std::collections::HashSet;
 use std::mem;
 
 /// A map with its name and its descriptor.
-type Described<'a> = (&'a str, i32, &'a Map);
+type MapWithFd<'a> = (&'a str, i32, &'a Map);
 
 /// The maps of these names with their descriptors; a name that stands for none is passed over.
 #[tactic(auto, using(crate::proofs::OwnMaps::one_listed, crate::proofs::OwnMaps::none_listed, ebpf_parts::proofs::Walks::rest_none))]
@@ -31,8 +31,8 @@ fn own_maps<'a>(
     alloc: Global,
     maps: &'a ByName<Map>,
     descriptors: &[(&'a str, i32)],
-) -> Result<Vec<Described<'a>>, AllocError>
-    ensures { IfOk result (λ own. map given_by own.items ≡ own_maps maps.now (map descriptor_of descriptors.now)) }
+) -> Result<Vec<MapWithFd<'a>>, AllocError>
+    ensures { IfOk result (λ own. map given_map own.items ≡ own_maps maps.now (map descriptor_of descriptors.now)) }
 {
     let mut own = Vec::with_capacity(alloc, descriptors.len())?;
     for (name, descriptor) in descriptors {
@@ -47,12 +47,12 @@ fn own_maps<'a>(
 /// Writes the descriptors of these maps.
 fn relocate_listed(
     object: &mut Object,
-    maps: Vec<Described<'_>>,
+    maps: Vec<MapWithFd<'_>>,
     text_sections: &HashSet<usize>,
 ) -> Result<(), EbpfRelocationError>
-    ensures ok { OnOk result (object.new ≡ with_maps object.old (sections_in text_sections.now) (map given_by maps.entry.items)) }
-    ensures sound { OnOk result (maps_fault object.old (sections_in text_sections.now) (map given_by maps.entry.items) ≡ None) }
-    ensures fault { IfErr result (λ e. MatchBool (is_memory_at e) (e ≡ out_of_memory) (maps_fault object.old (sections_in text_sections.now) (map given_by maps.entry.items) ≡ Some e)) }
+    ensures ok { OnOk result (object.new ≡ with_maps object.old (text_sections_in text_sections.now) (map given_map maps.entry.items)) }
+    ensures sound { OnOk result (maps_fault object.old (text_sections_in text_sections.now) (map given_map maps.entry.items) ≡ None) }
+    ensures fault { IfErr result (λ e. MatchBool (is_memory_at e) (e ≡ out_of_memory) (maps_fault object.old (text_sections_in text_sections.now) (map given_map maps.entry.items) ≡ Some e)) }
     ensures unchanged { OnErr result (object.new ≡ object.old) }
 {
     object.relocate_maps(maps.into_iter(), text_sections)
@@ -68,7 +68,7 @@ fn relocate_some(
 ) -> Result<(), PrepareError>
     ensures ok { OnOk result (object.new ≡ with_maps object.old (has_function_in object.old.functions) (own_maps maps.now (map descriptor_of descriptors.now))) }
     ensures sound { OnOk result (maps_fault object.old (has_function_in object.old.functions) (own_maps maps.now (map descriptor_of descriptors.now)) ≡ None) }
-    ensures fault { IfErr result (Refuses (Wrapped Maps (λ e. maps_fault object.old (has_function_in object.old.functions) (own_maps maps.now (map descriptor_of descriptors.now)) ≡ Some e))) }
+    ensures fault { IfErr result (RefusesPreparing (Wrapped Maps (λ e. maps_fault object.old (has_function_in object.old.functions) (own_maps maps.now (map descriptor_of descriptors.now)) ≡ Some e))) }
     ensures unchanged { OnErr result (object.new ≡ object.old) }
 {
     let own = own_maps(alloc, maps, descriptors)?;
@@ -91,9 +91,9 @@ pub fn relocate_own_maps(
     object: &mut Object,
     descriptors: &[(&str, i32)],
 ) -> Result<(), PrepareError>
-    ensures ok { OnOk result (object.new ≡ described (Some (map descriptor_of descriptors.now)) object.old) }
-    ensures sound { OnOk result (describing_fault (Some (map descriptor_of descriptors.now)) object.old ≡ None) }
-    ensures fault { IfErr result (Refuses (Wrapped Maps (λ e. describing_fault (Some (map descriptor_of descriptors.now)) object.old ≡ Some e))) }
+    ensures ok { OnOk result (object.new ≡ fds_written (Some (map descriptor_of descriptors.now)) object.old) }
+    ensures sound { OnOk result (fds_fault (Some (map descriptor_of descriptors.now)) object.old ≡ None) }
+    ensures fault { IfErr result (RefusesPreparing (Wrapped Maps (λ e. fds_fault (Some (map descriptor_of descriptors.now)) object.old ≡ Some e))) }
     ensures unchanged { OnErr result (object.new ≡ object.old) }
 {
     let maps = mem::replace(&mut object.maps, ByName::new(alloc));

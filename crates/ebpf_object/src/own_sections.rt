@@ -2,25 +2,25 @@
 
 ghost use Rattle.std.specs.Prelude.{◌≡◌, true, ⊤, IfErr, OnOk, OnErr, MatchBool, MatchOption, Ok, None};
 ghost use Rattle.std.specs.FinMap as map;
-ghost use Rattle.ebpf_object.specs.Joined.{linkable_of, with_name, programs_in_order, AreJoined};
+ghost use Rattle.ebpf_object.specs.LinkedPrograms.{linkable_of, program_value, programs_in_order, ProgramsAreLinked};
 ghost use Rattle.ebpf_object.specs.ProgramMaps.{MapsProgram};
 ghost use Rattle.ebpf_object.specs.TextSections.{has_function_in};
-ghost use Rattle.ebpf_reloc.specs.Linking.{IsFirstFault};
+ghost use Rattle.ebpf_reloc.specs.Linking.{IsFirstRefusal};
 ghost use Rattle.ebpf_reloc.specs.Memory.{is_memory_at, NamesNoneForMemory};
 
 use crate::object::Object;
 use ebpf_reloc::{EbpfRelocationError, LinkMap};
 
 impl Object {
-    /// Joins each program with every function that its references reach, as `relocate_calls` does with the sections that
+    /// Links each program with every function that its references reach, as `relocate_calls` does with the sections that
     /// the object's functions stand in.
     ///
     /// # Errors
     ///
     /// Those of `relocate_calls`. After a refusal the object is as it was.
     pub fn relocate_own_calls(&mut self) -> Result<(), EbpfRelocationError>
-        ensures functions { OnOk result (AreJoined (linkable_of self.old (has_function_in self.old.functions)) (programs_in_order self.old.programs) self.new.functions) }
-        ensures fault { IfErr result (λ e. MatchBool (is_memory_at e) ⊤ (IsFirstFault (linkable_of self.old (has_function_in self.old.functions)) (programs_in_order self.old.programs) e)) }
+        ensures functions { OnOk result (ProgramsAreLinked (linkable_of self.old (has_function_in self.old.functions)) (programs_in_order self.old.programs) self.new.functions) }
+        ensures fault { IfErr result (λ e. MatchBool (is_memory_at e) ⊤ (IsFirstRefusal (linkable_of self.old (has_function_in self.old.functions)) (programs_in_order self.old.programs) e)) }
         ensures memory { IfErr result NamesNoneForMemory }
         ensures others_stay { self.new ≡ record self.old { functions = self.new.functions } }
         ensures unchanged { OnErr result (self.new ≡ self.old) }
@@ -32,14 +32,14 @@ impl Object {
         self.relocate_calls(&sections)
     }
 
-    /// What the program with this name is made of once `relocate_own_calls` has joined it, as `link_map` tells it with
+    /// What the program with this name is made of once `relocate_own_calls` has linked it, as `link_map` tells it with
     /// the sections that the object's functions stand in. `None` exactly where no program has the name.
     ///
     /// # Errors
     ///
     /// Those of `link_map`.
     pub fn own_link_map(&self, name: &str) -> Result<Option<LinkMap>, EbpfRelocationError>
-        ensures program { MatchOption (map.get self.now.programs name.now) (result ≡ Ok None) (λ p. MapsProgram (linkable_of self.now (has_function_in self.now.functions)) (with_name name.now p) result) }
+        ensures program { MatchOption (map.get self.now.programs name.now) (result ≡ Ok None) (λ p. MapsProgram (linkable_of self.now (has_function_in self.now.functions)) (program_value name.now p) result) }
         ensures memory { IfErr result NamesNoneForMemory }
     {
         if !self.programs.contains_key(name) {

@@ -7,8 +7,8 @@ ghost use Rattle.std.specs.Map.{keys_of};
 ghost use Rattle.ebpf_base.specs.Keyed.{put_all};
 ghost use Rattle.ebpf_base.specs.Keys.{lent_bytes};
 ghost use Rattle.ebpf_parts.specs.Maps.{bytes_of, with_bytes};
-ghost use Rattle.ebpf_object.specs.MapNames.{with_names};
-ghost use Rattle.ebpf_object.specs.Patches.{PatchValue, overwritten, patched, all_patched, named_at, symbol_numbers, first_map};
+ghost use Rattle.ebpf_object.specs.MapNames.{with_map_names};
+ghost use Rattle.ebpf_object.specs.Patches.{PatchValue, overwritten, with_patch, all_patched, named_at, symbol_indices, first_map};
 ghost use Rattle.ebpf_object.specs.PatchValues.{value_of};
 
 use ebpf_base::{ByIndex, ByName, Text};
@@ -16,42 +16,42 @@ use ebpf_parts::maps::Map;
 use ebpf_reloc::Symbol;
 use std::alloc::{AllocError, Global};
 
-/// Bytes for the data of a map from a place on.
+/// Bytes for the data of a map from an offset on.
 #[derive(Drop)]
 pub struct Patch<'a> {
     pub map_name: Text,
-    pub place: usize,
+    pub offset: usize,
     pub bytes: &'a [u8],
 }
 
-/// Writes bytes into data from a place on. It stays where they pass its end.
-fn overwrite(target: &mut Vec<u8>, place: usize, bytes: &[u8])
-    ensures { target.new.items ≡ overwritten target.old.items place bytes.now }
+/// Writes bytes into data from an offset on. It stays where they pass its end.
+fn overwrite(target: &mut Vec<u8>, offset: usize, bytes: &[u8])
+    ensures { target.new.items ≡ overwritten target.old.items offset bytes.now }
 {
-    let Some(end) = place.checked_add(bytes.len()) else {
+    let Some(end) = offset.checked_add(bytes.len()) else {
         return;
     };
     if end > target.len() {
         return;
     }
-    target.as_mut_slice()[place..end].copy_from_slice(bytes);
+    target.as_mut_slice()[offset..end].copy_from_slice(bytes);
 }
 
-/// Writes bytes into the data of a map from a place on.
-fn overwrite_map(target: &mut Map, place: usize, bytes: &[u8])
-    ensures { target.new ≡ with_bytes target.old (overwritten (bytes_of target.old) place bytes.now) }
+/// Writes bytes into the data of a map from an offset on.
+fn overwrite_map(target: &mut Map, offset: usize, bytes: &[u8])
+    ensures { target.new ≡ with_bytes target.old (overwritten (bytes_of target.old) offset bytes.now) }
 {
-    overwrite(target.data_mut(), place, bytes);
+    overwrite(target.data_mut(), offset, bytes);
 }
 
 /// Writes a patch.
 fn write_patch(maps: &mut ByName<Map>, patch: &Patch<'_>)
-    ensures { maps.new ≡ patched maps.old (value_of patch.now) }
+    ensures { maps.new ≡ with_patch maps.old (value_of patch.now) }
 {
     let Some(target) = maps.get_mut(patch.map_name.as_str()) else {
         return;
     };
-    overwrite_map(target, patch.place, patch.bytes);
+    overwrite_map(target, patch.offset, patch.bytes);
 }
 
 /// Writes patches, later ones over earlier ones. No memory is taken.
@@ -63,8 +63,8 @@ pub fn write_patches(maps: &mut ByName<Map>, patches: &[Patch<'_>])
     }
 }
 
-/// Puts the numbers of symbols at their names, later ones in the place of earlier ones.
-fn put_numbers(
+/// Puts the indices of symbols at their names, later ones over earlier ones.
+fn put_indices(
     alloc: Global,
     numbers: ByName<usize>,
     symbols: &ByIndex<Symbol>,
@@ -85,12 +85,12 @@ fn put_numbers(
     Ok(numbers)
 }
 
-/// The numbers of the symbols by their names: of equal names the greatest.
-pub fn symbol_numbers(alloc: Global, symbols: &ByIndex<Symbol>) -> Result<ByName<usize>, AllocError>
-    ensures { IfOk result (λ numbers. numbers ≡ symbol_numbers symbols.now) }
+/// The indices of the symbols by their names: of equal names the greatest.
+pub fn symbol_indices(alloc: Global, symbols: &ByIndex<Symbol>) -> Result<ByName<usize>, AllocError>
+    ensures { IfOk result (λ numbers. numbers ≡ symbol_indices symbols.now) }
 {
     let indices = symbols.indices(alloc)?;
-    put_numbers(alloc, ByName::new(alloc), symbols, indices.as_slice())
+    put_indices(alloc, ByName::new(alloc), symbols, indices.as_slice())
 }
 
 /// Puts the names of maps at their sections, where none is there.
@@ -100,7 +100,7 @@ fn put_maps(
     maps: &ByName<Map>,
     names: &[&str],
 ) -> Result<ByIndex<Text>, AllocError>
-    ensures { IfOk result (λ all. all ≡ with_names maps.now found (lent_bytes names.now)) }
+    ensures { IfOk result (λ all. all ≡ with_map_names maps.now found (lent_bytes names.now)) }
 {
     let mut found = found;
     for name in names {

@@ -5,14 +5,14 @@ ghost use Rattle.std.specs.FinMap as finite;
 ghost use Rattle.std.specs.List.{flat_map};
 ghost use Rattle.ebpf_base.specs.Faults.{Refuses, first_some};
 ghost use Rattle.ebpf_base.specs.Keys.{lent_bytes};
-ghost use Rattle.ebpf_object.specs.Patches.{patches_at, fault_at, patches_of, patches_fault, all_patched};
+ghost use Rattle.ebpf_object.specs.Patches.{patches_at, patch_fault_at, patches_of, patches_fault, all_patched};
 ghost use Rattle.ebpf_object.specs.PatchValues.{value_of, globals_of};
 ghost use Rattle.ebpf_parts.specs.Memory.{is_memory};
 
 use crate::globals::{names_of, value_at};
 use crate::object::Object;
-use crate::patch::{Patch, map_names, symbol_numbers, write_patches};
-use crate::patch_plan::{Places, patch_of};
+use crate::patch::{Patch, map_names, symbol_indices, write_patches};
+use crate::patch_plan::{VariableLookup, patch_of};
 use ebpf_parts::ParseError;
 use std::alloc::Global;
 use std::collections::HashMap;
@@ -21,19 +21,19 @@ use std::collections::HashMap;
 #[tactic(auto, unfolding(crate::specs::Patches::patch_of))]
 fn add<'a>(
     alloc: Global,
-    places: &Places<'_>,
+    lookup: &VariableLookup<'_>,
     globals: &HashMap<&str, (&'a [u8], bool)>,
     name: &str,
     patches: Vec<Patch<'a>>,
 ) -> Result<Vec<Patch<'a>>, ParseError>
-    ensures patches { IfOk result (λ all. map value_of all.items ≡ map value_of patches.entry.items ++ patches_at places.now.symbols.now places.now.maps.now name.now (finite.get (globals_of globals.now.entries) name.now)) }
-    ensures fault { Refuses is_memory result (fault_at places.now.symbols.now places.now.maps.now name.now (finite.get (globals_of globals.now.entries) name.now)) }
+    ensures patches { IfOk result (λ all. map value_of all.items ≡ map value_of patches.entry.items ++ patches_at lookup.now.symbols.now lookup.now.maps.now name.now (finite.get (globals_of globals.now.entries) name.now)) }
+    ensures fault { Refuses is_memory result (patch_fault_at lookup.now.symbols.now lookup.now.maps.now name.now (finite.get (globals_of globals.now.entries) name.now)) }
 {
     let mut patches = patches;
     let Some((bytes, must_exist)) = value_at(globals, name) else {
         return Ok(patches);
     };
-    match patch_of(alloc, places, name, bytes, must_exist) {
+    match patch_of(alloc, lookup, name, bytes, must_exist) {
         Ok(Some(patch)) => match patches.push(patch) {
             Ok(_) => Ok(patches),
             Err(error) => Err(error.into()),
@@ -46,16 +46,16 @@ fn add<'a>(
 /// What the values of variables ask for, in the order of the names.
 fn add_all<'a>(
     alloc: Global,
-    places: &Places<'_>,
+    lookup: &VariableLookup<'_>,
     globals: &HashMap<&str, (&'a [u8], bool)>,
     names: &[&str],
 ) -> Result<Vec<Patch<'a>>, ParseError>
-    ensures patches { IfOk result (λ all. map value_of all.items ≡ flat_map (λ name. patches_at places.now.symbols.now places.now.maps.now name (finite.get (globals_of globals.now.entries) name)) (lent_bytes names.now)) }
-    ensures fault { Refuses is_memory result (first_some (λ name. fault_at places.now.symbols.now places.now.maps.now name (finite.get (globals_of globals.now.entries) name)) (lent_bytes names.now)) }
+    ensures patches { IfOk result (λ all. map value_of all.items ≡ flat_map (λ name. patches_at lookup.now.symbols.now lookup.now.maps.now name (finite.get (globals_of globals.now.entries) name)) (lent_bytes names.now)) }
+    ensures fault { Refuses is_memory result (first_some (λ name. patch_fault_at lookup.now.symbols.now lookup.now.maps.now name (finite.get (globals_of globals.now.entries) name)) (lent_bytes names.now)) }
 {
     let mut patches = Vec::new(alloc);
     for name in names {
-        match add(alloc, places, globals, *name, patches) {
+        match add(alloc, lookup, globals, *name, patches) {
             Ok(all) => patches = all,
             Err(error) => return Err(error),
         }
@@ -76,19 +76,19 @@ impl Object {
         let Ok(names) = names_of(alloc, globals) else {
             return Err(ParseError::OutOfMemory);
         };
-        let Ok(numbers) = symbol_numbers(alloc, &self.symbol_table) else {
+        let Ok(numbers) = symbol_indices(alloc, &self.symbol_table) else {
             return Err(ParseError::OutOfMemory);
         };
         let Ok(map_names) = map_names(alloc, &self.maps) else {
             return Err(ParseError::OutOfMemory);
         };
-        let places = Places {
+        let lookup = VariableLookup {
             symbols: &self.symbol_table,
             maps: &self.maps,
             numbers: &numbers,
             names: &map_names,
         };
-        add_all(alloc, &places, globals, names.as_slice())
+        add_all(alloc, &lookup, globals, names.as_slice())
     }
 
     /// Writes the values of global variables into the data of the maps that hold them, in the byte order of the

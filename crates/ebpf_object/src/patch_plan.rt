@@ -3,7 +3,7 @@
 ghost use Rattle.std.specs.Prelude.{◌≡◌, ℕ, ◌+◌, ◌∷◌, [], nat_le, length, IfOk, IfErr, MatchBool, ⊤, Ok, Err, Some};
 ghost use Rattle.std.specs.FinMap.{get};
 ghost use Rattle.std.specs.Option.{option_copied};
-ghost use Rattle.ebpf_object.specs.Patches.{symbol_numbers, symbol_named, first_map, map_in, in_map, of_symbol, patch_of};
+ghost use Rattle.ebpf_object.specs.Patches.{symbol_indices, symbol_named, first_map, map_in_section, in_map, of_symbol, patch_of};
 ghost use Rattle.ebpf_object.specs.PatchValues.{value_of, values_of};
 ghost use Rattle.ebpf_parts.specs.Memory.{is_memory};
 ghost use Rattle.ebpf_parts.specs.declared.error.ParseError.TheVariants.{InvalidGlobalData, SymbolNotFound, MapNotFound};
@@ -15,14 +15,14 @@ use ebpf_parts::maps::Map;
 use ebpf_reloc::Symbol;
 use std::alloc::Global;
 
-/// What the variables' places are found by.
+/// What a variable's map and offset are found by.
 #[derive(Drop)]
-pub struct Places<'a> {
+pub struct VariableLookup<'a> {
     pub symbols: &'a ByIndex<Symbol>,
     pub maps: &'a ByName<Map>,
     pub numbers: &'a ByName<usize>,
     pub names: &'a ByIndex<Text>,
-    ghost numbers_are: { numbers.now ≡ symbol_numbers symbols.now },
+    ghost numbers_are: { numbers.now ≡ symbol_indices symbols.now },
     ghost names_are: { (section : ℕ) → get names.now section ≡ first_map maps.now section },
 }
 
@@ -80,7 +80,7 @@ fn patch_in_map<'a>(
     match map_name.clone() {
         Ok(map_name) => Ok(Patch {
             map_name,
-            place: symbol.address as usize,
+            offset: symbol.address as usize,
             bytes,
         }),
         Err(error) => Err(error.into()),
@@ -88,21 +88,21 @@ fn patch_in_map<'a>(
 }
 
 /// The name of the map that holds a symbol.
-fn map_of<'a>(places: &Places<'a>, symbol: &Symbol) -> Option<&'a Text>
-    ensures { option_copied result ≡ map_in places.now.maps.now symbol.now.section_index }
+fn map_of<'a>(lookup: &VariableLookup<'a>, symbol: &Symbol) -> Option<&'a Text>
+    ensures { option_copied result ≡ map_in_section lookup.now.maps.now symbol.now.section_index }
 {
     match symbol.section_index {
-        Some(section) => places.names.get(section),
+        Some(section) => lookup.names.get(section),
         None => None,
     }
 }
 
 /// The symbol with a name.
-fn symbol_of<'a>(places: &Places<'a>, name: &str) -> Option<&'a Symbol>
-    ensures { option_copied result ≡ symbol_named places.now.symbols.now name.now }
+fn symbol_of<'a>(lookup: &VariableLookup<'a>, name: &str) -> Option<&'a Symbol>
+    ensures { option_copied result ≡ symbol_named lookup.now.symbols.now name.now }
 {
-    match places.numbers.get(name) {
-        Some(number) => places.symbols.get(*number),
+    match lookup.numbers.get(name) {
+        Some(number) => lookup.symbols.get(*number),
         None => None,
     }
 }
@@ -110,19 +110,19 @@ fn symbol_of<'a>(places: &Places<'a>, name: &str) -> Option<&'a Symbol>
 /// Where the value of a variable with a symbol goes.
 fn patch_by_symbol<'a>(
     alloc: Global,
-    places: &Places<'_>,
+    lookup: &VariableLookup<'_>,
     name: &str,
     bytes: &'a [u8],
     symbol: &Symbol,
 ) -> Result<Patch<'a>, ParseError>
-    ensures patch { IfOk result (λ p. of_symbol places.now.maps.now name.now bytes.now symbol.now ≡ Ok (value_of p ∷ [])) }
-    ensures fault { IfErr result (λ e. MatchBool (is_memory e) ⊤ (of_symbol places.now.maps.now name.now bytes.now symbol.now ≡ Err e)) }
+    ensures patch { IfOk result (λ p. of_symbol lookup.now.maps.now name.now bytes.now symbol.now ≡ Ok (value_of p ∷ [])) }
+    ensures fault { IfErr result (λ e. MatchBool (is_memory e) ⊤ (of_symbol lookup.now.maps.now name.now bytes.now symbol.now ≡ Err e)) }
 {
     if bytes.len() as u64 != symbol.size {
         return Err(invalid_data(alloc, name, symbol.size, bytes.len()));
     }
-    match map_of(places, symbol) {
-        Some(map_name) => patch_in_map(alloc, places.maps, name, bytes, symbol, map_name),
+    match map_of(lookup, symbol) {
+        Some(map_name) => patch_in_map(alloc, lookup.maps, name, bytes, symbol, map_name),
         None => Err(ParseError::MapNotFound {
             index: symbol.section_index.unwrap_or(0),
         }),
@@ -133,16 +133,16 @@ fn patch_by_symbol<'a>(
 #[tactic(auto, unfolding(crate::specs::Patches::patch_of))]
 pub fn patch_of<'a>(
     alloc: Global,
-    places: &Places<'_>,
+    lookup: &VariableLookup<'_>,
     name: &str,
     bytes: &'a [u8],
     must_exist: bool,
 ) -> Result<Option<Patch<'a>>, ParseError>
-    ensures patch { IfOk result (λ p. patch_of places.now.symbols.now places.now.maps.now name.now (bytes.now, must_exist) ≡ Ok (values_of p)) }
-    ensures fault { IfErr result (λ e. MatchBool (is_memory e) ⊤ (patch_of places.now.symbols.now places.now.maps.now name.now (bytes.now, must_exist) ≡ Err e)) }
+    ensures patch { IfOk result (λ p. patch_of lookup.now.symbols.now lookup.now.maps.now name.now (bytes.now, must_exist) ≡ Ok (values_of p)) }
+    ensures fault { IfErr result (λ e. MatchBool (is_memory e) ⊤ (patch_of lookup.now.symbols.now lookup.now.maps.now name.now (bytes.now, must_exist) ≡ Err e)) }
 {
-    match symbol_of(places, name) {
-        Some(symbol) => match patch_by_symbol(alloc, places, name, bytes, symbol) {
+    match symbol_of(lookup, name) {
+        Some(symbol) => match patch_by_symbol(alloc, lookup, name, bytes, symbol) {
             Ok(patch) => Ok(Some(patch)),
             Err(error) => Err(error),
         },

@@ -4,7 +4,7 @@ ghost use Rattle.std.specs.Prelude.{◌≡◌, ℕ, List, IfOk, IfErr, OnOk, OnE
 ghost use Rattle.ebpf_object.specs.Headline.{Headline};
 ghost use Rattle.ebpf_object.specs.KeptParts.{KeepsOthers};
 ghost use Rattle.ebpf_object.specs.Objects.{object_of};
-ghost use Rattle.ebpf_object.specs.Prepared.{IsParsed, IsFault, IsFirstFault, Refuses, Stages};
+ghost use Rattle.ebpf_object.specs.Prepared.{IsParsed, IsStageFault, IsFirstFault, RefusesPreparing, Stages};
 ghost use Rattle.ebpf_object.specs.Steps.{chosen};
 ghost use Rattle.ebpf_parts.specs.declared.reading.Reading.{Reading};
 ghost use Rattle.ebpf_parts.specs.declared.reading.Reading.TheVariants.{Stated};
@@ -22,7 +22,7 @@ use std::alloc::Global;
 /// What is chosen of the passes over an object.
 #[derive(Clone, Copy)]
 pub struct Steps<'a> {
-    /// A kernel's types, where functions are to be adapted to them.
+    /// A kernel's types, where functions are to be relocated to them.
     pub target_btf: Option<&'a Btf>,
     /// Names of maps with their descriptors, where these are to be written. Every map that a slot refers to needs one,
     /// also `.bss`, `.data` and `.rodata` with the variables: without it the maps pass refuses. A name that the object
@@ -30,7 +30,7 @@ pub struct Steps<'a> {
     pub map_fds: Option<&'a [(&'a str, i32)]>,
     /// Where externs are to be resolved and written: the kernel's types, if they are known.
     pub externs: Option<Option<&'a Btf>>,
-    /// Whether programs are joined with the functions that they reach.
+    /// Whether programs are linked with the functions that they reach.
     pub calls: bool,
 }
 
@@ -43,7 +43,7 @@ fn run_all<K: SymbolSource>(
 ) -> Result<Object, PrepareError>
     ensures stages { IfOk result (Stages (chosen steps.now) (K.source kallsyms) object) }
     ensures others_stay { IfOk result (KeepsOthers object) }
-    ensures fault { IfErr result (Refuses (IsFault (chosen steps.now) (K.source kallsyms) object)) }
+    ensures fault { IfErr result (RefusesPreparing (IsStageFault (chosen steps.now) (K.source kallsyms) object)) }
 {
     let mut prepared = object;
     match run_stages(alloc, &mut prepared, steps, kallsyms) {
@@ -67,8 +67,8 @@ pub fn prepare_object<K: SymbolSource>(
     ensures stages { IfOk result (Stages (chosen steps.now) (K.source kallsyms) object) }
     ensures headline { (reading : Reading) (file : List ℕ) → IsParsed reading file object → IfOk result (Headline (chosen steps.now) (K.source kallsyms) reading file) }
     ensures others_stay { IfOk result (KeepsOthers object) }
-    ensures fault { IfErr result (Refuses (IsFault (chosen steps.now) (K.source kallsyms) object)) }
-    ensures first_fault { (reading : Reading) (file : List ℕ) → IsParsed reading file object → IfErr result (Refuses (IsFirstFault (chosen steps.now) (K.source kallsyms) reading file)) }
+    ensures fault { IfErr result (RefusesPreparing (IsStageFault (chosen steps.now) (K.source kallsyms) object)) }
+    ensures first_fault { (reading : Reading) (file : List ℕ) → IsParsed reading file object → IfErr result (RefusesPreparing (IsFirstFault (chosen steps.now) (K.source kallsyms) reading file)) }
 {
     run_all(alloc, object, steps, kallsyms)
 }
@@ -88,8 +88,8 @@ pub fn prepare_copy<K: SymbolSource>(
     ensures stages { IfOk result (Stages (chosen steps.now) (K.source kallsyms) object.now) }
     ensures headline { (reading : Reading) (file : List ℕ) → IsParsed reading file object.now → IfOk result (Headline (chosen steps.now) (K.source kallsyms) reading file) }
     ensures others_stay { IfOk result (KeepsOthers object.now) }
-    ensures fault { IfErr result (Refuses (IsFault (chosen steps.now) (K.source kallsyms) object.now)) }
-    ensures first_fault { (reading : Reading) (file : List ℕ) → IsParsed reading file object.now → IfErr result (Refuses (IsFirstFault (chosen steps.now) (K.source kallsyms) reading file)) }
+    ensures fault { IfErr result (RefusesPreparing (IsStageFault (chosen steps.now) (K.source kallsyms) object.now)) }
+    ensures first_fault { (reading : Reading) (file : List ℕ) → IsParsed reading file object.now → IfErr result (RefusesPreparing (IsFirstFault (chosen steps.now) (K.source kallsyms) reading file)) }
 {
     let Ok(copy) = object.clone() else {
         return Err(PrepareError::OutOfMemory);
@@ -112,8 +112,8 @@ pub fn prepare_in_place<K: SymbolSource>(
     ensures stages { OnOk result (Stages (chosen steps.now) (K.source kallsyms) object.old object.new) }
     ensures headline { (reading : Reading) (file : List ℕ) → IsParsed reading file object.old → OnOk result (Headline (chosen steps.now) (K.source kallsyms) reading file object.new) }
     ensures others_stay { KeepsOthers object.old object.new }
-    ensures fault { IfErr result (Refuses (IsFault (chosen steps.now) (K.source kallsyms) object.old)) }
-    ensures first_fault { (reading : Reading) (file : List ℕ) → IsParsed reading file object.old → IfErr result (Refuses (IsFirstFault (chosen steps.now) (K.source kallsyms) reading file)) }
+    ensures fault { IfErr result (RefusesPreparing (IsStageFault (chosen steps.now) (K.source kallsyms) object.old)) }
+    ensures first_fault { (reading : Reading) (file : List ℕ) → IsParsed reading file object.old → IfErr result (RefusesPreparing (IsFirstFault (chosen steps.now) (K.source kallsyms) reading file)) }
     ensures unchanged { OnErr result (object.new ≡ object.old) }
 {
     let Ok(functions) = copy_keys(&object.functions) else {
@@ -132,8 +132,8 @@ pub fn prepare_in_place<K: SymbolSource>(
     }
 }
 
-/// The object that the bytes of an ELF64 file are, after the chosen passes in this order: functions adapted to a
-/// kernel's types, descriptors of the object's own maps, externs resolved and then written, programs joined with the
+/// The object that the bytes of an ELF64 file are, after the chosen passes in this order: functions relocated to a
+/// kernel's types, descriptors of the object's own maps, externs resolved and then written, programs linked with the
 /// functions that they reach. `kallsyms` has the lines of the kernel's symbols: a reader, or a `SymbolText` with a text in
 /// memory. The text sections are those of the functions' keys.
 ///
@@ -151,7 +151,7 @@ pub fn prepare<K: SymbolSource>(
 ) -> Result<Object, PrepareError>
     ensures headline { IfOk result (Headline (chosen steps.now) (K.source kallsyms) Stated bytes.now) }
     ensures others_stay { IfOk result (λ o. KeepsOthers (object_of bytes.now) o) }
-    ensures fault { IfErr result (Refuses (IsFirstFault (chosen steps.now) (K.source kallsyms) Stated bytes.now)) }
+    ensures fault { IfErr result (RefusesPreparing (IsFirstFault (chosen steps.now) (K.source kallsyms) Stated bytes.now)) }
 {
     match Object::parse(alloc, bytes) {
         Ok(object) => prepare_object(alloc, object, steps, kallsyms),

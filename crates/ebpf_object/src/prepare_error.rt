@@ -16,7 +16,7 @@ pub enum PrepareError {
     /// The file can't be parsed.
     #[error("parse: {0}")]
     Parse(ParseError),
-    /// The functions can't be adapted to a kernel's types.
+    /// The functions can't be relocated to a kernel's types.
     #[error("types: {0}")]
     Types(BtfRelocationError),
     /// The descriptors of maps can't be written.
@@ -25,10 +25,10 @@ pub enum PrepareError {
     /// The externs can't be resolved.
     #[error("ksyms: {0}")]
     Ksyms(KsymsError),
-    /// What is known of the externs can't be written.
+    /// The externs can't be written.
     #[error("externs: {0}")]
     Externs(EbpfRelocationError),
-    /// The programs can't be joined with the functions that they reach.
+    /// The programs can't be linked with the functions that they reach.
     #[error("calls: {0}")]
     Calls(EbpfRelocationError),
     /// No memory was found between the stages.

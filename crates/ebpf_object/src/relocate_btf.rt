@@ -1,8 +1,8 @@
-//! Adapting the functions to another kernel's types.
+//! Relocating the functions to another kernel's types.
 
 ghost use Rattle.std.specs.Prelude.{◌≡◌, [], MatchBool, Ok, Err, IfOk, IfErr, OnOk, OnErr};
-ghost use Rattle.ebpf_core_relo.specs.Answers.{is_memory_at, told_at};
-ghost use Rattle.ebpf_object.specs.AdaptedSlots.{adapted_slots, AreAdapted};
+ghost use Rattle.ebpf_core_relo.specs.Answers.{is_memory_at, without_texts_at};
+ghost use Rattle.ebpf_object.specs.RelocatedSlots.{relocated_slots, AreRelocatedToTypes};
 
 use crate::object::Object;
 use ebpf_base::{ByKey, Items};
@@ -12,9 +12,9 @@ use ebpf_parts::insn::bpf_insn;
 
 impl Object {
     /// The slots of the functions that its CO-RE relocations write, by the functions' keys.
-    fn adapted_slots(&self, target: &Btf) -> Result<ByKey<Items<bpf_insn>>, BtfRelocationError>
-        ensures slots { IfOk result (λ slots. adapted_slots self.now target.now ≡ Ok slots) }
-        ensures fault { IfErr result (λ e. MatchBool (is_memory_at e) (e.section ≡ []) (adapted_slots self.now target.now ≡ Err (told_at e))) }
+    fn relocated_slots(&self, target: &Btf) -> Result<ByKey<Items<bpf_insn>>, BtfRelocationError>
+        ensures slots { IfOk result (λ slots. relocated_slots self.now target.now ≡ Ok slots) }
+        ensures fault { IfErr result (λ e. MatchBool (is_memory_at e) (e.section ≡ []) (relocated_slots self.now target.now ≡ Err (without_texts_at e))) }
     {
         let alloc = *self.license.as_vec().allocator();
         let (Some(local), Some(relocations)) = (&self.btf, &self.btf_ext) else {
@@ -30,7 +30,7 @@ impl Object {
         )
     }
 
-    /// Adapts the functions to a kernel whose types are `target` (CO-RE: the kernel's
+    /// Relocates the functions to a kernel whose types are `target` (CO-RE: the kernel's
     /// Documentation/bpf/llvm_reloc.rst): each CO-RE relocation of `.BTF.ext` is applied to its slot, section by section
     /// and in order, each over those before it. An object without type information or without `.BTF.ext` stays. All but
     /// the slots of functions stays.
@@ -44,12 +44,12 @@ impl Object {
     /// the slot can't carry what was found. `OutOfMemory`, with an empty name, only where memory was refused. After a
     /// refusal the object is as it was.
     pub fn relocate_btf(&mut self, target: &Btf) -> Result<(), BtfRelocationError>
-        ensures functions { OnOk result (AreAdapted self.old target.now self.new.functions) }
-        ensures fault { IfErr result (λ e. MatchBool (is_memory_at e) (e.section ≡ []) (adapted_slots self.old target.now ≡ Err (told_at e))) }
+        ensures functions { OnOk result (AreRelocatedToTypes self.old target.now self.new.functions) }
+        ensures fault { IfErr result (λ e. MatchBool (is_memory_at e) (e.section ≡ []) (relocated_slots self.old target.now ≡ Err (without_texts_at e))) }
         ensures others_stay { self.new ≡ record self.old { functions = self.new.functions } }
         ensures unchanged { OnErr result (self.new ≡ self.old) }
     {
-        match self.adapted_slots(target) {
+        match self.relocated_slots(target) {
             Ok(slots) => {
                 put_slots(&mut self.functions, slots);
                 Ok(())

@@ -1,13 +1,13 @@
-//! Joining the programs of an object with the functions that they reach.
+//! Linking the programs of an object with the functions that they reach.
 
 ghost use Rattle.std.specs.Prelude.{◌≡◌, ◌++◌, ℕ, ⊤, IfOk, IfErr, OnOk, OnErr, MatchBool, Some, true, if◌then◌else◌};
 ghost use Rattle.std.specs.FinMap as map;
 ghost use Rattle.std.specs.List.{flat_map};
 ghost use Rattle.std.specs.Ordering.{eq_by_cmp};
 ghost use Rattle.ebpf_base.specs.Keys.{key_cmp, lent_bytes};
-ghost use Rattle.ebpf_object.specs.Joined.{linkable_of, program_with, programs_in_order, replaced, AreJoined};
-ghost use Rattle.ebpf_reloc.specs.Linking.{AreLinked, IsFirstFault};
-ghost use Rattle.ebpf_reloc.specs.Places.{sections_in};
+ghost use Rattle.ebpf_object.specs.LinkedPrograms.{linkable_of, program_with, programs_in_order, replaced, ProgramsAreLinked};
+ghost use Rattle.ebpf_reloc.specs.Linking.{AreLinked, IsFirstRefusal};
+ghost use Rattle.ebpf_reloc.specs.VariableLookup.{text_sections_in};
 ghost use Rattle.ebpf_reloc.specs.Memory.{is_memory_at, NamesNoneForMemory};
 
 use crate::object::Object;
@@ -80,13 +80,13 @@ fn take_places(functions: &mut ByKey<Function>, linked: ByKey<Function>)
 }
 
 impl Object {
-    /// The functions of its programs, each joined with those that it reaches.
+    /// The functions of its programs, each linked with those that it reaches.
     fn linked_programs(
         &self,
         text_sections: &HashSet<usize>,
     ) -> Result<ByKey<Function>, EbpfRelocationError>
-        ensures linked { IfOk result (λ linked. AreLinked (linkable_of self.now (sections_in text_sections.now)) (programs_in_order self.now.programs) linked) }
-        ensures fault { IfErr result (λ e. MatchBool (is_memory_at e) ⊤ (IsFirstFault (linkable_of self.now (sections_in text_sections.now)) (programs_in_order self.now.programs) e)) }
+        ensures linked { IfOk result (λ linked. AreLinked (linkable_of self.now (text_sections_in text_sections.now)) (programs_in_order self.now.programs) linked) }
+        ensures fault { IfErr result (λ e. MatchBool (is_memory_at e) ⊤ (IsFirstRefusal (linkable_of self.now (text_sections_in text_sections.now)) (programs_in_order self.now.programs) e)) }
         ensures memory { IfErr result NamesNoneForMemory }
     {
         let alloc = *self.license.as_vec().allocator();
@@ -102,11 +102,11 @@ impl Object {
         relocate_calls(alloc, &programs, &parts)
     }
 
-    /// Joins each program with every function that its references reach: its slots, and then the slots of those
+    /// Links each program with every function that its references reach: its slots, and then the slots of those
     /// functions, each once, in the order of their key paths, which are the least paths of slots to them on which
     /// no function occurs twice. Each reference holds the distance to its copy, and the records on functions and
     /// lines move with their copies. `text_sections` has the numbers of the sections whose symbols are functions.
-    /// Every program is joined from the functions as they stand before; functions that are no program's stay.
+    /// Every program is linked from the functions as they stand before; functions that are no program's stay.
     ///
     /// # Errors
     ///
@@ -118,8 +118,8 @@ impl Object {
         &mut self,
         text_sections: &HashSet<usize>,
     ) -> Result<(), EbpfRelocationError>
-        ensures functions { OnOk result (AreJoined (linkable_of self.old (sections_in text_sections.now)) (programs_in_order self.old.programs) self.new.functions) }
-        ensures fault { IfErr result (λ e. MatchBool (is_memory_at e) ⊤ (IsFirstFault (linkable_of self.old (sections_in text_sections.now)) (programs_in_order self.old.programs) e)) }
+        ensures functions { OnOk result (ProgramsAreLinked (linkable_of self.old (text_sections_in text_sections.now)) (programs_in_order self.old.programs) self.new.functions) }
+        ensures fault { IfErr result (λ e. MatchBool (is_memory_at e) ⊤ (IsFirstRefusal (linkable_of self.old (text_sections_in text_sections.now)) (programs_in_order self.old.programs) e)) }
         ensures memory { IfErr result NamesNoneForMemory }
         ensures others_stay { self.new ≡ record self.old { functions = self.new.functions } }
         ensures unchanged { OnErr result (self.new ≡ self.old) }

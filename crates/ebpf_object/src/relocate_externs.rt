@@ -1,4 +1,4 @@
-//! Writing what is known of externs.
+//! Writing externs.
 
 ghost use Rattle.std.specs.Prelude.{◌≡◌, true, OnOk, OnErr, IfErr};
 ghost use Rattle.ebpf_base.specs.Faults.{Refuses};
@@ -10,7 +10,7 @@ use crate::object::Object;
 use ebpf_reloc::EbpfRelocationError;
 
 impl Object {
-    /// Writes what is known of the externs into the slots that refer to them. An object without type information
+    /// Writes the externs into the slots that refer to them. An object without type information
     /// has no externs and stays. All but the slots of functions stays.
     ///
     /// A call, code 0x85, of a resolved extern with an id of the kernel gets source 2, the id and offset 0; one of a

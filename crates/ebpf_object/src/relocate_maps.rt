@@ -4,7 +4,7 @@ ghost use Rattle.std.specs.Prelude.{◌≡◌, None, Some, OnOk, OnErr, IfErr, M
 ghost use Rattle.std.specs.Iterator.{IsFinite};
 ghost use Rattle.ebpf_passes.specs.Passes.{Given};
 ghost use Rattle.ebpf_passes.specs.Relocated.{out_of_memory};
-ghost use Rattle.ebpf_reloc.specs.Places.{sections_in};
+ghost use Rattle.ebpf_reloc.specs.VariableLookup.{text_sections_in};
 ghost use Rattle.ebpf_reloc.specs.Memory.{is_memory_at};
 ghost use Rattle.ebpf_object.specs.WrittenSlots.{with_maps, maps_fault};
 
@@ -37,8 +37,8 @@ impl Object {
     ) -> Result<(), EbpfRelocationError>
         requires can { I.can_next maps }
         requires ends { IsFinite (I.remaining maps) }
-        ensures ok { OnOk result (Given I.next_gives maps (λ given. (self.new ≡ with_maps self.old (sections_in text_sections.now) given) × (maps_fault self.old (sections_in text_sections.now) given ≡ None))) }
-        ensures fault { IfErr result (λ e. MatchBool (is_memory_at e) (e ≡ out_of_memory) (Given I.next_gives maps (λ given. maps_fault self.old (sections_in text_sections.now) given ≡ Some e))) }
+        ensures ok { OnOk result (Given I.next_gives maps (λ given. (self.new ≡ with_maps self.old (text_sections_in text_sections.now) given) × (maps_fault self.old (text_sections_in text_sections.now) given ≡ None))) }
+        ensures fault { IfErr result (λ e. MatchBool (is_memory_at e) (e ≡ out_of_memory) (Given I.next_gives maps (λ given. maps_fault self.old (text_sections_in text_sections.now) given ≡ Some e))) }
         ensures others_stay { self.new ≡ record self.old { functions = self.new.functions } }
         ensures err { OnErr result (self.new ≡ self.old) }
     {

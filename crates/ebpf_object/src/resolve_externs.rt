@@ -18,8 +18,8 @@ impl Object {
     /// Resolves the externs with a kernel's types and the lines that tell its addresses.
     ///
     /// Where the file has no type information, and where all are resolved already, they stay. Of the others, those
-    /// with a type are sought in `kernel_btf`: a function by its name before `___`, a variable by its whole name.
-    /// Those without a type are sought in the lines, if there are any: each line's first word is an address in
+    /// with a type are looked up in `kernel_btf`: a function by its name before `___`, a variable by its whole name.
+    /// Those without a type are looked up in the lines, if there are any: each line's first word is an address in
     /// hexadecimal digits and its third word a name. A weak extern that is not found gets the address 0 and stays
     /// unresolved. All lines are read, one at a time.
     ///

@@ -3,8 +3,8 @@
 ghost use Rattle.std.specs.Prelude.{◌≡◌, None, Some, option_map, is_some, OnOk, IfErr};
 ghost use Rattle.std.specs.Option.{option_copied};
 ghost use Rattle.ebpf_object.specs.KeptParts.{KeepsOthers};
-ghost use Rattle.ebpf_object.specs.Prepared.{Stages, IsFault, Refuses};
-ghost use Rattle.ebpf_object.specs.Stages.{Adapts, AdaptingFault, Resolves, ResolvingFault, externs_known, knowing_fault, Joins, JoiningFault, described, describing_fault};
+ghost use Rattle.ebpf_object.specs.Prepared.{Stages, IsStageFault, RefusesPreparing};
+ghost use Rattle.ebpf_object.specs.Stages.{RelocatesTypes, TypesFault, Resolves, ResolvingFault, with_externs_if, externs_fault_if, LinksPrograms, LinkingFault, fds_written, fds_fault};
 ghost use Rattle.ebpf_object.specs.StageFaults.{Wrapped};
 ghost use Rattle.ebpf_object.specs.Steps.{chosen, descriptors_of};
 ghost use Rattle.ebpf_object.specs.declared.prepare_error.PrepareError.TheVariants.{Types, Maps, Ksyms, Externs, Calls};
@@ -17,11 +17,11 @@ use ebpf_btf::Btf;
 use ebpf_ksyms::SymbolSource;
 use std::alloc::Global;
 
-/// Adapts the functions to a kernel's types.
+/// Relocates the functions to a kernel's types.
 #[tactic(auto, using(crate::proofs::Staging::wrapped))]
-fn adapt(object: &mut Object, target: Option<&Btf>) -> Result<(), PrepareError>
-    ensures ok { OnOk result (Adapts (option_copied target.entry) object.old object.new) }
-    ensures fault { IfErr result (Refuses (Wrapped Types (AdaptingFault (option_copied target.entry) object.old))) }
+fn relocate_types(object: &mut Object, target: Option<&Btf>) -> Result<(), PrepareError>
+    ensures ok { OnOk result (RelocatesTypes (option_copied target.entry) object.old object.new) }
+    ensures fault { IfErr result (RefusesPreparing (Wrapped Types (TypesFault (option_copied target.entry) object.old))) }
     ensures others_stay { KeepsOthers object.old object.new }
 {
     let Some(target) = target else {
@@ -34,14 +34,14 @@ fn adapt(object: &mut Object, target: Option<&Btf>) -> Result<(), PrepareError>
 }
 
 /// Writes the descriptors of the object's own maps.
-fn describe(
+fn write_map_fds(
     alloc: Global,
     object: &mut Object,
     descriptors: Option<&[(&str, i32)]>,
 ) -> Result<(), PrepareError>
-    ensures ok { OnOk result (object.new ≡ described (descriptors_of descriptors.entry) object.old) }
-    ensures sound { OnOk result (describing_fault (descriptors_of descriptors.entry) object.old ≡ None) }
-    ensures fault { IfErr result (Refuses (Wrapped Maps (λ e. describing_fault (descriptors_of descriptors.entry) object.old ≡ Some e))) }
+    ensures ok { OnOk result (object.new ≡ fds_written (descriptors_of descriptors.entry) object.old) }
+    ensures sound { OnOk result (fds_fault (descriptors_of descriptors.entry) object.old ≡ None) }
+    ensures fault { IfErr result (RefusesPreparing (Wrapped Maps (λ e. fds_fault (descriptors_of descriptors.entry) object.old ≡ Some e))) }
     ensures others_stay { KeepsOthers object.old object.new }
 {
     let Some(descriptors) = descriptors else {
@@ -58,7 +58,7 @@ fn resolve<K: SymbolSource>(
     kallsyms: K,
 ) -> Result<(), PrepareError>
     ensures ok { OnOk result (Resolves (option_map option_copied kernel.entry) (K.source kallsyms) object.old object.new) }
-    ensures fault { IfErr result (Refuses (Wrapped Ksyms (ResolvingFault (option_map option_copied kernel.entry) (K.source kallsyms) object.old))) }
+    ensures fault { IfErr result (RefusesPreparing (Wrapped Ksyms (ResolvingFault (option_map option_copied kernel.entry) (K.source kallsyms) object.old))) }
     ensures others_stay { KeepsOthers object.old object.new }
 {
     let Some(kernel) = kernel else {
@@ -70,12 +70,12 @@ fn resolve<K: SymbolSource>(
     }
 }
 
-/// Writes what is known of the externs.
+/// Writes the externs into the slots that refer to them.
 #[tactic(auto, using(crate::proofs::Staging::wrapped))]
 fn write_externs(object: &mut Object, kernel: Option<Option<&Btf>>) -> Result<(), PrepareError>
-    ensures ok { OnOk result (object.new ≡ externs_known (is_some kernel.entry) object.old) }
-    ensures sound { OnOk result (knowing_fault (is_some kernel.entry) object.old ≡ None) }
-    ensures fault { IfErr result (Refuses (Wrapped Externs (λ e. knowing_fault (is_some kernel.entry) object.old ≡ Some e))) }
+    ensures ok { OnOk result (object.new ≡ with_externs_if (is_some kernel.entry) object.old) }
+    ensures sound { OnOk result (externs_fault_if (is_some kernel.entry) object.old ≡ None) }
+    ensures fault { IfErr result (RefusesPreparing (Wrapped Externs (λ e. externs_fault_if (is_some kernel.entry) object.old ≡ Some e))) }
     ensures others_stay { KeepsOthers object.old object.new }
 {
     if kernel.is_none() {
@@ -87,11 +87,11 @@ fn write_externs(object: &mut Object, kernel: Option<Option<&Btf>>) -> Result<()
     }
 }
 
-/// Joins the programs with the functions that they reach.
+/// Links the programs with the functions that they reach.
 #[tactic(auto, using(crate::proofs::Staging::wrapped))]
-fn join(alloc: Global, object: &mut Object, calls: bool) -> Result<(), PrepareError>
-    ensures ok { OnOk result (Joins calls object.old object.new) }
-    ensures fault { IfErr result (Refuses (Wrapped Calls (JoiningFault calls object.old))) }
+fn link_programs(alloc: Global, object: &mut Object, calls: bool) -> Result<(), PrepareError>
+    ensures ok { OnOk result (LinksPrograms calls object.old object.new) }
+    ensures fault { IfErr result (RefusesPreparing (Wrapped Calls (LinkingFault calls object.old))) }
     ensures others_stay { KeepsOthers object.old object.new }
 {
     if !calls {
@@ -113,11 +113,11 @@ pub fn run_stages<K: SymbolSource>(
 ) -> Result<(), PrepareError>
     ensures ok { OnOk result (Stages (chosen steps.now) (K.source kallsyms) object.old object.new) }
     ensures others_stay { KeepsOthers object.old object.new }
-    ensures fault { IfErr result (Refuses (IsFault (chosen steps.now) (K.source kallsyms) object.old)) }
+    ensures fault { IfErr result (RefusesPreparing (IsStageFault (chosen steps.now) (K.source kallsyms) object.old)) }
 {
-    adapt(object, steps.target_btf)?;
-    describe(alloc, object, steps.map_fds)?;
+    relocate_types(object, steps.target_btf)?;
+    write_map_fds(alloc, object, steps.map_fds)?;
     resolve(object, steps.externs, kallsyms)?;
     write_externs(object, steps.externs)?;
-    join(alloc, object, steps.calls)
+    link_programs(alloc, object, steps.calls)
 }

@@ -29,16 +29,16 @@ impl<'a> Steps<'a> {
         kernels.with_descriptors(descriptors).with_calls()
     }
 
-    /// The passes that need nothing of a kernel but descriptors: these are written as `all` says, and programs are joined.
-    /// Functions are not adapted to types, and externs are left alone.
+    /// The passes that need nothing of a kernel but descriptors: these are written as `all` says, and programs are linked.
+    /// Functions are not relocated to types, and externs are left alone.
     pub fn without_kernel(descriptors: &'a [(&'a str, i32)]) -> Steps<'a>
         ensures { chosen result ≡ record { target = None; descriptors = Some (map descriptor_of descriptors.now); kernel = None; externs = false; calls = true } }
     {
-        let described = Steps::none().with_descriptors(descriptors);
-        described.with_calls()
+        let fds_written = Steps::none().with_descriptors(descriptors);
+        fds_written.with_calls()
     }
 
-    /// These steps, with functions adapted to a kernel's types.
+    /// These steps, with functions relocated to a kernel's types.
     pub fn with_types(self, kernel: &'a Btf) -> Steps<'a>
         ensures { chosen result ≡ record (chosen self.entry) { target = Some kernel.now } }
     {
@@ -87,7 +87,7 @@ impl<'a> Steps<'a> {
         Steps { externs, ..self }
     }
 
-    /// These steps, with programs joined with the functions that they reach.
+    /// These steps, with programs linked with the functions that they reach.
     pub fn with_calls(self) -> Steps<'a>
         ensures { chosen result ≡ record (chosen self.entry) { calls = true } }
     {

@@ -7,43 +7,43 @@ use Rattle.ebpf_base.specs.Faults.{or_else, first_some}
 use Rattle.ebpf_base.specs.Keyed.{put_all}
 use Rattle.ebpf_base.specs.Keys.{text_cmp}
 use Rattle.ebpf_btf.specs.TypeInfo.{TypeInfo}
-use Rattle.ebpf_elf.specs.Relocations.{relocations, relocation_sections, target_of, entries_of}
+use Rattle.ebpf_elf.specs.Relocations.{relocations, relocation_sections, relocated_section, table_entries}
 use Rattle.ebpf_elf.specs.Sections.{SectionOf}
 use Rattle.ebpf_elf.specs.declared.entries.ElfRelocation.{ElfRelocation}
 use Rattle.ebpf_parsing.specs.DataMaps.{data_definition, data_flags, data_bytes, data_map, data_map_fault}
-use Rattle.ebpf_parsing.specs.DeclaredMaps.{declared_maps, declared_maps_fault}
-use Rattle.ebpf_parsing.specs.LastData.{is_number, last_maps, put_by, added_last}
+use Rattle.ebpf_parsing.specs.BtfDefinedMaps.{btf_defined_maps, btf_defined_maps_fault}
+use Rattle.ebpf_parsing.specs.LastData.{is_index, last_maps, put_by, added_last}
 use Rattle.ebpf_parsing.specs.LegacyMaps.{legacy_map, legacy_fault, legacy_maps_fault}
-use Rattle.ebpf_parsing.specs.OfSection.{programs_by, functions_by, fault_by, fault_in, programs_in, functions_in, relocations_in, name_in, program_section_fault}
-use Rattle.ebpf_parsing.specs.Parts.{added}
-use Rattle.ebpf_parsing.specs.Programs.{programs_of, program_function, program_fault, placed}
-use Rattle.ebpf_parsing.specs.Records.{Said, said_of}
-use Rattle.ebpf_parsing.specs.Relocations.{patched}
+use Rattle.ebpf_parsing.specs.OfSection.{programs_by, functions_by, fault_by, fault_in, programs_in, functions_in, relocations_in, name_in, program_section_faults}
+use Rattle.ebpf_parsing.specs.ObjectTables.{added}
+use Rattle.ebpf_parsing.specs.Programs.{programs_of, program_function, program_fault, with_key}
+use Rattle.ebpf_parsing.specs.Records.{FuncAndLineInfo, func_and_line_info_of}
+use Rattle.ebpf_parsing.specs.Relocations.{with_relocations}
 use Rattle.ebpf_parsing.specs.Symbols.{SymbolValue}
-use Rattle.ebpf_parsing.specs.Texts.{function_at, fault_at, size_at, symbol_at_offset, text_function, text_function_of, text_fault_of, offsets_from, text_fault, conflict_fault}
-use Rattle.ebpf_parsing.specs.declared.parts.Parts.{Parts}
-use Rattle.ebpf_parsing.specs.declared.shared.Shared.{Shared}
+use Rattle.ebpf_parsing.specs.Texts.{function_at, text_fault_at, size_at, symbol_at_offset, text_function, text_function_of, text_fault_of, offsets_from, text_fault, conflict_fault}
+use Rattle.ebpf_parsing.specs.declared.object_tables.ObjectTables.{ObjectTables}
+use Rattle.ebpf_parsing.specs.declared.metadata.FileMetadata.{FileMetadata}
 use Rattle.ebpf_parts.specs.Readings.{section_as}
 use Rattle.ebpf_parts.specs.declared.program_section.ProgramSection.{ProgramSection}
-use Rattle.ebpf_parts.specs.Sections.{SectionValue, section_of, section_with, name_fault, data_fault, target_fault, section_fault, section_fault_with}
+use Rattle.ebpf_parts.specs.Sections.{SectionValue, section_of, section_with, section_name_fault, data_fault, target_fault, section_fault, section_fault_with}
 use Rattle.ebpf_parts.specs.declared.error.ParseError.{ParseError}
 use Rattle.ebpf_parts.specs.declared.maps.either.Map.TheVariants.{Legacy}
 use Rattle.ebpf_parts.specs.declared.section_kind.EbpfSectionKind.{EbpfSectionKind}
 use Rattle.ebpf_parts.specs.declared.section_kind.EbpfSectionKind.TheVariants.{BtfMaps, Data, Rodata, Bss, Text, Program as Programs}
 use Rattle.ebpf_parts.specs.declared.reading.Reading.{Reading}
-use Rattle.ebpf_declarations.specs.Declaring.{Declaring, declaring}
+use Rattle.ebpf_declarations.specs.TypesInReading.{TypesInReading, types_in_reading}
 
 -- a section with its relocations
-pub section_patched : (s : SectionOf) (tables : List SectionOf) → tables ≡ filter (λ r. target_of r == s.index) (relocation_sections s.file)
-    → section_of s ≡ patched (flat_map entries_of tables) (section_with [] s)
+pub section_patched : (s : SectionOf) (tables : List SectionOf) → tables ≡ filter (λ r. relocated_section r == s.index) (relocation_sections s.file)
+    → section_of s ≡ with_relocations (flat_map table_entries tables) (section_with [] s)
 unfolding section_of section_with
-section_patched s tables e = ap (λ ts. patched (flat_map entries_of ts) (section_with [] s)) (sym e)
+section_patched s tables e = ap (λ ts. with_relocations (flat_map table_entries ts) (section_with [] s)) (sym e)
 
 -- the fault of its relocations stands behind the others
-pub fault_of_targets : (s : SectionOf) (tables : List SectionOf) → tables ≡ filter (λ r. target_of r == s.index) (relocation_sections s.file)
-    → section_fault s ≡ or_else (section_fault_with [] s) (target_fault (flat_map entries_of tables))
+pub fault_of_targets : (s : SectionOf) (tables : List SectionOf) → tables ≡ filter (λ r. relocated_section r == s.index) (relocation_sections s.file)
+    → section_fault s ≡ or_else (section_fault_with [] s) (target_fault (flat_map table_entries tables))
 unfolding section_fault section_fault_with
-fault_of_targets s tables e = step (name_fault s) (data_fault s) ∙ ap (λ ts. or_else (or_else (name_fault s) (or_else (data_fault s) None)) (target_fault (flat_map entries_of ts))) (sym e)
+fault_of_targets s tables e = step (section_name_fault s) (data_fault s) ∙ ap (λ ts. or_else (or_else (section_name_fault s) (or_else (data_fault s) None)) (target_fault (flat_map table_entries ts))) (sym e)
   where
     step : (n d : Option ParseError) → or_else n (or_else d (target_fault (relocations s))) ≡ or_else (or_else n (or_else d None)) (target_fault (relocations s))
     step None None = refl
@@ -52,10 +52,10 @@ fault_of_targets s tables e = step (name_fault s) (data_fault s) ∙ ap (λ ts. 
 
 module _ (list : List ElfRelocation) (s : SectionValue) where
   abbrev p : SectionValue
-  p = patched list s
+  p = with_relocations list s
 
-  declared_same : (types : Option Declaring) (ys : List SymbolValue) → declared_maps types p ys ≡ declared_maps types s ys
-  unfolding declared_maps
+  declared_same : (types : Option TypesInReading) (ys : List SymbolValue) → btf_defined_maps types p ys ≡ btf_defined_maps types s ys
+  unfolding btf_defined_maps
   declared_same None ys = refl
   declared_same (Some types) ys = refl
 
@@ -68,14 +68,14 @@ module _ (list : List ElfRelocation) (s : SectionValue) where
   data_same = λ i. Legacy (record { def = data_definition s.size (data_flags s.kind); inner_def = None; section_index = s.index.0; section_kind = s.kind; symbol_index = None; bytes = bytes_same s.kind i })
 
   last_same : (last : FinMap text_cmp ℕ) → last_maps last p ≡ last_maps last s
-  last_same last = ap (λ m. if is_number s.index.0 (get last s.name) then (s.name, m) ∷ [] else []) data_same
+  last_same last = ap (λ m. if is_index s.index.0 (get last s.name) then (s.name, m) ∷ [] else []) data_same
 
   maps_same : (last : FinMap text_cmp ℕ) (reading : Reading) (types : Option TypeInfo) (ys : List SymbolValue) (k : EbpfSectionKind) → put_by k last reading types p ys ≡ put_by k last reading types s ys
   unfolding legacy_map
   maps_same last reading types ys Data = last_same last
   maps_same last reading types ys Rodata = last_same last
   maps_same last reading types ys Bss = last_same last
-  maps_same last reading types ys BtfMaps = declared_same (declaring reading types) ys
+  maps_same last reading types ys BtfMaps = declared_same (types_in_reading reading types) ys
   maps_same last reading types ys _ = refl
 
   named_same : (license : List ℕ) (version : Option ℕ) (ys : List SymbolValue) (kind : Option ProgramSection) → programs_of license version p ys kind ≡ programs_of license version s ys kind
@@ -93,20 +93,20 @@ module _ (list : List ElfRelocation) (s : SectionValue) where
   offsets_same ys zero offset = refl
   offsets_same ys (suc left) offset = ap (λ rest. if nat_lt offset (length s.bytes) then offset ∷ rest else []) (offsets_same ys left (offset + size_at s ys offset))
 
-  begun_same : (said : Said) (offset : ℕ) (y : Option SymbolValue) → text_function_of said p offset y ≡ text_function_of said s offset y
+  begun_same : (infos : FuncAndLineInfo) (offset : ℕ) (y : Option SymbolValue) → text_function_of infos p offset y ≡ text_function_of infos s offset y
   unfolding text_function
-  begun_same said offset None = refl
-  begun_same said offset (Some y) = refl
+  begun_same infos offset None = refl
+  begun_same infos offset (Some y) = refl
 
-  function_same : (said : Said) (ys : List SymbolValue) (offset : ℕ) → function_at said p ys offset ≡ function_at said s ys offset
+  function_same : (infos : FuncAndLineInfo) (ys : List SymbolValue) (offset : ℕ) → function_at infos p ys offset ≡ function_at infos s ys offset
   unfolding function_at symbol_at_offset
-  function_same said ys offset = begun_same said offset (symbol_at_offset s ys offset)
+  function_same infos ys offset = begun_same infos offset (symbol_at_offset s ys offset)
 
-  functions_same : (said : Said) (ys : List SymbolValue) (k : EbpfSectionKind) → functions_by k said p ys ≡ functions_by k said s ys
+  functions_same : (infos : FuncAndLineInfo) (ys : List SymbolValue) (k : EbpfSectionKind) → functions_by k infos p ys ≡ functions_by k infos s ys
   unfolding program_function
-  functions_same said ys Programs = refl
-  functions_same said ys Text = λ i. flat_map (λ offset. function_same said ys offset i) (offsets_same ys (length s.bytes) 0 i)
-  functions_same said ys _ = refl
+  functions_same infos ys Programs = refl
+  functions_same infos ys Text = λ i. flat_map (λ offset. function_same infos ys offset i) (offsets_same ys (length s.bytes) 0 i)
+  functions_same infos ys _ = refl
 
   -- ---- faults
 
@@ -115,32 +115,32 @@ module _ (list : List ElfRelocation) (s : SectionValue) where
   refused_same offset (Some y) = refl
 
   text_fault_same : (ys : List SymbolValue) → text_fault p ys ≡ text_fault s ys
-  unfolding text_fault fault_at symbol_at_offset
+  unfolding text_fault text_fault_at symbol_at_offset
   text_fault_same ys = λ i. or_else (conflict_fault s.index.0 ys) (first_some (λ offset. refused_same offset (symbol_at_offset s ys offset) i) (offsets_same ys (length s.bytes) 0 i))
 
-  declared_fault_same : (types : Option Declaring) (ys : List SymbolValue) → declared_maps_fault types p ys ≡ declared_maps_fault types s ys
-  unfolding declared_maps_fault
+  declared_fault_same : (types : Option TypesInReading) (ys : List SymbolValue) → btf_defined_maps_fault types p ys ≡ btf_defined_maps_fault types s ys
+  unfolding btf_defined_maps_fault
   declared_fault_same None ys = refl
   declared_fault_same (Some types) ys = refl
 
   fault_same : (reading : Reading) (types : Option TypeInfo) (ys : List SymbolValue) (k : EbpfSectionKind) → fault_by k reading types p ys ≡ fault_by k reading types s ys
-  unfolding program_section_fault program_fault data_map_fault legacy_maps_fault legacy_fault
+  unfolding program_section_faults program_fault data_map_fault legacy_maps_fault legacy_fault
   fault_same reading types ys Programs = refl
   fault_same reading types ys Text = text_fault_same ys
-  fault_same reading types ys BtfMaps = declared_fault_same (declaring reading types) ys
+  fault_same reading types ys BtfMaps = declared_fault_same (types_in_reading reading types) ys
   fault_same reading types ys _ = refl
 
   pub same_fault : (reading : Reading) (types : Option TypeInfo) (ys : List SymbolValue) → fault_in reading types p ys ≡ fault_in reading types s ys
   unfolding fault_in
   same_fault reading types ys = fault_same reading types ys s.kind
 
-  pub same_added : (last : FinMap text_cmp ℕ) (shared : Shared) (before : Parts) (ys : List SymbolValue)
-      → added_last last shared before p ys ≡ record (added_last last shared before s ys) { relocations = put_all before.relocations (relocations_in p) }
+  pub same_added : (last : FinMap text_cmp ℕ) (metadata : FileMetadata) (before : ObjectTables) (ys : List SymbolValue)
+      → added_last last metadata before p ys ≡ record (added_last last metadata before s ys) { relocations = put_all before.relocations (relocations_in p) }
   unfolding added programs_in functions_in
-  same_added last shared before ys = λ i. record {
-    maps = put_all before.maps (maps_same last shared.reading shared.btf ys s.kind i);
-    programs = put_all before.programs (programs_same shared.reading shared.license shared.kernel_version ys s.kind i);
-    functions = put_all before.functions (map placed (functions_same (said_of shared.btf_ext s.name) ys s.kind i));
+  same_added last metadata before ys = λ i. record {
+    maps = put_all before.maps (maps_same last metadata.reading metadata.btf ys s.kind i);
+    programs = put_all before.programs (programs_same metadata.reading metadata.license metadata.kernel_version ys s.kind i);
+    functions = put_all before.functions (map with_key (functions_same (func_and_line_info_of metadata.btf_ext s.name) ys s.kind i));
     relocations = put_all before.relocations (relocations_in p);
     section_infos = put_all before.section_infos (name_in s);
   }

@@ -5,14 +5,14 @@ use Rattle.ebpf_base.proofs.Faults.{both_None}
 use Rattle.ebpf_elf.specs.Faults.{faults}
 use Rattle.ebpf_elf.specs.Relocations.{relocations}
 use Rattle.ebpf_elf.specs.Sections.{SectionOf}
-use Rattle.ebpf_parsing.specs.Contents.{parse_fault_as, read_fault, sections_fault, other_sections, object_sections, own_symbols}
+use Rattle.ebpf_parsing.specs.FileContents.{parse_fault_as, read_fault, sections_fault, other_sections, object_sections, own_symbols}
 use Rattle.ebpf_parsing.specs.FileExterns.{types_of, file_externs_fault}
 use Rattle.ebpf_parsing.specs.FileSymbols.{file_symbols, symbols_fault}
 use Rattle.ebpf_parsing.specs.FileTypes.{file_types_fault}
 use Rattle.ebpf_parsing.specs.OfSection.{fault_in}
-use Rattle.ebpf_parsing.specs.Symbols.{symbols_of}
-use Rattle.ebpf_parsing.specs.Terms.{license_fault_as, version_fault}
-use Rattle.ebpf_parts.specs.Sections.{SectionValue, section_of, section_with, section_fault, section_fault_with, name_fault, data_fault, target_fault}
+use Rattle.ebpf_parsing.specs.Symbols.{section_symbols}
+use Rattle.ebpf_parsing.specs.LicenseAndVersion.{license_fault_as, version_fault}
+use Rattle.ebpf_parts.specs.Sections.{SectionValue, section_of, section_with, section_fault, section_fault_with, section_name_fault, data_fault, target_fault}
 use Rattle.ebpf_parts.specs.declared.error.ParseError.TheVariants.{ElfError}
 use Rattle.ebpf_parts.specs.declared.reading.Reading.{Reading}
 use Rattle.ebpf_parsing.specs.CodeOrder.{order_fault_as}
@@ -38,8 +38,8 @@ module _ (reading : Reading) (bytes : List ℕ) (clear : parse_fault_as reading 
   read : (x : SectionOf) × ((section_of x ≡ s) × (read_fault reading (types_of bytes) bytes x ≡ None))
   read = clear_item (read_fault reading (types_of bytes) bytes) section_of (other_sections bytes) n s (clear_sections reading bytes clear) here
 
-  both : (section_fault read.0 ≡ None) × (fault_in reading (types_of bytes) (section_of read.0) (symbols_of (file_symbols bytes) read.0.index) ≡ None)
-  both = both_None (section_fault read.0) (fault_in reading (types_of bytes) (section_of read.0) (symbols_of (file_symbols bytes) read.0.index)) read.1.1
+  both : (section_fault read.0 ≡ None) × (fault_in reading (types_of bytes) (section_of read.0) (section_symbols (file_symbols bytes) read.0.index) ≡ None)
+  both = both_None (section_fault read.0) (fault_in reading (types_of bytes) (section_of read.0) (section_symbols (file_symbols bytes) read.0.index)) read.1.1
 
   -- what the section's kind asks for is there
   pub kind_clear : fault_in reading (types_of bytes) s (own_symbols bytes s) ≡ None
@@ -50,5 +50,5 @@ module _ (reading : Reading) (bytes : List ℕ) (clear : parse_fault_as reading 
   pub targets_clear : target_fault s.relocations ≡ None
   unfolding section_of section_with section_fault section_fault_with
   targets_clear =
-      let inner = both_None (name_fault read.0) (or_else (data_fault read.0) (target_fault (relocations read.0))) both.0 in
+      let inner = both_None (section_name_fault read.0) (or_else (data_fault read.0) (target_fault (relocations read.0))) both.0 in
       subst (λ t. target_fault t.relocations ≡ None) read.1.0 (both_None (data_fault read.0) (target_fault (relocations read.0)) inner.1).1

@@ -6,10 +6,10 @@ use Rattle.std.specs.Ordering.{nat_cmp}
 use Rattle.std.proofs.lemmas.Map.Lookups.{exact_unsigned}
 use Rattle.ebpf_base.proofs.Keyed.{later_number_stands}
 use Rattle.ebpf_elf.specs.declared.entries.ElfRelocation.{ElfRelocation}
-use Rattle.ebpf_parsing.specs.Contents.{kept, object_sections, relocation_entries}
+use Rattle.ebpf_parsing.specs.FileContents.{relocation_tables, object_sections, relocation_entries}
 use Rattle.ebpf_parsing.specs.OfSection.{relocations_by, relocations_in}
-use Rattle.ebpf_parsing.specs.Relocations.{offset_of, kept_relocations, kept_at}
-use Rattle.ebpf_parsing.specs.Standing.{IsTableOfCode, TablesOfCode, RelocationsNameSymbols}
+use Rattle.ebpf_parsing.specs.Relocations.{offset_of, relocations_by_offset, relocation_table_at}
+use Rattle.ebpf_parsing.specs.TableKeys.{IsTableOfCode, TablesOfCode, RelocationsNameSymbols}
 use Rattle.ebpf_parsing.proofs.ClearSections.{targets_clear}
 use Rattle.ebpf_parsing.proofs.EntriesStand.{stands, all_flat_map}
 use Rattle.ebpf_parts.specs.Sections.{SectionValue}
@@ -20,9 +20,9 @@ use Rattle.ebpf_parts.specs.declared.section_kind.EbpfSectionKind.TheVariants.{T
 -- ---- whose they are
 
 module _ (bytes : List ℕ) (i : ℕ) (s : SectionValue) (here : slice_get (object_sections bytes) i ≡ Some s) where
-  of_code : (rs : List ElfRelocation) → s.relocations ≡ rs → (s.kind ≡ Text) ⊎ (s.kind ≡ Programs) → AllByRecursion (λ e. IsTableOfCode bytes e.0 e.1) (kept_at s.index.0 rs)
+  of_code : (rs : List ElfRelocation) → s.relocations ≡ rs → (s.kind ≡ Text) ⊎ (s.kind ≡ Programs) → AllByRecursion (λ e. IsTableOfCode bytes e.0 e.1) (relocation_table_at s.index.0 rs)
   of_code [] e kind = tt
-  of_code (r ∷ rs) e kind = (record { place = i; section = s; here = here; numbered = refl; kind = kind; own = ap kept_relocations (sym e) }, tt)
+  of_code (r ∷ rs) e kind = (record { place = i; section = s; here = here; numbered = refl; kind = kind; own = ap relocations_by_offset (sym e) }, tt)
 
   of_kind : (kind : EbpfSectionKind) → s.kind ≡ kind → AllByRecursion (λ e. IsTableOfCode bytes e.0 e.1) (relocations_by kind s)
   of_kind Programs e = of_code s.relocations refl (inr e)
@@ -30,7 +30,7 @@ module _ (bytes : List ℕ) (i : ℕ) (s : SectionValue) (here : slice_get (obje
   of_kind _ e = tt
 
 pub tables_of_code : TablesOfCode
-unfolding kept relocation_entries relocations_in
+unfolding relocation_tables relocation_entries relocations_in
 tables_of_code bytes section table e =
     stands nat_cmp exact_unsigned (IsTableOfCode bytes) section later_number_stands (relocation_entries bytes)
     (all_flat_map (λ e. IsTableOfCode bytes e.0 e.1) relocations_in (object_sections bytes) (λ i s here. of_kind bytes i s here s.kind refl)) table e

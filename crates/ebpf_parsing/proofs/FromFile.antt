@@ -5,10 +5,10 @@ use Rattle.std.proofs.lemmas.Option.{none-some}
 use Rattle.std.specs.List.{find, range_with_len}
 use Rattle.ebpf_elf.specs.File.{section_count}
 use Rattle.ebpf_elf.specs.RelocationTables.{holds_relocations}
-use Rattle.ebpf_elf.specs.Relocations.{relocation_sections, relocation_sections_in, target_of}
+use Rattle.ebpf_elf.specs.Relocations.{relocation_sections, relocation_sections_in, relocated_section}
 use Rattle.ebpf_elf.specs.Sections.{SectionOf, sections}
 use Rattle.ebpf_elf.specs.SymbolTable.{symbol_table}
-use Rattle.ebpf_parsing.specs.EntryPlaces.{AreOf, AreOfOneFile}
+use Rattle.ebpf_parsing.specs.EntryRanges.{AreOf, AreOfOneFile}
 
 pub some_same : {X : Type 0} (x y : X) → Some x ≡ Some y → x ≡ y
 some_same x y e = cc
@@ -41,8 +41,8 @@ one_file file [] h = tt
 one_file file (x ∷ xs) h = subst (λ (f : List ℕ). AreOf f (x ∷ xs)) (sym h.0) h
 
 -- those for one section
-pub of_one_file : (file : List ℕ) (i : ℕ) (tables : List SectionOf) → tables ≡ filter (λ r. target_of r == i) (relocation_sections file) → AreOfOneFile tables
-of_one_file file i tables e = one_file file tables (subst (λ (l : List SectionOf). AreOf file l) (sym e) (some_from file (λ r. target_of r == i) (relocation_sections file) (tables_from file)))
+pub of_one_file : (file : List ℕ) (i : ℕ) (tables : List SectionOf) → tables ≡ filter (λ r. relocated_section r == i) (relocation_sections file) → AreOfOneFile tables
+of_one_file file i tables e = one_file file tables (subst (λ (l : List SectionOf). AreOf file l) (sym e) (some_from file (λ r. relocated_section r == i) (relocation_sections file) (tables_from file)))
 
 found_among : (file : List ℕ) (p : SectionOf → Bool) (xs : List SectionOf) (s : SectionOf) → AreOf file xs → find p xs ≡ Some s → s.file ≡ file
 found_among file p [] s h e = absurd (none-some s e)

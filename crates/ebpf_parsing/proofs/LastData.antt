@@ -9,14 +9,14 @@ use Rattle.ebpf_base.specs.Keyed.{put_all}
 use Rattle.ebpf_base.specs.Keys.{text_cmp, text_total}
 use Rattle.ebpf_btf.specs.TypeInfo.{TypeInfo}
 use Rattle.ebpf_parsing.proofs.Lasts.{has, false_is_not, any-append, put_again, Lasts, another}
-use Rattle.ebpf_parsing.specs.Contents.{symbols_at}
+use Rattle.ebpf_parsing.specs.FileContents.{symbols_at}
 use Rattle.ebpf_parsing.specs.DataMaps.{data_maps}
-use Rattle.ebpf_parsing.specs.LastData.{is_data, data_row, is_number, last_maps, put_by, added_last}
+use Rattle.ebpf_parsing.specs.LastData.{is_data, data_row, is_index, last_maps, put_by, added_last}
 use Rattle.ebpf_parsing.specs.OfSection.{maps_by, maps_in}
-use Rattle.ebpf_parsing.specs.Parts.{added, all_added}
+use Rattle.ebpf_parsing.specs.ObjectTables.{added, all_added}
 use Rattle.ebpf_parsing.specs.Symbols.{SymbolValue}
-use Rattle.ebpf_parsing.specs.declared.parts.Parts.{Parts}
-use Rattle.ebpf_parsing.specs.declared.shared.Shared.{Shared}
+use Rattle.ebpf_parsing.specs.declared.object_tables.ObjectTables.{ObjectTables}
+use Rattle.ebpf_parsing.specs.declared.metadata.FileMetadata.{FileMetadata}
 use Rattle.ebpf_parts.specs.Sections.{SectionValue}
 use Rattle.ebpf_parts.specs.declared.maps.either.Map.{Map}
 use Rattle.ebpf_parts.specs.declared.section_kind.EbpfSectionKind.{EbpfSectionKind}
@@ -59,18 +59,18 @@ module _ (reading : Reading) (types : Option TypeInfo) where
         either true b false d f g h = false_is_not (f refl)
         either false b false d f g h = g h
 
-module _ (last : FinMap text_cmp ℕ) (s : SectionValue) (rest : List SectionValue) (lasts : DataLasts last (s ∷ rest)) (shared : Shared) (p : Parts) (ys : List SymbolValue) where
+module _ (last : FinMap text_cmp ℕ) (s : SectionValue) (rest : List SectionValue) (lasts : DataLasts last (s ∷ rest)) (metadata : FileMetadata) (p : ObjectTables) (ys : List SymbolValue) where
   abbrev rest_maps : List (List ℕ × Map)
-  rest_maps = maps_of shared.reading shared.btf ys rest
+  rest_maps = maps_of metadata.reading metadata.btf ys rest
 
   skipped : is_data s.kind ≡ true → put_all (put_all p.maps (last_maps last s)) rest_maps ≡ put_all (put_all p.maps (data_maps s)) rest_maps
-  skipped is = step (is_number s.index.0 (get last s.name)) refl
+  skipped is = step (is_index s.index.0 (get last s.name)) refl
     where
-      step : (b : Bool) → is_number s.index.0 (get last s.name) ≡ b → put_all (put_all p.maps (if is_number s.index.0 (get last s.name) then data_maps s else [])) rest_maps ≡ put_all (put_all p.maps (data_maps s)) rest_maps
+      step : (b : Bool) → is_index s.index.0 (get last s.name) ≡ b → put_all (put_all p.maps (if is_index s.index.0 (get last s.name) then data_maps s else [])) rest_maps ≡ put_all (put_all p.maps (data_maps s)) rest_maps
       step true at = rw at refl
-      step false at = rw at (sym (put_again text_total text_exact p.maps s.name _ rest_maps (all_give shared.reading shared.btf ys s.name rest (another text_total data_row last s rest lasts s.name s.index.0 (ap (λ (b : Bool). if b then (s.name, s.index.0) ∷ [] else []) is) at))))
+      step false at = rw at (sym (put_again text_total text_exact p.maps s.name _ rest_maps (all_give metadata.reading metadata.btf ys s.name rest (another text_total data_row last s rest lasts s.name s.index.0 (ap (λ (b : Bool). if b then (s.name, s.index.0) ∷ [] else []) is) at))))
 
-  same_put : (symbols : List SymbolValue) (k : EbpfSectionKind) → s.kind ≡ k → put_all (put_all p.maps (put_by k last shared.reading shared.btf s symbols)) rest_maps ≡ put_all (put_all p.maps (maps_by k shared.reading shared.btf s symbols)) rest_maps
+  same_put : (symbols : List SymbolValue) (k : EbpfSectionKind) → s.kind ≡ k → put_all (put_all p.maps (put_by k last metadata.reading metadata.btf s symbols)) rest_maps ≡ put_all (put_all p.maps (maps_by k metadata.reading metadata.btf s symbols)) rest_maps
   same_put symbols Data at = skipped (ap is_data at)
   same_put symbols Rodata at = skipped (ap is_data at)
   same_put symbols Bss at = skipped (ap is_data at)
@@ -85,6 +85,6 @@ module _ (last : FinMap text_cmp ℕ) (s : SectionValue) (rest : List SectionVal
   same_put symbols Version at = refl
 
   -- what the sections that are left add is the same
-  pub same_added : (symbols : List SymbolValue) → all_added shared (added_last last shared p s symbols) ys rest ≡ all_added shared (added shared p s symbols) ys rest
+  pub same_added : (symbols : List SymbolValue) → all_added metadata (added_last last metadata p s symbols) ys rest ≡ all_added metadata (added metadata p s symbols) ys rest
   unfolding added maps_in
-  same_added symbols = λ i. record (all_added shared (added shared p s symbols) ys rest) { maps = same_put symbols s.kind refl i }
+  same_added symbols = λ i. record (all_added metadata (added metadata p s symbols) ys rest) { maps = same_put symbols s.kind refl i }

@@ -10,7 +10,7 @@ use Rattle.std.proofs.lemmas.Bool.Decides.{nat_tests}
 use Rattle.ebpf_base.proofs.Keyed.{later_stands}
 use Rattle.ebpf_base.specs.Keyed.{put_all, last_at}
 use Rattle.ebpf_parsing.proofs.LastEntries.{equal, last_at-append}
-use Rattle.ebpf_parsing.specs.LastData.{is_number}
+use Rattle.ebpf_parsing.specs.LastData.{is_index}
 
 -- whether a key is among entries
 abbrev pub has : {K X : Type 0} → (K → K → Ordering) → K → List (K × X) → Bool
@@ -87,7 +87,7 @@ module _ {K A : Type 0} {R : K → K → Ordering} (o : IsTotalOrder R) (row : A
     fewer_lasts = record { is = λ q h. lasts.is q (later q h) ∙ both q ∙ whatever R q (flat_map row rest) h _ _ }
 
     -- an item that is not the last of its key has another behind it
-    pub another : (k : K) (i : ℕ) → row s ≡ (k, i) ∷ [] → is_number i (get last k) ≡ false → has R k (flat_map row rest) ≡ true
+    pub another : (k : K) (i : ℕ) → row s ≡ (k, i) ∷ [] → is_index i (get last k) ≡ false → has R k (flat_map row rest) ≡ true
     another k i is differs = step (has R k (flat_map row rest)) refl
       where
         itself : eq_by_cmp R k k ≡ true
@@ -96,7 +96,7 @@ module _ {K A : Type 0} {R : K → K → Ordering} (o : IsTotalOrder R) (row : A
         here : has R k (flat_map row (s ∷ rest)) ≡ true
         here = any-append (λ e. eq_by_cmp R k e.0) (row s) (flat_map row rest) ∙ ap (λ r. has R k r || has R k (flat_map row rest)) is ∙ ap (λ b. (b || false) || has R k (flat_map row rest)) itself
 
-        is_itself : is_number i (Some i) ≡ true
+        is_itself : is_index i (Some i) ≡ true
         is_itself = grind (arith, nat_tests)
 
         step : (b : Bool) → has R k (flat_map row rest) ≡ b → has R k (flat_map row rest) ≡ true
@@ -107,5 +107,5 @@ module _ {K A : Type 0} {R : K → K → Ordering} (o : IsTotalOrder R) (row : A
             ∙ ap (λ r. last_at R k (last_at R k None r) (flat_map row rest)) is
             ∙ ap (λ b. last_at R k (if b then Some i else None) (flat_map row rest)) itself
             ∙ none_last R k (flat_map row rest) at (Some i) in
-            let wrong : true ≡ false = sym is_itself ∙ ap (is_number i) (sym stands) ∙ differs in
+            let wrong : true ≡ false = sym is_itself ∙ ap (is_index i) (sym stands) ∙ differs in
             cc

@@ -12,23 +12,23 @@ use Rattle.ebpf_btf.specs.Next.{if_some}
 use Rattle.ebpf_btf.specs.TypeInfo.{TypeInfo}
 use Rattle.ebpf_btf.specs.declared.error.BtfError.{BtfError}
 use Rattle.ebpf_declarations.specs.Attempts.{given}
-use Rattle.ebpf_declarations.specs.DataSections.{MetSection, Named, UnreadableName, met_section}
-use Rattle.ebpf_declarations.specs.Maps.{declared, map_at, map_of, type_maps, placed, maps_by as maps_of_entries}
+use Rattle.ebpf_declarations.specs.DataSections.{DatasecMatch, Named, UnreadableName, datasec_match}
+use Rattle.ebpf_declarations.specs.Maps.{declared, map_at, entry_map, type_maps, map_with_symbol, matched_maps as maps_of_entries}
 use Rattle.ebpf_declarations.specs.declared.definitions.MapDefinitions.{MapDefinitions}
 use Rattle.ebpf_elf.specs.SymbolTable.{symbol_table as table_of}
 use Rattle.ebpf_elf.specs.Symbols.{symbols_in}
-use Rattle.ebpf_parsing.specs.Contents.{maps_as, map_entries, object_sections, own_symbols}
+use Rattle.ebpf_parsing.specs.FileContents.{maps_as, map_entries, object_sections, own_symbols}
 use Rattle.ebpf_parsing.specs.DataMaps.{data_map, data_maps}
-use Rattle.ebpf_parsing.specs.DeclaredMaps.{declared_maps}
+use Rattle.ebpf_parsing.specs.BtfDefinedMaps.{btf_defined_maps}
 use Rattle.ebpf_parsing.specs.FileExterns.{types_of}
-use Rattle.ebpf_parsing.specs.FileSymbols.{file_symbols, symbol_table, symbol_of, kept_of}
+use Rattle.ebpf_parsing.specs.FileSymbols.{file_symbols, symbol_table, symbol_of, symbol_entry}
 use Rattle.ebpf_parsing.specs.LegacyMaps.{legacy_map, legacy_maps}
 use Rattle.ebpf_parsing.specs.OfSection.{maps_by, maps_in}
-use Rattle.ebpf_parsing.specs.Standing.{IsSymbolIn, MapsHaveTheirSymbols, IsDataMap, OtherMapsAreOfData}
-use Rattle.ebpf_parsing.specs.SymbolNames.{numbered, numbers_by_name}
-use Rattle.ebpf_parsing.specs.Symbols.{SymbolValue, is_in, symbols_of}
+use Rattle.ebpf_parsing.specs.TableKeys.{IsSymbolIn, MapsHaveTheirSymbols, IsDataMap, OtherMapsAreOfData}
+use Rattle.ebpf_parsing.specs.SymbolNames.{name_and_index, symbol_indices_by_name}
+use Rattle.ebpf_parsing.specs.Symbols.{SymbolValue, is_in_section, section_symbols}
 use Rattle.ebpf_parsing.proofs.EntriesStand.{stands, all_flat_map, Among, known}
-use Rattle.ebpf_parsing.proofs.Standing.{symbols_stand}
+use Rattle.ebpf_parsing.proofs.TableKeys.{symbols_stand}
 use Rattle.ebpf_parts.specs.Maps.{section_index_of, symbol_index_of}
 use Rattle.ebpf_parts.specs.Sections.{SectionValue}
 use Rattle.ebpf_parts.specs.declared.error.ParseError.{ParseError}
@@ -37,7 +37,7 @@ use Rattle.ebpf_parts.specs.declared.maps.either.Map.{Map}
 use Rattle.ebpf_parts.specs.declared.section_kind.EbpfSectionKind.{EbpfSectionKind}
 use Rattle.ebpf_parts.specs.declared.section_kind.EbpfSectionKind.TheVariants.{Data, Rodata, Bss, Maps, BtfMaps}
 use Rattle.ebpf_parts.specs.declared.reading.Reading.{Reading}
-use Rattle.ebpf_declarations.specs.Declaring.{Declaring, declaring}
+use Rattle.ebpf_declarations.specs.TypesInReading.{TypesInReading, types_in_reading}
 
 -- ---- lists
 
@@ -70,24 +70,24 @@ module _ (bytes : List ℕ) where
   of_file (Some t) e = of_table t e _
 
   -- the table has each symbol of the file at its number
-  at_number : (y : SymbolValue) → IsOfFile y → Among y (file_symbols bytes) → get (symbol_table (file_symbols bytes)) y.index ≡ Some (kept_of y).1
+  at_number : (y : SymbolValue) → IsOfFile y → Among y (file_symbols bytes) → get (symbol_table (file_symbols bytes)) y.index ≡ Some (symbol_entry y).1
   at_number y own place =
-      let entry : slice_get (map kept_of (file_symbols bytes)) place.0 ≡ Some (kept_of y) = slice_get-map kept_of (file_symbols bytes) place.0 ∙ ap (option_map kept_of) place.1 in
-      let found = known nat_cmp nat_cmp_total y.index later_number_stands (map kept_of (file_symbols bytes)) (kept_of y).1 (place.0, entry) in
+      let entry : slice_get (map symbol_entry (file_symbols bytes)) place.0 ≡ Some (symbol_entry y) = slice_get-map symbol_entry (file_symbols bytes) place.0 ∙ ap (option_map symbol_entry) place.1 in
+      let found = known nat_cmp nat_cmp_total y.index later_number_stands (map symbol_entry (file_symbols bytes)) (symbol_entry y).1 (place.0, entry) in
       let is = symbols_stand bytes y.index found.0 found.1 in
       let one : Some is.table ≡ Some own.0 = sym is.of_file ∙ own.1.0 in
       let same : is.table ≡ own.0 = cc in
-      found.1 ∙ ap Some (is.same ∙ ap (λ t. (kept_of (symbol_of (record { file = bytes; table = t; index = y.index }))).1) same ∙ ap (λ z. (kept_of z).1) (sym own.1.1))
+      found.1 ∙ ap Some (is.same ∙ ap (λ t. (symbol_entry (symbol_of (record { file = bytes; table = t; index = y.index }))).1) same ∙ ap (λ z. (symbol_entry z).1) (sym own.1.1))
 
-  inside : (section : ℕ) (o : Option ℕ) → is_in section o ≡ true → o ≡ Some section
+  inside : (section : ℕ) (o : Option ℕ) → is_in_section section o ≡ true → o ≡ Some section
   inside section None e = cc
   inside section (Some s) e = ap Some (eqb-true s section e)
 
   -- those that a section has
-  in_section : (section : ℕ) → AllByRecursion (λ y. IsSymbolIn bytes y.index y.name section) (symbols_of (file_symbols bytes) section)
-  unfolding symbols_of
-  in_section section = all_kept (λ y. IsSymbolIn bytes y.index y.name section) (λ y. is_in section y.section_index) (file_symbols bytes) (λ j y e passes. record {
-    symbol = (kept_of y).1;
+  in_section : (section : ℕ) → AllByRecursion (λ y. IsSymbolIn bytes y.index y.name section) (section_symbols (file_symbols bytes) section)
+  unfolding section_symbols
+  in_section section = all_kept (λ y. IsSymbolIn bytes y.index y.name section) (λ y. is_in_section section y.section_index) (file_symbols bytes) (λ j y e passes. record {
+    symbol = (symbol_entry y).1;
     here = at_number y (each_at IsOfFile (file_symbols bytes) (of_file (table_of bytes) refl) j y e) (j, e);
     named = refl;
     inside = inside section y.section_index passes;
@@ -126,29 +126,29 @@ module _ (bytes : List ℕ) where
       tt,
     )
 
-    by_declared : (r : Result (List ℕ × MapDefinitions) BtfError) → ArePlaced (given (placed numbers section r))
+    by_declared : (r : Result (List ℕ × MapDefinitions) BtfError) → ArePlaced (given (map_with_symbol numbers section r))
     by_declared (Err x) = tt
     by_declared (Ok d) = by_number d (numbers d.0) refl
 
-    by_entries : (reading : Reading) (info : TypeInfo) (o : Option MetSection) → ArePlaced (maps_of_entries reading info numbers section o)
-    unfolding map_of
+    by_entries : (reading : Reading) (info : TypeInfo) (o : Option DatasecMatch) → ArePlaced (maps_of_entries reading info numbers section o)
+    unfolding entry_map
     by_entries reading info None = tt
     by_entries reading info (Some (UnreadableName x)) = tt
     by_entries reading info (Some (Named entries)) =
-        all_flat_map (λ e. IsPlaced e.0 e.1) (λ entry. given (map_of reading info numbers section entry)) entries (λ i entry here. by_declared (declared reading info entry))
+        all_flat_map (λ e. IsPlaced e.0 e.1) (λ entry. given (entry_map reading info numbers section entry)) entries (λ i entry here. by_declared (declared reading info entry))
 
-  numbers_known : (section : ℕ) (ys : List SymbolValue) → AllByRecursion (λ y. IsSymbolIn bytes y.index y.name section) ys → AllByRecursion (λ e. IsSymbolIn bytes e.1 e.0 section) (map numbered ys)
+  numbers_known : (section : ℕ) (ys : List SymbolValue) → AllByRecursion (λ y. IsSymbolIn bytes y.index y.name section) ys → AllByRecursion (λ e. IsSymbolIn bytes e.1 e.0 section) (map name_and_index ys)
   numbers_known section [] all = tt
   numbers_known section (y ∷ ys) all = (all.0, numbers_known section ys all.1)
 
-  by_types : (types : Option Declaring) (s : SectionValue) (ys : List SymbolValue) → AllByRecursion (λ y. IsSymbolIn bytes y.index y.name s.index.0) ys → ArePlaced (declared_maps types s ys)
-  unfolding declared_maps type_maps
+  by_types : (types : Option TypesInReading) (s : SectionValue) (ys : List SymbolValue) → AllByRecursion (λ y. IsSymbolIn bytes y.index y.name s.index.0) ys → ArePlaced (btf_defined_maps types s ys)
+  unfolding btf_defined_maps type_maps
   by_types None s ys all = tt
   by_types (Some d) s ys all =
-      let numbers : List ℕ → Option ℕ = get (numbers_by_name ys) in
-      let symbols = λ (name : List ℕ) (i : ℕ) (e : numbers name ≡ Some i). stands text_cmp text_exact (λ n k. IsSymbolIn bytes k n s.index.0) name later_text_stands (map numbered ys) (numbers_known s.index.0 ys all) i e in
+      let numbers : List ℕ → Option ℕ = get (symbol_indices_by_name ys) in
+      let symbols = λ (name : List ℕ) (i : ℕ) (e : numbers name ≡ Some i). stands text_cmp text_exact (λ n k. IsSymbolIn bytes k n s.index.0) name later_text_stands (map name_and_index ys) (numbers_known s.index.0 ys all) i e in
       all_flat_map (λ e. IsPlaced e.0 e.1) (type_maps d.reading d.types numbers s.index.0 s.name) d.types.types
-      (λ i t here. by_entries s.index.0 numbers symbols d.reading d.types (met_section d.types s.name t))
+      (λ i t here. by_entries s.index.0 numbers symbols d.reading d.types (datasec_match d.types s.name t))
 
   -- of data
   no_symbol : (s : SectionValue) (k : ℕ) → symbol_index_of (data_map s) ≡ Some k → IsSymbolIn bytes k s.name (section_index_of (data_map s))
@@ -163,7 +163,7 @@ module _ (bytes : List ℕ) where
   by_kind reading types i s here Rodata e = by_data i s here (inr (inl e))
   by_kind reading types i s here Bss e = by_data i s here (inr (inr e))
   by_kind reading types i s here Maps e = by_structs s (own_symbols bytes s) (in_section s.index.0)
-  by_kind reading types i s here BtfMaps e = by_types (declaring reading types) s (own_symbols bytes s) (in_section s.index.0)
+  by_kind reading types i s here BtfMaps e = by_types (types_in_reading reading types) s (own_symbols bytes s) (in_section s.index.0)
   by_kind reading types i s here _ e = tt
 
   placed_map : (reading : Reading) (name : List ℕ) (m : Map) → get (maps_as reading bytes) name ≡ Some m → IsPlaced name m

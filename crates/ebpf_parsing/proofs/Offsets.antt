@@ -5,10 +5,10 @@ use Rattle.std.specs.List.{flat_map}
 use Rattle.std.proofs.lemmas.Bool.Decides.{nat_tests}
 use Rattle.ebpf_base.specs.Faults.{or_else}
 use Rattle.ebpf_base.specs.Faults.{first_some}
-use Rattle.ebpf_parsing.specs.Records.{Said}
+use Rattle.ebpf_parsing.specs.Records.{FuncAndLineInfo}
 use Rattle.ebpf_parsing.specs.Symbols.{SymbolValue}
 use Rattle.ebpf_parts.specs.Sections.{SectionValue}
-use Rattle.ebpf_parsing.specs.Texts.{offsets_from, function_at, fault_at, size_at}
+use Rattle.ebpf_parsing.specs.Texts.{offsets_from, function_at, text_fault_at, size_at}
 
 -- an offset inside the data is the first, and the walk goes on behind its function
 pub offsets_more : (s : SectionValue) (ys : List SymbolValue) (n k offset : ℕ) → k < n → offset < length s.bytes
@@ -27,18 +27,18 @@ none_left s ys (suc n) offset past =
     let test : nat_lt offset (length s.bytes) ≡ false = grind (arith, nat_tests) in
     ap (λ b. if b then offset ∷ offsets_from n s ys (offset + size_at s ys offset) else []) test
 
-pub functions_more : (said : Said) (s : SectionValue) (ys : List SymbolValue) (n k offset : ℕ) → k < n → offset < length s.bytes
-    → flat_map (function_at said s ys) (offsets_from (n - k) s ys offset) ≡ function_at said s ys offset ++ flat_map (function_at said s ys) (offsets_from (n - (k + 1)) s ys (offset + size_at s ys offset))
-functions_more said s ys n k offset left inside = ap (flat_map (function_at said s ys)) (offsets_more s ys n k offset left inside)
+pub functions_more : (infos : FuncAndLineInfo) (s : SectionValue) (ys : List SymbolValue) (n k offset : ℕ) → k < n → offset < length s.bytes
+    → flat_map (function_at infos s ys) (offsets_from (n - k) s ys offset) ≡ function_at infos s ys offset ++ flat_map (function_at infos s ys) (offsets_from (n - (k + 1)) s ys (offset + size_at s ys offset))
+functions_more infos s ys n k offset left inside = ap (flat_map (function_at infos s ys)) (offsets_more s ys n k offset left inside)
 
 pub fault_more : (s : SectionValue) (ys : List SymbolValue) (n k offset : ℕ) → k < n → offset < length s.bytes
-    → first_some (fault_at s ys) (offsets_from (n - k) s ys offset) ≡ or_else (fault_at s ys offset) (first_some (fault_at s ys) (offsets_from (n - (k + 1)) s ys (offset + size_at s ys offset)))
-fault_more s ys n k offset left inside = ap (first_some (fault_at s ys)) (offsets_more s ys n k offset left inside)
+    → first_some (text_fault_at s ys) (offsets_from (n - k) s ys offset) ≡ or_else (text_fault_at s ys offset) (first_some (text_fault_at s ys) (offsets_from (n - (k + 1)) s ys (offset + size_at s ys offset)))
+fault_more s ys n k offset left inside = ap (first_some (text_fault_at s ys)) (offsets_more s ys n k offset left inside)
 
 pub fault_step : (s : SectionValue) (ys : List SymbolValue) (k m : ℕ) (o e : ℕ)
-    → k < length s.bytes → o < length s.bytes → fault_at s ys o ≡ None → e ≡ o + size_at s ys o → m ≡ k + 1
-    → first_some (fault_at s ys) (offsets_from (length s.bytes - m) s ys e) ≡ first_some (fault_at s ys) (offsets_from (length s.bytes - k) s ys o)
+    → k < length s.bytes → o < length s.bytes → text_fault_at s ys o ≡ None → e ≡ o + size_at s ys o → m ≡ k + 1
+    → first_some (text_fault_at s ys) (offsets_from (length s.bytes - m) s ys e) ≡ first_some (text_fault_at s ys) (offsets_from (length s.bytes - k) s ys o)
 fault_step s ys k m o e few inside none next more =
-    ap (λ n. first_some (fault_at s ys) (offsets_from (length s.bytes - n) s ys e)) more
-    ∙ ap (λ p. first_some (fault_at s ys) (offsets_from (length s.bytes - (k + 1)) s ys p)) next
-    ∙ sym (fault_more s ys (length s.bytes) k o few inside ∙ ap (λ x. or_else x (first_some (fault_at s ys) (offsets_from (length s.bytes - (k + 1)) s ys (o + size_at s ys o)))) none)
+    ap (λ n. first_some (text_fault_at s ys) (offsets_from (length s.bytes - n) s ys e)) more
+    ∙ ap (λ p. first_some (text_fault_at s ys) (offsets_from (length s.bytes - (k + 1)) s ys p)) next
+    ∙ sym (fault_more s ys (length s.bytes) k o few inside ∙ ap (λ x. or_else x (first_some (text_fault_at s ys) (offsets_from (length s.bytes - (k + 1)) s ys (o + size_at s ys o)))) none)

@@ -8,33 +8,33 @@ use Rattle.ebpf_btf.specs.TypeInfo.{TypeInfo}
 use Rattle.ebpf_btf.specs.declared.endianness.Endianness.{Endianness}
 use Rattle.ebpf_btf.specs.declared.error.BtfError.{BtfError as TypeError}
 use Rattle.ebpf_btf.specs.declared.error.BtfError.TheVariants.{InvalidSymbolName}
-use Rattle.ebpf_declarations.specs.DataSections.{MetSection, Named, UnreadableName, met_section}
-use Rattle.ebpf_declarations.specs.Declaring.{Declaring, declaring}
-use Rattle.ebpf_declarations.specs.Maps.{declared, placed, map_at, map_of, fault_by as fault_of_entries, type_fault, btf_maps_fault}
+use Rattle.ebpf_declarations.specs.DataSections.{DatasecMatch, Named, UnreadableName, datasec_match}
+use Rattle.ebpf_declarations.specs.TypesInReading.{TypesInReading, types_in_reading}
+use Rattle.ebpf_declarations.specs.Maps.{declared, map_with_symbol, map_at, entry_map, matched_maps_fault as fault_of_entries, type_maps_fault, btf_maps_fault}
 use Rattle.ebpf_declarations.specs.declared.definitions.MapDefinitions.{MapDefinitions}
 use Rattle.ebpf_elf.specs.Faults.{faults}
-use Rattle.ebpf_elf.specs.File.{order_of}
+use Rattle.ebpf_elf.specs.File.{ei_data}
 use Rattle.ebpf_elf.specs.Relocations.{relocations}
 use Rattle.ebpf_elf.specs.declared.error.ElfReadError.TheVariants.{BadStringTable}
 use Rattle.ebpf_elf.specs.Sections.{SectionOf, section_name, data_faults}
 use Rattle.ebpf_elf.specs.Symbols.{SymbolOf, symbol_name, symbols}
 use Rattle.ebpf_parsing.specs.CodeOrder.{has_big_endian_code}
-use Rattle.ebpf_parsing.specs.Contents.{read_fault, sections_fault, parse_fault_as, other_sections}
+use Rattle.ebpf_parsing.specs.FileContents.{read_fault, sections_fault, parse_fault_as, other_sections}
 use Rattle.ebpf_parsing.specs.DataMaps.{data_map_fault}
-use Rattle.ebpf_parsing.specs.DeclaredMaps.{declared_maps_fault}
+use Rattle.ebpf_parsing.specs.BtfDefinedMaps.{btf_defined_maps_fault}
 use Rattle.ebpf_parsing.specs.FileExterns.{types_of, externs_fault_beside, file_externs_fault}
 use Rattle.ebpf_parsing.specs.FileSymbols.{file_symbols, symbol_fault, symbols_fault}
-use Rattle.ebpf_parsing.specs.FileTypes.{btf_of, types_fault_in, btf_fault, said_fault_in, ext_fault_beside, ext_fault, file_types_fault, types_section, said_section}
+use Rattle.ebpf_parsing.specs.FileTypes.{btf_of, types_fault_in, btf_fault, ext_fault_in, ext_fault_beside, ext_fault, file_types_fault, types_section, ext_section}
 use Rattle.ebpf_parsing.specs.LegacyMaps.{struct_bytes, word_at, legacy_fault, legacy_maps_fault}
-use Rattle.ebpf_parsing.specs.OfSection.{fault_by, fault_in, program_section_fault}
+use Rattle.ebpf_parsing.specs.OfSection.{fault_by, fault_in, program_section_faults}
 use Rattle.ebpf_parsing.specs.Programs.{is_program_symbol, program_bytes, range_faults, program_fault, programs_fault}
 use Rattle.ebpf_parsing.specs.Readings.{BroadRefusesNoName, StatedTakesBothOrders}
-use Rattle.ebpf_parsing.specs.Symbols.{SymbolValue, symbols_of}
-use Rattle.ebpf_parsing.specs.Terms.{stated_text_fault, license_text_fault, license_fault_in, license_fault_as, version_number_fault, version_fault_in, version_fault, has_zero, front_of}
-use Rattle.ebpf_parsing.specs.Texts.{text_bytes, conflict_fault_at, conflict_fault, repeated, text_fault_of, fault_at, symbol_at_offset, offsets, text_fault}
+use Rattle.ebpf_parsing.specs.Symbols.{SymbolValue, section_symbols}
+use Rattle.ebpf_parsing.specs.LicenseAndVersion.{stated_text_fault, license_text_fault, license_fault_in, license_fault_as, version_number_fault, version_fault_in, version_fault, has_zero, front_of}
+use Rattle.ebpf_parsing.specs.Texts.{text_function_bytes, conflict_fault_at, conflict_fault, repeated, text_fault_of, text_fault_at, symbol_at_offset, offsets, text_fault}
 use Rattle.ebpf_parts.specs.Readings.{section_as}
 use Rattle.ebpf_parts.specs.ProgramSections.{no_section}
-use Rattle.ebpf_parts.specs.Sections.{SectionValue, section_of, name_fault, data_fault, section_fault, section_fault_with}
+use Rattle.ebpf_parts.specs.Sections.{SectionValue, section_of, section_name_fault, data_fault, section_fault, section_fault_with}
 use Rattle.ebpf_parts.specs.Slots.{code_faults}
 use Rattle.ebpf_parts.specs.declared.error.ParseError.{ParseError}
 use Rattle.ebpf_parts.specs.declared.error.ParseError.TheVariants.{ElfError, BtfError, MissingLicenseNullTerminator, InvalidLicense, InvalidKernelVersion, SectionError, UnsupportedRelocationTarget, InvalidProgramSection, InvalidMapDefinition, InvalidSymbol, SymbolNotFound, NoSymbolsForSection, BigEndianCode}
@@ -110,7 +110,7 @@ unless_plain false o is = is
 section_plain : (s : SectionOf) → Plain (section_fault s)
 unfolding section_fault section_fault_with is_told told
 section_plain s =
-    either told (name_fault s) _ (unless_plain (is_some (section_name s)) (Some (SectionError s.index BadStringTable)) refl)
+    either told (section_name_fault s) _ (unless_plain (is_some (section_name s)) (Some (SectionError s.index BadStringTable)) refl)
     (either told (data_fault s) _ (made_plain (SectionError s.index) (λ e. refl) (first_of (data_faults s)))
     (if_plain (list_any (λ r. r.symbol_index == 0) (relocations s)) UnsupportedRelocationTarget refl))
 
@@ -150,19 +150,19 @@ unfolding told is_told
 types_in_plain o None = refl
 types_in_plain o (Some s) = either told (section_fault s) _ (section_plain s) (made_plain BtfError (λ e. refl) _)
 
-said_in_plain : (o : Endianness) (types : TypeInfo) (s : Option SectionOf) → Plain (said_fault_in o types s)
+ext_in_plain : (o : Endianness) (types : TypeInfo) (s : Option SectionOf) → Plain (ext_fault_in o types s)
 unfolding told is_told
-said_in_plain o types None = refl
-said_in_plain o types (Some s) = either told (section_fault s) _ (section_plain s) (made_plain BtfError (λ e. refl) _)
+ext_in_plain o types None = refl
+ext_in_plain o types (Some s) = either told (section_fault s) _ (section_plain s) (made_plain BtfError (λ e. refl) _)
 
 ext_plain : (bytes : List ℕ) (types : Option TypeInfo) → Plain (ext_fault_beside bytes types)
 unfolding told
 ext_plain bytes None = refl
-ext_plain bytes (Some types) = said_in_plain (order_of bytes) types (said_section bytes)
+ext_plain bytes (Some types) = ext_in_plain (ei_data bytes) types (ext_section bytes)
 
 file_types_plain : (bytes : List ℕ) → Plain (file_types_fault bytes)
 unfolding file_types_fault btf_fault ext_fault
-file_types_plain bytes = either told _ _ (types_in_plain (order_of bytes) (types_section bytes)) (ext_plain bytes (btf_of bytes))
+file_types_plain bytes = either told _ _ (types_in_plain (ei_data bytes) (types_section bytes)) (ext_plain bytes (btf_of bytes))
 
 beside_plain : (ys : List SymbolValue) (types : Option TypeInfo) → Plain (externs_fault_beside ys types)
 unfolding told is_told
@@ -185,12 +185,12 @@ unfolding told is_told code_faults
 begins_plain s offset None = refl
 begins_plain s offset (Some y) =
     either told _ _ (rows_plain ((y.size == 0 || nat_lt (length s.bytes) (offset + y.size), InvalidSymbol y.index (Some y.name)) ∷ []) (refl, tt))
-    (either told _ _ (rows_plain (code_faults (text_bytes s offset y)) (refl, tt)) refl)
+    (either told _ _ (rows_plain (code_faults (text_function_bytes s offset y)) (refl, tt)) refl)
 
 text_plain : (s : SectionValue) (ys : List SymbolValue) → Plain (text_fault s ys)
-unfolding text_fault conflict_fault fault_at
+unfolding text_fault conflict_fault text_fault_at
 text_plain s ys =
-    either told _ _ (conflict_plain s.index.0 (repeated ys)) (plain_all (fault_at s ys) (λ offset. begins_plain s offset (symbol_at_offset s ys offset)) (offsets s ys))
+    either told _ _ (conflict_plain s.index.0 (repeated ys)) (plain_all (text_fault_at s ys) (λ offset. begins_plain s offset (symbol_at_offset s ys offset)) (offsets s ys))
 
 program_plain : (s : SectionValue) (y : SymbolValue) → Plain (program_fault s y)
 unfolding program_fault told is_told code_faults
@@ -221,29 +221,29 @@ module _ (numbers : List ℕ → Option ℕ) (section : ℕ) where
   numbered_plain d None = refl
   numbered_plain d (Some y) = refl
 
-  placed_plain : (r : Result (List ℕ × MapDefinitions) TypeError) → Plain (fault_of (placed numbers section r))
+  placed_plain : (r : Result (List ℕ × MapDefinitions) TypeError) → Plain (fault_of (map_with_symbol numbers section r))
   unfolding told is_told
   placed_plain (Err e) = refl
   placed_plain (Ok d) = numbered_plain d (numbers d.0)
 
-  met_plain : (reading : Reading) (info : TypeInfo) (met : Option MetSection) → Plain (fault_of_entries reading info numbers section met)
-  unfolding told is_told map_of
+  met_plain : (reading : Reading) (info : TypeInfo) (met : Option DatasecMatch) → Plain (fault_of_entries reading info numbers section met)
+  unfolding told is_told entry_map
   met_plain reading info None = refl
   met_plain reading info (Some (UnreadableName e)) = refl
-  met_plain reading info (Some (Named entries)) = plain_all (λ entry. fault_of (map_of reading info numbers section entry)) (λ entry. placed_plain (declared reading info entry)) entries
+  met_plain reading info (Some (Named entries)) = plain_all (λ entry. fault_of (entry_map reading info numbers section entry)) (λ entry. placed_plain (declared reading info entry)) entries
 
   types_plain : (reading : Reading) (info : TypeInfo) (name : List ℕ) → Plain (btf_maps_fault reading info numbers section name)
-  unfolding type_fault
-  types_plain reading info name = plain_all (type_fault reading info numbers section name) (λ t. met_plain reading info (met_section info name t)) info.types
+  unfolding type_maps_fault
+  types_plain reading info name = plain_all (type_maps_fault reading info numbers section name) (λ t. met_plain reading info (datasec_match info name t)) info.types
 
-declared_plain : (types : Option Declaring) (s : SectionValue) (ys : List SymbolValue) → Plain (declared_maps_fault types s ys)
-unfolding declared_maps_fault told is_told
+declared_plain : (types : Option TypesInReading) (s : SectionValue) (ys : List SymbolValue) → Plain (btf_defined_maps_fault types s ys)
+unfolding btf_defined_maps_fault told is_told
 declared_plain None s ys = refl
 declared_plain (Some d) s ys = either told _ _ (rows_plain ((length ys == 0, NoSymbolsForSection s.name) ∷ []) (refl, tt)) (types_plain _ s.index.0 d.reading d.types s.name)
 
 -- no other kind of section has a fault that only one reading has
 other_plain : (reading : Reading) (types : Option TypeInfo) (s : SectionValue) (ys : List SymbolValue) (kind : EbpfSectionKind)
-    → Plain (program_section_fault reading s ys) → Plain (fault_by kind reading types s ys)
+    → Plain (program_section_faults reading s ys) → Plain (fault_by kind reading types s ys)
 unfolding told
 other_plain reading types s ys Programs is = is
 other_plain reading types s ys Text is = text_plain s ys
@@ -251,20 +251,20 @@ other_plain reading types s ys Data is = data_plain s
 other_plain reading types s ys Rodata is = data_plain s
 other_plain reading types s ys Bss is = data_plain s
 other_plain reading types s ys Maps is = structs_plain s ys
-other_plain reading types s ys BtfMaps is = declared_plain (declaring reading types) s ys
+other_plain reading types s ys BtfMaps is = declared_plain (types_in_reading reading types) s ys
 other_plain reading types s ys _ is = refl
 
 -- ---- the broad reading
 
-broad_name : (s : SectionValue) (ys : List SymbolValue) → Plain (program_section_fault Broad s ys)
-unfolding program_section_fault section_as
+broad_name : (s : SectionValue) (ys : List SymbolValue) → Plain (program_section_faults Broad s ys)
+unfolding program_section_faults section_as
 broad_name s ys = behind_name s ys
 
 broad_sections : (types : Option TypeInfo) (bytes : List ℕ) → Plain (sections_fault Broad types bytes)
 unfolding sections_fault fault_in
 broad_sections types bytes = plain_all (read_fault Broad types bytes)
     (λ s. either told (section_fault s) _ (section_plain s)
-    (other_plain Broad types (section_of s) (symbols_of (file_symbols bytes) s.index) (section_of s).kind (broad_name (section_of s) (symbols_of (file_symbols bytes) s.index))))
+    (other_plain Broad types (section_of s) (section_symbols (file_symbols bytes) s.index) (section_of s).kind (broad_name (section_of s) (section_symbols (file_symbols bytes) s.index))))
     (other_sections bytes)
 
 -- what follows the order of code
@@ -309,8 +309,8 @@ unfolding big is_big
 unnamed name None = refl
 unnamed name (Some kind) = refl
 
-stated_name : (s : SectionValue) (ys : List SymbolValue) → big (program_section_fault Stated s ys) ≡ false
-unfolding program_section_fault
+stated_name : (s : SectionValue) (ys : List SymbolValue) → big (program_section_faults Stated s ys) ≡ false
+unfolding program_section_faults
 stated_name s ys = either big _ _ (unnamed s.name (section_as Stated s.name)) (from_plain _ (behind_name s ys))
 
 stated_kind : (types : Option TypeInfo) (s : SectionValue) (ys : List SymbolValue) (kind : EbpfSectionKind) → big (fault_by kind Stated types s ys) ≡ false
@@ -321,13 +321,13 @@ stated_kind types s ys Data = from_plain _ (data_plain s)
 stated_kind types s ys Rodata = from_plain _ (data_plain s)
 stated_kind types s ys Bss = from_plain _ (data_plain s)
 stated_kind types s ys Maps = from_plain _ (structs_plain s ys)
-stated_kind types s ys BtfMaps = from_plain _ (declared_plain (declaring Stated types) s ys)
+stated_kind types s ys BtfMaps = from_plain _ (declared_plain (types_in_reading Stated types) s ys)
 stated_kind types s ys _ = refl
 
 stated_sections : (types : Option TypeInfo) (bytes : List ℕ) → big (sections_fault Stated types bytes) ≡ false
 unfolding sections_fault fault_in big
 stated_sections types bytes = all_of big refl (read_fault Stated types bytes)
-    (λ s. either big (section_fault s) _ (from_plain _ (section_plain s)) (stated_kind types (section_of s) (symbols_of (file_symbols bytes) s.index) (section_of s).kind))
+    (λ s. either big (section_fault s) _ (from_plain _ (section_plain s)) (stated_kind types (section_of s) (section_symbols (file_symbols bytes) s.index) (section_of s).kind))
     (other_sections bytes)
 
 pub stated_takes_both_orders : StatedTakesBothOrders

@@ -13,12 +13,12 @@ use Rattle.ebpf_base.proofs.Keyed.{later_key_stands}
 use Rattle.ebpf_elf.specs.File.{section_count, range_of}
 use Rattle.ebpf_elf.specs.Sections.{SectionOf, header, data_of}
 use Rattle.ebpf_elf.specs.declared.constants.TheConstants.{SHT_NOBITS}
-use Rattle.ebpf_parsing.specs.Contents.{functions, function_entries, is_type_information, object_sections, own_symbols}
+use Rattle.ebpf_parsing.specs.FileContents.{functions, function_entries, is_type_information, object_sections, own_symbols}
 use Rattle.ebpf_parsing.specs.FileExterns.{types_of}
 use Rattle.ebpf_parsing.specs.FileTypes.{ext_of}
 use Rattle.ebpf_parsing.specs.OfSection.{functions_by, functions_in, fault_by, fault_in}
-use Rattle.ebpf_parsing.specs.Programs.{placed}
-use Rattle.ebpf_parsing.specs.Records.{Said, said_of}
+use Rattle.ebpf_parsing.specs.Programs.{with_key}
+use Rattle.ebpf_parsing.specs.Records.{FuncAndLineInfo, func_and_line_info_of}
 use Rattle.ebpf_parsing.specs.Symbols.{SymbolValue}
 use Rattle.ebpf_parsing.specs.Texts.{text_fault, conflict_fault, walk_fault, offsets_from}
 use Rattle.ebpf_parsing.specs.TiledSections.{IsTextSection, AreInOrder, own_functions, AtEachAddress, InOrder, SectionsTile}
@@ -64,7 +64,7 @@ module _ (bytes : List ℕ) where
 
   data_within : (x : SectionOf) → length (data_of x) ≤ length x.file
   unfolding data_of
-  data_within x = elim ((header x).kind == SHT_NOBITS) as (λ b. length (if b then [] else range_of x.file (header x)) ≤ length x.file) [
+  data_within x = elim ((header x).sh_type == SHT_NOBITS) as (λ b. length (if b then [] else range_of x.file (header x)) ≤ length x.file) [
     | true ↦ (let low : 0 ≤ length x.file = omega arith in low)
     | false ↦ simp (length-take, length-drop) (omega arith)
   ]
@@ -119,39 +119,39 @@ module _ (bytes : List ℕ) where
 -- ---- functions by their keys
 
 -- the place of a function that is found
-place_of : (q : Key) (fs : List Function) (f : Function) → find key_cmp q (map placed fs) ≡ Some f → (i : ℕ) × (slice_get fs i ≡ Some f)
+place_of : (q : Key) (fs : List Function) (f : Function) → find key_cmp q (map with_key fs) ≡ Some f → (i : ℕ) × (slice_get fs i ≡ Some f)
 place_of q [] f e = absurd (let no : ⊥ = cc in no)
-place_of q (g ∷ fs) f e = elim (eq_by_cmp key_cmp q (g.section_index.0, g.address)) as (λ b. cond b (Some g) (find key_cmp q (map placed fs)) ≡ Some f → (i : ℕ) × (slice_get (g ∷ fs) i ≡ Some f)) [
+place_of q (g ∷ fs) f e = elim (eq_by_cmp key_cmp q (g.section_index.0, g.address)) as (λ b. cond b (Some g) (find key_cmp q (map with_key fs)) ≡ Some f → (i : ℕ) × (slice_get (g ∷ fs) i ≡ Some f)) [
   | true ↦ λ h. (0, h)
   | false ↦ λ h. let later = place_of q fs f h in (suc later.0, later.1)
 ] e
 
-number_at : (fs : List Function) (number i : ℕ) (f : Function) → AllByRecursion (λ e. e.0.0 ≡ number) (map placed fs) → slice_get fs i ≡ Some f → f.section_index.0 ≡ number
+number_at : (fs : List Function) (number i : ℕ) (f : Function) → AllByRecursion (λ e. e.0.0 ≡ number) (map with_key fs) → slice_get fs i ≡ Some f → f.section_index.0 ≡ number
 number_at [] number i f h e = absurd (let no : ⊥ = cc in no)
 number_at (g ∷ fs) number zero f h e = let same : g ≡ f = cc in subst (λ t. t.section_index.0 ≡ number) same h.0
 number_at (g ∷ fs) number (suc i) f h e = number_at fs number i f h.1 e
 
-apart_at : (q : Key) (fs : List Function) (i : ℕ) (f : Function) → AllByRecursion (λ e. eq_by_cmp key_cmp q e.0 ≡ false) (map placed fs) → slice_get fs i ≡ Some f
+apart_at : (q : Key) (fs : List Function) (i : ℕ) (f : Function) → AllByRecursion (λ e. eq_by_cmp key_cmp q e.0 ≡ false) (map with_key fs) → slice_get fs i ≡ Some f
     → eq_by_cmp key_cmp (f.section_index.0, f.address) q ≡ false
 apart_at q [] i f h e = absurd (let no : ⊥ = cc in no)
 apart_at q (g ∷ fs) zero f h e = let same : g ≡ f = cc in subst (λ t. eq_by_cmp key_cmp (t.section_index.0, t.address) q ≡ false) same (flipped q (g.section_index.0, g.address) h.0)
 apart_at q (g ∷ fs) (suc i) f h e = apart_at q fs i f h.1 e
 
 -- where the keys differ, each function is found at its own
-at_key : (fs : List Function) (i : ℕ) (f : Function) → KeysDiffer key_cmp (map placed fs) → slice_get fs i ≡ Some f → find key_cmp (f.section_index.0, f.address) (map placed fs) ≡ Some f
+at_key : (fs : List Function) (i : ℕ) (f : Function) → KeysDiffer key_cmp (map with_key fs) → slice_get fs i ≡ Some f → find key_cmp (f.section_index.0, f.address) (map with_key fs) ≡ Some f
 at_key [] i f d e = absurd (let no : ⊥ = cc in no)
 at_key (g ∷ fs) zero f d e =
     let same : g ≡ f = cc in
-    subst (λ t. find key_cmp (t.section_index.0, t.address) (map placed (g ∷ fs)) ≡ Some t) same
-    (ap (λ b. cond b (Some g) (find key_cmp (g.section_index.0, g.address) (map placed fs))) ((eq_by_cmp_equiv key_total).refl (g.section_index.0, g.address)))
+    subst (λ t. find key_cmp (t.section_index.0, t.address) (map with_key (g ∷ fs)) ≡ Some t) same
+    (ap (λ b. cond b (Some g) (find key_cmp (g.section_index.0, g.address) (map with_key fs))) ((eq_by_cmp_equiv key_total).refl (g.section_index.0, g.address)))
 at_key (g ∷ fs) (suc i) f d e =
-    ap (λ b. cond b (Some g) (find key_cmp (f.section_index.0, f.address) (map placed fs))) (apart_at (g.section_index.0, g.address) fs i f d.0 e) ∙ at_key fs i f d.1 e
+    ap (λ b. cond b (Some g) (find key_cmp (f.section_index.0, f.address) (map with_key fs))) (apart_at (g.section_index.0, g.address) fs i f d.0 e) ∙ at_key fs i f d.1 e
 
 -- ---- the Text section
 
 module _ (reading : Reading) (bytes : List ℕ) (n : ℕ) (s : SectionValue) (is : IsTextSection reading bytes n s) where
-  abbrev said : Said
-  said = said_of (ext_of bytes) s.name
+  abbrev infos : FuncAndLineInfo
+  infos = func_and_line_info_of (ext_of bytes) s.name
 
   abbrev symbols : List SymbolValue
   symbols = own_symbols bytes s
@@ -160,7 +160,7 @@ module _ (reading : Reading) (bytes : List ℕ) (n : ℕ) (s : SectionValue) (is
   own = own_functions bytes s
 
   abbrev wanted : List Entry
-  wanted = map placed own
+  wanted = map with_key own
 
   text_clear : text_fault s symbols ≡ None
   unfolding fault_in
@@ -173,7 +173,7 @@ module _ (reading : Reading) (bytes : List ℕ) (n : ℕ) (s : SectionValue) (is
 
   given : functions_in (ext_of bytes) s symbols ≡ wanted
   unfolding functions_in
-  given = ap (λ k. map placed (functions_by k said s symbols)) is.text
+  given = ap (λ k. map with_key (functions_by k infos s symbols)) is.text
 
   abbrev entries_in : SectionValue → List Entry
   entries_in t = functions_in (ext_of bytes) t (own_symbols bytes t)
@@ -185,10 +185,10 @@ module _ (reading : Reading) (bytes : List ℕ) (n : ℕ) (s : SectionValue) (is
   short = under (2 ^ 64) is.short (short_from bytes 1 (section_count bytes - 1) n s is.here)
 
   apart : KeysDiffer key_cmp wanted
-  apart = differ said s symbols short (length s.bytes) 0 walk_clear
+  apart = differ infos s symbols short (length s.bytes) 0 walk_clear
 
   numbered : AllByRecursion (λ e. e.0.0 ≡ s.index.0) wanted
-  numbered = text_keys said s symbols (offsets_from (length s.bytes) s symbols 0)
+  numbered = text_keys infos s symbols (offsets_from (length s.bytes) s symbols 0)
 
   -- the table has at a key of the section what the section gives
   here : (q : Key) → q.0 ≡ s.index.0 → get (functions bytes) q ≡ find key_cmp q wanted
@@ -202,12 +202,12 @@ module _ (reading : Reading) (bytes : List ℕ) (n : ℕ) (s : SectionValue) (is
 
   in_table : AreInOrder (functions bytes) s.index.0 own
   in_table = record {
-    rise = rise said s symbols (length s.bytes) 0 walk_clear;
+    rise = rise infos s symbols (length s.bytes) 0 walk_clear;
     stand = λ i f e. here (s.index.0, f.address) refl ∙ ap (λ k. find key_cmp (k, f.address) wanted) (sym (number_at own s.index.0 i f numbered e)) ∙ at_key own i f apart e;
     all = λ address f e. place_of (s.index.0, address) own f (sym (here (s.index.0, address) refl) ∙ e);
   }
 
-by_address : (number a : ℕ) (fs : List Function) → AllByRecursion (λ e. e.0.0 ≡ number) (map placed fs) → find key_cmp (number, a) (map placed fs) ≡ list.find (λ f. f.address == a) fs
+by_address : (number a : ℕ) (fs : List Function) → AllByRecursion (λ e. e.0.0 ≡ number) (map with_key fs) → find key_cmp (number, a) (map with_key fs) ≡ list.find (λ f. f.address == a) fs
 by_address number a [] mine = refl
 by_address number a (f ∷ fs) mine =
     let test : eq_by_cmp key_cmp (number, a) (f.section_index.0, f.address) ≡ (f.address == a) = ap (λ k. eq_by_cmp key_cmp (number, a) (k, f.address)) mine.0 ∙ key_of_address number a f.address in
@@ -226,4 +226,4 @@ sections_tile reading bytes n s is fs order =
     let same : fs ≡ own_functions bytes s = one_order fs (own_functions bytes s) order.rise own.rise
     (λ i f e. own.all f.address f (order.stand i f e)) (λ i f e. order.all f.address f (own.stand i f e)) in
     ap (flat_map (λ f. f.instructions)) same
-    ∙ tiles.functions_tile (said_of (ext_of bytes) s.name) s (own_symbols bytes s) (text_clear reading bytes n s is)
+    ∙ tiles.functions_tile (func_and_line_info_of (ext_of bytes) s.name) s (own_symbols bytes s) (text_clear reading bytes n s is)

@@ -10,11 +10,11 @@ use Rattle.ebpf_base.specs.Faults.{first_some}
 use Rattle.ebpf_base.specs.Keys.{key_cmp, key_total}
 use Rattle.ebpf_base.proofs.Faults.{both_None}
 use Rattle.ebpf_ext.specs.ExtReading.{ExtInfo}
-use Rattle.ebpf_parsing.specs.Programs.{placed, program_function, is_program_symbol}
+use Rattle.ebpf_parsing.specs.Programs.{with_key, program_function, is_program_symbol}
 use Rattle.ebpf_parsing.specs.OfSection.{functions_by, functions_in}
-use Rattle.ebpf_parsing.specs.Records.{Said, said_of}
+use Rattle.ebpf_parsing.specs.Records.{FuncAndLineInfo, func_and_line_info_of}
 use Rattle.ebpf_parsing.specs.Symbols.{SymbolValue}
-use Rattle.ebpf_parsing.specs.Texts.{is_text_at, is_defined_text, address_at, symbol_at_offset, text_function, text_function_of, function_at, fault_at, size_at, size_of, offsets_from}
+use Rattle.ebpf_parsing.specs.Texts.{is_text_at, is_defined_text, address_at, symbol_at_offset, text_function, text_function_of, function_at, text_fault_at, size_at, symbol_size_of, offsets_from}
 use Rattle.ebpf_parsing.proofs.LastEntries.{KeysDiffer, equal}
 use Rattle.ebpf_parsing.proofs.OffsetOrder.{rise_cons}
 use Rattle.ebpf_parsing.proofs.Tiles.{Stands, stands}
@@ -66,31 +66,31 @@ entries_apart q number (e ∷ es) differ own = (keys_apart q e.0 (λ same. diffe
 
 -- ---- the section of each function
 
-module _ (said : Said) (s : SectionValue) (ys : List SymbolValue) where
-  program_keys : (zs : List SymbolValue) → AllByRecursion (λ e. e.0.0 ≡ s.index.0) (map placed (map (program_function said s) zs))
+module _ (infos : FuncAndLineInfo) (s : SectionValue) (ys : List SymbolValue) where
+  program_keys : (zs : List SymbolValue) → AllByRecursion (λ e. e.0.0 ≡ s.index.0) (map with_key (map (program_function infos s) zs))
   unfolding program_function
   program_keys [] = tt
   program_keys (z ∷ zs) = (refl, program_keys zs)
 
-  one_text_key : (o : ℕ) (z : Option SymbolValue) (fs : List Function) → AllByRecursion (λ e. e.0.0 ≡ s.index.0) (map placed fs)
-      → AllByRecursion (λ e. e.0.0 ≡ s.index.0) (map placed (text_function_of said s o z ++ fs))
+  one_text_key : (o : ℕ) (z : Option SymbolValue) (fs : List Function) → AllByRecursion (λ e. e.0.0 ≡ s.index.0) (map with_key fs)
+      → AllByRecursion (λ e. e.0.0 ≡ s.index.0) (map with_key (text_function_of infos s o z ++ fs))
   unfolding text_function
   one_text_key o None fs h = h
   one_text_key o (Some y) fs h = (refl, h)
 
-  pub text_keys : (os : List ℕ) → AllByRecursion (λ e. e.0.0 ≡ s.index.0) (map placed (flat_map (function_at said s ys) os))
+  pub text_keys : (os : List ℕ) → AllByRecursion (λ e. e.0.0 ≡ s.index.0) (map with_key (flat_map (function_at infos s ys) os))
   unfolding function_at
   text_keys [] = tt
   text_keys (o ∷ os) = one_text_key o (symbol_at_offset s ys o) _ (text_keys os)
 
-  keys_by : (kind : EbpfSectionKind) → AllByRecursion (λ e. e.0.0 ≡ s.index.0) (map placed (functions_by kind said s ys))
+  keys_by : (kind : EbpfSectionKind) → AllByRecursion (λ e. e.0.0 ≡ s.index.0) (map with_key (functions_by kind infos s ys))
   keys_by Programs = program_keys (filter is_program_symbol ys)
   keys_by Text = text_keys (offsets_from (length s.bytes) s ys 0)
   keys_by _ = tt
 
 pub section_keys : (ext : Option ExtInfo) (s : SectionValue) (ys : List SymbolValue) → AllByRecursion (λ e. e.0.0 ≡ s.index.0) (functions_in ext s ys)
 unfolding functions_in
-section_keys ext s ys = keys_by (said_of ext s.name) s ys s.kind
+section_keys ext s ys = keys_by (func_and_line_info_of ext s.name) s ys s.kind
 
 -- ---- the addresses in a Text section rise
 
@@ -105,51 +105,51 @@ second_true : (a b : Bool) → (a && b) ≡ true → b ≡ true
 second_true true b e = e
 second_true false b e = cc
 
-module _ (said : Said) (s : SectionValue) (ys : List SymbolValue) where
+module _ (infos : FuncAndLineInfo) (s : SectionValue) (ys : List SymbolValue) where
   symbol_address : (o : ℕ) (y : SymbolValue) → symbol_at_offset s ys o ≡ Some y → y.address ≡ address_at s o
   unfolding symbol_at_offset
   symbol_address o y e = eqb-true _ _ (second_true (is_defined_text y) (y.address == address_at s o) (find_passes (is_text_at (address_at s o)) ys y e))
 
 -- ---- the offsets in a Text section rise
 
-module _ (said : Said) (s : SectionValue) (ys : List SymbolValue) where
+module _ (infos : FuncAndLineInfo) (s : SectionValue) (ys : List SymbolValue) where
   abbrev functions_from : ℕ → ℕ → List Function
-  functions_from n o = flat_map (function_at said s ys) (offsets_from n s ys o)
+  functions_from n o = flat_map (function_at infos s ys) (offsets_from n s ys o)
 
   up_one : (o : ℕ) (z : Option SymbolValue) (rest : List Function) → ((i : ℕ) (f : Function) → slice_get rest i ≡ Some f → o ≤ f.section_offset)
-      → (i : ℕ) (f : Function) → slice_get (text_function_of said s o z ++ rest) i ≡ Some f → o ≤ f.section_offset
+      → (i : ℕ) (f : Function) → slice_get (text_function_of infos s o z ++ rest) i ≡ Some f → o ≤ f.section_offset
   unfolding text_function
   up_one o None rest h i f e = h i f e
-  up_one o (Some y) rest h zero f e = let same : text_function said s o y ≡ f = cc in subst (λ g. o ≤ g.section_offset) same (let here : o ≤ o = omega arith in here)
+  up_one o (Some y) rest h zero f e = let same : text_function infos s o y ≡ f = cc in subst (λ g. o ≤ g.section_offset) same (let here : o ≤ o = omega arith in here)
   up_one o (Some y) rest h (suc i) f e = h i f e
 
   -- all functions from an offset on begin there or behind it
   offsets_up : (n o i : ℕ) (f : Function) → slice_get (functions_from n o) i ≡ Some f → o ≤ f.section_offset
   unfolding offsets_from function_at
   offsets_up zero o i f e = absurd (let no : ⊥ = cc in no)
-  offsets_up (suc n) o i f e = elim (nat_lt o (length s.bytes)) as (λ b. slice_get (flat_map (function_at said s ys) (if b then o ∷ offsets_from n s ys (o + size_at s ys o) else [])) i ≡ Some f → o ≤ f.section_offset) [
+  offsets_up (suc n) o i f e = elim (nat_lt o (length s.bytes)) as (λ b. slice_get (flat_map (function_at infos s ys) (if b then o ∷ offsets_from n s ys (o + size_at s ys o) else [])) i ≡ Some f → o ≤ f.section_offset) [
     | true ↦ λ g. up_one o (symbol_at_offset s ys o) (functions_from n (o + size_at s ys o))
         (λ k h q. let more : o + size_at s ys o ≤ h.section_offset = offsets_up n (o + size_at s ys o) k h q in omega (arith, more)) i f g
     | false ↦ λ g. absurd (let no : ⊥ = cc in no)
   ] e
 
   rise_one : (n o : ℕ) → (known : Stands s o (symbol_at_offset s ys o)) → OffsetsRise (functions_from n (o + size_at s ys o))
-      → OffsetsRise (function_at said s ys o ++ functions_from n (o + size_at s ys o))
+      → OffsetsRise (function_at infos s ys o ++ functions_from n (o + size_at s ys o))
   unfolding function_at size_at text_function
   rise_one n o known rest =
-      let size : size_at s ys o ≡ known.y.size = ap size_of known.found in
-      subst (λ z. OffsetsRise (text_function_of said s o z ++ functions_from n (o + size_at s ys o))) (sym known.found)
-      (rise_cons (text_function said s o known.y) (functions_from n (o + size_at s ys o))
+      let size : size_at s ys o ≡ known.y.size = ap symbol_size_of known.found in
+      subst (λ z. OffsetsRise (text_function_of infos s o z ++ functions_from n (o + size_at s ys o))) (sym known.found)
+      (rise_cons (text_function infos s o known.y) (functions_from n (o + size_at s ys o))
       (λ j g e. let more : o + size_at s ys o ≤ g.section_offset = offsets_up n (o + size_at s ys o) j g e in
       let below : o < g.section_offset = omega (arith, more, size, known.some) in below) rest)
 
-  pub rise : (n o : ℕ) → first_some (fault_at s ys) (offsets_from n s ys o) ≡ None → OffsetsRise (functions_from n o)
-  unfolding offsets_from fault_at
+  pub rise : (n o : ℕ) → first_some (text_fault_at s ys) (offsets_from n s ys o) ≡ None → OffsetsRise (functions_from n o)
+  unfolding offsets_from text_fault_at
   rise zero o clear = λ i j f g below e h. absurd (let no : ⊥ = cc in no)
-  rise (suc n) o clear = elim (nat_lt o (length s.bytes)) as (λ b. first_some (fault_at s ys) (if b then o ∷ offsets_from n s ys (o + size_at s ys o) else []) ≡ None
-      → OffsetsRise (flat_map (function_at said s ys) (if b then o ∷ offsets_from n s ys (o + size_at s ys o) else []))) [
+  rise (suc n) o clear = elim (nat_lt o (length s.bytes)) as (λ b. first_some (text_fault_at s ys) (if b then o ∷ offsets_from n s ys (o + size_at s ys o) else []) ≡ None
+      → OffsetsRise (flat_map (function_at infos s ys) (if b then o ∷ offsets_from n s ys (o + size_at s ys o) else []))) [
         | true ↦ λ e.
-            let both = both_None (fault_at s ys o) (first_some (fault_at s ys) (offsets_from n s ys (o + size_at s ys o))) e in
+            let both = both_None (text_fault_at s ys o) (first_some (text_fault_at s ys) (offsets_from n s ys (o + size_at s ys o))) e in
             rise_one n o (stands s o (symbol_at_offset s ys o) both.0) (rise n (o + size_at s ys o) both.1)
         | false ↦ λ e. λ i j f g below c h. absurd (let no : ⊥ = cc in no)
       ] clear
@@ -171,7 +171,7 @@ remainders_differ m x y below near same =
     (λ less. let low : y / m * m ≤ x / m * m = mul-le-mul_right m less in omega (arith, a, b, low, same))
     (cases_lt (x / m) (y / m))
 
-module _ (said : Said) (s : SectionValue) (ys : List SymbolValue) (short : length s.bytes ≤ 2 ^ 64) where
+module _ (infos : FuncAndLineInfo) (s : SectionValue) (ys : List SymbolValue) (short : length s.bytes ≤ 2 ^ 64) where
   under : (m p : ℕ) → p < length s.bytes → length s.bytes ≤ m → p < m
   under m p inside small = omega arith
 
@@ -179,41 +179,41 @@ module _ (said : Said) (s : SectionValue) (ys : List SymbolValue) (short : lengt
   addresses_differ m o p below near = remainders_differ m (s.address + o) (s.address + p) (omega arith) (omega arith)
 
   apart_one : (o p : ℕ) (z : Option SymbolValue) (fs : List Function) → o < p → p < length s.bytes → ((y : SymbolValue) → z ≡ Some y → y.address ≡ address_at s p)
-      → AllByRecursion (λ e. eq_by_cmp key_cmp (s.index.0, address_at s o) e.0 ≡ false) (map placed fs)
-      → AllByRecursion (λ e. eq_by_cmp key_cmp (s.index.0, address_at s o) e.0 ≡ false) (map placed (text_function_of said s p z ++ fs))
+      → AllByRecursion (λ e. eq_by_cmp key_cmp (s.index.0, address_at s o) e.0 ≡ false) (map with_key fs)
+      → AllByRecursion (λ e. eq_by_cmp key_cmp (s.index.0, address_at s o) e.0 ≡ false) (map with_key (text_function_of infos s p z ++ fs))
   unfolding text_function
   apart_one o p None fs below inside at h = h
   apart_one o p (Some y) fs below inside at h = (address_apart s.index.0 (address_at s o) y.address (λ same. addresses_differ (2 ^ 64) o p below (under (2 ^ 64) p inside short) (same ∙ at y refl)), h)
 
   -- an address is none of those from an offset behind it on
-  apart_from : (n o p : ℕ) → o < p → AllByRecursion (λ e. eq_by_cmp key_cmp (s.index.0, address_at s o) e.0 ≡ false) (map placed (flat_map (function_at said s ys) (offsets_from n s ys p)))
+  apart_from : (n o p : ℕ) → o < p → AllByRecursion (λ e. eq_by_cmp key_cmp (s.index.0, address_at s o) e.0 ≡ false) (map with_key (flat_map (function_at infos s ys) (offsets_from n s ys p)))
   unfolding offsets_from function_at
   apart_from zero o p below = tt
   apart_from (suc n) o p below = elim (nat_lt p (length s.bytes)) as (λ b. nat_lt p (length s.bytes) ≡ b
-      → AllByRecursion (λ e. eq_by_cmp key_cmp (s.index.0, address_at s o) e.0 ≡ false) (map placed (flat_map (function_at said s ys) (if b then p ∷ offsets_from n s ys (p + size_at s ys p) else [])))) [
-        | true ↦ λ t. apart_one o p (symbol_at_offset s ys p) _ below (ltb-true _ _ t) (λ y e. symbol_address said s ys p y e) (apart_from n o (p + size_at s ys p) (omega arith))
+      → AllByRecursion (λ e. eq_by_cmp key_cmp (s.index.0, address_at s o) e.0 ≡ false) (map with_key (flat_map (function_at infos s ys) (if b then p ∷ offsets_from n s ys (p + size_at s ys p) else [])))) [
+        | true ↦ λ t. apart_one o p (symbol_at_offset s ys p) _ below (ltb-true _ _ t) (λ y e. symbol_address infos s ys p y e) (apart_from n o (p + size_at s ys p) (omega arith))
         | false ↦ λ t. tt
       ] refl
 
-  differ_one : (n o : ℕ) → (known : Stands s o (symbol_at_offset s ys o)) → KeysDiffer key_cmp (map placed (flat_map (function_at said s ys) (offsets_from n s ys (o + size_at s ys o))))
-      → KeysDiffer key_cmp (map placed (function_at said s ys o ++ flat_map (function_at said s ys) (offsets_from n s ys (o + size_at s ys o))))
+  differ_one : (n o : ℕ) → (known : Stands s o (symbol_at_offset s ys o)) → KeysDiffer key_cmp (map with_key (flat_map (function_at infos s ys) (offsets_from n s ys (o + size_at s ys o))))
+      → KeysDiffer key_cmp (map with_key (function_at infos s ys o ++ flat_map (function_at infos s ys) (offsets_from n s ys (o + size_at s ys o))))
   unfolding function_at size_at text_function
   differ_one n o known rest =
-      let size : size_at s ys o ≡ known.y.size = ap size_of known.found in
-      let here : known.y.address ≡ address_at s o = symbol_address said s ys o known.y known.found in
-      subst (λ z. KeysDiffer key_cmp (map placed (text_function_of said s o z ++ flat_map (function_at said s ys) (offsets_from n s ys (o + size_at s ys o))))) (sym known.found) (
-        subst (λ a. AllByRecursion (λ e. eq_by_cmp key_cmp (s.index.0, a) e.0 ≡ false) (map placed (flat_map (function_at said s ys) (offsets_from n s ys (o + size_at s ys o))))) (sym here)
+      let size : size_at s ys o ≡ known.y.size = ap symbol_size_of known.found in
+      let here : known.y.address ≡ address_at s o = symbol_address infos s ys o known.y known.found in
+      subst (λ z. KeysDiffer key_cmp (map with_key (text_function_of infos s o z ++ flat_map (function_at infos s ys) (offsets_from n s ys (o + size_at s ys o))))) (sym known.found) (
+        subst (λ a. AllByRecursion (λ e. eq_by_cmp key_cmp (s.index.0, a) e.0 ≡ false) (map with_key (flat_map (function_at infos s ys) (offsets_from n s ys (o + size_at s ys o))))) (sym here)
             (apart_from n o (o + size_at s ys o) (omega (arith, size, known.some))),
         rest,
       )
 
-  pub differ : (n o : ℕ) → first_some (fault_at s ys) (offsets_from n s ys o) ≡ None → KeysDiffer key_cmp (map placed (flat_map (function_at said s ys) (offsets_from n s ys o)))
-  unfolding offsets_from fault_at
+  pub differ : (n o : ℕ) → first_some (text_fault_at s ys) (offsets_from n s ys o) ≡ None → KeysDiffer key_cmp (map with_key (flat_map (function_at infos s ys) (offsets_from n s ys o)))
+  unfolding offsets_from text_fault_at
   differ zero o clear = tt
-  differ (suc n) o clear = elim (nat_lt o (length s.bytes)) as (λ b. first_some (fault_at s ys) (if b then o ∷ offsets_from n s ys (o + size_at s ys o) else []) ≡ None
-      → KeysDiffer key_cmp (map placed (flat_map (function_at said s ys) (if b then o ∷ offsets_from n s ys (o + size_at s ys o) else [])))) [
+  differ (suc n) o clear = elim (nat_lt o (length s.bytes)) as (λ b. first_some (text_fault_at s ys) (if b then o ∷ offsets_from n s ys (o + size_at s ys o) else []) ≡ None
+      → KeysDiffer key_cmp (map with_key (flat_map (function_at infos s ys) (if b then o ∷ offsets_from n s ys (o + size_at s ys o) else [])))) [
         | true ↦ λ e.
-            let both = both_None (fault_at s ys o) (first_some (fault_at s ys) (offsets_from n s ys (o + size_at s ys o))) e in
+            let both = both_None (text_fault_at s ys o) (first_some (text_fault_at s ys) (offsets_from n s ys (o + size_at s ys o))) e in
             differ_one n o (stands s o (symbol_at_offset s ys o) both.0) (differ n (o + size_at s ys o) both.1)
         | false ↦ λ e. tt
       ] clear

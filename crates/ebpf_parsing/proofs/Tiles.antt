@@ -12,9 +12,9 @@ use Rattle.ebpf_parts.specs.declared.insn.bpf_insn.{bpf_insn}
 use Rattle.ebpf_reloc.specs.declared.function.Function.{Function}
 use Rattle.ebpf_parts.specs.Sections.{SectionValue}
 use Rattle.ebpf_parts.specs.Slots.{slot_at, slots_of, code_faults}
-use Rattle.ebpf_parsing.specs.Records.{Said}
+use Rattle.ebpf_parsing.specs.Records.{FuncAndLineInfo}
 use Rattle.ebpf_parsing.specs.Symbols.{SymbolValue}
-use Rattle.ebpf_parsing.specs.Texts.{offsets_from, function_at, fault_at, size_at, symbol_at_offset, text_function_of, text_fault_of, size_of, text_function, conflict_fault, text_fault}
+use Rattle.ebpf_parsing.specs.Texts.{offsets_from, function_at, text_fault_at, size_at, symbol_at_offset, text_function_of, text_fault_of, symbol_size_of, text_function, conflict_fault, text_fault}
 use Rattle.ebpf_parsing.specs.Tiling.{FunctionsTile}
 use Rattle.ebpf_parsing.proofs.Offsets.{none_left}
 
@@ -22,16 +22,16 @@ use Rattle.ebpf_parsing.proofs.Offsets.{none_left}
 slots_in : List ℕ → ℕ → ℕ → List bpf_insn
 slots_in bytes w m = map (λ k. slot_at bytes (8 * k)) (range_with_len w m)
 
-slots_join : (bytes : List ℕ) (w m n : ℕ) → slots_in bytes w (m + n) ≡ slots_in bytes w m ++ slots_in bytes (w + m) n
+slots_append : (bytes : List ℕ) (w m n : ℕ) → slots_in bytes w (m + n) ≡ slots_in bytes w m ++ slots_in bytes (w + m) n
 unfolding slots_in
-slots_join bytes w zero n =
+slots_append bytes w zero n =
     let e : 0 + n ≡ n = omega arith in
     let g : w ≡ w + 0 = omega arith in
     ap (slots_in bytes w) e ∙ ap (λ v. slots_in bytes v n) g
-slots_join bytes w (suc m) n =
+slots_append bytes w (suc m) n =
     let e : suc m + n ≡ suc (m + n) = omega arith in
     let g : w + 1 + m ≡ w + suc m = omega arith in
-    ap (slots_in bytes w) e ∙ ap (λ l. slot_at bytes (8 * w) ∷ l) (slots_join bytes (w + 1) m n ∙ ap (λ v. slots_in bytes (w + 1) m ++ slots_in bytes v n) g)
+    ap (slots_in bytes w) e ∙ ap (λ l. slot_at bytes (8 * w) ∷ l) (slots_append bytes (w + 1) m n ∙ ap (λ v. slots_in bytes (w + 1) m ++ slots_in bytes v n) g)
 
 module _ (bytes : List ℕ) (o n : ℕ) where
   at_place : (j p : ℕ) → j < n → p ≡ o + j → slice_index (slice_range bytes o (o + n)) j ≡ slice_index bytes p
@@ -104,18 +104,18 @@ or_none (Some x) b e = absurd (let wrong : ⊥ = cc in wrong)
 instructions_of : List Function → List bpf_insn
 instructions_of fs = flat_map (λ f. f.instructions) fs
 
-module _ (said : Said) (s : SectionValue) (ys : List SymbolValue) where
+module _ (infos : FuncAndLineInfo) (s : SectionValue) (ys : List SymbolValue) where
   here : (n o : ℕ) → o < length s.bytes → offsets_from (suc n) s ys o ≡ o ∷ offsets_from n s ys (o + size_at s ys o)
   unfolding offsets_from
   here n o inside =
       let test : nat_lt o (length s.bytes) ≡ true = grind (arith, nat_tests) in
       ap (λ b. if b then o ∷ offsets_from n s ys (o + size_at s ys o) else []) test
 
-  at_end : (n w : ℕ) → 8 * w ≡ length s.bytes → instructions_of (flat_map (function_at said s ys) (offsets_from n s ys (8 * w))) ≡ slots_in s.bytes w ((length s.bytes - 8 * w) / 8)
+  at_end : (n w : ℕ) → 8 * w ≡ length s.bytes → instructions_of (flat_map (function_at infos s ys) (offsets_from n s ys (8 * w))) ≡ slots_in s.bytes w ((length s.bytes - 8 * w) / 8)
   unfolding instructions_of slots_in
   at_end n w e =
       let none : (length s.bytes - 8 * w) / 8 ≡ 0 = omega arith in
-      ap (λ os. instructions_of (flat_map (function_at said s ys) os)) (none_left s ys n (8 * w) (omega arith)) ∙ ap (slots_in s.bytes w) (sym none)
+      ap (λ os. instructions_of (flat_map (function_at infos s ys) os)) (none_left s ys n (8 * w) (omega arith)) ∙ ap (slots_in s.bytes w) (sym none)
 
   lt_of : (w : ℕ) → nat_lt (8 * w) (length s.bytes) ≡ true → 8 * w < length s.bytes
   lt_of w e = grind (arith, nat_tests)
@@ -124,46 +124,46 @@ module _ (said : Said) (s : SectionValue) (ys : List SymbolValue) where
   le_of w below e = grind (arith, nat_tests)
 
   abbrev TilesFrom : ℕ → ℕ → Type 0
-  TilesFrom n w = 8 * w ≤ length s.bytes → length s.bytes - 8 * w ≤ n → first_some (fault_at s ys) (offsets_from n s ys (8 * w)) ≡ None
-      → instructions_of (flat_map (function_at said s ys) (offsets_from n s ys (8 * w))) ≡ slots_in s.bytes w ((length s.bytes - 8 * w) / 8)
+  TilesFrom n w = 8 * w ≤ length s.bytes → length s.bytes - 8 * w ≤ n → first_some (text_fault_at s ys) (offsets_from n s ys (8 * w)) ≡ None
+      → instructions_of (flat_map (function_at infos s ys) (offsets_from n s ys (8 * w))) ≡ slots_in s.bytes w ((length s.bytes - 8 * w) / 8)
 
   -- one more function, and the others
   one_more : (n w : ℕ) → ((v : ℕ) → TilesFrom n v) → 8 * w < length s.bytes → TilesFrom (suc n) w
-  unfolding instructions_of function_at fault_at size_at text_function
+  unfolding instructions_of function_at text_fault_at size_at text_function
   one_more n w again inside below few clear =
       let step : offsets_from (suc n) s ys (8 * w) ≡ 8 * w ∷ offsets_from n s ys (8 * w + size_at s ys (8 * w)) = here n (8 * w) inside in
-      let both : (fault_at s ys (8 * w) ≡ None) × (first_some (fault_at s ys) (offsets_from n s ys (8 * w + size_at s ys (8 * w))) ≡ None)
-      = or_none _ _ (sym (ap (first_some (fault_at s ys)) step) ∙ clear) in
+      let both : (text_fault_at s ys (8 * w) ≡ None) × (first_some (text_fault_at s ys) (offsets_from n s ys (8 * w + size_at s ys (8 * w))) ≡ None)
+      = or_none _ _ (sym (ap (first_some (text_fault_at s ys)) step) ∙ clear) in
       let known : Stands s (8 * w) (symbol_at_offset s ys (8 * w)) = stands s (8 * w) (symbol_at_offset s ys (8 * w)) both.0 in
       let m : ℕ = known.y.size / 8 in
       let size : known.y.size ≡ 8 * m = omega (arith, known.whole) in
-      let long : size_at s ys (8 * w) ≡ known.y.size = ap size_of known.found in
+      let long : size_at s ys (8 * w) ≡ known.y.size = ap symbol_size_of known.found in
       let next : 8 * w + size_at s ys (8 * w) ≡ 8 * (w + m) = omega (arith, long, size) in
       let fits : 8 * w + 8 * m ≤ length s.bytes = omega (arith, known.inside, size) in
-      let one : function_at said s ys (8 * w) ≡ text_function said s (8 * w) known.y ∷ [] = ap (text_function_of said s (8 * w)) known.found in
-      let rest : instructions_of (flat_map (function_at said s ys) (offsets_from n s ys (8 * (w + m)))) ≡ slots_in s.bytes (w + m) ((length s.bytes - 8 * (w + m)) / 8)
-      = again (w + m) (omega (arith, fits)) (omega (arith, fits, size, known.some, few)) (sym (ap (λ o. first_some (fault_at s ys) (offsets_from n s ys o)) next) ∙ both.1) in
+      let one : function_at infos s ys (8 * w) ≡ text_function infos s (8 * w) known.y ∷ [] = ap (text_function_of infos s (8 * w)) known.found in
+      let rest : instructions_of (flat_map (function_at infos s ys) (offsets_from n s ys (8 * (w + m)))) ≡ slots_in s.bytes (w + m) ((length s.bytes - 8 * (w + m)) / 8)
+      = again (w + m) (omega (arith, fits)) (omega (arith, fits, size, known.some, few)) (sym (ap (λ o. first_some (text_fault_at s ys) (offsets_from n s ys o)) next) ∙ both.1) in
       let slots : slots_of (slice_range s.bytes (8 * w) (8 * w + known.y.size)) ≡ slots_in s.bytes w m
       = ap (λ k. slots_of (slice_range s.bytes (8 * w) (8 * w + k))) size ∙ slots_of_range s.bytes w m fits in
       let count : m + (length s.bytes - 8 * (w + m)) / 8 ≡ (length s.bytes - 8 * w) / 8 = omega (arith, fits) in
-      ap (λ os. instructions_of (flat_map (function_at said s ys) os)) step
-      ∙ ap (λ fs. instructions_of (fs ++ flat_map (function_at said s ys) (offsets_from n s ys (8 * w + size_at s ys (8 * w))))) one
-      ∙ ap (λ o. slots_of (slice_range s.bytes (8 * w) (8 * w + known.y.size)) ++ instructions_of (flat_map (function_at said s ys) (offsets_from n s ys o))) next
-      ∙ ap (λ l. l ++ instructions_of (flat_map (function_at said s ys) (offsets_from n s ys (8 * (w + m))))) slots
+      ap (λ os. instructions_of (flat_map (function_at infos s ys) os)) step
+      ∙ ap (λ fs. instructions_of (fs ++ flat_map (function_at infos s ys) (offsets_from n s ys (8 * w + size_at s ys (8 * w))))) one
+      ∙ ap (λ o. slots_of (slice_range s.bytes (8 * w) (8 * w + known.y.size)) ++ instructions_of (flat_map (function_at infos s ys) (offsets_from n s ys o))) next
+      ∙ ap (λ l. l ++ instructions_of (flat_map (function_at infos s ys) (offsets_from n s ys (8 * (w + m))))) slots
       ∙ ap (λ l. slots_in s.bytes w m ++ l) rest
-      ∙ sym (slots_join s.bytes w m ((length s.bytes - 8 * (w + m)) / 8))
+      ∙ sym (slots_append s.bytes w m ((length s.bytes - 8 * (w + m)) / 8))
       ∙ ap (slots_in s.bytes w) count
 
   tile : (n w : ℕ) → TilesFrom n w
   tile zero w below few clear = at_end zero w (omega arith)
-  tile (suc n) w below few clear = elim (nat_lt (8 * w) (length s.bytes)) as (λ b. nat_lt (8 * w) (length s.bytes) ≡ b → instructions_of (flat_map (function_at said s ys) (offsets_from (suc n) s ys (8 * w))) ≡ slots_in s.bytes w ((length s.bytes - 8 * w) / 8)) [
+  tile (suc n) w below few clear = elim (nat_lt (8 * w) (length s.bytes)) as (λ b. nat_lt (8 * w) (length s.bytes) ≡ b → instructions_of (flat_map (function_at infos s ys) (offsets_from (suc n) s ys (8 * w))) ≡ slots_in s.bytes w ((length s.bytes - 8 * w) / 8)) [
     | true ↦ λ e. one_more n w (tile n) (lt_of w e) below few clear
     | false ↦ λ e. at_end (suc n) w (le_of w below e)
   ] refl
 
 pub functions_tile : FunctionsTile
 unfolding instructions_of slots_of slots_in text_fault
-functions_tile said s ys e =
-    let clear : first_some (fault_at s ys) (offsets_from (length s.bytes) s ys (8 * 0)) ≡ None = (or_none (conflict_fault s.index.0 ys) _ e).1 in
+functions_tile infos s ys e =
+    let clear : first_some (text_fault_at s ys) (offsets_from (length s.bytes) s ys (8 * 0)) ≡ None = (or_none (conflict_fault s.index.0 ys) _ e).1 in
     let all : length s.bytes - 0 ≡ length s.bytes = omega arith in
-    tile said s ys (length s.bytes) 0 (omega arith) (omega arith) clear ∙ ap (λ n. slots_in s.bytes 0 (n / 8)) all
+    tile infos s ys (length s.bytes) 0 (omega arith) (omega arith) clear ∙ ap (λ n. slots_in s.bytes 0 (n / 8)) all

@@ -3,9 +3,9 @@ use Rattle.std.specs.Prelude.{ℕ, Bool, true, false, not, ◌&&◌, List, Optio
 use Rattle.std.specs.List.{list_any}
 use Rattle.ebpf_btf.specs.declared.endianness.Endianness.{Endianness}
 use Rattle.ebpf_btf.specs.declared.endianness.Endianness.TheVariants.{Little, Big}
-use Rattle.ebpf_elf.specs.File.{order_of}
+use Rattle.ebpf_elf.specs.File.{ei_data}
 use Rattle.ebpf_elf.specs.Sections.{SectionOf, sections, header}
-use Rattle.ebpf_parts.specs.SectionKinds.{kind_of}
+use Rattle.ebpf_parts.specs.SectionKinds.{kind_of_section}
 use Rattle.ebpf_parts.specs.Sections.{name_or_empty}
 use Rattle.ebpf_parts.specs.declared.error.ParseError.{ParseError}
 use Rattle.ebpf_parts.specs.declared.error.ParseError.TheVariants.{BigEndianCode}
@@ -21,14 +21,14 @@ is_kind_of_code _ = false
 
 -- a section of code has bytes in the file: it is not of kind NOBITS, and states a size
 abbrev pub has_code : SectionOf → Bool
-has_code s = is_kind_of_code (kind_of (name_or_empty s) (header s)) && (not ((header s).kind == 8) && not ((header s).size == 0))
+has_code s = is_kind_of_code (kind_of_section (name_or_empty s) (header s)) && (not ((header s).sh_type == 8) && not ((header s).sh_size == 0))
 
 abbrev pub is_big : Endianness → Bool
 is_big Big = true
 is_big Little = false
 
 unfoldable pub has_big_endian_code : List ℕ → Bool
-has_big_endian_code bytes = is_big (order_of bytes) && list_any has_code (sections bytes)
+has_big_endian_code bytes = is_big (ei_data bytes) && list_any has_code (sections bytes)
 
 abbrev pub order_fault_as : Reading → List ℕ → Option ParseError
 order_fault_as Stated bytes = None

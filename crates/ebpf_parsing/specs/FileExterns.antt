@@ -3,7 +3,7 @@ use Rattle.std.specs.Prelude.{ℕ, List, Option, Some, None, option_map}
 use Rattle.std.specs.FinMap.{FinMap, empty}
 use Rattle.ebpf_base.specs.Keys.{text_cmp}
 use Rattle.ebpf_btf.specs.TypeInfo.{TypeInfo}
-use Rattle.ebpf_declarations.specs.Externs.{extern_types, externs, externs_fault}
+use Rattle.ebpf_declarations.specs.Externs.{extern_types, externs, extern_declarations_fault}
 use Rattle.ebpf_parsing.specs.FileSymbols.{file_symbols}
 use Rattle.ebpf_parsing.specs.FileTypes.{btf_of}
 use Rattle.ebpf_parsing.specs.Symbols.{SymbolValue}
@@ -19,7 +19,7 @@ externs_beside symbols (Some types) = externs types (weak_named symbols)
 
 abbrev pub externs_fault_beside : List SymbolValue → Option TypeInfo → Option ParseError
 externs_fault_beside symbols None = None
-externs_fault_beside symbols (Some types) = option_map BtfError (externs_fault types (weak_named symbols))
+externs_fault_beside symbols (Some types) = option_map BtfError (extern_declarations_fault types (weak_named symbols))
 
 -- of a file: its types, with those that externs add
 unfoldable pub types_of : List ℕ → Option TypeInfo

@@ -5,7 +5,7 @@ use Rattle.std.specs.Ordering.{nat_cmp}
 use Rattle.ebpf_base.specs.Faults.{first_some}
 use Rattle.ebpf_base.specs.Keyed.{put_all}
 use Rattle.ebpf_btf.specs.declared.error.BtfError.TheVariants.{InvalidSymbolName}
-use Rattle.ebpf_elf.specs.Symbols.{SymbolOf, entry, symbol_name, kind_of, section_of, is_definition, is_weak, symbols}
+use Rattle.ebpf_elf.specs.Symbols.{SymbolOf, entry, symbol_name, symbol_kind, symbol_section_index, is_definition, is_weak, symbols}
 use Rattle.ebpf_parsing.specs.Symbols.{SymbolValue}
 use Rattle.ebpf_parts.specs.declared.error.ParseError.{ParseError}
 use Rattle.ebpf_parts.specs.declared.error.ParseError.TheVariants.{BtfError}
@@ -15,11 +15,11 @@ use Rattle.ebpf_reloc.specs.declared.symbol.Symbol.{Symbol}
 unfoldable pub symbol_of : SymbolOf → SymbolValue
 symbol_of s = record {
   index = s.index;
-  section_index = section_of (entry s);
+  section_index = symbol_section_index (entry s);
   name = unwrap_or (symbol_name s) [];
-  address = (entry s).value;
-  size = (entry s).size;
-  kind = kind_of (entry s);
+  address = (entry s).st_value;
+  size = (entry s).st_size;
+  kind = symbol_kind (entry s);
   is_definition = is_definition (entry s);
   is_weak = is_weak (entry s);
 }
@@ -41,9 +41,9 @@ abbrev pub symbols_fault : List ℕ → Option ParseError
 symbols_fault bytes = first_some symbol_fault (symbols bytes)
 
 -- what an object keeps of a symbol, by its index
-abbrev pub kept_of : SymbolValue → ℕ × Symbol
-kept_of y = (y.index, record { index = y.index; section_index = y.section_index; name = Some y.name; address = y.address; size = y.size; kind = y.kind; is_definition = y.is_definition; is_weak = y.is_weak })
+abbrev pub symbol_entry : SymbolValue → ℕ × Symbol
+symbol_entry y = (y.index, record { index = y.index; section_index = y.section_index; name = Some y.name; address = y.address; size = y.size; kind = y.kind; is_definition = y.is_definition; is_weak = y.is_weak })
 
 -- the symbols of an object, by index
 abbrev pub symbol_table : List SymbolValue → FinMap nat_cmp Symbol
-symbol_table symbols = put_all empty (map kept_of symbols)
+symbol_table symbols = put_all empty (map symbol_entry symbols)

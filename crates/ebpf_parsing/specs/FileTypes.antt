@@ -1,4 +1,4 @@
--- The type information of a file, and what it says of instructions: its sections `.BTF` and `.BTF.ext` (libbpf's names).
+-- The type information of a file, and its records on instructions: its sections `.BTF` and `.BTF.ext` (libbpf's names).
 use Rattle.std.specs.Prelude.{ℕ, Bool, false, not, ◌==◌, length, List, [], Option, Some, None, Result, codes, option_map}
 use Rattle.std.specs.FinMap.{FinMap, empty}
 use Rattle.std.specs.Result.{result_ok}
@@ -10,11 +10,11 @@ use Rattle.ebpf_btf.specs.Reading.{type_info_of}
 use Rattle.ebpf_btf.specs.TypeInfo.{TypeInfo}
 use Rattle.ebpf_btf.specs.declared.endianness.Endianness.{Endianness}
 use Rattle.ebpf_btf.specs.declared.error.BtfError.{BtfError as TypeError}
-use Rattle.ebpf_elf.specs.File.{order_of}
+use Rattle.ebpf_elf.specs.File.{ei_data}
 use Rattle.ebpf_elf.specs.Sections.{SectionOf}
 use Rattle.ebpf_elf.specs.declared.entries.SectionIndex.{SectionIndex}
 use Rattle.ebpf_parsing.specs.OfSection.{name_in}
-use Rattle.ebpf_parsing.specs.Terms.{section_named}
+use Rattle.ebpf_parsing.specs.LicenseAndVersion.{first_section_named}
 use Rattle.ebpf_parts.specs.Sections.{section_of, section_fault}
 use Rattle.ebpf_parts.specs.declared.error.ParseError.{ParseError}
 use Rattle.ebpf_parts.specs.declared.error.ParseError.TheVariants.{BtfError}
@@ -29,48 +29,48 @@ names_in (Some s) = name_in (section_of s)
 abbrev pub read_types : Endianness → SectionOf → Result TypeInfo TypeError
 read_types o s = type_info_of o (section_of s).bytes
 
-abbrev pub types_in : Endianness → Option SectionOf → Option TypeInfo
-types_in o None = None
-types_in o (Some s) = result_ok (read_types o s)
+abbrev pub btf_in : Endianness → Option SectionOf → Option TypeInfo
+btf_in o None = None
+btf_in o (Some s) = result_ok (read_types o s)
 
 abbrev pub types_fault_in : Endianness → Option SectionOf → Option ParseError
 types_fault_in o None = None
 types_fault_in o (Some s) = or_else (section_fault s) (option_map BtfError (fault_of (read_types o s)))
 
--- ---- what is said of instructions, its names in the strings of the types
+-- ---- the records of `.BTF.ext`, their names in the strings of the types
 
-abbrev pub read_said : Endianness → TypeInfo → SectionOf → Result ExtInfo TypeError
-read_said o types s = read_ext o (section_of s).bytes types.strings
+abbrev pub read_ext_section : Endianness → TypeInfo → SectionOf → Result ExtInfo TypeError
+read_ext_section o types s = read_ext o (section_of s).bytes types.strings
 
-abbrev pub said_in : Endianness → TypeInfo → Option SectionOf → Option ExtInfo
-said_in o types None = None
-said_in o types (Some s) = result_ok (read_said o types s)
+abbrev pub ext_in : Endianness → TypeInfo → Option SectionOf → Option ExtInfo
+ext_in o types None = None
+ext_in o types (Some s) = result_ok (read_ext_section o types s)
 
-abbrev pub said_fault_in : Endianness → TypeInfo → Option SectionOf → Option ParseError
-said_fault_in o types None = None
-said_fault_in o types (Some s) = or_else (section_fault s) (option_map BtfError (fault_of (read_said o types s)))
+abbrev pub ext_fault_in : Endianness → TypeInfo → Option SectionOf → Option ParseError
+ext_fault_in o types None = None
+ext_fault_in o types (Some s) = or_else (section_fault s) (option_map BtfError (fault_of (read_ext_section o types s)))
 
 -- ---- of a file: the first section of each name, `.BTF.ext` only beside types
 
 abbrev pub types_section : List ℕ → Option SectionOf
-types_section bytes = section_named (codes ".BTF") bytes
+types_section bytes = first_section_named (codes ".BTF") bytes
 
-abbrev pub said_section : List ℕ → Option SectionOf
-said_section bytes = section_named (codes ".BTF.ext") bytes
+abbrev pub ext_section : List ℕ → Option SectionOf
+ext_section bytes = first_section_named (codes ".BTF.ext") bytes
 
 unfoldable pub btf_of : List ℕ → Option TypeInfo
-btf_of bytes = types_in (order_of bytes) (types_section bytes)
+btf_of bytes = btf_in (ei_data bytes) (types_section bytes)
 
 unfoldable pub btf_fault : List ℕ → Option ParseError
-btf_fault bytes = types_fault_in (order_of bytes) (types_section bytes)
+btf_fault bytes = types_fault_in (ei_data bytes) (types_section bytes)
 
 abbrev pub ext_beside : List ℕ → Option TypeInfo → Option ExtInfo
 ext_beside bytes None = None
-ext_beside bytes (Some types) = said_in (order_of bytes) types (said_section bytes)
+ext_beside bytes (Some types) = ext_in (ei_data bytes) types (ext_section bytes)
 
 abbrev pub ext_fault_beside : List ℕ → Option TypeInfo → Option ParseError
 ext_fault_beside bytes None = None
-ext_fault_beside bytes (Some types) = said_fault_in (order_of bytes) types (said_section bytes)
+ext_fault_beside bytes (Some types) = ext_fault_in (ei_data bytes) types (ext_section bytes)
 
 unfoldable pub ext_of : List ℕ → Option ExtInfo
 ext_of bytes = ext_beside bytes (btf_of bytes)
@@ -81,7 +81,7 @@ ext_fault bytes = ext_fault_beside bytes (btf_of bytes)
 -- the names that this step meets
 abbrev pub ext_names_beside : List ℕ → Option TypeInfo → List (List ℕ × SectionIndex)
 ext_names_beside bytes None = []
-ext_names_beside bytes (Some types) = names_in (said_section bytes)
+ext_names_beside bytes (Some types) = names_in (ext_section bytes)
 
 unfoldable pub type_names : List ℕ → List (List ℕ × SectionIndex)
 type_names bytes = names_in (types_section bytes)
@@ -89,8 +89,8 @@ type_names bytes = names_in (types_section bytes)
 unfoldable pub ext_names : List ℕ → List (List ℕ × SectionIndex)
 ext_names bytes = ext_names_beside bytes (btf_of bytes)
 
-unfoldable pub names_met : List ℕ → FinMap text_cmp SectionIndex
-names_met bytes = put_all (put_all empty (type_names bytes)) (ext_names bytes)
+unfoldable pub type_info_names : List ℕ → FinMap text_cmp SectionIndex
+type_info_names bytes = put_all (put_all empty (type_names bytes)) (ext_names bytes)
 
 -- the faults of this step
 unfoldable pub file_types_fault : List ℕ → Option ParseError

@@ -7,10 +7,10 @@ use Rattle.ebpf_base.specs.Keys.{text_cmp}
 use Rattle.ebpf_btf.specs.TypeInfo.{TypeInfo}
 use Rattle.ebpf_parsing.specs.DataMaps.{data_maps}
 use Rattle.ebpf_parsing.specs.OfSection.{maps_by}
-use Rattle.ebpf_parsing.specs.Parts.{added}
+use Rattle.ebpf_parsing.specs.ObjectTables.{added}
 use Rattle.ebpf_parsing.specs.Symbols.{SymbolValue}
-use Rattle.ebpf_parsing.specs.declared.parts.Parts.{Parts}
-use Rattle.ebpf_parsing.specs.declared.shared.Shared.{Shared}
+use Rattle.ebpf_parsing.specs.declared.object_tables.ObjectTables.{ObjectTables}
+use Rattle.ebpf_parsing.specs.declared.metadata.FileMetadata.{FileMetadata}
 use Rattle.ebpf_parts.specs.Sections.{SectionValue}
 use Rattle.ebpf_parts.specs.declared.maps.either.Map.{Map}
 use Rattle.ebpf_parts.specs.declared.section_kind.EbpfSectionKind.{EbpfSectionKind}
@@ -31,13 +31,13 @@ data_row s = if is_data s.kind then (s.name, s.index.0) ∷ [] else []
 abbrev pub last_data : List SectionValue → FinMap text_cmp ℕ
 last_data sections = put_all empty (flat_map data_row sections)
 
-abbrev pub is_number : ℕ → Option ℕ → Bool
-is_number i None = true
-is_number i (Some j) = i == j
+abbrev pub is_index : ℕ → Option ℕ → Bool
+is_index i None = true
+is_index i (Some j) = i == j
 
 -- the map of a section of data, where it is the last of its name
 abbrev pub last_maps : FinMap text_cmp ℕ → SectionValue → List (List ℕ × Map)
-last_maps last s = if is_number s.index.0 (get last s.name) then data_maps s else []
+last_maps last s = if is_index s.index.0 (get last s.name) then data_maps s else []
 
 -- the maps that a section gives, where it is no section of data before the last of its name
 abbrev pub put_by : EbpfSectionKind → FinMap text_cmp ℕ → Reading → Option TypeInfo → SectionValue → List SymbolValue → List (List ℕ × Map)
@@ -49,5 +49,5 @@ put_by BtfMaps last reading types s symbols = maps_by BtfMaps reading types s sy
 put_by _ last reading types s symbols = []
 
 -- what a section adds, but for maps that others of its name replace
-abbrev pub added_last : FinMap text_cmp ℕ → Shared → Parts → SectionValue → List SymbolValue → Parts
-added_last last shared p s symbols = record (added shared p s symbols) { maps = put_all p.maps (put_by s.kind last shared.reading shared.btf s symbols) }
+abbrev pub added_last : FinMap text_cmp ℕ → FileMetadata → ObjectTables → SectionValue → List SymbolValue → ObjectTables
+added_last last metadata p s symbols = record (added metadata p s symbols) { maps = put_all p.maps (put_by s.kind last metadata.reading metadata.btf s symbols) }

@@ -24,8 +24,8 @@ unfoldable pub word_at : List ℕ → ℕ → ℕ
 word_at bytes place = number_at Little 4 bytes place
 
 -- 0 says no pinning, 1 pinning by name
-abbrev pub pinning_of : ℕ → PinningType
-pinning_of number = if number == 0 then pinned.None else pinned.ByName
+abbrev pub legacy_pinning : ℕ → PinningType
+legacy_pinning number = if number == 0 then pinned.None else pinned.ByName
 
 unfoldable pub definition_of : List ℕ → bpf_map_def
 definition_of bytes = record {
@@ -35,7 +35,7 @@ definition_of bytes = record {
   max_entries = word_at bytes 12;
   map_flags = word_at bytes 16;
   id = word_at bytes 20;
-  pinning = pinning_of (word_at bytes 24);
+  pinning = legacy_pinning (word_at bytes 24);
 }
 
 -- the map, by the symbol's name

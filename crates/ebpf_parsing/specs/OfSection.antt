@@ -5,15 +5,15 @@ use Rattle.std.specs.Ordering.{nat_cmp}
 use Rattle.ebpf_base.specs.Faults.{or_else, first_of}
 use Rattle.ebpf_ext.specs.ExtReading.{ExtInfo}
 use Rattle.ebpf_btf.specs.TypeInfo.{TypeInfo}
-use Rattle.ebpf_declarations.specs.Declaring.{declaring}
+use Rattle.ebpf_declarations.specs.TypesInReading.{types_in_reading}
 use Rattle.ebpf_elf.specs.declared.entries.ElfRelocation.{ElfRelocation}
 use Rattle.ebpf_elf.specs.declared.entries.SectionIndex.{SectionIndex}
-use Rattle.ebpf_parsing.specs.DeclaredMaps.{declared_maps, declared_maps_fault}
+use Rattle.ebpf_parsing.specs.BtfDefinedMaps.{btf_defined_maps, btf_defined_maps_fault}
 use Rattle.ebpf_parsing.specs.DataMaps.{data_maps, data_map_fault}
 use Rattle.ebpf_parsing.specs.LegacyMaps.{legacy_maps, legacy_maps_fault}
-use Rattle.ebpf_parsing.specs.Programs.{placed, programs_of, program_functions, programs_fault}
-use Rattle.ebpf_parsing.specs.Records.{Said, said_of}
-use Rattle.ebpf_parsing.specs.Relocations.{kept_at}
+use Rattle.ebpf_parsing.specs.Programs.{with_key, programs_of, program_functions, programs_fault}
+use Rattle.ebpf_parsing.specs.Records.{FuncAndLineInfo, func_and_line_info_of}
+use Rattle.ebpf_parsing.specs.Relocations.{relocation_table_at}
 use Rattle.ebpf_parsing.specs.Symbols.{SymbolValue}
 use Rattle.ebpf_parsing.specs.Texts.{text_functions, text_fault}
 use Rattle.ebpf_parsing.specs.declared.program.Program.{Program}
@@ -33,7 +33,7 @@ maps_by Data reading types s symbols = data_maps s
 maps_by Rodata reading types s symbols = data_maps s
 maps_by Bss reading types s symbols = data_maps s
 maps_by Maps reading types s symbols = legacy_maps s symbols
-maps_by BtfMaps reading types s symbols = declared_maps (declaring reading types) s symbols
+maps_by BtfMaps reading types s symbols = btf_defined_maps (types_in_reading reading types) s symbols
 maps_by _ reading types s symbols = []
 
 unfoldable pub maps_in : Reading → Option TypeInfo → SectionValue → List SymbolValue → List (List ℕ × Map)
@@ -48,18 +48,18 @@ unfoldable pub programs_in : Reading → List ℕ → Option ℕ → SectionValu
 programs_in reading license version s symbols = programs_by s.kind reading license version s symbols
 
 -- the functions, by section and address, each with what `.BTF.ext` says of it
-abbrev pub functions_by : EbpfSectionKind → Said → SectionValue → List SymbolValue → List Function
-functions_by Programs said s symbols = program_functions said s symbols
-functions_by Text said s symbols = text_functions said s symbols
-functions_by _ said s symbols = []
+abbrev pub functions_by : EbpfSectionKind → FuncAndLineInfo → SectionValue → List SymbolValue → List Function
+functions_by Programs infos s symbols = program_functions infos s symbols
+functions_by Text infos s symbols = text_functions infos s symbols
+functions_by _ infos s symbols = []
 
 unfoldable pub functions_in : Option ExtInfo → SectionValue → List SymbolValue → List ((ℕ × ℕ) × Function)
-functions_in ext s symbols = map placed (functions_by s.kind (said_of ext s.name) s symbols)
+functions_in ext s symbols = map with_key (functions_by s.kind (func_and_line_info_of ext s.name) s symbols)
 
 -- the relocations, by section and offset
 abbrev pub relocations_by : EbpfSectionKind → SectionValue → List (ℕ × FinMap nat_cmp ElfRelocation)
-relocations_by Programs s = kept_at s.index.0 s.relocations
-relocations_by Text s = kept_at s.index.0 s.relocations
+relocations_by Programs s = relocation_table_at s.index.0 s.relocations
+relocations_by Text s = relocation_table_at s.index.0 s.relocations
 relocations_by _ s = []
 
 unfoldable pub relocations_in : SectionValue → List (ℕ × FinMap nat_cmp ElfRelocation)
@@ -70,18 +70,18 @@ abbrev pub name_in : SectionValue → List (List ℕ × SectionIndex)
 name_in s = (s.name, s.index) ∷ []
 
 -- the faults of a Program section: its name, no symbol, then the programs by symbol
-unfoldable pub program_section_fault : Reading → SectionValue → List SymbolValue → Option ParseError
-program_section_fault reading s symbols =
+unfoldable pub program_section_faults : Reading → SectionValue → List SymbolValue → Option ParseError
+program_section_faults reading s symbols =
     or_else (section_fault_as reading s.name) (or_else (first_of ((length symbols == 0, NoSymbolsForSection s.name) ∷ [])) (programs_fault s symbols))
 
 abbrev pub fault_by : EbpfSectionKind → Reading → Option TypeInfo → SectionValue → List SymbolValue → Option ParseError
-fault_by Programs reading types s symbols = program_section_fault reading s symbols
+fault_by Programs reading types s symbols = program_section_faults reading s symbols
 fault_by Text reading types s symbols = text_fault s symbols
 fault_by Data reading types s symbols = data_map_fault s
 fault_by Rodata reading types s symbols = data_map_fault s
 fault_by Bss reading types s symbols = data_map_fault s
 fault_by Maps reading types s symbols = legacy_maps_fault s symbols
-fault_by BtfMaps reading types s symbols = declared_maps_fault (declaring reading types) s symbols
+fault_by BtfMaps reading types s symbols = btf_defined_maps_fault (types_in_reading reading types) s symbols
 fault_by _ reading types s symbols = None
 
 unfoldable pub fault_in : Reading → Option TypeInfo → SectionValue → List SymbolValue → Option ParseError

@@ -5,8 +5,8 @@ use Rattle.std.specs.List.{flat_map}
 use Rattle.std.specs.Ordering.{nat_cmp}
 use Rattle.ebpf_base.specs.Keyed.{put_all}
 use Rattle.ebpf_base.specs.Faults.{Row, first_in, first_some}
-use Rattle.ebpf_parsing.specs.Records.{Said, slot_of, funcs_at, lines_in}
-use Rattle.ebpf_parsing.specs.Symbols.{SymbolValue, is_text}
+use Rattle.ebpf_parsing.specs.Records.{FuncAndLineInfo, slot_of, funcs_at, lines_in}
+use Rattle.ebpf_parsing.specs.Symbols.{SymbolValue, is_text_symbol}
 use Rattle.ebpf_parsing.specs.declared.program.Program.{Program}
 use Rattle.ebpf_parts.specs.declared.error.ParseError.{ParseError}
 use Rattle.ebpf_parts.specs.declared.error.ParseError.TheVariants.{InvalidSymbol}
@@ -17,7 +17,7 @@ use Rattle.ebpf_reloc.specs.declared.function.Function.{Function}
 
 -- a symbol that names a program: Text, and with a name
 abbrev pub is_program_symbol : SymbolValue → Bool
-is_program_symbol y = is_text y.kind && not (length y.name == 0)
+is_program_symbol y = is_text_symbol y.kind && not (length y.name == 0)
 
 -- the bytes of the section from the symbol's address on, as many as its size
 abbrev pub program_bytes : SectionValue → SymbolValue → List ℕ
@@ -28,17 +28,17 @@ abbrev pub program_offset : SectionValue → SymbolValue → ℕ
 program_offset s y = y.address - s.address
 
 -- the function; its records count slots from its first one
-unfoldable pub program_function : Said → SectionValue → SymbolValue → Function
-program_function said s y = record {
+unfoldable pub program_function : FuncAndLineInfo → SectionValue → SymbolValue → Function
+program_function infos s y = record {
   address = y.address;
   name = y.name;
   section_index = s.index;
   section_offset = y.address;
   instructions = slots_of (program_bytes s y);
-  func_info = funcs_at said.funcs (slot_of (program_offset s y)) (slot_of (program_offset s y));
-  line_info = lines_in said.lines (slot_of (program_offset s y)) (slot_of y.size) (slot_of (program_offset s y));
-  func_info_rec_size = said.func_size;
-  line_info_rec_size = said.line_size;
+  func_info = funcs_at infos.funcs (slot_of (program_offset s y)) (slot_of (program_offset s y));
+  line_info = lines_in infos.lines (slot_of (program_offset s y)) (slot_of y.size) (slot_of (program_offset s y));
+  func_info_rec_size = infos.func_size;
+  line_info_rec_size = infos.line_size;
 }
 
 -- a symbol whose bytes are not all in the section
@@ -50,15 +50,15 @@ unfoldable pub program_fault : SectionValue → SymbolValue → Option ParseErro
 program_fault s y = first_in (range_faults s y ∷ code_faults (program_bytes s y) ∷ [])
 
 -- the functions of a section's programs, by symbol, and the first fault among them
-abbrev pub program_functions : Said → SectionValue → List SymbolValue → List Function
-program_functions said s symbols = map (program_function said s) (filter is_program_symbol symbols)
+abbrev pub program_functions : FuncAndLineInfo → SectionValue → List SymbolValue → List Function
+program_functions infos s symbols = map (program_function infos s) (filter is_program_symbol symbols)
 
 abbrev pub programs_fault : SectionValue → List SymbolValue → Option ParseError
 programs_fault s symbols = first_some (program_fault s) (filter is_program_symbol symbols)
 
 -- a function, by section and address
-abbrev pub placed : Function → (ℕ × ℕ) × Function
-placed f = ((f.section_index.0, f.address), f)
+abbrev pub with_key : Function → (ℕ × ℕ) × Function
+with_key f = ((f.section_index.0, f.address), f)
 
 -- a program, by name, with the license and the kernel version of its object
 abbrev pub program_of : List ℕ → Option ℕ → SectionValue → ProgramSection → SymbolValue → List ℕ × Program
@@ -70,9 +70,9 @@ programs_of license version s symbols None = []
 programs_of license version s symbols (Some kind) = map (program_of license version s kind) (filter is_program_symbol symbols)
 
 -- the number of a program's symbol, by its address
-abbrev pub program_row : SymbolValue → List (ℕ × ℕ)
-program_row y = if is_program_symbol y then (y.address, y.index) ∷ [] else []
+abbrev pub program_symbol_row : SymbolValue → List (ℕ × ℕ)
+program_symbol_row y = if is_program_symbol y then (y.address, y.index) ∷ [] else []
 
 -- the number of the last program's symbol at each address
 abbrev pub last_programs : List SymbolValue → FinMap nat_cmp ℕ
-last_programs symbols = put_all empty (flat_map program_row symbols)
+last_programs symbols = put_all empty (flat_map program_symbol_row symbols)

@@ -2,9 +2,9 @@
 use Rattle.std.specs.Prelude.{◌≡◌, ◌≢◌, ℕ, List, Some, None}
 use Rattle.std.specs.FinMap.{get}
 use Rattle.ebpf_btf.specs.declared.endianness.Endianness.TheVariants.{Little}
-use Rattle.ebpf_elf.specs.File.{order_of}
-use Rattle.ebpf_parsing.specs.Contents.{maps, maps_as, programs, programs_as, parse_fault, parse_fault_as}
-use Rattle.ebpf_parsing.specs.Terms.{license_of, license_as}
+use Rattle.ebpf_elf.specs.File.{ei_data}
+use Rattle.ebpf_parsing.specs.FileContents.{maps, maps_as, programs, programs_as, parse_fault, parse_fault_as}
+use Rattle.ebpf_parsing.specs.LicenseAndVersion.{license_of, license_as}
 use Rattle.ebpf_parsing.specs.declared.program.Program.{Program}
 use Rattle.ebpf_parts.specs.declared.error.ParseError.TheVariants.{InvalidProgramSection, BigEndianCode}
 use Rattle.ebpf_parts.specs.declared.program_section.ProgramSection.TheVariants.{Other}
@@ -19,7 +19,7 @@ pub record IsReadAlike (bytes : List ℕ) : Type 0 where
 
 -- so is each little-endian file that the stated reading takes
 abbrev pub ReadingsAgree : Type 0
-ReadingsAgree = (bytes : List ℕ) → order_of bytes ≡ Little → parse_fault bytes ≡ None → IsReadAlike bytes
+ReadingsAgree = (bytes : List ℕ) → ei_data bytes ≡ Little → parse_fault bytes ≡ None → IsReadAlike bytes
 
 -- the broad reading refuses no file for a section's name
 abbrev pub BroadRefusesNoName : Type 0

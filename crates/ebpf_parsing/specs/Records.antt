@@ -1,4 +1,4 @@
--- What `.BTF.ext` says of a function: the records of its section that stand at its slots.
+-- The func info and line info of a function: the records of its section in `.BTF.ext` that stand at its slots.
 use Rattle.std.specs.Prelude.{◌≡◌, ℕ, ◌+◌, ◌-◌, ◌/◌, ◌&&◌, Bool, List, map, filter, Option, Some, None, ◌==◌, nat_le, nat_lt, slice_index_or}
 use Rattle.std.specs.FinMap.{FinMap, empty, get}
 use Rattle.ebpf_base.specs.Keys.{text_cmp}
@@ -9,14 +9,14 @@ use Rattle.ebpf_ext.specs.declared.ext_infos.bpf_line_info.{bpf_line_info}
 use Rattle.ebpf_ext.specs.declared.ext_infos.FuncSecInfo.{FuncSecInfo}
 use Rattle.ebpf_ext.specs.declared.ext_infos.LineSecInfo.{LineSecInfo}
 
--- what is said of a section, and the sizes of the records in the file
-pub record Said : Type 0 where
+-- the func info and line info of a section, and the sizes of the records in the file
+pub record FuncAndLineInfo : Type 0 where
   pub funcs : FuncSecInfo
   pub lines : LineSecInfo
   pub func_size : ℕ
   pub line_size : ℕ
 
--- what is said of functions and of lines, by the names of sections; a file without `.BTF.ext` says nothing
+-- func info and line info, by the names of sections; a file without `.BTF.ext` has none
 abbrev pub funcs_of : Option ExtInfo → FinMap text_cmp FuncSecInfo
 funcs_of None = empty
 funcs_of (Some x) = x.func_info
@@ -34,20 +34,20 @@ abbrev pub line_size_of : Option ExtInfo → ℕ
 line_size_of None = 0
 line_size_of (Some x) = x.line_record_size
 
-abbrev pub said_of : Option ExtInfo → List ℕ → Said
-said_of ext name = record {
+abbrev pub func_and_line_info_of : Option ExtInfo → List ℕ → FuncAndLineInfo
+func_and_line_info_of ext name = record {
   funcs = func_info_at (funcs_of ext) name;
   lines = line_info_at (lines_of ext) name;
   func_size = func_size_of ext;
   line_size = line_size_of ext;
 }
 
--- a table has at its names what is said of the sections of these names
-pub record AreFuncsOf (said : FinMap text_cmp FuncSecInfo) (table : FinMap text_cmp FuncSecInfo) : Type 0 where
-  pub are : (name : List ℕ) (funcs : FuncSecInfo) → get table name ≡ Some funcs → funcs ≡ func_info_at said name
+-- a table has at its names the func info or line info of the sections of these names
+pub record AreFuncsOf (infos : FinMap text_cmp FuncSecInfo) (table : FinMap text_cmp FuncSecInfo) : Type 0 where
+  pub are : (name : List ℕ) (funcs : FuncSecInfo) → get table name ≡ Some funcs → funcs ≡ func_info_at infos name
 
-pub record AreLinesOf (said : FinMap text_cmp LineSecInfo) (table : FinMap text_cmp LineSecInfo) : Type 0 where
-  pub are : (name : List ℕ) (lines : LineSecInfo) → get table name ≡ Some lines → lines ≡ line_info_at said name
+pub record AreLinesOf (infos : FinMap text_cmp LineSecInfo) (table : FinMap text_cmp LineSecInfo) : Type 0 where
+  pub are : (name : List ℕ) (lines : LineSecInfo) → get table name ≡ Some lines → lines ≡ line_info_at infos name
 
 -- the number of the slot that a place in the section falls into; a slot has 8 bytes
 abbrev pub slot_of : ℕ → ℕ
@@ -74,7 +74,7 @@ abbrev pub func_from : ℕ → bpf_func_info → bpf_func_info
 func_from base r = record r { insn_off = r.insn_off - base }
 
 unfoldable pub funcs_at : FuncSecInfo → ℕ → ℕ → FuncSecInfo
-funcs_at said first base = record said { func_info = map (func_from base) (filter (is_func_at first) said.func_info) }
+funcs_at infos first base = record infos { func_info = map (func_from base) (filter (is_func_at first) infos.func_info) }
 
 -- ---- the records on the lines of so many slots from a slot on
 
@@ -96,4 +96,4 @@ abbrev pub line_from : ℕ → bpf_line_info → bpf_line_info
 line_from base r = record r { insn_off = r.insn_off - base }
 
 unfoldable pub lines_in : LineSecInfo → ℕ → ℕ → ℕ → LineSecInfo
-lines_in said first count base = record said { line_info = map (line_from base) (filter (is_line_in first count) said.line_info) }
+lines_in infos first count base = record infos { line_info = map (line_from base) (filter (is_line_in first count) infos.line_info) }

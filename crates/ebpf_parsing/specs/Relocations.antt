@@ -11,14 +11,14 @@ abbrev pub offset_of : ElfRelocation → ℕ × ElfRelocation
 offset_of r = (r.offset, r)
 
 -- the later of two at one offset stands
-abbrev pub kept_relocations : List ElfRelocation → FinMap nat_cmp ElfRelocation
-kept_relocations relocations = put_all empty (map offset_of relocations)
+abbrev pub relocations_by_offset : List ElfRelocation → FinMap nat_cmp ElfRelocation
+relocations_by_offset relocations = put_all empty (map offset_of relocations)
 
 -- an entry of the object, by the section's number; a section without relocations has none
-abbrev pub kept_at : ℕ → List ElfRelocation → List (ℕ × FinMap nat_cmp ElfRelocation)
-kept_at section [] = []
-kept_at section (r ∷ rest) = (section, kept_relocations (r ∷ rest)) ∷ []
+abbrev pub relocation_table_at : ℕ → List ElfRelocation → List (ℕ × FinMap nat_cmp ElfRelocation)
+relocation_table_at section [] = []
+relocation_table_at section (r ∷ rest) = (section, relocations_by_offset (r ∷ rest)) ∷ []
 
 -- a section with these relocations
-abbrev pub patched : List ElfRelocation → SectionValue → SectionValue
-patched list s = record s { relocations = list }
+abbrev pub with_relocations : List ElfRelocation → SectionValue → SectionValue
+with_relocations list s = record s { relocations = list }

@@ -7,12 +7,12 @@ use Rattle.ebpf_base.specs.Keyed.{put_all}
 use Rattle.ebpf_base.specs.Keys.{text_cmp}
 use Rattle.ebpf_parsing.specs.Symbols.{SymbolValue}
 
-abbrev pub numbered : SymbolValue → List ℕ × ℕ
-numbered y = (y.name, y.index)
+abbrev pub name_and_index : SymbolValue → List ℕ × ℕ
+name_and_index y = (y.name, y.index)
 
 -- the number of the last symbol of each name
-abbrev pub numbers_by_name : List SymbolValue → FinMap text_cmp ℕ
-numbers_by_name symbols = put_all empty (map numbered symbols)
+abbrev pub symbol_indices_by_name : List SymbolValue → FinMap text_cmp ℕ
+symbol_indices_by_name symbols = put_all empty (map name_and_index symbols)
 
 -- whether the first symbol of a name is weak
 abbrev pub weak_named : List SymbolValue → List ℕ → Option Bool

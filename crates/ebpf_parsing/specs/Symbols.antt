@@ -14,14 +14,14 @@ pub record SymbolValue : Type 0 where
   pub is_definition : Bool
   pub is_weak : Bool
 
-abbrev pub is_text : SymbolKind → Bool
-is_text Text = true
-is_text _ = false
+abbrev pub is_text_symbol : SymbolKind → Bool
+is_text_symbol Text = true
+is_text_symbol _ = false
 
-abbrev pub is_in : ℕ → Option ℕ → Bool
-is_in section None = false
-is_in section (Some s) = s == section
+abbrev pub is_in_section : ℕ → Option ℕ → Bool
+is_in_section section None = false
+is_in_section section (Some s) = s == section
 
 -- the symbols of a section, in order
-unfoldable pub symbols_of : List SymbolValue → ℕ → List SymbolValue
-symbols_of symbols section = filter (λ y. is_in section y.section_index) symbols
+unfoldable pub section_symbols : List SymbolValue → ℕ → List SymbolValue
+section_symbols symbols section = filter (λ y. is_in_section section y.section_index) symbols

@@ -3,9 +3,9 @@ use Rattle.std.specs.Prelude.{◌≡◌, ℕ, ◌<◌, ◌^◌, List, length, So
 use Rattle.std.specs.FinMap.{FinMap, get}
 use Rattle.std.specs.List.{find, flat_map}
 use Rattle.ebpf_base.specs.Keys.{key_cmp}
-use Rattle.ebpf_parsing.specs.Contents.{functions, parse_fault_as, object_sections, own_symbols}
+use Rattle.ebpf_parsing.specs.FileContents.{functions, parse_fault_as, object_sections, own_symbols}
 use Rattle.ebpf_parsing.specs.FileTypes.{ext_of}
-use Rattle.ebpf_parsing.specs.Records.{said_of}
+use Rattle.ebpf_parsing.specs.Records.{func_and_line_info_of}
 use Rattle.ebpf_parsing.specs.Texts.{text_functions}
 use Rattle.ebpf_parts.specs.Sections.{SectionValue}
 use Rattle.ebpf_parts.specs.Slots.{slots_of}
@@ -23,7 +23,7 @@ pub record IsTextSection (reading : Reading) (bytes : List ℕ) (n : ℕ) (s : S
 
 -- the functions that its symbols give, in order of their offset
 abbrev pub own_functions : List ℕ → SectionValue → List Function
-own_functions bytes s = text_functions (said_of (ext_of bytes) s.name) s (own_symbols bytes s)
+own_functions bytes s = text_functions (func_and_line_info_of (ext_of bytes) s.name) s (own_symbols bytes s)
 
 -- each function's offset is below those of the functions behind it
 abbrev pub OffsetsRise : List Function → Type 0
@@ -44,7 +44,7 @@ AtEachAddress = (reading : Reading) (bytes : List ℕ) (n : ℕ) (s : SectionVal
 abbrev pub InOrder : Type 0
 InOrder = (reading : Reading) (bytes : List ℕ) (n : ℕ) (s : SectionValue) → IsTextSection reading bytes n s → AreInOrder (functions bytes) s.index.0 (own_functions bytes s)
 
--- joined in order of their offset they are the slots of the section's data
+-- concatenated in order of their offset they are the slots of the section's data
 abbrev pub SectionsTile : Type 0
 SectionsTile = (reading : Reading) (bytes : List ℕ) (n : ℕ) (s : SectionValue) → IsTextSection reading bytes n s → (fs : List Function) → AreInOrder (functions bytes) s.index.0 fs
     → flat_map (λ f. f.instructions) fs ≡ slots_of s.bytes

@@ -6,7 +6,7 @@
 ghost use Rattle.std.specs.Prelude.{◌≡◌, ◌+◌, ◌-◌, ◌<◌, ◌≤◌, ℕ, filter, length, slice_index_or};
 ghost use Rattle.std.specs.Bool.{OnTrue};
 ghost use Rattle.std.specs.List.Sorted.{IsNonDecreasingBy};
-ghost use Rattle.ebpf_parsing.specs.SlotPlaces.{Begins, is_among_slots};
+ghost use Rattle.ebpf_parsing.specs.RecordsBySlot.{RowsBeginAt, is_among_slots};
 
 use std::cell::Cell;
 
@@ -35,10 +35,10 @@ pub fn is_in_order<R: NamesSlot>(rows: &[R]) -> bool
 }
 
 /// How many rows stand before those of a slot, found by a search.
-fn count_below<R: NamesSlot>(rows: &[R], slot: usize) -> usize
+fn lower_bound<R: NamesSlot>(rows: &[R], slot: usize) -> usize
     requires { IsNonDecreasingBy R.slot_of rows.now }
     ensures within { result ≤ length rows.now }
-    ensures cut { Begins R.slot_of slot rows.now result }
+    ensures cut { RowsBeginAt R.slot_of slot rows.now result }
 {
     rows.partition_point(|row| (row.slot() as usize) < slot)
 }
@@ -68,7 +68,7 @@ fn begins_above<R: NamesSlot>(rows: &[R], place: usize, slot: usize) -> bool
 fn begins_at<R: NamesSlot>(rows: &[R], place: usize, slot: usize) -> bool
     requires { IsNonDecreasingBy R.slot_of rows.now }
     ensures within { OnTrue result (place ≤ length rows.now) }
-    ensures cut { OnTrue result (Begins R.slot_of slot rows.now place) }
+    ensures cut { OnTrue result (RowsBeginAt R.slot_of slot rows.now place) }
 {
     if place > rows.len() {
         return false;
@@ -86,12 +86,12 @@ fn begins_at<R: NamesSlot>(rows: &[R], place: usize, slot: usize) -> bool
 fn start_of<R: NamesSlot>(rows: &[R], guess: usize, slot: usize) -> usize
     requires { IsNonDecreasingBy R.slot_of rows.now }
     ensures within { result ≤ length rows.now }
-    ensures cut { Begins R.slot_of slot rows.now result }
+    ensures cut { RowsBeginAt R.slot_of slot rows.now result }
 {
     if begins_at(rows, guess, slot) {
         return guess;
     }
-    count_below(rows, slot)
+    lower_bound(rows, slot)
 }
 
 /// How many rows stand before those of a slot, from the place on where those of a slot before it begin.
@@ -101,7 +101,7 @@ fn end_of<R: NamesSlot>(rows: &[R], start: usize, limit: u128) -> usize
     requires below { (k : ℕ) (d : R) → k < start → R.slot_of (slice_index_or rows.now k d) < limit }
     ensures further { start ≤ result }
     ensures within { result ≤ length rows.now }
-    ensures cut { Begins R.slot_of limit rows.now result }
+    ensures cut { RowsBeginAt R.slot_of limit rows.now result }
 {
     let mut end = start;
     while end < rows.len() && u128::from(rows[end].slot()) < limit {

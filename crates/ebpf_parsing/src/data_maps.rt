@@ -7,7 +7,7 @@ ghost use Rattle.ebpf_parsing.specs.LastData.{last_maps};
 ghost use Rattle.ebpf_parsing.specs.DataMaps.{data_bytes, data_flags, data_definition, data_map, data_maps, data_map_fault};
 ghost use Rattle.ebpf_parts.specs.Memory.{is_memory};
 
-use crate::last_data::is_number;
+use crate::last_data::is_index;
 use ebpf_base::{ByName, Items, Text};
 use ebpf_parts::maps::{LegacyMap, Map, PinningType, bpf_map_def};
 use ebpf_parts::{EbpfSectionKind, ParseError, Section};
@@ -94,7 +94,7 @@ pub fn put_data_map(
     ensures put { OnOk result (maps.new ≡ put_all maps.old (last_maps last.now section.now)) }
     ensures fault { Refuses is_memory result (data_map_fault section.now) }
 {
-    if !is_number(section.index.0, last.get(section.name)) {
+    if !is_index(section.index.0, last.get(section.name)) {
         return check_data_map(alloc, section);
     }
     let map = data_map(alloc, section)?;

@@ -25,7 +25,7 @@ pub struct FileExterns {
 
 impl FileExterns {
     /// Those of a file, whose symbols have names, beside its types.
-    #[tactic(auto, using(crate::proofs::TypeErrors::said), unfolding(ebpf_declarations::specs::Externs::types_with, ebpf_declarations::specs::Externs::types_fault))]
+    #[tactic(auto, using(crate::proofs::TypeErrors::infos), unfolding(ebpf_declarations::specs::Externs::types_with, ebpf_declarations::specs::Externs::types_fault))]
     pub fn read(
         alloc: Global,
         file: &ElfFile<'_>,

@@ -6,9 +6,9 @@ ghost use Rattle.ebpf_base.specs.Faults.{Refuses, fault_of};
 ghost use Rattle.ebpf_base.specs.Keyed.{put_all};
 ghost use Rattle.ebpf_ext.specs.ExtReading.{read_ext};
 ghost use Rattle.ebpf_btf.specs.Reading.{type_info_of};
-ghost use Rattle.ebpf_elf.specs.File.{order_of};
-ghost use Rattle.ebpf_parsing.specs.Contents.{is_type_information};
-ghost use Rattle.ebpf_parsing.specs.FileTypes.{btf_of, btf_fault, ext_of, ext_fault, ext_beside, ext_fault_beside, ext_names_beside, said_in, said_fault_in, said_section, names_in, type_names, names_met, file_types_fault};
+ghost use Rattle.ebpf_elf.specs.File.{ei_data};
+ghost use Rattle.ebpf_parsing.specs.FileContents.{is_type_information};
+ghost use Rattle.ebpf_parsing.specs.FileTypes.{btf_of, btf_fault, ext_of, ext_fault, ext_beside, ext_fault_beside, ext_names_beside, ext_in, ext_fault_in, ext_section, names_in, type_names, type_info_names, file_types_fault};
 ghost use Rattle.ebpf_parsing.specs.Groups.{AreTablesOf};
 ghost use Rattle.ebpf_parsing.specs.OfSection.{name_in};
 ghost use Rattle.ebpf_parts.specs.Memory.{is_memory};
@@ -27,7 +27,7 @@ use std::alloc::Global;
 
 /// The types that some bytes are.
 #[tactic(auto, using(crate::proofs::TypeErrors::refused))]
-fn types_in(alloc: Global, order: Endianness, bytes: &[u8]) -> Result<Btf, ParseError>
+fn btf_in(alloc: Global, order: Endianness, bytes: &[u8]) -> Result<Btf, ParseError>
     ensures types { IfOk result (λ types. result_ok (type_info_of order bytes.now) ≡ Some types) }
     ensures fault { Refuses is_memory result (option_map TypeFault (fault_of (type_info_of order bytes.now))) }
 {
@@ -39,17 +39,17 @@ fn types_in(alloc: Global, order: Endianness, bytes: &[u8]) -> Result<Btf, Parse
 
 /// What some bytes say of instructions.
 #[tactic(auto, using(crate::proofs::TypeErrors::refused))]
-fn said_in(
+fn ext_in(
     alloc: Global,
     order: Endianness,
     bytes: &[u8],
     types: &Btf,
 ) -> Result<BtfExt, ParseError>
-    ensures said { IfOk result (λ said. result_ok (read_ext order bytes.now types.now.strings) ≡ Some said) }
+    ensures infos { IfOk result (λ infos. result_ok (read_ext order bytes.now types.now.strings) ≡ Some infos) }
     ensures fault { Refuses is_memory result (option_map TypeFault (fault_of (read_ext order bytes.now types.now.strings))) }
 {
     match BtfExt::parse(alloc, bytes, order, types) {
-        Ok(said) => Ok(said),
+        Ok(infos) => Ok(infos),
         Err(error) => Err(parse_error(error)),
     }
 }
@@ -94,14 +94,14 @@ fn read_types(
         return Ok(None);
     };
     let section = read_section_of(alloc, file, tables, &section)?;
-    let types = types_in(alloc, file.endianness(), section.bytes)?;
+    let types = btf_in(alloc, file.endianness(), section.bytes)?;
     remember(alloc, section_infos, &section)?;
     Ok(Some(types))
 }
 
 /// What a file says of instructions, where it has a section `.BTF.ext`, whose name is remembered.
 #[tactic(auto, using(crate::proofs::FromFile::found_from), unfolding(ebpf_parts::specs::Sections::section_of, ebpf_parts::specs::Sections::section_with))]
-fn read_said(
+fn read_ext_section(
     alloc: Global,
     file: &ElfFile<'_>,
     tables: &Groups<RelocationTable<'_>>,
@@ -109,21 +109,21 @@ fn read_said(
     section_infos: &mut ByName<SectionIndex>,
 ) -> Result<Option<BtfExt>, ParseError>
     requires tables { AreTablesOf file.now tables.now.groups }
-    ensures said { IfOk result (λ said. said ≡ said_in (order_of file.now) types.now (said_section file.now)) }
-    ensures names { OnOk result (section_infos.new ≡ put_all section_infos.old (names_in (said_section file.now))) }
-    ensures fault { Refuses is_memory result (said_fault_in (order_of file.now) types.now (said_section file.now)) }
+    ensures infos { IfOk result (λ infos. infos ≡ ext_in (ei_data file.now) types.now (ext_section file.now)) }
+    ensures names { OnOk result (section_infos.new ≡ put_all section_infos.old (names_in (ext_section file.now))) }
+    ensures fault { Refuses is_memory result (ext_fault_in (ei_data file.now) types.now (ext_section file.now)) }
 {
     let Some(section) = file.section_by_name(".BTF.ext") else {
         return Ok(None);
     };
     let section = read_section_of(alloc, file, tables, &section)?;
-    let said = said_in(alloc, file.endianness(), section.bytes, types)?;
+    let infos = ext_in(alloc, file.endianness(), section.bytes, types)?;
     remember(alloc, section_infos, &section)?;
-    Ok(Some(said))
+    Ok(Some(infos))
 }
 
 /// The same, only beside types.
-fn read_said_beside(
+fn read_ext_beside(
     alloc: Global,
     file: &ElfFile<'_>,
     tables: &Groups<RelocationTable<'_>>,
@@ -131,14 +131,14 @@ fn read_said_beside(
     section_infos: &mut ByName<SectionIndex>,
 ) -> Result<Option<BtfExt>, ParseError>
     requires tables { AreTablesOf file.now tables.now.groups }
-    ensures said { IfOk result (λ said. said ≡ ext_beside file.now types.now) }
+    ensures infos { IfOk result (λ infos. infos ≡ ext_beside file.now types.now) }
     ensures names { OnOk result (section_infos.new ≡ put_all section_infos.old (ext_names_beside file.now types.now)) }
     ensures fault { Refuses is_memory result (ext_fault_beside file.now types.now) }
 {
     let Some(types) = types else {
         return Ok(None);
     };
-    read_said(alloc, file, tables, types, section_infos)
+    read_ext_section(alloc, file, tables, types, section_infos)
 }
 
 /// The type information of a file, what it says of instructions, and the names of their sections.
@@ -151,7 +151,7 @@ pub struct FileTypes {
 
 impl FileTypes {
     /// That of a file.
-    #[tactic(auto, unfolding(crate::specs::FileTypes::ext_of, crate::specs::FileTypes::ext_fault, crate::specs::FileTypes::ext_names, crate::specs::FileTypes::names_met, crate::specs::FileTypes::file_types_fault))]
+    #[tactic(auto, unfolding(crate::specs::FileTypes::ext_of, crate::specs::FileTypes::ext_fault, crate::specs::FileTypes::ext_names, crate::specs::FileTypes::type_info_names, crate::specs::FileTypes::file_types_fault))]
     pub fn read(
         alloc: Global,
         file: &ElfFile<'_>,
@@ -160,12 +160,12 @@ impl FileTypes {
         requires tables { AreTablesOf file.now tables.now.groups }
         ensures btf { IfOk result (λ types. types.btf ≡ btf_of file.now) }
         ensures btf_ext { IfOk result (λ types. types.btf_ext ≡ ext_of file.now) }
-        ensures section_infos { IfOk result (λ types. types.section_infos ≡ names_met file.now) }
+        ensures section_infos { IfOk result (λ types. types.section_infos ≡ type_info_names file.now) }
         ensures fault { Refuses is_memory result (file_types_fault file.now) }
     {
         let mut section_infos = ByName::new(alloc);
         let btf = read_types(alloc, file, tables, &mut section_infos)?;
-        let btf_ext = read_said_beside(alloc, file, tables, &btf, &mut section_infos)?;
+        let btf_ext = read_ext_beside(alloc, file, tables, &btf, &mut section_infos)?;
         Ok(FileTypes {
             btf,
             btf_ext,

@@ -3,8 +3,8 @@
 ghost use Rattle.std.specs.Prelude.{◌≡◌, IfOk, IfErr, OnOk, true};
 ghost use Rattle.std.specs.Option.{option_copied};
 ghost use Rattle.ebpf_base.specs.Keyed.{put_all};
-ghost use Rattle.ebpf_parsing.specs.Contents.{object_sections};
-ghost use Rattle.ebpf_parsing.specs.LastData.{is_data, is_number, data_row, last_data};
+ghost use Rattle.ebpf_parsing.specs.FileContents.{object_sections};
+ghost use Rattle.ebpf_parsing.specs.LastData.{is_data, is_index, data_row, last_data};
 ghost use Rattle.ebpf_parts.specs.Memory.{is_memory};
 ghost use Rattle.ebpf_parts.specs.Sections.{section_of, name_or_empty};
 
@@ -68,8 +68,8 @@ pub fn last_data_sections(alloc: Global, file: &ElfFile<'_>) -> Result<ByName<us
 }
 
 /// Whether a number is the one that is stated, if there is one.
-pub fn is_number(number: usize, stated: Option<&usize>) -> bool
-    ensures { result ≡ is_number number (option_copied stated.entry) }
+pub fn is_index(number: usize, stated: Option<&usize>) -> bool
+    ensures { result ≡ is_index number (option_copied stated.entry) }
 {
     match stated {
         Some(other) => number == *other,

@@ -6,7 +6,7 @@ ghost use Rattle.ebpf_base.specs.Keys.{text_cmp, key_cmp};
 ghost use Rattle.ebpf_elf.specs.declared.entries.ElfRelocation.{ElfRelocation};
 ghost use Rattle.ebpf_elf.specs.declared.entries.SectionIndex.{SectionIndex};
 ghost use Rattle.ebpf_parsing.specs.Readings.{BroadRefusesNoName, ReadingsAgree, StatedKindsAreNamed, StatedTakesBothOrders};
-ghost use Rattle.ebpf_parsing.specs.Standing.{FunctionsAtTheirKeys, SymbolsAtTheirNumbers, RelocationsAtTheirOffsets, TablesOfCode, RelocationsNameSymbols, ProgramsHaveFunctions, MapsHaveTheirSymbols, OtherMapsAreOfData, ExternsAreUnresolved};
+ghost use Rattle.ebpf_parsing.specs.TableKeys.{FunctionsAtTheirKeys, SymbolsAtTheirIndices, RelocationsAtTheirOffsets, TablesOfCode, RelocationsNameSymbols, ProgramsHaveFunctions, MapsHaveTheirSymbols, OtherMapsAreOfData, ExternsAreUnresolved};
 ghost use Rattle.ebpf_parsing.specs.TiledSections.{AtEachAddress, InOrder, SectionsTile};
 ghost use Rattle.ebpf_parsing.specs.Tiling.{FunctionsTile};
 ghost use Rattle.ebpf_parsing.specs.declared.program.Program.{Program};
@@ -26,13 +26,13 @@ pub fn later_entries_stand()
     ensures section_infos { LaterStands text_cmp SectionIndex }
 {}
 
-/// The functions of a Text section in order of their offset, joined, are the slots of the section's data.
+/// The functions of a Text section in order of their offset, concatenated, are the slots of the section's data.
 pub fn functions_tile()
     ensures { FunctionsTile }
 {}
 
 /// In the table of functions of an object a Text section's number and an address have the function that begins there.
-/// The table's functions of the section in order of their offset are those that its symbols give; joined they are the
+/// The table's functions of the section in order of their offset are those that its symbols give; concatenated they are the
 /// slots of the section's data, wherever its addresses lie.
 pub fn sections_tile()
     ensures at_each_address { AtEachAddress }
@@ -46,8 +46,8 @@ pub fn functions_stand_at_their_keys()
 {}
 
 /// At a number stands the symbol with this number of the file's symbol table, with a name.
-pub fn symbols_stand_at_their_numbers()
-    ensures { SymbolsAtTheirNumbers }
+pub fn symbols_stand_at_their_indices()
+    ensures { SymbolsAtTheirIndices }
 {}
 
 /// At an offset of a section stands a relocation with this offset; no table of a section is empty.

@@ -3,7 +3,7 @@
 ghost use Rattle.std.specs.Prelude.{◌≡◌, ◌≤◌, ◌<◌, ◌+◌, ◌*◌, length, slice_index, IfOk, OnOk};
 ghost use Rattle.ebpf_base.specs.Faults.{Refuses, first_some};
 ghost use Rattle.ebpf_base.specs.Keyed.{put_all};
-ghost use Rattle.ebpf_parsing.specs.LegacyMaps.{word_at, pinning_of, definition_of, legacy_map, legacy_fault, legacy_maps, legacy_maps_fault};
+ghost use Rattle.ebpf_parsing.specs.LegacyMaps.{word_at, legacy_pinning, definition_of, legacy_map, legacy_fault, legacy_maps, legacy_maps_fault};
 ghost use Rattle.ebpf_parts.specs.Memory.{is_memory};
 
 use crate::symbols::NamedSymbol;
@@ -41,8 +41,8 @@ fn word_at(bytes: &[u8], place: usize) -> u32
 }
 
 /// The pinning of a number that is 0 or 1.
-fn pinning_of(number: u32) -> PinningType
-    ensures { result ≡ pinning_of number }
+fn legacy_pinning(number: u32) -> PinningType
+    ensures { result ≡ legacy_pinning number }
 {
     match number {
         0 => PinningType::None,
@@ -62,7 +62,7 @@ fn definition_of(bytes: &[u8]) -> bpf_map_def
         max_entries: word_at(bytes, 12),
         map_flags: word_at(bytes, 16),
         id: word_at(bytes, 20),
-        pinning: pinning_of(word_at(bytes, PINNING)),
+        pinning: legacy_pinning(word_at(bytes, PINNING)),
     }
 }
 

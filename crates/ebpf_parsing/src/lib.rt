@@ -1,12 +1,12 @@
 //! What an ELF file with eBPF programs holds, read from its bytes.
 #![tactic(auto)]
 
-mod by_places;
+mod by_entry_range;
 mod by_slot;
 mod code_order;
-mod contents;
+mod file_contents;
 mod data_maps;
-mod declared_maps;
+mod btf_defined_maps;
 mod externs;
 mod file_types;
 mod groups;
@@ -14,7 +14,7 @@ mod last_data;
 pub mod laws;
 mod legacy_maps;
 mod license;
-mod parts;
+mod object_tables;
 mod program;
 mod program_functions;
 mod records;
@@ -22,15 +22,15 @@ mod records_by_name;
 mod relocations;
 mod section_names;
 mod sections;
-mod shared;
-mod slot_places;
+mod metadata;
+mod records_by_slot;
 mod symbol_names;
 mod symbols;
 mod text;
 mod text_symbols;
 mod version;
 
-pub use contents::Contents;
-pub use parts::Parts;
+pub use file_contents::FileContents;
+pub use object_tables::ObjectTables;
 pub use program::Program;
-pub use shared::Shared;
+pub use metadata::FileMetadata;

@@ -4,7 +4,7 @@ ghost use Rattle.std.specs.Prelude.{◌≡◌, ◌==◌, ◌<◌, IfOk, IfSome, 
 ghost use Rattle.std.specs.List.{before_first, position};
 ghost use Rattle.ebpf_base.specs.Faults.{Refuses};
 ghost use Rattle.ebpf_parsing.specs.Groups.{AreTablesOf};
-ghost use Rattle.ebpf_parsing.specs.Terms.{has_zero, front_of, stated_text_fault, license_text, license_text_fault, license_as, license_fault_as};
+ghost use Rattle.ebpf_parsing.specs.LicenseAndVersion.{has_zero, front_of, stated_text_fault, license_text, license_text_fault, license_as, license_fault_as};
 ghost use Rattle.ebpf_parts.specs.Memory.{is_memory};
 ghost use Rattle.ebpf_parts.specs.declared.reading.Reading.TheVariants.{Broad};
 
@@ -42,7 +42,7 @@ fn before_zero(bytes: &[u8]) -> &[u8]
 }
 
 /// The license that a section's bytes are, without the zero byte at its end.
-#[tactic(auto, unfolding(crate::specs::Terms::stated_text_fault))]
+#[tactic(auto, unfolding(crate::specs::LicenseAndVersion::stated_text_fault))]
 fn stated_license(alloc: Global, bytes: &[u8]) -> Result<Items<u8>, ParseError>
     ensures license { IfOk result (λ license. license ≡ front_of bytes.now) }
     ensures fault { Refuses is_memory result (stated_text_fault bytes.now) }
@@ -67,7 +67,7 @@ fn stated_license(alloc: Global, bytes: &[u8]) -> Result<Items<u8>, ParseError>
 }
 
 /// The license that a section's bytes are in the broad reading: those before the first zero, or none.
-#[tactic(auto, unfolding(crate::specs::Terms::license_text, crate::specs::Terms::license_text_fault, crate::specs::Terms::stated_text_fault))]
+#[tactic(auto, unfolding(crate::specs::LicenseAndVersion::license_text, crate::specs::LicenseAndVersion::license_text_fault, crate::specs::LicenseAndVersion::stated_text_fault))]
 fn broad_license(alloc: Global, bytes: &[u8]) -> Result<Items<u8>, ParseError>
     ensures license { IfOk result (λ license. license ≡ license_text Broad bytes.now) }
     ensures fault { Refuses is_memory result (license_text_fault Broad bytes.now) }
@@ -79,7 +79,7 @@ fn broad_license(alloc: Global, bytes: &[u8]) -> Result<Items<u8>, ParseError>
 }
 
 /// The license that a section's bytes are in a reading.
-#[tactic(auto, unfolding(crate::specs::Terms::license_text, crate::specs::Terms::license_text_fault))]
+#[tactic(auto, unfolding(crate::specs::LicenseAndVersion::license_text, crate::specs::LicenseAndVersion::license_text_fault))]
 fn license_in(alloc: Global, bytes: &[u8], reading: Reading) -> Result<Items<u8>, ParseError>
     ensures license { IfOk result (λ license. license ≡ license_text reading bytes.now) }
     ensures fault { Refuses is_memory result (license_text_fault reading bytes.now) }
@@ -91,7 +91,7 @@ fn license_in(alloc: Global, bytes: &[u8], reading: Reading) -> Result<Items<u8>
 }
 
 /// The license of a file, `GPL` where it has no section `license`.
-#[tactic(auto, using(crate::proofs::FromFile::found_from), unfolding(ebpf_parts::specs::Sections::section_of, ebpf_parts::specs::Sections::section_with, crate::specs::Terms::license_as, crate::specs::Terms::license_fault_as))]
+#[tactic(auto, using(crate::proofs::FromFile::found_from), unfolding(ebpf_parts::specs::Sections::section_of, ebpf_parts::specs::Sections::section_with, crate::specs::LicenseAndVersion::license_as, crate::specs::LicenseAndVersion::license_fault_as))]
 pub fn read_license(
     alloc: Global,
     file: &ElfFile<'_>,

@@ -3,13 +3,13 @@
 ghost use Rattle.std.specs.Prelude.{◌≡◌, ◌+◌, ◌≤◌, ◌∷◌, ◌++◌, [], IfOk, OnOk, IfErr, true, Some, length, map};
 ghost use Rattle.ebpf_base.specs.Faults.{Refuses, first_of};
 ghost use Rattle.ebpf_base.specs.Keyed.{put_all};
-ghost use Rattle.ebpf_parsing.specs.Programs.{is_program_symbol, program_bytes, range_faults, program_function, program_fault, program_functions, programs_fault, programs_of, placed, last_programs};
+ghost use Rattle.ebpf_parsing.specs.Programs.{is_program_symbol, program_bytes, range_faults, program_function, program_fault, program_functions, programs_fault, programs_of, with_key, last_programs};
 ghost use Rattle.ebpf_parts.specs.Memory.{is_memory};
 
-use crate::last_data::is_number;
+use crate::last_data::is_index;
 use crate::program::Program;
 use crate::records::{SLOT, SectionRecords};
-use crate::shared::Shared;
+use crate::metadata::FileMetadata;
 use crate::symbols::NamedSymbol;
 use ebpf_base::{ByKey, ByName, ByOffset, Items, Text};
 use ebpf_elf::SymbolKind;
@@ -122,14 +122,14 @@ fn put_last_functions(
     last: &ByOffset<usize>,
 ) -> Result<(), ParseError>
     requires { last.now ≡ last_programs symbols.now }
-    ensures put { OnOk result (functions.new ≡ put_all functions.old (map placed (program_functions records.now section.now symbols.now))) }
+    ensures put { OnOk result (functions.new ≡ put_all functions.old (map with_key (program_functions records.now section.now symbols.now))) }
     ensures fault { Refuses is_memory result (programs_fault section.now symbols.now) }
 {
     for symbol in symbols {
         if !symbol.is_program() {
             continue;
         }
-        if !is_number(symbol.index, last.get(symbol.address)) {
+        if !is_index(symbol.index, last.get(symbol.address)) {
             check_program(alloc, section, symbol)?;
             continue;
         }
@@ -147,7 +147,7 @@ pub fn put_functions(
     section: &Section<'_>,
     symbols: &[NamedSymbol<'_>],
 ) -> Result<(), ParseError>
-    ensures put { OnOk result (functions.new ≡ put_all functions.old (map placed (program_functions records.now section.now symbols.now))) }
+    ensures put { OnOk result (functions.new ≡ put_all functions.old (map with_key (program_functions records.now section.now symbols.now))) }
     ensures fault { Refuses is_memory result (programs_fault section.now symbols.now) }
 {
     let last = last_programs(alloc, symbols)?;
@@ -159,12 +159,12 @@ pub fn put_functions(
 pub fn put_programs(
     alloc: Global,
     programs: &mut ByName<Program>,
-    shared: &Shared,
+    metadata: &FileMetadata,
     kind: ProgramSection,
     section: &Section<'_>,
     symbols: &[NamedSymbol<'_>],
 ) -> Result<(), ParseError>
-    ensures put { OnOk result (programs.new ≡ put_all programs.old (programs_of shared.now.license shared.now.kernel_version section.now symbols.now (Some kind))) }
+    ensures put { OnOk result (programs.new ≡ put_all programs.old (programs_of metadata.now.license metadata.now.kernel_version section.now symbols.now (Some kind))) }
     ensures memory { IfErr result (λ e. is_memory e ≡ true) }
 {
     for symbol in symbols {
@@ -173,8 +173,8 @@ pub fn put_programs(
         }
         let name = String::from_str(alloc, symbol.name)?;
         let program = Program {
-            license: Items::from_vec(Vec::from_slice(alloc, shared.license.as_slice())?),
-            kernel_version: shared.kernel_version,
+            license: Items::from_vec(Vec::from_slice(alloc, metadata.license.as_slice())?),
+            kernel_version: metadata.kernel_version,
             section: kind,
             section_index: section.index.0,
             address: symbol.address,

@@ -1,16 +1,16 @@
-//! What `.BTF.ext` says of the functions of a section.
+//! The func info and line info of a section.
 
 ghost use Rattle.std.specs.Prelude.{◌≡◌, ◌<◌, ℕ, IfOk, IfErr, true, false, map, filter, length, unwrap_or};
 ghost use Rattle.std.specs.Option.{option_copied};
 ghost use Rattle.ebpf_ext.specs.ExtInfos.{no_func_info, no_line_info};
 ghost use Rattle.std.specs.List.{All};
 ghost use Rattle.std.specs.List.Sorted.{IsNonDecreasingBy};
-ghost use Rattle.ebpf_parsing.specs.Records.{Said, is_func_at, is_line_in, func_at, func_slot, func_from, line_from, line_at, line_slot, funcs_at, lines_in, slot_of_func, slot_of_line};
-ghost use Rattle.ebpf_parsing.specs.SlotPlaces.{is_at, places_with};
+ghost use Rattle.ebpf_parsing.specs.Records.{FuncAndLineInfo, is_func_at, is_line_in, func_at, func_slot, func_from, line_from, line_at, line_slot, funcs_at, lines_in, slot_of_func, slot_of_line};
+ghost use Rattle.ebpf_parsing.specs.RecordsBySlot.{is_at_slot, indices_with};
 ghost use Rattle.ebpf_parts.specs.Memory.{is_memory};
 
 use crate::by_slot::{NamesSlot, is_in_order, rows_among};
-use crate::slot_places::{Place, SlotPlaces, func_places, line_places};
+use crate::records_by_slot::{RecordIndex, RecordsBySlot, func_indices, line_indices};
 use ebpf_base::Items;
 use ebpf_ext::{FuncSecInfo, LineSecInfo, bpf_func_info, bpf_line_info};
 use ebpf_parts::ParseError;
@@ -37,7 +37,7 @@ impl NamesSlot for bpf_line_info {
     }
 }
 
-/// What is said of the functions of a section, lent. Places are gathered only where the records are not in the order
+/// The func info of a section, lent. Indices are gathered only where the records are not in the order
 /// of their slots.
 #[derive(Drop)]
 pub struct FuncRecords<'e> {
@@ -46,9 +46,9 @@ pub struct FuncRecords<'e> {
     records: &'e [bpf_func_info],
     in_order: bool,
     next: Cell<usize>,
-    places: SlotPlaces,
+    places: RecordsBySlot,
     ghost rising: { in_order ≡ true → IsNonDecreasingBy slot_of_func records.now },
-    ghost grouped: { in_order ≡ false → (q : ℕ) → filter (is_at q) places ≡ filter (is_at q) (places_with (func_slot records.now) (length records.now)) },
+    ghost grouped: { in_order ≡ false → (q : ℕ) → filter (is_at_slot q) places ≡ filter (is_at_slot q) (indices_with (func_slot records.now) (length records.now)) },
 }
 
 impl<'e> Model for FuncRecords<'e> {
@@ -59,7 +59,7 @@ impl<'e> Model for FuncRecords<'e> {
     ghost view = { λ r. record { sec_name_offset = r.name_offset; num_info = r.count; func_info = r.records.now } };
 }
 
-/// What is said of the lines of a section, lent. Places are gathered only where the records are not in the order of
+/// The line info of a section, lent. Indices are gathered only where the records are not in the order of
 /// their slots.
 #[derive(Drop)]
 pub struct LineRecords<'e> {
@@ -68,9 +68,9 @@ pub struct LineRecords<'e> {
     records: &'e [bpf_line_info],
     in_order: bool,
     next: Cell<usize>,
-    places: SlotPlaces,
+    places: RecordsBySlot,
     ghost rising: { in_order ≡ true → IsNonDecreasingBy slot_of_line records.now },
-    ghost grouped: { in_order ≡ false → (q : ℕ) → filter (is_at q) places ≡ filter (is_at q) (places_with (line_slot records.now) (length records.now)) },
+    ghost grouped: { in_order ≡ false → (q : ℕ) → filter (is_at_slot q) places ≡ filter (is_at_slot q) (indices_with (line_slot records.now) (length records.now)) },
 }
 
 impl<'e> Model for LineRecords<'e> {
@@ -98,10 +98,10 @@ impl<'e> FuncRecords<'e> {
                 records,
                 in_order: true,
                 next: Cell::new(0),
-                places: SlotPlaces::none(alloc),
+                places: RecordsBySlot::none(alloc),
             });
         }
-        let places = SlotPlaces::sorted(func_places(alloc, records)?)?;
+        let places = RecordsBySlot::sorted(func_indices(alloc, records)?)?;
         Ok(FuncRecords {
             name_offset,
             count,
@@ -120,24 +120,24 @@ impl<'e> FuncRecords<'e> {
         FuncRecords::new(alloc, 0, 0, &[])
     }
 
-    /// Those of a section, none where nothing is said of it.
-    pub fn of(alloc: Global, said: Option<&'e FuncSecInfo>) -> Result<FuncRecords<'e>, ParseError>
-        ensures info { IfOk result (λ r. r ≡ unwrap_or (option_copied said.entry) no_func_info) }
+    /// Those of a section, none where nothing is infos of it.
+    pub fn of(alloc: Global, infos: Option<&'e FuncSecInfo>) -> Result<FuncRecords<'e>, ParseError>
+        ensures info { IfOk result (λ r. r ≡ unwrap_or (option_copied infos.entry) no_func_info) }
         ensures memory { IfErr result (λ e. is_memory e ≡ true) }
     {
-        match said {
-            Some(said) => FuncRecords::new(
+        match infos {
+            Some(infos) => FuncRecords::new(
                 alloc,
-                said.sec_name_offset,
-                said.num_info,
-                said.func_info.as_slice(),
+                infos.sec_name_offset,
+                infos.num_info,
+                infos.func_info.as_slice(),
             ),
             None => FuncRecords::none(alloc),
         }
     }
 
     /// The records on the function that begins at a slot, their slots counted from another one.
-    #[tactic(auto, using(crate::proofs::Places::funcs_found, crate::proofs::Places::funcs_inside))]
+    #[tactic(auto, using(crate::proofs::EntryRange::funcs_found, crate::proofs::EntryRange::funcs_inside))]
     fn records_at(
         &self,
         alloc: Global,
@@ -179,7 +179,7 @@ fn func_from(base: usize, row: &bpf_func_info) -> bpf_func_info
 }
 
 /// A copy of records, their slots counted from another one.
-#[tactic(auto, using(crate::proofs::Places::funcs_kept))]
+#[tactic(auto, using(crate::proofs::EntryRange::funcs_kept))]
 fn funcs_counted_from(
     alloc: Global,
     rows: &[bpf_func_info],
@@ -202,7 +202,7 @@ fn funcs_counted_from(
 fn funcs_from(
     alloc: Global,
     rows: &[bpf_func_info],
-    places: &[Place],
+    places: &[RecordIndex],
     base: usize,
 ) -> Result<Items<bpf_func_info>, ParseError>
     requires { All (λ p. p.place < length rows.now) places.now }
@@ -229,7 +229,7 @@ fn line_from(base: usize, row: &bpf_line_info) -> bpf_line_info
 }
 
 /// A copy of records, their slots counted from another one.
-#[tactic(auto, using(crate::proofs::Places::lines_kept))]
+#[tactic(auto, using(crate::proofs::EntryRange::lines_kept))]
 fn lines_counted_from(
     alloc: Global,
     rows: &[bpf_line_info],
@@ -283,10 +283,10 @@ impl<'e> LineRecords<'e> {
                 records,
                 in_order: true,
                 next: Cell::new(0),
-                places: SlotPlaces::none(alloc),
+                places: RecordsBySlot::none(alloc),
             });
         }
-        let places = SlotPlaces::sorted(line_places(alloc, records)?)?;
+        let places = RecordsBySlot::sorted(line_indices(alloc, records)?)?;
         Ok(LineRecords {
             name_offset,
             count,
@@ -305,24 +305,24 @@ impl<'e> LineRecords<'e> {
         LineRecords::new(alloc, 0, 0, &[])
     }
 
-    /// Those of a section, none where nothing is said of it.
-    pub fn of(alloc: Global, said: Option<&'e LineSecInfo>) -> Result<LineRecords<'e>, ParseError>
-        ensures info { IfOk result (λ r. r ≡ unwrap_or (option_copied said.entry) no_line_info) }
+    /// Those of a section, none where nothing is infos of it.
+    pub fn of(alloc: Global, infos: Option<&'e LineSecInfo>) -> Result<LineRecords<'e>, ParseError>
+        ensures info { IfOk result (λ r. r ≡ unwrap_or (option_copied infos.entry) no_line_info) }
         ensures memory { IfErr result (λ e. is_memory e ≡ true) }
     {
-        match said {
-            Some(said) => LineRecords::new(
+        match infos {
+            Some(infos) => LineRecords::new(
                 alloc,
-                said.sec_name_offset,
-                said.num_info,
-                said.line_info.as_slice(),
+                infos.sec_name_offset,
+                infos.num_info,
+                infos.line_info.as_slice(),
             ),
             None => LineRecords::none(alloc),
         }
     }
 
     /// The records on the lines of so many slots from a slot on, their slots counted from another one.
-    #[tactic(auto, using(crate::proofs::Places::lines_found, crate::proofs::Places::lines_inside))]
+    #[tactic(auto, using(crate::proofs::EntryRange::lines_found, crate::proofs::EntryRange::lines_inside))]
     fn records_in(
         &self,
         alloc: Global,
@@ -362,7 +362,7 @@ impl<'e> LineRecords<'e> {
     }
 }
 
-/// What is said of a section, lent.
+/// The func info and line info of a section, lent.
 #[derive(Drop)]
 pub struct SectionRecords<'r, 'e> {
     pub funcs: &'r FuncRecords<'e>,
@@ -372,7 +372,7 @@ pub struct SectionRecords<'r, 'e> {
 }
 
 impl<'r, 'e> Model for SectionRecords<'r, 'e> {
-    ghost Value = { Said };
+    ghost Value = { FuncAndLineInfo };
 
     ghost view = { λ r. record { funcs = r.funcs.now; lines = r.lines.now; func_size = r.func_size; line_size = r.line_size } };
 }

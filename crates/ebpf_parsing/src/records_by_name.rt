@@ -1,20 +1,20 @@
-//! What `.BTF.ext` says of the sections of a file, by their names.
+//! The func info and line info of the sections of a file, by their names.
 
 ghost use Rattle.std.specs.Prelude.{◌≡◌, IfOk, IfErr, IfSome, true};
-ghost use Rattle.ebpf_declarations.specs.Declaring.{declaring};
-ghost use Rattle.ebpf_parsing.specs.Records.{AreFuncsOf, AreLinesOf, Said, said_of, funcs_of, lines_of};
+ghost use Rattle.ebpf_declarations.specs.TypesInReading.{types_in_reading};
+ghost use Rattle.ebpf_parsing.specs.Records.{AreFuncsOf, AreLinesOf, FuncAndLineInfo, func_and_line_info_of, funcs_of, lines_of};
 ghost use Rattle.ebpf_parts.specs.Memory.{is_memory};
 
 use crate::records::{FuncRecords, LineRecords, SectionRecords};
-use crate::shared::Shared;
+use crate::metadata::FileMetadata;
 use ebpf_base::ByName;
-use ebpf_declarations::DeclaredMaps;
+use ebpf_declarations::BtfDefinedMaps;
 use ebpf_ext::{BtfExt, FuncInfo, LineInfo};
 use ebpf_parts::ParseError;
 use std::alloc::Global;
 use std::marker::Model;
 
-/// What is said of the functions of some sections, each list of records gathered by its slots once.
+/// The func info of some sections, each list of records gathered by its slots once.
 fn funcs_of_names<'e>(
     alloc: Global,
     info: &'e FuncInfo,
@@ -35,7 +35,7 @@ fn funcs_of_names<'e>(
     Ok(table)
 }
 
-/// What is said of the lines of some sections.
+/// The line info of some sections.
 fn lines_of_names<'e>(
     alloc: Global,
     info: &'e LineInfo,
@@ -56,7 +56,7 @@ fn lines_of_names<'e>(
     Ok(table)
 }
 
-/// What is said of one section.
+/// The func info and line info of one section.
 #[derive(Drop)]
 pub struct OneSection<'e> {
     funcs: FuncRecords<'e>,
@@ -66,7 +66,7 @@ pub struct OneSection<'e> {
 }
 
 impl<'e> Model for OneSection<'e> {
-    ghost Value = { Said };
+    ghost Value = { FuncAndLineInfo };
 
     ghost view = { λ r. record { funcs = r.funcs; lines = r.lines; func_size = r.func_size; line_size = r.line_size } };
 }
@@ -85,7 +85,7 @@ impl<'e> OneSection<'e> {
     }
 }
 
-/// What is said of all sections, of which those of some names are gathered by their slots. Contracts see what
+/// The func info and line info of all sections, of which those of some names are gathered by their slots. Contracts see what
 /// `.BTF.ext` says.
 #[derive(Drop)]
 pub struct RecordsByName<'e> {
@@ -119,24 +119,24 @@ impl<'e> RecordsByName<'e> {
         ext: &'e Option<BtfExt>,
         names: &[&str],
     ) -> Result<RecordsByName<'e>, ParseError>
-        ensures said { IfOk result (λ r. r ≡ ext.now) }
+        ensures infos { IfOk result (λ r. r ≡ ext.now) }
         ensures memory { IfErr result (λ e. is_memory e ≡ true) }
     {
-        let Some(said) = ext else {
+        let Some(infos) = ext else {
             return Ok(RecordsByName {
                 ext,
                 funcs: ByName::new(alloc),
                 lines: ByName::new(alloc),
             });
         };
-        let funcs = funcs_of_names(alloc, &said.func_info, names)?;
-        let lines = lines_of_names(alloc, &said.line_info, names)?;
+        let funcs = funcs_of_names(alloc, &infos.func_info, names)?;
+        let lines = lines_of_names(alloc, &infos.line_info, names)?;
         Ok(RecordsByName { ext, funcs, lines })
     }
 
-    /// What is said of the section with a name, where its records are gathered.
+    /// The func info and line info of the section with a name, where its records are gathered.
     pub fn of(&self, name: &str) -> Option<SectionRecords<'_, 'e>>
-        ensures { IfSome result (λ r. r ≡ said_of self.now name.now) }
+        ensures { IfSome result (λ r. r ≡ func_and_line_info_of self.now name.now) }
     {
         let Some(ext) = self.ext else {
             return None;
@@ -149,10 +149,10 @@ impl<'e> RecordsByName<'e> {
         })
     }
 
-    /// What is said of the section with a name, gathered for it alone.
-    #[tactic(auto, using(crate::proofs::SaidTables::nothing_said))]
+    /// The func info and line info of the section with a name, gathered for it alone.
+    #[tactic(auto, using(crate::proofs::ExtTables::no_ext))]
     pub fn read(&self, alloc: Global, name: &str) -> Result<OneSection<'e>, ParseError>
-        ensures said { IfOk result (λ r. r ≡ said_of self.now name.now) }
+        ensures infos { IfOk result (λ r. r ≡ func_and_line_info_of self.now name.now) }
         ensures memory { IfErr result (λ e. is_memory e ≡ true) }
     {
         match self.ext {
@@ -172,24 +172,24 @@ impl<'e> RecordsByName<'e> {
     }
 }
 
-/// What the sections of a file are read with: what they share, what is said of each, and the maps that types declare.
+/// What the sections of a file are read with: what they share, the func info and line info of each, and the BTF-defined maps.
 #[derive(Drop)]
-pub struct Context<'s> {
-    pub shared: &'s Shared,
+pub struct SectionInputs<'s> {
+    pub metadata: &'s FileMetadata,
     pub records: RecordsByName<'s>,
-    pub declared: Option<DeclaredMaps<'s>>,
-    ghost said: { records ≡ shared.now.btf_ext },
-    ghost declared_are: { declared ≡ declaring shared.now.reading shared.now.btf },
+    pub declared: Option<BtfDefinedMaps<'s>>,
+    ghost infos: { records ≡ metadata.now.btf_ext },
+    ghost declared_are: { declared ≡ types_in_reading metadata.now.reading metadata.now.btf },
 }
 
-impl<'s> Model for Context<'s> {
-    ghost use Rattle.ebpf_parsing.specs.contracts.shared.Shared as shared_rows;
-    ghost use Rattle.ebpf_parsing.specs.declared.shared.Shared.{Shared};
+impl<'s> Model for SectionInputs<'s> {
+    ghost use Rattle.ebpf_parsing.specs.contracts.metadata.FileMetadata as metadata_rows;
+    ghost use Rattle.ebpf_parsing.specs.declared.metadata.FileMetadata.{FileMetadata};
     ghost use Rattle.std.specs.Coded.{codes};
 
-    ghost Value = { Shared };
+    ghost Value = { FileMetadata };
 
-    ghost coded = { Prim.hlevel (codes, shared_rows.the_row.coded) };
+    ghost coded = { Prim.hlevel (codes, metadata_rows.the_row.coded) };
 
-    ghost view = { λ c. c.shared.now };
+    ghost view = { λ c. c.metadata.now };
 }

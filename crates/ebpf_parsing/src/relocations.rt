@@ -5,16 +5,16 @@ ghost use Rattle.std.specs.FinMap.{empty};
 ghost use Rattle.std.specs.List.{flat_map};
 ghost use Rattle.ebpf_base.specs.Faults.{Refuses};
 ghost use Rattle.ebpf_base.specs.Keyed.{put_all};
-ghost use Rattle.ebpf_elf.specs.Relocations.{entries_of};
-ghost use Rattle.ebpf_parsing.specs.EntryPlaces.{AreNoted, AreOfOneFile, lacks_symbol, last_tables};
+ghost use Rattle.ebpf_elf.specs.Relocations.{table_entries};
+ghost use Rattle.ebpf_parsing.specs.EntryRanges.{AreCached, AreOfOneFile, lacks_symbol, last_tables};
 ghost use Rattle.ebpf_parsing.specs.Groups.{AreTablesOf};
-ghost use Rattle.ebpf_parsing.specs.Relocations.{kept_relocations, offset_of};
+ghost use Rattle.ebpf_parsing.specs.Relocations.{relocations_by_offset, offset_of};
 ghost use Rattle.ebpf_parts.specs.Memory.{is_memory};
 ghost use Rattle.ebpf_parts.specs.Sections.{target_fault};
 
-use crate::by_places::ByPlaces;
+use crate::by_entry_range::ByEntryRange;
 use crate::groups::Groups;
-use crate::last_data::is_number;
+use crate::last_data::is_index;
 use ebpf_base::ByOffset;
 use ebpf_elf::{ElfFile, ElfRelocationSection};
 use ebpf_parts::{ParseError, Relocation};
@@ -26,7 +26,7 @@ use std::marker::Model;
 pub struct RelocationTable<'a> {
     section: ElfRelocationSection<'a>,
     lacks: bool,
-    ghost read: { lacks ≡ lacks_symbol (entries_of section) },
+    ghost read: { lacks ≡ lacks_symbol (table_entries section) },
 }
 
 impl<'a> Model for RelocationTable<'a> {
@@ -40,7 +40,7 @@ impl<'a> Model for RelocationTable<'a> {
 impl RelocationTable<'_> {
     /// Whether one of its entries names no symbol.
     fn lacks_symbol(&self) -> bool
-        ensures { result ≡ lacks_symbol (entries_of self.now) }
+        ensures { result ≡ lacks_symbol (table_entries self.now) }
     {
         self.lacks
     }
@@ -48,7 +48,7 @@ impl RelocationTable<'_> {
 
 /// Whether an entry of a section of relocations names no symbol.
 fn lacks_symbol(section: &ElfRelocationSection<'_>) -> bool
-    ensures { result ≡ lacks_symbol (entries_of section.now) }
+    ensures { result ≡ lacks_symbol (table_entries section.now) }
 {
     for relocation in section.relocations() {
         if relocation.symbol_index == 0 {
@@ -59,22 +59,22 @@ fn lacks_symbol(section: &ElfRelocationSection<'_>) -> bool
 }
 
 /// A section of relocations, whose entries are read where none at their places were read before.
-#[tactic(auto, using(crate::proofs::TablePlaces::noted_is, crate::proofs::TablePlaces::noted_more))]
+#[tactic(auto, using(crate::proofs::TableRanges::cached_is, crate::proofs::TableRanges::cached_more))]
 fn read_table<'a>(
-    noted: &mut ByPlaces<bool>,
+    cached: &mut ByEntryRange<bool>,
     section: ElfRelocationSection<'a>,
 ) -> Result<RelocationTable<'a>, ParseError>
-    requires { AreNoted section.file noted.old }
+    requires { AreCached section.file cached.old }
     ensures table { IfOk result (λ table. table ≡ section.entry) }
-    ensures noted { OnOk result (AreNoted section.entry.file noted.new) }
+    ensures cached { OnOk result (AreCached section.entry.file cached.new) }
     ensures memory { IfErr result (λ e. is_memory e ≡ true) }
 {
-    if let Some(known) = noted.get(&section) {
+    if let Some(known) = cached.get(&section) {
         let lacks = *known;
         return Ok(RelocationTable { section, lacks });
     }
     let lacks = lacks_symbol(&section);
-    noted.insert(&section, lacks)?;
+    cached.insert(&section, lacks)?;
     Ok(RelocationTable { section, lacks })
 }
 
@@ -87,19 +87,19 @@ pub fn read_relocation_sections<'a>(
     ensures memory { IfErr result (λ e. is_memory e ≡ true) }
 {
     let mut groups = Groups::new(alloc);
-    let mut noted = ByPlaces::new(alloc);
+    let mut cached = ByEntryRange::new(alloc);
     for section in file.relocation_sections() {
         let target = section.target();
-        let table = read_table(&mut noted, section)?;
+        let table = read_table(&mut cached, section)?;
         groups.add(alloc, target, table)?;
     }
     Ok(groups)
 }
 
 /// Refuses relocations of which one names no symbol.
-#[tactic(auto, using(crate::proofs::TablePlaces::targets_more, crate::proofs::TablePlaces::targets_none))]
+#[tactic(auto, using(crate::proofs::TableRanges::targets_more, crate::proofs::TableRanges::targets_none))]
 pub fn check_targets(tables: &[RelocationTable<'_>]) -> Result<(), ParseError>
-    ensures { Refuses is_memory result (target_fault (flat_map entries_of tables.now)) }
+    ensures { Refuses is_memory result (target_fault (flat_map table_entries tables.now)) }
 {
     for table in tables {
         if table.lacks_symbol() {
@@ -110,12 +110,12 @@ pub fn check_targets(tables: &[RelocationTable<'_>]) -> Result<(), ParseError>
 }
 
 /// The number of the last section of relocations whose entries stand at the same places.
-#[tactic(auto, using(crate::proofs::TablePlaces::row_more, ebpf_parts::proofs::Walks::rest_none))]
-fn last_tables(alloc: Global, tables: &[RelocationTable<'_>]) -> Result<ByPlaces<usize>, ParseError>
+#[tactic(auto, using(crate::proofs::TableRanges::row_more, ebpf_parts::proofs::Walks::rest_none))]
+fn last_tables(alloc: Global, tables: &[RelocationTable<'_>]) -> Result<ByEntryRange<usize>, ParseError>
     ensures last { IfOk result (λ last. last ≡ last_tables tables.now) }
     ensures memory { IfErr result (λ e. is_memory e ≡ true) }
 {
-    let mut last = ByPlaces::new(alloc);
+    let mut last = ByEntryRange::new(alloc);
     for table in tables {
         last.insert(&table.section, table.section.index().0)?;
     }
@@ -127,7 +127,7 @@ fn gather_entries(
     entries: &mut Vec<(u64, Relocation)>,
     table: &RelocationTable<'_>,
 ) -> Result<(), ParseError>
-    ensures gathered { OnOk result (entries.new.items ≡ entries.old.items ++ map offset_of (entries_of table.now)) }
+    ensures gathered { OnOk result (entries.new.items ≡ entries.old.items ++ map offset_of (table_entries table.now)) }
     ensures memory { IfErr result (λ e. is_memory e ≡ true) }
 {
     for relocation in table.section.relocations() {
@@ -151,16 +151,16 @@ fn table_of(
 fn put_last_tables(
     alloc: Global,
     tables: &[RelocationTable<'_>],
-    last: &ByPlaces<usize>,
+    last: &ByEntryRange<usize>,
 ) -> Result<ByOffset<Relocation>, ParseError>
     requires file { AreOfOneFile tables.now }
     requires last { last.now ≡ last_tables tables.now }
-    ensures kept { IfOk result (λ m. m ≡ kept_relocations (flat_map entries_of tables.now)) }
+    ensures kept { IfOk result (λ m. m ≡ relocations_by_offset (flat_map table_entries tables.now)) }
     ensures memory { IfErr result (λ e. is_memory e ≡ true) }
 {
     let mut entries = Vec::new(alloc);
     for table in tables {
-        if !is_number(table.section.index().0, last.get(&table.section)) {
+        if !is_index(table.section.index().0, last.get(&table.section)) {
             continue;
         }
         gather_entries(&mut entries, table)?;
@@ -174,7 +174,7 @@ pub fn by_offset(
     tables: &[RelocationTable<'_>],
 ) -> Result<ByOffset<Relocation>, ParseError>
     requires { AreOfOneFile tables.now }
-    ensures kept { IfOk result (λ m. m ≡ kept_relocations (flat_map entries_of tables.now)) }
+    ensures kept { IfOk result (λ m. m ≡ relocations_by_offset (flat_map table_entries tables.now)) }
     ensures memory { IfErr result (λ e. is_memory e ≡ true) }
 {
     let last = last_tables(alloc, tables)?;

@@ -2,7 +2,7 @@
 
 ghost use Rattle.std.specs.Prelude.{◌≡◌, ◌==◌, [], filter, IfOk};
 ghost use Rattle.ebpf_base.specs.Faults.{Refuses};
-ghost use Rattle.ebpf_elf.specs.Relocations.{relocation_sections, target_of};
+ghost use Rattle.ebpf_elf.specs.Relocations.{relocation_sections, relocated_section};
 ghost use Rattle.ebpf_parsing.specs.Groups.{AreTablesOf};
 ghost use Rattle.ebpf_parts.specs.Memory.{is_memory};
 ghost use Rattle.ebpf_parts.specs.Sections.{section_with, section_fault};
@@ -20,7 +20,7 @@ pub fn read_section<'a>(
     section: &ElfSection<'a>,
     tables: &[RelocationTable<'_>],
 ) -> Result<Section<'a>, ParseError>
-    requires { tables.now ≡ filter (λ r. target_of r == section.now.index) (relocation_sections section.now.file) }
+    requires { tables.now ≡ filter (λ r. relocated_section r == section.now.index) (relocation_sections section.now.file) }
     ensures section { IfOk result (λ s. s ≡ section_with [] section.now) }
     ensures fault { Refuses is_memory result (section_fault section.now) }
 {

@@ -4,7 +4,7 @@ ghost use Rattle.std.specs.Prelude.{◌≡◌, IfOk, OnOk, IfErr, true, if◌the
 ghost use Rattle.std.specs.FinMap.{contains_key, get, insert};
 ghost use Rattle.ebpf_base.specs.Faults.{Refuses};
 ghost use Rattle.ebpf_parsing.specs.FileSymbols.{file_symbols, symbols_fault};
-ghost use Rattle.ebpf_parsing.specs.SymbolNames.{numbers_by_name, weak_named};
+ghost use Rattle.ebpf_parsing.specs.SymbolNames.{symbol_indices_by_name, weak_named};
 ghost use Rattle.ebpf_parts.specs.Memory.{is_memory};
 
 use crate::symbols::NamedSymbol;
@@ -14,11 +14,11 @@ use ebpf_parts::ParseError;
 use std::alloc::Global;
 
 /// The numbers of symbols by name; of equal names the last.
-pub fn numbers_by_name(
+pub fn symbol_indices_by_name(
     alloc: Global,
     symbols: &[NamedSymbol<'_>],
 ) -> Result<ByName<usize>, ParseError>
-    ensures numbers { IfOk result (λ numbers. numbers ≡ numbers_by_name symbols.now) }
+    ensures numbers { IfOk result (λ numbers. numbers ≡ symbol_indices_by_name symbols.now) }
     ensures memory { IfErr result (λ e. is_memory e ≡ true) }
 {
     let mut numbers = ByName::new(alloc);

@@ -5,9 +5,9 @@ ghost use Rattle.std.specs.FinMap as map;
 ghost use Rattle.ebpf_base.specs.Faults.{Refuses, fault_of};
 ghost use Rattle.ebpf_base.specs.Keys.{lent_bytes};
 ghost use Rattle.ebpf_elf.specs.Symbols.{symbol_name};
-ghost use Rattle.ebpf_parsing.specs.FileSymbols.{symbol_of, symbol_fault, symbols_fault, file_symbols, names_of, symbol_table, kept_of};
+ghost use Rattle.ebpf_parsing.specs.FileSymbols.{symbol_of, symbol_fault, symbols_fault, file_symbols, names_of, symbol_table, symbol_entry};
 ghost use Rattle.ebpf_parsing.specs.Groups.{group_at};
-ghost use Rattle.ebpf_parsing.specs.Symbols.{SymbolValue, symbols_of};
+ghost use Rattle.ebpf_parsing.specs.Symbols.{SymbolValue, section_symbols};
 ghost use Rattle.ebpf_parts.specs.Memory.{is_memory};
 
 use crate::groups::Groups;
@@ -46,7 +46,7 @@ impl<'a> Model for NamedSymbol<'a> {
 }
 
 /// The name of a symbol.
-fn name_of<'a>(symbol: &ElfSymbol<'a>) -> Result<&'a str, ParseError>
+fn symbol_name_of<'a>(symbol: &ElfSymbol<'a>) -> Result<&'a str, ParseError>
     ensures name { IfOk result (λ name. symbol_name symbol.now ≡ Some name.now) }
     ensures fault { fault_of result ≡ symbol_fault symbol.now }
 {
@@ -79,13 +79,13 @@ impl<'a> NamedSymbol<'a> {
         ensures symbol { IfOk result (λ y. y ≡ symbol_of symbol.now) }
         ensures fault { fault_of result ≡ symbol_fault symbol.now }
     {
-        let name = name_of(symbol)?;
+        let name = symbol_name_of(symbol)?;
         Ok(NamedSymbol::named(symbol, name))
     }
 
     /// What an object keeps of it.
     fn kept(&self, alloc: Global) -> Result<Symbol, ParseError>
-        ensures symbol { IfOk result (λ kept. kept ≡ (kept_of self.now).1) }
+        ensures symbol { IfOk result (λ kept. kept ≡ (symbol_entry self.now).1) }
         ensures memory { IfErr result (λ e. is_memory e ≡ true) }
     {
         Ok(Symbol {
@@ -110,10 +110,10 @@ pub struct FileSymbols<'a> {
 
 impl<'a> FileSymbols<'a> {
     /// Takes one more symbol.
-    #[tactic(auto, unfolding(crate::specs::Symbols::symbols_of))]
+    #[tactic(auto, unfolding(crate::specs::Symbols::section_symbols))]
     fn add(&mut self, alloc: Global, symbol: NamedSymbol<'a>) -> Result<(), ParseError>
         ensures names { OnOk result (lent_bytes self.new.names.items ≡ lent_bytes self.old.names.items ++ symbol.entry.name ∷ []) }
-        ensures groups { OnOk result ((q : ℕ) → group_at self.new.groups.groups q ≡ group_at self.old.groups.groups q ++ symbols_of (symbol.entry ∷ []) q) }
+        ensures groups { OnOk result ((q : ℕ) → group_at self.new.groups.groups q ≡ group_at self.old.groups.groups q ++ section_symbols (symbol.entry ∷ []) q) }
         ensures memory { IfErr result (λ e. is_memory e ≡ true) }
     {
         self.names.push(symbol.name)?;
@@ -138,7 +138,7 @@ fn count_of(file: &ElfFile<'_>) -> usize {
 #[tactic(auto, using(crate::proofs::Grouped::group_more, crate::proofs::Grouped::group_all, crate::proofs::Grouped::names_more, crate::proofs::Grouped::names_all))]
 pub fn read_symbols<'a>(alloc: Global, file: &ElfFile<'a>) -> Result<FileSymbols<'a>, ParseError>
     ensures names { IfOk result (λ s. lent_bytes s.names.items ≡ names_of (file_symbols file.now)) }
-    ensures groups { IfOk result (λ s. (q : ℕ) → group_at s.groups.groups q ≡ symbols_of (file_symbols file.now) q) }
+    ensures groups { IfOk result (λ s. (q : ℕ) → group_at s.groups.groups q ≡ section_symbols (file_symbols file.now) q) }
     ensures fault { Refuses is_memory result (symbols_fault file.now) }
 {
     let mut symbols = FileSymbols {
@@ -154,7 +154,7 @@ pub fn read_symbols<'a>(alloc: Global, file: &ElfFile<'a>) -> Result<FileSymbols
 
 /// The symbols of a file as an object keeps them. Their names are given, so that they are read once.
 #[tactic(auto, unfolding(crate::specs::FileSymbols::symbol_of))]
-pub fn keep_symbols(
+pub fn object_symbols(
     alloc: Global,
     file: &ElfFile<'_>,
     names: &[&str],

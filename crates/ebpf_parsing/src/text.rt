@@ -4,8 +4,8 @@ ghost use Rattle.std.specs.Prelude.{◌≡◌, ◌+◌, ◌<◌, ◌≤◌, ◌�
 ghost use Rattle.std.specs.FinMap.{empty};
 ghost use Rattle.ebpf_base.specs.Faults.{Refuses};
 ghost use Rattle.ebpf_base.specs.Keyed.{put_all};
-ghost use Rattle.ebpf_parsing.specs.Programs.{placed};
-ghost use Rattle.ebpf_parsing.specs.Texts.{function_at, fault_at, size_at, text_function, text_fault_of, text_functions, walk_fault, text_fault};
+ghost use Rattle.ebpf_parsing.specs.Programs.{with_key};
+ghost use Rattle.ebpf_parsing.specs.Texts.{function_at, text_fault_at, size_at, text_function, text_fault_of, text_functions, walk_fault, text_fault};
 ghost use Rattle.ebpf_parts.specs.Memory.{is_memory};
 
 use crate::records::{SLOT, SectionRecords};
@@ -59,7 +59,7 @@ fn function_of(
 }
 
 /// The function at an offset, and where it ends.
-#[tactic(auto, unfolding(crate::specs::Texts::function_at, crate::specs::Texts::fault_at, crate::specs::Texts::size_at, crate::specs::Texts::symbol_at_offset))]
+#[tactic(auto, unfolding(crate::specs::Texts::function_at, crate::specs::Texts::text_fault_at, crate::specs::Texts::size_at, crate::specs::Texts::symbol_at_offset))]
 fn function_at(
     alloc: Global,
     records: &SectionRecords<'_, '_>,
@@ -72,7 +72,7 @@ fn function_at(
     ensures end { IfOk result (λ r. r.1 ≡ offset + size_at section.now symbols.now.symbols.now offset) }
     ensures further { IfOk result (λ r. offset < r.1) }
     ensures inside { IfOk result (λ r. r.1 ≤ length section.now.bytes) }
-    ensures fault { Refuses is_memory result (fault_at section.now symbols.now.symbols.now offset) }
+    ensures fault { Refuses is_memory result (text_fault_at section.now symbols.now.symbols.now offset) }
 {
     let address = section.address.wrapping_add(offset as u64);
     match symbols.at(address) {
@@ -92,7 +92,7 @@ fn gather(
     section: &Section<'_>,
     symbols: &TextSymbols<'_, '_>,
 ) -> Result<Vec<((usize, u64), Function)>, ParseError>
-    ensures all { IfOk result (λ entries. entries.items ≡ map placed (text_functions records.now section.now symbols.now.symbols.now)) }
+    ensures all { IfOk result (λ entries. entries.items ≡ map with_key (text_functions records.now section.now symbols.now.symbols.now)) }
     ensures fault { Refuses is_memory result (walk_fault section.now symbols.now.symbols.now) }
 {
     let mut entries = Vec::with_capacity(alloc, symbols.count())?;
@@ -142,7 +142,7 @@ pub fn put_text_functions(
     section: &Section<'_>,
     symbols: &[NamedSymbol<'_>],
 ) -> Result<(), ParseError>
-    ensures put { OnOk result (functions.new ≡ put_all functions.old (map placed (text_functions records.now section.now symbols.now))) }
+    ensures put { OnOk result (functions.new ≡ put_all functions.old (map with_key (text_functions records.now section.now symbols.now))) }
     ensures fault { Refuses is_memory result (text_fault section.now symbols.now) }
 {
     let symbols = TextSymbols::new(alloc, section.index.0, symbols)?;

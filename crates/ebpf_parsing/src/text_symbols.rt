@@ -129,7 +129,7 @@ fn splits(rows: &[&NamedSymbol<'_>], place: usize, address: u64) -> bool
 }
 
 /// How many symbols have smaller addresses than this one. The guess is tried first.
-fn count_below(rows: &[&NamedSymbol<'_>], guess: usize, address: u64) -> usize
+fn lower_bound(rows: &[&NamedSymbol<'_>], guess: usize, address: u64) -> usize
     requires { IsNonDecreasingBy (λ y. y.now.address) rows.now }
     ensures within { result ≤ length rows.now }
     ensures cut { IsPartitionPoint (λ y. y.now.address < address) (λ y. address ≤ y.now.address) rows.now result }
@@ -197,7 +197,7 @@ impl<'s, 'a> TextSymbols<'s, 'a> {
     pub fn at(&self, address: u64) -> Option<&'s NamedSymbol<'a>>
         ensures { option_map (λ y. y.now) result ≡ find (is_text_at address) self.now.symbols.now }
     {
-        let place = count_below(self.rows.as_slice(), self.next.get(), address);
+        let place = lower_bound(self.rows.as_slice(), self.next.get(), address);
         self.next.set(place + 1);
         row_at(self.rows.as_slice(), place, address)
     }

@@ -3,7 +3,7 @@
 ghost use Rattle.std.specs.Prelude.{◌≡◌, IfOk};
 ghost use Rattle.ebpf_base.specs.Faults.{Refuses};
 ghost use Rattle.ebpf_parsing.specs.Groups.{AreTablesOf};
-ghost use Rattle.ebpf_parsing.specs.Terms.{version_number_fault, version_of, kernel_version_of, version_fault};
+ghost use Rattle.ebpf_parsing.specs.LicenseAndVersion.{version_number_fault, version_of, kernel_version_of, version_fault};
 ghost use Rattle.ebpf_parts.specs.Memory.{is_memory};
 
 use crate::groups::Groups;
@@ -20,7 +20,7 @@ use std::alloc::Global;
 const ANY_KERNEL: u32 = 0xffff_fffe;
 
 /// The version that a section's bytes are.
-#[tactic(auto, unfolding(crate::specs::Terms::version_number_fault, crate::specs::Terms::version_of))]
+#[tactic(auto, unfolding(crate::specs::LicenseAndVersion::version_number_fault, crate::specs::LicenseAndVersion::version_of))]
 fn version_in(alloc: Global, order: Endianness, bytes: &[u8]) -> Result<Option<u32>, ParseError>
     ensures version { IfOk result (λ version. version ≡ version_of order bytes.now) }
     ensures fault { Refuses is_memory result (version_number_fault bytes.now) }
@@ -38,7 +38,7 @@ fn version_in(alloc: Global, order: Endianness, bytes: &[u8]) -> Result<Option<u
 }
 
 /// The kernel version of a file, none where it has no section `version`.
-#[tactic(auto, using(crate::proofs::FromFile::found_from), unfolding(ebpf_parts::specs::Sections::section_of, ebpf_parts::specs::Sections::section_with, crate::specs::Terms::kernel_version_of, crate::specs::Terms::version_fault))]
+#[tactic(auto, using(crate::proofs::FromFile::found_from), unfolding(ebpf_parts::specs::Sections::section_of, ebpf_parts::specs::Sections::section_with, crate::specs::LicenseAndVersion::kernel_version_of, crate::specs::LicenseAndVersion::version_fault))]
 pub fn read_version(
     alloc: Global,
     file: &ElfFile<'_>,

@@ -10,7 +10,7 @@ use Rattle.ebpf_base.specs.Faults.{or_else}
 use Rattle.ebpf_parts.proofs.KindRows.{of_longest}
 use Rattle.ebpf_parts.proofs.TypeNumbers.{same_type, same_type-is, some_is}
 use Rattle.ebpf_parts.specs.ProgramTypes.{program_type_number}
-use Rattle.ebpf_parts.specs.ProgramKinds.{TypesAgree, fits, has_target, is_marked, longest_fit, name_of, program_kind, section_type}
+use Rattle.ebpf_parts.specs.ProgramKinds.{TypesAgree, name_fits, has_target, is_marked, longest_fit, row_name, program_kind, section_type}
 use Rattle.ebpf_parts.specs.ProgramSections.{program_section, first_piece, second_piece, one_piece, two_pieces, probe_sections, trace_sections, packet_sections, kernel_sections, pair_sections, xdp_sections, sk_skb_sections, sk_reuseport_sections, cgroup_skb_sections, cgroup_sections, socket_events, address_calls}
 use Rattle.ebpf_parts.specs.declared.programs.kind.NamedKind.{NamedKind}
 use Rattle.ebpf_parts.specs.declared.programs.kind.ProgramKind.{ProgramKind}
@@ -40,8 +40,8 @@ has_slash name = list_any (λ b. b == 47) name
 -- a row alone: its own name, or its own as the first piece of a name
 agrees : Option (List ℕ) → NamedKind → Bool
 agrees second row =
-    if row.takes_target then not (has_slash (name_of row)) && typed row.kind.program_type (pieces (name_of row) second)
-    else typed row.kind.program_type (program_section (name_of row))
+    if row.takes_target then not (has_slash (row_name row)) && typed row.kind.program_type (pieces (row_name row) second)
+    else typed row.kind.program_type (program_section (row_name row))
 
 all_agree : (second : Option (List ℕ)) → list_all (agrees second) NAMED_KINDS ≡ true
 unfolding agrees typed type_of same_type program_type_number probe_sections trace_sections packet_sections kernel_sections pair_sections xdp_sections sk_skb_sections sk_reuseport_sections cgroup_skb_sections cgroup_sections socket_events address_calls
@@ -73,42 +73,42 @@ target_piece (b ∷ name) (o ∷ own) none begins slash =
 -- ---- one row
 
 -- where a check of all pieces passed, a name that the row fits is of its type
-row_agrees : (name : List ℕ) (row : NamedKind) → ((second : Option (List ℕ)) → agrees second row ≡ true) → fits name row ≡ true
+row_agrees : (name : List ℕ) (row : NamedKind) → ((second : Option (List ℕ)) → agrees second row ≡ true) → name_fits name row ≡ true
     → typed row.kind.program_type (program_section name) ≡ true
 unfolding agrees
 row_agrees name row checked fit = elim (cases_Bool row.takes_target) [
   | inl takes ↦
       let check : (second : Option (List ℕ))
-      → (not (has_slash (name_of row)) && typed row.kind.program_type (pieces (name_of row) second)) ≡ true
+      → (not (has_slash (row_name row)) && typed row.kind.program_type (pieces (row_name row) second)) ≡ true
       = λ second. rw takes at (checked second) in
-      let none = not-true (has_slash (name_of row)) (and_parts _ _ (check None)).0 in
+      let none = not-true (has_slash (row_name row)) (and_parts _ _ (check None)).0 in
       of_pieces (first_of_fit none (or_cases _ _ fit)) (and_parts _ _ (check (second_piece name))).1
   | inr exact ↦
-      elim (or_cases (bytes_eq name (name_of row)) _ fit) [
-        | inl same ↦ rw ((bytes_eq-Decides name (name_of row)).0 same) (rw exact at (checked None))
+      elim (or_cases (bytes_eq name (row_name row)) _ fit) [
+        | inl same ↦ rw ((bytes_eq-Decides name (row_name row)).0 same) (rw exact at (checked None))
         | inr longer ↦ absurd (both_ways row.takes_target exact (and_parts row.takes_target _ longer).0)
       ]
 ]
   where
-    first_of_fit : has_slash (name_of row) ≡ false
-        → (bytes_eq name (name_of row) ≡ true) ⊎ ((row.takes_target && has_target name (name_of row)) ≡ true)
-        → first_piece name ≡ name_of row
+    first_of_fit : has_slash (row_name row) ≡ false
+        → (bytes_eq name (row_name row) ≡ true) ⊎ ((row.takes_target && has_target name (row_name row)) ≡ true)
+        → first_piece name ≡ row_name row
     first_of_fit none (inl same) =
-        let is = (bytes_eq-Decides name (name_of row)).0 same in
-        ap first_piece is ∙ own_piece (name_of row) none
+        let is = (bytes_eq-Decides name (row_name row)).0 same in
+        ap first_piece is ∙ own_piece (row_name row) none
     first_of_fit none (inr longer) =
-        let target = and_parts (starts_with nat_eq name (name_of row)) _ (and_parts row.takes_target _ longer).1 in
-        target_piece name (name_of row) none target.0 (eqb-true _ 47 target.1)
+        let target = and_parts (starts_with nat_eq name (row_name row)) _ (and_parts row.takes_target _ longer).1 in
+        target_piece name (row_name row) none target.0 (eqb-true _ 47 target.1)
 
-    of_pieces : first_piece name ≡ name_of row
-        → typed row.kind.program_type (pieces (name_of row) (second_piece name)) ≡ true
+    of_pieces : first_piece name ≡ row_name row
+        → typed row.kind.program_type (pieces (row_name row) (second_piece name)) ≡ true
         → typed row.kind.program_type (program_section name) ≡ true
     of_pieces piece agreed = ap (λ first. typed row.kind.program_type (pieces first (second_piece name))) piece ∙ agreed
 
 -- ---- all rows
 
 rows_agree : (name : List ℕ) (rows : List NamedKind) → ((second : Option (List ℕ)) → list_all (agrees second) rows ≡ true)
-    → AllByRecursion (λ row. fits name row ≡ true → typed row.kind.program_type (program_section name) ≡ true) rows
+    → AllByRecursion (λ row. name_fits name row ≡ true → typed row.kind.program_type (program_section name) ≡ true) rows
 rows_agree name [] checked = tt
 rows_agree name (row ∷ rows) checked = (
   row_agrees name row (λ second. (and_parts (agrees second row) _ (checked second)).0),
@@ -116,11 +116,11 @@ rows_agree name (row ∷ rows) checked = (
 )
 
 -- the kind of a row has the row's type
-kind_typed : (said : Option ProgramSection) (found : Option NamedKind) (mark : Bool) (kind : ProgramKind)
-    → IfSome found (λ row. typed row.kind.program_type said ≡ true)
-    → option_map (λ row. record row.kind { is_optional = mark }) found ≡ Some kind → typed kind.program_type said ≡ true
-kind_typed said None mark kind agreed loaded = absurd (cc)
-kind_typed said (Some row) mark kind agreed loaded =
+kind_typed : (stated : Option ProgramSection) (found : Option NamedKind) (mark : Bool) (kind : ProgramKind)
+    → IfSome found (λ row. typed row.kind.program_type stated ≡ true)
+    → option_map (λ row. record row.kind { is_optional = mark }) found ≡ Some kind → typed kind.program_type stated ≡ true
+kind_typed stated None mark kind agreed loaded = absurd (cc)
+kind_typed stated (Some row) mark kind agreed loaded =
     let same : row.kind.program_type ≡ kind.program_type = some_is _ _ (ap (option_map (λ (k : ProgramKind). k.program_type)) loaded) in
     rw (← same) agreed
 
@@ -146,10 +146,10 @@ marked_says_none (b ∷ name) mark =
 
 pub types_agree : TypesAgree
 unfolding program_kind typed
-types_agree name section kind said loaded = elim (cases_Bool (is_marked name)) [
+types_agree name section kind stated loaded = elim (cases_Bool (is_marked name)) [
   | inl marked ↦ absurd (cc (marked_says_none name marked))
   | inr plain ↦
       let found = of_longest (λ row. typed row.kind.program_type (program_section name) ≡ true) name NAMED_KINDS (rows_agree name NAMED_KINDS all_agree) in
       let agreed = kind_typed (program_section name) (longest_fit name NAMED_KINDS) false kind found (rw plain at loaded) in
-      type_is kind.program_type (section_type section) (rw said at agreed)
+      type_is kind.program_type (section_type section) (rw stated at agreed)
 ]

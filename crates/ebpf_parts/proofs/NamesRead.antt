@@ -9,7 +9,7 @@ use Rattle.std.proofs.lemmas.Bool.{cases_Bool, eqb-true}
 use Rattle.ebpf_base.specs.Faults.{or_else}
 use Rattle.ebpf_parts.proofs.KindTypes.{marked_says_none}
 use Rattle.ebpf_parts.specs.ProgramKinds.{is_marked, unmarked}
-use Rattle.ebpf_parts.specs.ProgramSections.{program_section, first_piece, second_piece, said, one_piece, two_pieces, cgroup_section, probe_sections, trace_sections, packet_sections, kernel_sections, pair_sections, xdp_sections, sk_skb_sections, sk_reuseport_sections, cgroup_skb_sections, cgroup_sections, socket_events, address_calls}
+use Rattle.ebpf_parts.specs.ProgramSections.{program_section, first_piece, second_piece, lookup_piece, one_piece, two_pieces, cgroup_section, probe_sections, trace_sections, packet_sections, kernel_sections, pair_sections, xdp_sections, sk_skb_sections, sk_reuseport_sections, cgroup_skb_sections, cgroup_sections, socket_events, address_calls}
 use Rattle.ebpf_parts.specs.Readings.{section_as, NoNameSaysOther, BroadKeepsKinds, BroadTakesNames}
 use Rattle.ebpf_parts.specs.declared.program_section.ProgramSection.{ProgramSection}
 use Rattle.ebpf_parts.specs.declared.program_section.ProgramSection.TheVariants.{CgroupSock, CgroupSockAddr, Other}
@@ -23,27 +23,27 @@ is_other _ = false
 -- ---- no table has the kind `Other`
 
 abbrev Named : Option ProgramSection → Type 0
-Named said = is_other said ≡ false
+Named section = is_other section ≡ false
 
 either : (a b : Option ProgramSection) → Named a → Named b → Named (or_else a b)
 either None b here there = there
 either (Some kind) b here there = here
 
-one : (table : List (List ℕ × ProgramSection)) → AllByRecursion (λ row. Named (Some row.1)) table → (piece : List ℕ) → Named (said table piece)
+one : (table : List (List ℕ × ProgramSection)) → AllByRecursion (λ row. Named (Some row.1)) table → (piece : List ℕ) → Named (lookup_piece table piece)
 unfolding is_other
 one [] all piece = refl
 one (row ∷ rows) all piece = by_case (bytes_eq piece row.0) (one rows all.1 piece)
   where
-    by_case : (b : Bool) → Named (said rows piece) → Named (if b then Some row.1 else said rows piece)
+    by_case : (b : Bool) → Named (lookup_piece rows piece) → Named (if b then Some row.1 else lookup_piece rows piece)
     by_case true later = all.0
     by_case false later = later
 
-flat : (table : List (List ℕ × Option ProgramSection)) → AllByRecursion (λ row. Named row.1) table → (piece : List ℕ) → Named (option_flatten (said table piece))
+flat : (table : List (List ℕ × Option ProgramSection)) → AllByRecursion (λ row. Named row.1) table → (piece : List ℕ) → Named (option_flatten (lookup_piece table piece))
 unfolding is_other
 flat [] all piece = refl
 flat (row ∷ rows) all piece = by_case (bytes_eq piece row.0) (flat rows all.1 piece)
   where
-    by_case : (b : Bool) → Named (option_flatten (said rows piece)) → Named (option_flatten (if b then Some row.1 else said rows piece))
+    by_case : (b : Bool) → Named (option_flatten (lookup_piece rows piece)) → Named (option_flatten (if b then Some row.1 else lookup_piece rows piece))
     by_case true later = all.0
     by_case false later = later
 
@@ -100,7 +100,7 @@ unfolding is_other cgroup_sections
 of_cgroup = (refl, (refl, (refl, (refl, (refl, tt)))))
 
 cgroup : (piece : List ℕ) → Named (cgroup_section piece)
-cgroup piece = either _ _ (one cgroup_sections of_cgroup piece) (either _ _ (events (said socket_events piece)) (calls (said address_calls piece)))
+cgroup piece = either _ _ (one cgroup_sections of_cgroup piece) (either _ _ (events (lookup_piece socket_events piece)) (calls (lookup_piece address_calls piece)))
 
 pairs : (second : Option (List ℕ)) → AllByRecursion (λ row. Named row.1) (pair_sections second)
 unfolding is_other pair_sections

@@ -45,7 +45,7 @@ module _ (bytes : List ℕ) (small : All (λ b. b < 256) bytes) (p : ℕ) (insid
   small_at : (k : ℕ) → k < 8 → slice_index bytes (p + k) < 256
   small_at k below = small (p + k) 0 (omega arith)
 
-  -- a byte behind a place, by its place in what is left there
+  -- a byte behind an offset, by its index in what is left there
   at_rest : (q i r : ℕ) → r ≡ q + i → slice_index (drop q bytes) i ≡ slice_index bytes r
   at_rest q i r e = get_or-drop q bytes i 0 ∙ ap (slice_index bytes) (sym e)
 
@@ -86,7 +86,7 @@ module _ (bytes : List ℕ) (small : All (λ b. b < 256) bytes) (p : ℕ) (insid
   one_slot = (λ i. slice_index bytes p ∷ slice_index bytes (p + 1) ∷ (offset_bytes i ++ number_bytes i)) ∙ sym range_is
 
 pub slot_is_bytes : SlotIsBytes
-slot_is_bytes bytes place small inside = one_slot bytes small place inside
+slot_is_bytes bytes offset small inside = one_slot bytes small offset inside
 
 -- so many bytes more
 take_more : (xs : List ℕ) (p n q : ℕ) → q ≡ p + n → q ≤ length xs → take p xs ++ take n (drop p xs) ≡ take q xs

@@ -4,7 +4,7 @@ use Rattle.std.specs.Prelude.{◌==◌, slice_index_or}
 use Rattle.std.specs.List.{flat_map}
 use Rattle.ebpf_parts.proofs.Walks.{lists_more, rest_none}
 use Rattle.ebpf_base.specs.Faults.{or_else}
-use Rattle.ebpf_elf.specs.Relocations.{entries_of}
+use Rattle.ebpf_elf.specs.Relocations.{table_entries}
 use Rattle.ebpf_elf.specs.Sections.{SectionOf}
 use Rattle.ebpf_elf.specs.declared.entries.ElfRelocation.{ElfRelocation}
 use Rattle.ebpf_parts.specs.Sections.{target_fault}
@@ -21,8 +21,8 @@ target_append (x ∷ xs) ys = by_case (x.symbol_index == 0) refl (target_append 
 
 -- the entries of one relocation section, then those of the others
 pub tables_more : (xs : List SectionOf) (i : ℕ) (x : SectionOf) → i < length xs → x ≡ slice_index_or xs i x
-    → flat_map entries_of (drop i xs) ≡ entries_of x ++ flat_map entries_of (drop (i + 1) xs)
-tables_more xs i x below here = lists_more entries_of xs i x below here
+    → flat_map table_entries (drop i xs) ≡ table_entries x ++ flat_map table_entries (drop (i + 1) xs)
+tables_more xs i x below here = lists_more table_entries xs i x below here
 
-pub tables_none : (xs : List SectionOf) (i : ℕ) → length xs ≤ i → flat_map entries_of (drop i xs) ≡ []
-tables_none xs i past = ap (flat_map entries_of) (rest_none xs i past)
+pub tables_none : (xs : List SectionOf) (i : ℕ) → length xs ≤ i → flat_map table_entries (drop i xs) ≡ []
+tables_none xs i past = ap (flat_map table_entries) (rest_none xs i past)

@@ -73,8 +73,8 @@ with_bytes (Legacy m) bytes = Legacy (record m { bytes = bytes })
 with_bytes (Btf m) bytes = Btf (record m { bytes = bytes })
 
 -- a map that no section declares, without data and without an inner map
-abbrev pub legacy_map : bpf_map_def → LegacyMap
-legacy_map def = record {
+abbrev pub undeclared_legacy_map : bpf_map_def → LegacyMap
+undeclared_legacy_map def = record {
   def = def;
   inner_def = None;
   section_index = 0;
@@ -83,8 +83,8 @@ legacy_map def = record {
   bytes = [];
 }
 
-abbrev pub btf_map : BtfMapDef → BtfMap
-btf_map def = record {
+abbrev pub undeclared_btf_map : BtfMapDef → BtfMap
+undeclared_btf_map def = record {
   def = def;
   inner_def = None;
   section_index = 0;
@@ -94,15 +94,15 @@ btf_map def = record {
 
 -- the map that a map of maps holds
 abbrev pub inner_of : Map → Option Map
-inner_of (Legacy m) = option_map (λ def. Legacy (legacy_map def)) m.inner_def
-inner_of (Btf m) = option_map (λ def. Btf (btf_map def)) m.inner_def
+inner_of (Legacy m) = option_map (λ def. Legacy (undeclared_legacy_map def)) m.inner_def
+inner_of (Btf m) = option_map (λ def. Btf (undeclared_btf_map def)) m.inner_def
 
--- A map as the kernel describes it: the value's type says that it is a map with type information, since
+-- A map as the kernel reports it: one whose value has a type is a map with type information, since
 -- a map without keys, as a Bloom filter, has no type of its key.
-abbrev pub described_map : bpf_map_info → PinningType → Map
-described_map info pinned =
+abbrev pub map_from_info : bpf_map_info → PinningType → Map
+map_from_info info pinned =
     if info.btf_value_type_id == 0
-    then Legacy (legacy_map (record {
+    then Legacy (undeclared_legacy_map (record {
       map_type = info.type_;
       key_size = info.key_size;
       value_size = info.value_size;
@@ -111,7 +111,7 @@ described_map info pinned =
       id = info.id;
       pinning = pinned;
     }))
-    else Btf (btf_map (record {
+    else Btf (undeclared_btf_map (record {
       map_type = info.type_;
       key_size = info.key_size;
       value_size = info.value_size;
@@ -125,7 +125,7 @@ described_map info pinned =
 
 -- the map of plain numbers
 abbrev pub map_from_params : ℕ → ℕ → ℕ → ℕ → ℕ → Map
-map_from_params map_type key_size value_size max_entries flags = Legacy (legacy_map (record {
+map_from_params map_type key_size value_size max_entries flags = Legacy (undeclared_legacy_map (record {
   map_type = map_type;
   key_size = key_size;
   value_size = value_size;

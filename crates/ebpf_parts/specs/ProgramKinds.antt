@@ -12,31 +12,31 @@ use Rattle.ebpf_parts.specs.declared.program_section.ProgramSection.{ProgramSect
 use Rattle.ebpf_parts.specs.declared.program_section.ProgramSection.TheVariants.{KRetProbe, KProbe, UProbe, URetProbe, TracePoint, SocketFilter, Xdp, SkMsg, SkSkbStream, SockOps, SchedClassifier, CgroupSkb, CgroupSockAddr, CgroupSysctl, CgroupSockopt, LircMode2, PerfEvent, RawTracePoint, Lsm, LsmCgroup, BtfTracePoint, FEntry, FExit, FlowDissector, Extension, SkLookup, SkReuseport, CgroupSock, CgroupDevice, Iter, Other}
 use Rattle.ebpf_parts.specs.ProgramSections.{program_section}
 
--- what stands before a place, where there is one
+-- what stands before an index, where there is one
 abbrev pub before : Option ℕ → List ℕ → List ℕ
 before None bytes = bytes
-before (Some place) bytes = take place bytes
+before (Some index) bytes = take index bytes
 
 -- the name of a row: what stands before the first space
-abbrev pub name_of : NamedKind → List ℕ
-name_of row = before (position (λ b. b == 32) row.padded_name) row.padded_name
+abbrev pub row_name : NamedKind → List ℕ
+row_name row = before (position (λ b. b == 32) row.padded_name) row.padded_name
 
 -- a name that begins with a row's own and goes on with a slash
 abbrev pub has_target : List ℕ → List ℕ → Bool
 has_target name own = starts_with nat_eq name own && slice_index name (length own) == 47
 
 -- a row fits its own name, and where it takes a target its own name with one
-abbrev pub fits : List ℕ → NamedKind → Bool
-fits name row = bytes_eq name (name_of row) || (row.takes_target && has_target name (name_of row))
+abbrev pub name_fits : List ℕ → NamedKind → Bool
+name_fits name row = bytes_eq name (row_name row) || (row.takes_target && has_target name (row_name row))
 
 -- the row with the longer name, the earlier one of two as long
 abbrev pub longer : Option NamedKind → NamedKind → Option NamedKind
 longer None row = Some row
-longer (Some other) row = if nat_le (length (name_of row)) (length (name_of other)) then Some other else Some row
+longer (Some other) row = if nat_le (length (row_name row)) (length (row_name other)) then Some other else Some row
 
 -- of the rows that a name fits the one with the longest name
 unfoldable pub longest_fit : List ℕ → List NamedKind → Option NamedKind
-longest_fit name rows = fold longer None (filter (fits name) rows)
+longest_fit name rows = fold longer None (filter (name_fits name) rows)
 
 -- a name with `?` before it
 abbrev pub is_marked : List ℕ → Bool

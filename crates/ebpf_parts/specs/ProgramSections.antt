@@ -28,9 +28,9 @@ first_piece name = before_first (λ b. b == 47) name
 abbrev pub second_piece : List ℕ → Option (List ℕ)
 second_piece name = option_map (λ _. first_piece (after_first (λ b. b == 47) name)) (position (λ b. b == 47) name)
 
--- what a table says of a piece
-abbrev pub said : {X : Type 0} → List (List ℕ × X) → List ℕ → Option X
-said table piece = lookup (bytes_eq piece) table
+-- the row of a table for a piece
+abbrev pub lookup_piece : {X : Type 0} → List (List ℕ × X) → List ℕ → Option X
+lookup_piece table piece = lookup (bytes_eq piece) table
 
 -- probes of the kernel and of processes
 unfoldable pub probe_sections : List (List ℕ × ProgramSection)
@@ -88,9 +88,9 @@ kernel_sections =
 -- the kinds that the first piece says alone
 abbrev pub one_piece : List ℕ → Option ProgramSection
 one_piece piece =
-    or_else (said probe_sections piece)
-    (or_else (said trace_sections piece)
-    (or_else (said packet_sections piece) (said kernel_sections piece)))
+    or_else (lookup_piece probe_sections piece)
+    (or_else (lookup_piece trace_sections piece)
+    (or_else (lookup_piece packet_sections piece) (lookup_piece kernel_sections piece)))
 
 -- after `xdp` and `xdp.frags`
 unfoldable pub xdp_sections : Bool → List (List ℕ × ProgramSection)
@@ -158,27 +158,27 @@ address_calls =
 
 abbrev pub cgroup_section : List ℕ → Option ProgramSection
 cgroup_section piece =
-    or_else (said cgroup_sections piece)
-    (or_else (option_map CgroupSock (said socket_events piece)) (option_map CgroupSockAddr (said address_calls piece)))
+    or_else (lookup_piece cgroup_sections piece)
+    (or_else (option_map CgroupSock (lookup_piece socket_events piece)) (option_map CgroupSockAddr (lookup_piece address_calls piece)))
 
 -- what the second piece says, or what its absence says
-abbrev pub said_by : Option ProgramSection → (List ℕ → Option ProgramSection) → Option (List ℕ) → Option ProgramSection
-said_by absent section None = absent
-said_by absent section (Some piece) = section piece
+abbrev pub by_second_piece : Option ProgramSection → (List ℕ → Option ProgramSection) → Option (List ℕ) → Option ProgramSection
+by_second_piece absent section None = absent
+by_second_piece absent section (Some piece) = section piece
 
 -- the first pieces that want a second one, with what the two say
 unfoldable pub pair_sections : Option (List ℕ) → List (List ℕ × Option ProgramSection)
 pair_sections second =
-    (codes "xdp", said_by (Some (Xdp false Interface)) (said (xdp_sections false)) second)
-    ∷ (codes "xdp.frags", said_by (Some (Xdp true Interface)) (said (xdp_sections true)) second)
-    ∷ (codes "sk_reuseport", said_by (Some (SkReuseport Select)) (said sk_reuseport_sections) second)
-    ∷ (codes "sk_skb", said_by None (said sk_skb_sections) second)
-    ∷ (codes "cgroup_skb", said_by None (said cgroup_skb_sections) second)
-    ∷ (codes "cgroup", said_by None cgroup_section second)
+    (codes "xdp", by_second_piece (Some (Xdp false Interface)) (lookup_piece (xdp_sections false)) second)
+    ∷ (codes "xdp.frags", by_second_piece (Some (Xdp true Interface)) (lookup_piece (xdp_sections true)) second)
+    ∷ (codes "sk_reuseport", by_second_piece (Some (SkReuseport Select)) (lookup_piece sk_reuseport_sections) second)
+    ∷ (codes "sk_skb", by_second_piece None (lookup_piece sk_skb_sections) second)
+    ∷ (codes "cgroup_skb", by_second_piece None (lookup_piece cgroup_skb_sections) second)
+    ∷ (codes "cgroup", by_second_piece None cgroup_section second)
     ∷ []
 
 abbrev pub two_pieces : List ℕ → Option (List ℕ) → Option ProgramSection
-two_pieces piece second = option_flatten (said (pair_sections second) piece)
+two_pieces piece second = option_flatten (lookup_piece (pair_sections second) piece)
 
 -- the kind that a name says
 abbrev pub program_section : List ℕ → Option ProgramSection

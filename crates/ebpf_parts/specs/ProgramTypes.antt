@@ -41,7 +41,7 @@ program_types =
     ∷ types.BPF_PROG_TYPE_NETFILTER
     ∷ []
 
--- the kernel's numbers, the places in the table
+-- the kernel's numbers, the indices in the table
 unfoldable pub program_type_number : bpf_prog_type → ℕ
 program_type_number types.BPF_PROG_TYPE_UNSPEC = 0
 program_type_number types.BPF_PROG_TYPE_SOCKET_FILTER = 1

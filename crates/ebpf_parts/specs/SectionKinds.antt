@@ -29,11 +29,11 @@ named_kinds name =
 -- a section of instructions: PROGBITS with the flags ALLOC and EXECINSTR, and not empty
 abbrev pub is_code : SectionHeader → Bool
 is_code h =
-    h.kind == 1 && not (bit_and h.flags 2 == 0) && not (bit_and h.flags 4 == 0) && not (h.size == 0)
+    h.sh_type == 1 && not (bit_and h.sh_flags 2 == 0) && not (bit_and h.sh_flags 4 == 0) && not (h.sh_size == 0)
 
 abbrev pub kind_or : Bool → Option EbpfSectionKind → EbpfSectionKind
 kind_or code (Some kind) = kind
 kind_or code None = if code then Program else Undefined
 
-abbrev pub kind_of : List ℕ → SectionHeader → EbpfSectionKind
-kind_of name h = kind_or (is_code h) (first_of (named_kinds name))
+abbrev pub kind_of_section : List ℕ → SectionHeader → EbpfSectionKind
+kind_of_section name h = kind_or (is_code h) (first_of (named_kinds name))

@@ -10,7 +10,7 @@ use Rattle.ebpf_elf.specs.declared.error.ElfReadError.TheVariants.{BadStringTabl
 use Rattle.ebpf_parts.specs.declared.error.ParseError.{ParseError}
 use Rattle.ebpf_parts.specs.declared.error.ParseError.TheVariants.{SectionError, UnsupportedRelocationTarget}
 use Rattle.ebpf_parts.specs.declared.section_kind.EbpfSectionKind.{EbpfSectionKind}
-use Rattle.ebpf_parts.specs.SectionKinds.{kind_of}
+use Rattle.ebpf_parts.specs.SectionKinds.{kind_of_section}
 
 -- a section, with its name, data and relocations as lists
 pub record SectionValue : Type 0 where
@@ -30,11 +30,11 @@ name_or_empty s = unwrap_or (section_name s) []
 unfoldable pub section_with : List ElfRelocation → SectionOf → SectionValue
 section_with list s = record {
   index = record { 0 = s.index };
-  kind = kind_of (name_or_empty s) (header s);
-  address = (header s).address;
+  kind = kind_of_section (name_or_empty s) (header s);
+  address = (header s).sh_addr;
   name = name_or_empty s;
   bytes = data_of s;
-  size = (header s).size;
+  size = (header s).sh_size;
   relocations = list;
 }
 
@@ -43,8 +43,8 @@ unfoldable pub section_of : SectionOf → SectionValue
 section_of s = section_with (relocations s) s
 
 -- a name that can't be read
-abbrev pub name_fault : SectionOf → Option ParseError
-name_fault s = if is_some (section_name s) then None else Some (SectionError s.index BadStringTable)
+abbrev pub section_name_fault : SectionOf → Option ParseError
+section_name_fault s = if is_some (section_name s) then None else Some (SectionError s.index BadStringTable)
 
 -- data outside the file
 abbrev pub data_fault : SectionOf → Option ParseError
@@ -56,7 +56,7 @@ target_fault list = if list_any (λ r. r.symbol_index == 0) list then Some Unsup
 
 -- why a section can't be read, in this order
 unfoldable pub section_fault_with : List ElfRelocation → SectionOf → Option ParseError
-section_fault_with list s = or_else (name_fault s) (or_else (data_fault s) (target_fault list))
+section_fault_with list s = or_else (section_name_fault s) (or_else (data_fault s) (target_fault list))
 
 unfoldable pub section_fault : SectionOf → Option ParseError
 section_fault s = section_fault_with (relocations s) s

@@ -20,14 +20,14 @@ src_of slot = slot.regs / 16
 abbrev pub registers : ℕ → ℕ → ℕ
 registers src dst = src * 16 + dst
 
--- The slot of the eight bytes from a place on: code, registers, a signed offset in two bytes
+-- The slot of the eight bytes from an offset on: code, registers, a signed offset in two bytes
 -- and a signed immediate in four, the lowest byte first.
 unfoldable pub slot_at : List ℕ → ℕ → bpf_insn
-slot_at bytes place = record {
-  code = slice_index bytes place;
-  regs = slice_index bytes (place + 1);
-  off = cast_signed w16 (number_at Little 2 bytes (place + 2));
-  imm = cast_signed w32 (number_at Little 4 bytes (place + 4));
+slot_at bytes offset = record {
+  code = slice_index bytes offset;
+  regs = slice_index bytes (offset + 1);
+  off = cast_signed w16 (number_at Little 2 bytes (offset + 2));
+  imm = cast_signed w32 (number_at Little 4 bytes (offset + 4));
 }
 
 -- the slots that the bytes are, one after the other

@@ -70,17 +70,17 @@ impl bpf_insn {
     }
 }
 
-/// The slot in the eight bytes from `place` on.
+/// The slot in the eight bytes from `offset` on.
 #[tactic(auto, unfolding(crate::specs::Slots::slot_at))]
-fn read_slot(bytes: &[u8], place: usize) -> bpf_insn
-    requires { place + 8 ≤ length bytes.now }
-    ensures { result ≡ slot_at bytes.now place }
+fn read_slot(bytes: &[u8], offset: usize) -> bpf_insn
+    requires { offset + 8 ≤ length bytes.now }
+    ensures { result ≡ slot_at bytes.now offset }
 {
     bpf_insn {
-        code: bytes[place],
-        regs: bytes[place + 1],
-        off: read_u16(Endianness::Little, bytes, place + 2).cast_signed(),
-        imm: read_u32(Endianness::Little, bytes, place + 4).cast_signed(),
+        code: bytes[offset],
+        regs: bytes[offset + 1],
+        off: read_u16(Endianness::Little, bytes, offset + 2).cast_signed(),
+        imm: read_u32(Endianness::Little, bytes, offset + 4).cast_signed(),
     }
 }
 

@@ -4,11 +4,11 @@ ghost use Rattle.ebpf_parts.specs.ProgramKinds.{TypesAgree};
 ghost use Rattle.ebpf_parts.specs.Readings.{NoNameSaysOther, BroadKeepsKinds, BroadTakesNames};
 ghost use Rattle.ebpf_parts.specs.SlotBytes.{SlotIsBytes, SlotsAreBytes};
 
-/// The bytes of a slot are the eight that it was read of, and the bytes of all slots, joined, are those that they were
+/// The bytes of a slot are the eight that it was read of, and the bytes of all slots, one after the other, are those that they were
 /// read of: the whole slots among them.
 pub fn slots_are_bytes()
     ensures one { SlotIsBytes }
-    ensures joined { SlotsAreBytes }
+    ensures concatenated { SlotsAreBytes }
 {}
 
 /// Where `ProgramSection::from_str` has a kind for a name and `program_kind` one too, both load its programs as one type.

@@ -1,4 +1,4 @@
-//! Maps, as an object declares them or the kernel describes them.
+//! Maps, as an object declares them or the kernel reports them.
 
 mod btf;
 mod definition;

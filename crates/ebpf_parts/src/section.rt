@@ -5,7 +5,7 @@ ghost use Rattle.ebpf_base.specs.Faults.{Refuses, or_else, fault_of};
 ghost use Rattle.ebpf_elf.specs.Relocations.{relocations};
 ghost use Rattle.ebpf_elf.specs.Sections.{header, data_of, section_name};
 ghost use Rattle.ebpf_parts.specs.Memory.{is_memory};
-ghost use Rattle.ebpf_parts.specs.Sections.{SectionValue, section_of, section_with, section_fault, section_fault_with, target_fault, data_fault, name_fault};
+ghost use Rattle.ebpf_parts.specs.Sections.{SectionValue, section_of, section_with, section_fault, section_fault_with, target_fault, data_fault, section_name_fault};
 
 use crate::error::ParseError;
 use crate::section_kind::EbpfSectionKind;
@@ -14,14 +14,14 @@ use ebpf_elf::{ElfSection, SectionIndex};
 use std::alloc::Global;
 use std::marker::Model;
 
-/// A relocation: the place in its section that is patched, in bytes, the size of the patch in bits,
-/// and the number of the symbol that it names.
+/// A relocation: the offset in its section that is patched, in bytes, the size of the patch in bits,
+/// and the index of the symbol that it names.
 pub use ebpf_elf::ElfRelocation as Relocation;
 
 /// A section with what parsing reads of it. Its name and its bytes are borrowed from the file.
 #[derive(Debug, Drop)]
 pub struct Section<'a> {
-    /// The number of the section.
+    /// The index of the section.
     pub index: SectionIndex,
     /// What it is for.
     pub kind: EbpfSectionKind,
@@ -44,9 +44,9 @@ impl<'a> Model for Section<'a> {
 }
 
 /// The name of a section.
-fn name_of<'a>(section: &ElfSection<'a>) -> Result<&'a str, ParseError>
+fn read_name<'a>(section: &ElfSection<'a>) -> Result<&'a str, ParseError>
     ensures name { IfOk result (λ name. section_name section.now ≡ Some name.now) }
-    ensures fault { fault_of result ≡ name_fault section.now }
+    ensures fault { fault_of result ≡ section_name_fault section.now }
 {
     match section.name() {
         Ok(name) => Ok(name),
@@ -73,17 +73,17 @@ fn data_of<'a>(section: &ElfSection<'a>) -> Result<&'a [u8], ParseError>
 
 /// The relocations of a section, each against a symbol.
 fn relocations_of(alloc: Global, section: &ElfSection<'_>) -> Result<Items<Relocation>, ParseError>
-    ensures list { IfOk result (λ kept. kept ≡ relocations section.now) }
+    ensures list { IfOk result (λ collected. collected ≡ relocations section.now) }
     ensures fault { Refuses is_memory result (target_fault (relocations section.now)) }
 {
-    let mut kept = Items::new(alloc);
+    let mut collected = Items::new(alloc);
     for relocation in section.relocations() {
         if relocation.symbol_index == 0 {
             return Err(ParseError::UnsupportedRelocationTarget);
         }
-        kept.push(relocation)?;
+        collected.push(relocation)?;
     }
-    Ok(kept)
+    Ok(collected)
 }
 
 impl<'a> Section<'a> {
@@ -99,7 +99,7 @@ impl<'a> Section<'a> {
         ensures section { IfOk result (λ s. s ≡ section_of section.now) }
         ensures fault { Refuses is_memory result (section_fault section.now) }
     {
-        let name = name_of(section)?;
+        let name = read_name(section)?;
         let bytes = data_of(section)?;
         let relocations = relocations_of(alloc, section)?;
         Ok(Section {
@@ -126,7 +126,7 @@ impl<'a> Section<'a> {
         ensures section { IfOk result (λ s. s ≡ section_with [] section.now) }
         ensures fault { fault_of result ≡ section_fault_with [] section.now }
     {
-        let name = name_of(section)?;
+        let name = read_name(section)?;
         let bytes = data_of(section)?;
         Ok(Section {
             index: section.index(),

@@ -3,7 +3,7 @@
 ghost use Rattle.std.specs.Prelude.{◌≡◌};
 ghost use Rattle.ebpf_elf.specs.Sections.{header};
 ghost use Rattle.ebpf_base.specs.Faults.{first_of};
-ghost use Rattle.ebpf_parts.specs.SectionKinds.{kind_of, named_kinds, is_code};
+ghost use Rattle.ebpf_parts.specs.SectionKinds.{kind_of_section, named_kinds, is_code};
 
 use ebpf_elf::ElfSection;
 
@@ -21,7 +21,7 @@ pub enum EbpfSectionKind {
     Undefined,
     /// Maps as fixed structs.
     Maps,
-    /// Maps described by type information.
+    /// BTF-defined maps.
     BtfMaps,
     /// Programs.
     Program,
@@ -35,7 +35,7 @@ pub enum EbpfSectionKind {
     Text,
     /// Type information.
     Btf,
-    /// What type information says of instructions.
+    /// Func info, line info and CO-RE relocations.
     BtfExt,
     /// The license of the programs.
     License,
@@ -96,7 +96,7 @@ impl EbpfSectionKind {
     /// `.maps`, `.text`, `.bss`, `.data`, `.rodata`), by the names `.BTF` and `.BTF.ext`, and else
     /// `Program` where the section is of instructions.
     pub fn from_elf(name: &str, section: &ElfSection<'_>) -> EbpfSectionKind
-        ensures { result ≡ kind_of name.now (header section.now) }
+        ensures { result ≡ kind_of_section name.now (header section.now) }
     {
         match named_kind(name) {
             Some(kind) => kind,

@@ -2,7 +2,7 @@
 
 ghost use Rattle.std.specs.Prelude.{◌≡◌};
 ghost use Rattle.std.specs.Option.{option_copied};
-ghost use Rattle.ebpf_parts.specs.ProgramSections.{address_calls, cgroup_section, cgroup_sections, cgroup_skb_sections, first_piece, kernel_sections, one_piece, packet_sections, probe_sections, program_section, said, second_piece, sk_reuseport_sections, sk_skb_sections, socket_events, trace_sections, two_pieces, xdp_sections};
+ghost use Rattle.ebpf_parts.specs.ProgramSections.{address_calls, cgroup_section, cgroup_sections, cgroup_skb_sections, first_piece, kernel_sections, one_piece, packet_sections, probe_sections, program_section, lookup_piece, second_piece, sk_reuseport_sections, sk_skb_sections, socket_events, trace_sections, two_pieces, xdp_sections};
 
 use crate::program_section::ProgramSection;
 use crate::programs::{
@@ -33,7 +33,7 @@ fn second_piece(name: &str) -> Option<&str>
 /// Probes of the kernel and of processes.
 #[tactic(auto, unfolding(crate::specs::ProgramSections::probe_sections))]
 fn probe(piece: &str) -> Option<ProgramSection>
-    ensures { result ≡ said probe_sections piece.now }
+    ensures { result ≡ lookup_piece probe_sections piece.now }
 {
     match piece {
         "kprobe" => Some(ProgramSection::KProbe),
@@ -77,7 +77,7 @@ fn probe(piece: &str) -> Option<ProgramSection>
 /// Points that are traced.
 #[tactic(auto, unfolding(crate::specs::ProgramSections::trace_sections))]
 fn trace(piece: &str) -> Option<ProgramSection>
-    ensures { result ≡ said trace_sections piece.now }
+    ensures { result ≡ lookup_piece trace_sections piece.now }
 {
     match piece {
         "tp_btf" => Some(ProgramSection::BtfTracePoint),
@@ -97,7 +97,7 @@ fn trace(piece: &str) -> Option<ProgramSection>
 /// Sockets, packets and signals.
 #[tactic(auto, unfolding(crate::specs::ProgramSections::packet_sections))]
 fn packet(piece: &str) -> Option<ProgramSection>
-    ensures { result ≡ said packet_sections piece.now }
+    ensures { result ≡ lookup_piece packet_sections piece.now }
 {
     match piece {
         "socket" => Some(ProgramSection::SocketFilter),
@@ -114,7 +114,7 @@ fn packet(piece: &str) -> Option<ProgramSection>
 /// What extends the kernel.
 #[tactic(auto, unfolding(crate::specs::ProgramSections::kernel_sections))]
 fn kernel(piece: &str) -> Option<ProgramSection>
-    ensures { result ≡ said kernel_sections piece.now }
+    ensures { result ≡ lookup_piece kernel_sections piece.now }
 {
     match piece {
         "lsm" => Some(ProgramSection::Lsm { sleepable: false }),
@@ -146,7 +146,7 @@ fn one_piece(piece: &str) -> Option<ProgramSection>
 /// After `xdp` and `xdp.frags`.
 #[tactic(auto, unfolding(crate::specs::ProgramSections::xdp_sections))]
 fn xdp(frags: bool, piece: &str) -> Option<ProgramSection>
-    ensures { result ≡ said (xdp_sections frags) piece.now }
+    ensures { result ≡ lookup_piece (xdp_sections frags) piece.now }
 {
     let attach_type = match piece {
         "cpumap" => XdpAttachType::CpuMap,
@@ -159,7 +159,7 @@ fn xdp(frags: bool, piece: &str) -> Option<ProgramSection>
 /// After `sk_skb`.
 #[tactic(auto, unfolding(crate::specs::ProgramSections::sk_skb_sections))]
 fn sk_skb(piece: &str) -> Option<ProgramSection>
-    ensures { result ≡ said sk_skb_sections piece.now }
+    ensures { result ≡ lookup_piece sk_skb_sections piece.now }
 {
     match piece {
         "stream_parser" => Some(ProgramSection::SkSkbStream {
@@ -175,7 +175,7 @@ fn sk_skb(piece: &str) -> Option<ProgramSection>
 /// After `sk_reuseport`.
 #[tactic(auto, unfolding(crate::specs::ProgramSections::sk_reuseport_sections))]
 fn sk_reuseport(piece: &str) -> Option<ProgramSection>
-    ensures { result ≡ said sk_reuseport_sections piece.now }
+    ensures { result ≡ lookup_piece sk_reuseport_sections piece.now }
 {
     match piece {
         "migrate" => Some(ProgramSection::SkReuseport {
@@ -188,7 +188,7 @@ fn sk_reuseport(piece: &str) -> Option<ProgramSection>
 /// After `cgroup_skb`.
 #[tactic(auto, unfolding(crate::specs::ProgramSections::cgroup_skb_sections))]
 fn cgroup_skb(piece: &str) -> Option<ProgramSection>
-    ensures { result ≡ said cgroup_skb_sections piece.now }
+    ensures { result ≡ lookup_piece cgroup_skb_sections piece.now }
 {
     match piece {
         "ingress" => Some(ProgramSection::CgroupSkb {
@@ -204,7 +204,7 @@ fn cgroup_skb(piece: &str) -> Option<ProgramSection>
 /// After `cgroup`.
 #[tactic(auto, unfolding(crate::specs::ProgramSections::cgroup_sections))]
 fn cgroup_alone(piece: &str) -> Option<ProgramSection>
-    ensures { result ≡ said cgroup_sections piece.now }
+    ensures { result ≡ lookup_piece cgroup_sections piece.now }
 {
     match piece {
         "skb" => Some(ProgramSection::CgroupSkb { attach_type: None }),
@@ -223,7 +223,7 @@ fn cgroup_alone(piece: &str) -> Option<ProgramSection>
 /// After `cgroup`, for events of sockets.
 #[tactic(auto, unfolding(crate::specs::ProgramSections::socket_events))]
 fn socket_event(piece: &str) -> Option<CgroupSockAttachType>
-    ensures { result ≡ said socket_events piece.now }
+    ensures { result ≡ lookup_piece socket_events piece.now }
 {
     match piece {
         "sock" | "sock_create" => Some(CgroupSockAttachType::SockCreate),
@@ -237,7 +237,7 @@ fn socket_event(piece: &str) -> Option<CgroupSockAttachType>
 /// After `cgroup`, for calls with a socket address.
 #[tactic(auto, unfolding(crate::specs::ProgramSections::address_calls))]
 fn address_call(piece: &str) -> Option<CgroupSockAddrAttachType>
-    ensures { result ≡ said address_calls piece.now }
+    ensures { result ≡ lookup_piece address_calls piece.now }
 {
     match piece {
         "bind4" => Some(CgroupSockAddrAttachType::Bind4),

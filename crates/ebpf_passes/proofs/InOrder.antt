@@ -7,7 +7,7 @@ use Rattle.std.specs.Cmp.{nat_cmp_total, tied_itself, ranked}
 use Rattle.std.specs.FinMap.{find, is_sorted, nat_cmp-IsAntisymmetric}
 use Rattle.std.specs.FinMap.Entries.{below_all}
 use Rattle.ebpf_base.specs.Faults.{first_some, or_else}
-use Rattle.ebpf_base.specs.Parts.{entries_from}
+use Rattle.ebpf_base.specs.EntriesFrom.{entries_from}
 use Rattle.ebpf_elf.specs.declared.entries.ElfRelocation.{ElfRelocation}
 
 apart_cmp : (x y : ℕ) → x ≢ y → eq_by_cmp nat_cmp x y ≡ false

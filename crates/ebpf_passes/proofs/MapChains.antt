@@ -19,10 +19,10 @@ use Rattle.ebpf_passes.specs.declared.edit.Edit.{Edit}
 use Rattle.ebpf_passes.specs.declared.edit.Edit.TheVariants.{Stay, Slot, Pair}
 use Rattle.ebpf_passes.specs.declared.map_tables.MapTarget.{MapTarget}
 use Rattle.ebpf_passes.specs.declared.refusal.Fault.{Fault}
-use Rattle.ebpf_passes.specs.Edits.{slot_at, edited_next, found}
-use Rattle.ebpf_passes.specs.MapChains.{address_in, section_address, symbol_address, address_by, data_address, IsChain, addresses, PlacesAddUp}
-use Rattle.ebpf_passes.specs.Maps.{MapInputs, fits, value_edit, shifted, target_edit, found_edit, target_at, section_edit, in_section, to_symbol, map_edit}
-use Rattle.ebpf_passes.specs.Relocated.{Kept, edit_of, edit_by, edit_at, is_among, refused, refusal_at, first_refusal}
+use Rattle.ebpf_passes.specs.Edits.{slot_or_zeros, edited_next, found_slot}
+use Rattle.ebpf_passes.specs.MapChains.{address_in, data_address_in_section, data_address_of_symbol, data_address_by, data_address, IsChain, data_addresses, OffsetsAddUp}
+use Rattle.ebpf_passes.specs.Maps.{MapInputs, fits_imm, value_edit, value_offset, target_edit, found_edit, map_target_at, section_edit, edit_in_section, map_edit_of_symbol, map_edit}
+use Rattle.ebpf_passes.specs.Relocated.{SectionRelocations, edit_of, edit_by, edit_at, is_in_slots, refused, refusal_at, first_refusal}
 
 -- ---- no relocation is refused: the one at an offset isn't
 
@@ -53,30 +53,30 @@ at_offset f q r (e ∷ es) none there = by (eq_by_cmp nat_cmp q e.0) refl there 
 -- ---- one slot
 
 -- a slot is found as it was but for its immediate
-found_own : (edit : ℕ → bpf_insn → Edit) (slots : List bpf_insn) (k : ℕ) → found edit slots k ≡ record (slot_at slots k) { imm = (found edit slots k).imm }
+found_own : (edit : ℕ → bpf_insn → Edit) (slots : List bpf_insn) (k : ℕ) → found_slot edit slots k ≡ record (slot_or_zeros slots k) { imm = (found_slot edit slots k).imm }
 found_own edit slots zero = refl
-found_own edit slots (suc k) = by (edit k (found edit slots k))
+found_own edit slots (suc k) = by (edit k (found_slot edit slots k))
   where
-    by : (e : Edit) → edited_next e (slot_at slots (suc k)) ≡ record (slot_at slots (suc k)) { imm = (edited_next e (slot_at slots (suc k))).imm }
+    by : (e : Edit) → edited_next e (slot_or_zeros slots (suc k)) ≡ record (slot_or_zeros slots (suc k)) { imm = (edited_next e (slot_or_zeros slots (suc k))).imm }
     by Stay = refl
     by (Slot made) = refl
     by (Pair made next) = refl
 
 -- which address a slot refers to does not depend on its immediate
-address_own : (inputs : MapInputs) (o : Option ElfRelocation) (slot : bpf_insn) (imm : ℤ) → address_by inputs o (record slot { imm = imm }) ≡ address_by inputs o slot
+address_own : (inputs : MapInputs) (o : Option ElfRelocation) (slot : bpf_insn) (imm : ℤ) → data_address_by inputs o (record slot { imm = imm }) ≡ data_address_by inputs o slot
 address_own inputs None slot imm = refl
 address_own inputs (Some r) slot imm = by_symbol (get inputs.symbols r.symbol_index)
   where
-    by_symbol : (o : Option Symbol) → symbol_address inputs o r (record slot { imm = imm }) ≡ symbol_address inputs o r slot
+    by_symbol : (o : Option Symbol) → data_address_of_symbol inputs o r (record slot { imm = imm }) ≡ data_address_of_symbol inputs o r slot
     by_symbol None = refl
-    by_symbol (Some symbol) = elim symbol.section_index as (λ o. section_address inputs o r symbol (record slot { imm = imm }) ≡ section_address inputs o r symbol slot) [ None ↦ refl | Some section ↦ refl ]
+    by_symbol (Some symbol) = elim symbol.section_index as (λ o. data_address_in_section inputs o r symbol (record slot { imm = imm }) ≡ data_address_in_section inputs o r symbol slot) [ None ↦ refl | Some section ↦ refl ]
 
 -- what the slot after a slot with this address is found with
 abbrev After : Option ℕ → bpf_insn → bpf_insn → bpf_insn → Type 0
 After None slot next after = after ≡ next
 After (Some address) slot next after = after ≡ record next { imm = slot.imm +ℤ pos address }
 
-module _ (slot next : bpf_insn) (more : Bool) where
+module _ (slot next : bpf_insn) (has_next : Bool) where
   abbrev Follows : Option ℕ → Result Edit Fault → Type 0
   Follows address r = ((e : Edit) → r ≡ Ok e → After address slot next (edited_next (edit_of r) next)) × (address ≡ None → edited_next (edit_of r) next ≡ next)
 
@@ -86,49 +86,49 @@ module _ (slot next : bpf_insn) (more : Bool) where
   stays : Follows None (Ok Stay)
   stays = (λ e is. refl, λ none. refl)
 
-  in_data : (target : MapTarget) (address : ℕ) → Follows (cond target.has_data (Some address) None) (target_edit target address slot more)
-  in_data target address = by target.has_data more (fits (slot.imm +ℤ pos address)) refl refl
+  in_data : (target : MapTarget) (address : ℕ) → Follows (cond target.has_data (Some address) None) (target_edit target address slot has_next)
+  in_data target address = by target.has_data has_next (fits_imm (slot.imm +ℤ pos address)) refl refl
     where
-      by : (d m b : Bool) → more ≡ m → fits (slot.imm +ℤ pos address) ≡ b
-          → Follows (cond d (Some address) None) (cond d (cond m (value_edit (cond b (Some (slot.imm +ℤ pos address)) None) slot target.descriptor) (Err Rattle.ebpf_passes.specs.declared.refusal.Fault.TheVariants.InvalidOffset)) (Ok (Slot (Rattle.ebpf_passes.specs.Maps.pointed slot 1 target.descriptor))))
+      by : (d m b : Bool) → has_next ≡ m → fits_imm (slot.imm +ℤ pos address) ≡ b
+          → Follows (cond d (Some address) None) (cond d (cond m (value_edit (cond b (Some (slot.imm +ℤ pos address)) None) slot target.descriptor) (Err Rattle.ebpf_passes.specs.declared.refusal.Fault.TheVariants.InvalidOffset)) (Ok (Slot (Rattle.ebpf_passes.specs.Maps.with_source slot 1 target.descriptor))))
       by false m b has holds = (λ e is. refl, λ none. refl)
       by true false b has holds = refuses _ _
       by true true false has holds = refuses _ _
       by true true true has holds = (λ e is. refl, λ none. absurd (cc))
 
-  at_target : (o : Option MapTarget) (section address : ℕ) → Follows (address_in o address) (found_edit o section address slot more)
+  at_target : (o : Option MapTarget) (section address : ℕ) → Follows (address_in o address) (found_edit o section address slot has_next)
   at_target None section address = refuses None _
   at_target (Some target) section address = in_data target address
 
-  in_place : (inputs : MapInputs) (o : Option ℕ) (r : ElfRelocation) (symbol : Symbol) → Follows (section_address inputs o r symbol slot) (in_section inputs o r symbol slot more)
+  in_place : (inputs : MapInputs) (o : Option ℕ) (r : ElfRelocation) (symbol : Symbol) → Follows (data_address_in_section inputs o r symbol slot) (edit_in_section inputs o r symbol slot has_next)
   in_place inputs None r symbol = stays
   in_place inputs (Some section) r symbol = by (is_pseudo_call slot || inputs.text_sections section)
     where
-      by : (b : Bool) → Follows (cond b None (address_in (target_at inputs.tables r.symbol_index section) symbol.address)) (cond b (Ok Stay) (found_edit (target_at inputs.tables r.symbol_index section) section symbol.address slot more))
+      by : (b : Bool) → Follows (cond b None (address_in (map_target_at inputs.tables r.symbol_index section) symbol.address)) (cond b (Ok Stay) (found_edit (map_target_at inputs.tables r.symbol_index section) section symbol.address slot has_next))
       by true = stays
-      by false = at_target (target_at inputs.tables r.symbol_index section) section symbol.address
+      by false = at_target (map_target_at inputs.tables r.symbol_index section) section symbol.address
 
-  at_symbol : (inputs : MapInputs) (o : Option Symbol) (r : ElfRelocation) → Follows (symbol_address inputs o r slot) (to_symbol inputs o r slot more)
+  at_symbol : (inputs : MapInputs) (o : Option Symbol) (r : ElfRelocation) → Follows (data_address_of_symbol inputs o r slot) (map_edit_of_symbol inputs o r slot has_next)
   at_symbol inputs None r = refuses None _
   at_symbol inputs (Some symbol) r = in_place inputs symbol.section_index r symbol
 
-module _ (inputs : MapInputs) (kept : Kept) (f : Function) (clear : first_refusal (map_edit inputs) kept f ≡ None) where
+module _ (inputs : MapInputs) (section_relocations : SectionRelocations) (f : Function) (clear : first_refusal (map_edit inputs) section_relocations f ≡ None) where
   abbrev edit : ℕ → bpf_insn → Edit
-  edit = edit_at (map_edit inputs) kept f.section_offset (length f.instructions)
+  edit = edit_at (map_edit inputs) section_relocations f.section_offset (length f.instructions)
 
   abbrev here : ℕ → bpf_insn
-  here k = found edit f.instructions k
+  here k = found_slot edit f.instructions k
 
   abbrev more_at : ℕ → Bool
   more_at k = nat_lt (k + 1) (length f.instructions)
 
-  accepted : (k : ℕ) (r : ElfRelocation) → k < length f.instructions → get kept (f.section_offset + 8 * k) ≡ Some r → refused (f.section_offset + 8 * k, r) (map_edit inputs r (here k) (more_at k)) ≡ None
+  accepted : (k : ℕ) (r : ElfRelocation) → k < length f.instructions → get section_relocations (f.section_offset + 8 * k) ≡ Some r → refused (f.section_offset + 8 * k, r) (map_edit inputs r (here k) (more_at k)) ≡ None
   unfolding first_refusal
   accepted k r inside there =
-      let all = at_offset (refusal_at (map_edit inputs) kept f.section_offset f.instructions) (f.section_offset + 8 * k) r (entries kept) clear (sym (get-entries kept (f.section_offset + 8 * k)) ∙ there) in
+      let all = at_offset (refusal_at (map_edit inputs) section_relocations f.section_offset f.instructions) (f.section_offset + 8 * k) r (entries section_relocations) clear (sym (get-entries section_relocations (f.section_offset + 8 * k)) ∙ there) in
       let slot : (f.section_offset + 8 * k - f.section_offset) / 8 ≡ k = omega arith in
       let aligned : ((f.section_offset + 8 * k - f.section_offset) % 8 == 0) ≡ true = grind (arith, nat_tests) in
-      let among : is_among f.section_offset (length f.instructions) (f.section_offset + 8 * k) ≡ true = grind (arith, nat_tests) in
+      let among : is_in_slots f.section_offset (length f.instructions) (f.section_offset + 8 * k) ≡ true = grind (arith, nat_tests) in
       rw (among, aligned, slot) at all
 
   is_ok : (e : ℕ × ElfRelocation) (x : Result Edit Fault) → refused e x ≡ None → (made : Edit) × (x ≡ Ok made)
@@ -136,30 +136,30 @@ module _ (inputs : MapInputs) (kept : Kept) (f : Function) (clear : first_refusa
   is_ok e (Err fault) h = absurd (cc)
 
   -- the slot after slot k
-  after : (k : ℕ) (address : ℕ) → k < length f.instructions → data_address inputs kept f k ≡ Some address → (here (suc k)).imm ≡ (here k).imm +ℤ pos address
-  after k address inside is = by (get kept (f.section_offset + 8 * k)) refl is
+  after : (k : ℕ) (address : ℕ) → k < length f.instructions → data_address inputs section_relocations f k ≡ Some address → (here (suc k)).imm ≡ (here k).imm +ℤ pos address
+  after k address inside is = by (get section_relocations (f.section_offset + 8 * k)) refl is
     where
-      by : (o : Option ElfRelocation) → get kept (f.section_offset + 8 * k) ≡ o → address_by inputs o (slot_at f.instructions k) ≡ Some address → (edited_next (edit_by (map_edit inputs) (get kept (f.section_offset + 8 * k)) (here k) (more_at k)) (slot_at f.instructions (suc k))).imm ≡ (here k).imm +ℤ pos address
+      by : (o : Option ElfRelocation) → get section_relocations (f.section_offset + 8 * k) ≡ o → data_address_by inputs o (slot_or_zeros f.instructions k) ≡ Some address → (edited_next (edit_by (map_edit inputs) (get section_relocations (f.section_offset + 8 * k)) (here k) (more_at k)) (slot_or_zeros f.instructions (suc k))).imm ≡ (here k).imm +ℤ pos address
       by None there at = absurd (cc)
       by (Some r) there at =
           let ok = is_ok _ (map_edit inputs r (here k) (more_at k)) (accepted k r inside there) in
-          let own : symbol_address inputs (get inputs.symbols r.symbol_index) r (here k) ≡ Some address = ap (λ s. address_by inputs (Some r) s) (found_own edit f.instructions k) ∙ address_own inputs (Some r) (slot_at f.instructions k) (here k).imm ∙ at in
-          let follows = (at_symbol (here k) (slot_at f.instructions (suc k)) (more_at k) inputs (get inputs.symbols r.symbol_index) r).0 ok.0 ok.1 in
-          ap (λ o. (edited_next (edit_by (map_edit inputs) o (here k) (more_at k)) (slot_at f.instructions (suc k))).imm) there
-          ∙ ap (λ s. s.imm) (subst (λ a. After a (here k) (slot_at f.instructions (suc k)) (edited_next (edit_of (map_edit inputs r (here k) (more_at k))) (slot_at f.instructions (suc k)))) own follows)
+          let own : data_address_of_symbol inputs (get inputs.symbols r.symbol_index) r (here k) ≡ Some address = ap (λ s. data_address_by inputs (Some r) s) (found_own edit f.instructions k) ∙ address_own inputs (Some r) (slot_or_zeros f.instructions k) (here k).imm ∙ at in
+          let follows = (at_symbol (here k) (slot_or_zeros f.instructions (suc k)) (more_at k) inputs (get inputs.symbols r.symbol_index) r).0 ok.0 ok.1 in
+          ap (λ o. (edited_next (edit_by (map_edit inputs) o (here k) (more_at k)) (slot_or_zeros f.instructions (suc k))).imm) there
+          ∙ ap (λ s. s.imm) (subst (λ a. After a (here k) (slot_or_zeros f.instructions (suc k)) (edited_next (edit_of (map_edit inputs r (here k) (more_at k))) (slot_or_zeros f.instructions (suc k)))) own follows)
 
   -- the slot after one that refers to no data
-  untouched : (k : ℕ) → data_address inputs kept f k ≡ None → here (suc k) ≡ slot_at f.instructions (suc k)
-  untouched k is = by (get kept (f.section_offset + 8 * k)) refl is
+  untouched : (k : ℕ) → data_address inputs section_relocations f k ≡ None → here (suc k) ≡ slot_or_zeros f.instructions (suc k)
+  untouched k is = by (get section_relocations (f.section_offset + 8 * k)) refl is
     where
-      by : (o : Option ElfRelocation) → get kept (f.section_offset + 8 * k) ≡ o → address_by inputs o (slot_at f.instructions k) ≡ None → edited_next (edit_by (map_edit inputs) (get kept (f.section_offset + 8 * k)) (here k) (more_at k)) (slot_at f.instructions (suc k)) ≡ slot_at f.instructions (suc k)
-      by None there at = ap (λ o. edited_next (edit_by (map_edit inputs) o (here k) (more_at k)) (slot_at f.instructions (suc k))) there
+      by : (o : Option ElfRelocation) → get section_relocations (f.section_offset + 8 * k) ≡ o → data_address_by inputs o (slot_or_zeros f.instructions k) ≡ None → edited_next (edit_by (map_edit inputs) (get section_relocations (f.section_offset + 8 * k)) (here k) (more_at k)) (slot_or_zeros f.instructions (suc k)) ≡ slot_or_zeros f.instructions (suc k)
+      by None there at = ap (λ o. edited_next (edit_by (map_edit inputs) o (here k) (more_at k)) (slot_or_zeros f.instructions (suc k))) there
       by (Some r) there at =
-          let own : symbol_address inputs (get inputs.symbols r.symbol_index) r (here k) ≡ None = ap (λ s. address_by inputs (Some r) s) (found_own edit f.instructions k) ∙ address_own inputs (Some r) (slot_at f.instructions k) (here k).imm ∙ at in
-          ap (λ o. edited_next (edit_by (map_edit inputs) o (here k) (more_at k)) (slot_at f.instructions (suc k))) there
-          ∙ (at_symbol (here k) (slot_at f.instructions (suc k)) (more_at k) inputs (get inputs.symbols r.symbol_index) r).1 own
+          let own : data_address_of_symbol inputs (get inputs.symbols r.symbol_index) r (here k) ≡ None = ap (λ s. data_address_by inputs (Some r) s) (found_own edit f.instructions k) ∙ address_own inputs (Some r) (slot_or_zeros f.instructions k) (here k).imm ∙ at in
+          ap (λ o. edited_next (edit_by (map_edit inputs) o (here k) (more_at k)) (slot_or_zeros f.instructions (suc k))) there
+          ∙ (at_symbol (here k) (slot_or_zeros f.instructions (suc k)) (more_at k) inputs (get inputs.symbols r.symbol_index) r).1 own
 
-  begins : (i : ℕ) → ((h : ℕ) → h + 1 ≡ i → data_address inputs kept f h ≡ None) → (here i).imm ≡ (slot_at f.instructions i).imm
+  begins : (i : ℕ) → ((h : ℕ) → h + 1 ≡ i → data_address inputs section_relocations f h ≡ None) → (here i).imm ≡ (slot_or_zeros f.instructions i).imm
   begins zero least = refl
   begins (suc h) least = ap (λ s. s.imm) (untouched h (least h (omega arith)))
 
@@ -175,20 +175,20 @@ module _ (inputs : MapInputs) (kept : Kept) (f : Function) (clear : first_refusa
   added : (a : ℤ) (m n s : ℕ) → s ≡ m + n → (a +ℤ pos m) +ℤ pos n ≡ a +ℤ pos s
   added a m n s e = omega (arith, ints)
 
-  adds : (i n : ℕ) → i + n < length f.instructions → IsChain inputs kept f i n → (here (i + n)).imm ≡ (slot_at f.instructions i).imm +ℤ pos (addresses inputs kept f i n)
+  adds : (i n : ℕ) → i + n < length f.instructions → IsChain inputs section_relocations f i n → (here (i + n)).imm ≡ (slot_or_zeros f.instructions i).imm +ℤ pos (data_addresses inputs section_relocations f i n)
   adds i zero inside chain =
       let e : i + 0 ≡ i = omega arith in
-      let none : (slot_at f.instructions i).imm ≡ (slot_at f.instructions i).imm +ℤ pos 0 = omega (arith, ints) in
+      let none : (slot_or_zeros f.instructions i).imm ≡ (slot_or_zeros f.instructions i).imm +ℤ pos 0 = omega (arith, ints) in
       ap (λ k. (here k).imm) e ∙ begins i chain.least ∙ none
   adds i (suc n) inside chain =
       let e : i + suc n ≡ suc (i + n) = omega arith in
       let before : i + n < length f.instructions = omega arith in
-      let part : IsChain inputs kept f i n = record { all = λ k le lt. chain.all k le (omega arith); least = chain.least } in
-      let address : data_address inputs kept f (i + n) ≡ Some (unwrap_or (data_address inputs kept f (i + n)) 0) = value_of _ (chain.all (i + n) (omega arith) (omega arith)) in
+      let part : IsChain inputs section_relocations f i n = record { all = λ k le lt. chain.all k le (omega arith); least = chain.least } in
+      let address : data_address inputs section_relocations f (i + n) ≡ Some (unwrap_or (data_address inputs section_relocations f (i + n)) 0) = value_of _ (chain.all (i + n) (omega arith) (omega arith)) in
       ap (λ k. (here k).imm) e
       ∙ after (i + n) _ before address
-      ∙ ap (λ z. z +ℤ pos (unwrap_or (data_address inputs kept f (i + n)) 0)) (adds i n before part)
-      ∙ added _ _ _ _ (sum_push (λ k. unwrap_or (data_address inputs kept f k) 0) i n)
+      ∙ ap (λ z. z +ℤ pos (unwrap_or (data_address inputs section_relocations f (i + n)) 0)) (adds i n before part)
+      ∙ added _ _ _ _ (sum_push (λ k. unwrap_or (data_address inputs section_relocations f k) 0) i n)
 
-pub places_add_up : PlacesAddUp
-places_add_up inputs kept f i n clear inside chain = adds inputs kept f clear i n inside chain
+pub offsets_add_up : OffsetsAddUp
+offsets_add_up inputs section_relocations f i n clear inside chain = adds inputs section_relocations f clear i n inside chain

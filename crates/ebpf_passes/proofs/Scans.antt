@@ -5,7 +5,7 @@ use Rattle.std.proofs.lemmas.Bool.Decides.{nat_tests}
 use Rattle.std.specs.Ordering.{nat_cmp}
 use Rattle.std.specs.FinMap.{get, get-entries, find, entries, entries_sorted}
 use Rattle.ebpf_base.specs.Faults.{first_some, or_else}
-use Rattle.ebpf_base.specs.Parts.{entries_from}
+use Rattle.ebpf_base.specs.EntriesFrom.{entries_from}
 use Rattle.ebpf_elf.specs.declared.entries.ElfRelocation.{ElfRelocation}
 use Rattle.ebpf_parts.specs.declared.insn.bpf_insn.{bpf_insn}
 use Rattle.ebpf_passes.specs.declared.edit.Edit.{Edit}
@@ -13,9 +13,9 @@ use Rattle.ebpf_passes.specs.declared.edit.Edit.TheVariants.{Stay, Slot, Pair}
 use Rattle.ebpf_passes.specs.declared.refusal.Fault.{Fault}
 use Rattle.ebpf_passes.specs.declared.refusal.Fault.TheVariants.{InvalidOffset}
 use Rattle.ebpf_passes.specs.declared.refusal.Refusal.{Refusal}
-use Rattle.ebpf_passes.specs.Edits.{slot_at, edited_next, found}
-use Rattle.ebpf_passes.specs.Relocated.{Says, Kept, edit_of, edit_by, edit_at, is_among, refused, refusal_at}
-use Rattle.ebpf_passes.specs.Turns.{Pending, pending_slot, pending_of, left_by, scan_on, scan}
+use Rattle.ebpf_passes.specs.Edits.{slot_or_zeros, edited_next, found_slot}
+use Rattle.ebpf_passes.specs.Relocated.{EditRule, SectionRelocations, edit_of, edit_by, edit_at, is_in_slots, refused, refusal_at}
+use Rattle.ebpf_passes.specs.InPlaceEdits.{Pending, pending_slot, pending_of, left_by, scan_on, scan}
 use Rattle.ebpf_passes.proofs.InOrder.{Above, Rising, AllFrom, AtLeastHead, rising_from, find_other, find_head, find_none, above_head, rising_kept, all_kept, find_kept, first_kept, all_none}
 
 -- what an edit leaves is found by the next slot
@@ -34,24 +34,24 @@ left_later (Pair made next) j k s lt =
     let other : (j + 1 == suc k) ≡ false = grind (arith, nat_tests) in
     rw other refl
 
-module _ (says : Says) (kept : Kept) (start : ℕ) (slots : List bpf_insn) where
+module _ (rule_edit : EditRule) (section_relocations : SectionRelocations) (start : ℕ) (slots : List bpf_insn) where
   abbrev edit : ℕ → bpf_insn → Edit
-  edit = edit_at says kept start (length slots)
+  edit = edit_at rule_edit section_relocations start (length slots)
 
   abbrev fault : ℕ × ElfRelocation → Option Refusal
-  fault = refusal_at says kept start slots
+  fault = refusal_at rule_edit section_relocations start slots
 
   -- what stands from the first of some relocations on is among them
   abbrev Tail : List (ℕ × ElfRelocation) → Type 0
-  Tail es = (q : ℕ) → AtLeastHead q es → get kept q ≡ find nat_cmp q es
+  Tail es = (q : ℕ) → AtLeastHead q es → get section_relocations q ≡ find nat_cmp q es
 
   -- the slot of the first of them is found with what is pending
   abbrev HeadFound : List (ℕ × ElfRelocation) → Pending → Type 0
   HeadFound [] p = Unit {0}
-  HeadFound (e ∷ es) p = (j : ℕ) → e.0 ≡ start + 8 * j → found edit slots j ≡ pending_slot p j (slot_at slots j)
+  HeadFound (e ∷ es) p = (j : ℕ) → e.0 ≡ start + 8 * j → found_slot edit slots j ≡ pending_slot p j (slot_or_zeros slots j)
 
-  no_edit : (q : ℕ) (s : bpf_insn) (more : Bool) → get kept q ≡ None → edit_by says (get kept q) s more ≡ Stay
-  no_edit q s more none = ap (λ o. edit_by says o s more) none
+  no_edit : (q : ℕ) (s : bpf_insn) (has_next : Bool) → get section_relocations q ≡ None → edit_by rule_edit (get section_relocations q) s has_next ≡ Stay
+  no_edit q s has_next none = ap (λ o. edit_by rule_edit o s has_next) none
 
   tail_on : (e : ℕ × ElfRelocation) (es : List (ℕ × ElfRelocation)) → Above e.0 es → Tail (e ∷ es) → Tail es
   tail_on e es above tail q at_least =
@@ -61,67 +61,67 @@ module _ (says : Says) (kept : Kept) (start : ℕ) (slots : List bpf_insn) where
 
   -- what the edit of slot j leaves is pending at the slot of the next relocation
   head_on : (e : ℕ × ElfRelocation) (es : List (ℕ × ElfRelocation)) (j : ℕ) (made : Edit) → Rising (e ∷ es) → Tail (e ∷ es) → e.0 ≡ start + 8 * j
-      → edit j (found edit slots j) ≡ made → HeadFound es (pending_of j made)
+      → edit j (found_slot edit slots j) ≡ made → HeadFound es (pending_of j made)
   head_on e [] j made rising tail here is = tt
   head_on e (f ∷ fs) j made rising tail here is = at
     where
-      at : (k : ℕ) → f.0 ≡ start + 8 * k → found edit slots k ≡ pending_slot (pending_of j made) k (slot_at slots k)
+      at : (k : ℕ) → f.0 ≡ start + 8 * k → found_slot edit slots k ≡ pending_slot (pending_of j made) k (slot_or_zeros slots k)
       at zero there = absurd (omega (arith, rising.0.0))
       at (suc k) there = elim (cases_eq k j) [
-        | inl same ↦ rw same (ap (λ x. edited_next x (slot_at slots (suc j))) is ∙ left_next made j (slot_at slots (suc j)))
+        | inl same ↦ rw same (ap (λ x. edited_next x (slot_or_zeros slots (suc j))) is ∙ left_next made j (slot_or_zeros slots (suc j)))
         | inr other ↦ (
             let past : j < k = omega (arith, rising.0.0) in
             let up : e.0 ≤ start + 8 * k = omega arith in
             let ne : start + 8 * k ≢ e.0 = λ s. absurd (omega arith) in
             let under : start + 8 * k ≢ f.0 = λ s. absurd (omega arith) in
-            let none : get kept (start + 8 * k) ≡ None = tail (start + 8 * k) up ∙ find_other _ e (f ∷ fs) ne ∙ find_other _ f fs under ∙ find_none (start + 8 * k) f.0 fs rising.1.0 (omega arith) in
-            ap (λ x. edited_next x (slot_at slots (suc k))) (no_edit (start + 8 * k) (found edit slots k) (nat_lt (k + 1) (length slots)) none) ∙ left_later made j k (slot_at slots (suc k)) past
+            let none : get section_relocations (start + 8 * k) ≡ None = tail (start + 8 * k) up ∙ find_other _ e (f ∷ fs) ne ∙ find_other _ f fs under ∙ find_none (start + 8 * k) f.0 fs rising.1.0 (omega arith) in
+            ap (λ x. edited_next x (slot_or_zeros slots (suc k))) (no_edit (start + 8 * k) (found_slot edit slots k) (nat_lt (k + 1) (length slots)) none) ∙ left_later made j k (slot_or_zeros slots (suc k)) past
             )
       ]
 
   -- past the slots none is among them
   past_none : (e f : ℕ × ElfRelocation) → nat_lt ((e.0 - start) / 8) (length slots) ≡ false → e.0 < f.0 → fault f ≡ None
   past_none e f past up =
-      let out : is_among start (length slots) f.0 ≡ false = grind (arith, nat_tests) in
+      let out : is_in_slots start (length slots) f.0 ≡ false = grind (arith, nat_tests) in
       rw out refl
 
   abbrev Later : List (ℕ × ElfRelocation) → Type 0
-  Later es = (next : Pending) → HeadFound es next → scan says start slots next es ≡ first_some fault es
+  Later es = (next : Pending) → HeadFound es next → scan rule_edit start slots next es ≡ first_some fault es
 
-  scanned : (es : List (ℕ × ElfRelocation)) (p : Pending) → Rising es → AllFrom start es → Tail es → HeadFound es p → scan says start slots p es ≡ first_some fault es
+  scanned : (es : List (ℕ × ElfRelocation)) (p : Pending) → Rising es → AllFrom start es → Tail es → HeadFound es p → scan rule_edit start slots p es ≡ first_some fault es
   scanned [] p rising from tail head = refl
-  scanned (e ∷ es) p rising from tail head = by_cases _ _ _ refl refl refl (λ next found. scanned es next rising.1 from.1 (tail_on e es rising.0 tail) found)
+  scanned (e ∷ es) p rising from tail head = by_cases _ _ _ refl refl refl (λ next found_slot. scanned es next rising.1 from.1 (tail_on e es rising.0 tail) found_slot)
     where
-      by_result : Later es → (j : ℕ) (r : Result Edit Fault) → e.0 ≡ start + 8 * j → says e.1 (found edit slots j) (nat_lt (j + 1) (length slots)) ≡ r
-          → scan_on e (left_by j r) (λ next. scan says start slots next es) ≡ or_else (refused e r) (first_some fault es)
+      by_result : Later es → (j : ℕ) (r : Result Edit Fault) → e.0 ≡ start + 8 * j → rule_edit e.1 (found_slot edit slots j) (nat_lt (j + 1) (length slots)) ≡ r
+          → scan_on e (left_by j r) (λ next. scan rule_edit start slots next es) ≡ or_else (refused e r) (first_some fault es)
       by_result later j (Err f) here is = refl
       by_result later j (Ok made) here is =
-          let stands : get kept (start + 8 * j) ≡ Some e.1 = ap (get kept) (sym here) ∙ tail e.0 (omega arith) ∙ find_head e es in
-          let makes : edit j (found edit slots j) ≡ made = ap (λ o. edit_by says o (found edit slots j) (nat_lt (j + 1) (length slots))) stands ∙ ap edit_of is in
+          let stands : get section_relocations (start + 8 * j) ≡ Some e.1 = ap (get section_relocations) (sym here) ∙ tail e.0 (omega arith) ∙ find_head e es in
+          let makes : edit j (found_slot edit slots j) ≡ made = ap (λ o. edit_by rule_edit o (found_slot edit slots j) (nat_lt (j + 1) (length slots))) stands ∙ ap edit_of is in
           later (pending_of j made) (head_on e es j made rising tail here makes)
 
       by_cases : (a b c : Bool) → nat_le start e.0 ≡ a → nat_lt ((e.0 - start) / 8) (length slots) ≡ b → ((e.0 - start) % 8 == 0) ≡ c → Later es
-          → (if b then scan_on e (if c then left_by ((e.0 - start) / 8) (says e.1 (pending_slot p ((e.0 - start) / 8) (slot_at slots ((e.0 - start) / 8))) (nat_lt ((e.0 - start) / 8 + 1) (length slots))) else Err InvalidOffset) (λ next. scan says start slots next es) else None)
-          ≡ or_else (if a && b then (if c then refused e (says e.1 (found edit slots ((e.0 - start) / 8)) (nat_lt ((e.0 - start) / 8 + 1) (length slots))) else refused e (Err InvalidOffset)) else None) (first_some fault es)
+          → (if b then scan_on e (if c then left_by ((e.0 - start) / 8) (rule_edit e.1 (pending_slot p ((e.0 - start) / 8) (slot_or_zeros slots ((e.0 - start) / 8))) (nat_lt ((e.0 - start) / 8 + 1) (length slots))) else Err InvalidOffset) (λ next. scan rule_edit start slots next es) else None)
+          ≡ or_else (if a && b then (if c then refused e (rule_edit e.1 (found_slot edit slots ((e.0 - start) / 8)) (nat_lt ((e.0 - start) / 8 + 1) (length slots))) else refused e (Err InvalidOffset)) else None) (first_some fault es)
       by_cases false b c at inside aligned later = absurd (grind (arith, nat_tests, from.0))
       by_cases true false c at inside aligned later = sym (all_none fault e.0 es rising.0 (λ f up. past_none e f inside up))
       by_cases true true false at inside aligned later = refl
       by_cases true true true at inside aligned later =
           let here : e.0 ≡ start + 8 * ((e.0 - start) / 8) = grind (arith, nat_tests, from.0) in
-          ap (λ s. scan_on e (left_by ((e.0 - start) / 8) (says e.1 s (nat_lt ((e.0 - start) / 8 + 1) (length slots)))) (λ next. scan says start slots next es)) (sym (head ((e.0 - start) / 8) here))
+          ap (λ s. scan_on e (left_by ((e.0 - start) / 8) (rule_edit e.1 s (nat_lt ((e.0 - start) / 8 + 1) (length slots)))) (λ next. scan rule_edit start slots next es)) (sym (head ((e.0 - start) / 8) here))
           ∙ by_result later ((e.0 - start) / 8) _ here refl
 
   -- before the first of them nothing is pending
-  none_pending : (es : List (ℕ × ElfRelocation)) → Rising es → ((q : ℕ) → start ≤ q → get kept q ≡ find nat_cmp q es) → HeadFound es None
+  none_pending : (es : List (ℕ × ElfRelocation)) → Rising es → ((q : ℕ) → start ≤ q → get section_relocations q ≡ find nat_cmp q es) → HeadFound es None
   none_pending [] rising known = tt
   none_pending (e ∷ es) rising known = at
     where
-      at : (j : ℕ) → e.0 ≡ start + 8 * j → found edit slots j ≡ slot_at slots j
+      at : (j : ℕ) → e.0 ≡ start + 8 * j → found_slot edit slots j ≡ slot_or_zeros slots j
       at zero here = refl
       at (suc j) here =
           let ne : start + 8 * j ≢ e.0 = λ s. absurd (omega arith) in
-          let none : get kept (start + 8 * j) ≡ None = known (start + 8 * j) (omega arith) ∙ find_other _ e es ne ∙ find_none (start + 8 * j) e.0 es rising.0 (omega arith) in
-          ap (λ x. edited_next x (slot_at slots (suc j))) (no_edit (start + 8 * j) (found edit slots j) (nat_lt (j + 1) (length slots)) none)
+          let none : get section_relocations (start + 8 * j) ≡ None = known (start + 8 * j) (omega arith) ∙ find_other _ e es ne ∙ find_none (start + 8 * j) e.0 es rising.0 (omega arith) in
+          ap (λ x. edited_next x (slot_or_zeros slots (suc j))) (no_edit (start + 8 * j) (found_slot edit slots j) (nat_lt (j + 1) (length slots)) none)
 
   outside_none : (e : ℕ × ElfRelocation) → nat_le start e.0 ≡ false → fault e ≡ None
   outside_none e out = rw out refl
@@ -131,10 +131,10 @@ module _ (says : Says) (kept : Kept) (start : ℕ) (slots : List bpf_insn) where
   at_least_start q (e ∷ es) from g = omega (arith, from.0)
 
   -- the search over the relocations from the first slot on finds the first of all that can't be applied
-  pub finds_first : scan says start slots None (entries_from start (entries kept)) ≡ first_some fault (entries kept)
+  pub finds_first : scan rule_edit start slots None (entries_from start (entries section_relocations)) ≡ first_some fault (entries section_relocations)
   finds_first =
-      let es = entries_from start (entries kept) in
-      let rising : Rising es = rising_kept start (entries kept) (rising_from (entries kept) (entries_sorted kept)) in
-      let from : AllFrom start es = all_kept start (entries kept) in
-      let known = λ (q : ℕ) (le : start ≤ q). get-entries kept q ∙ sym (find_kept start q (entries kept) le) in
-      scanned es None rising from (λ q g. known q (at_least_start q es from g)) (none_pending es rising known) ∙ first_kept fault start (entries kept) outside_none
+      let es = entries_from start (entries section_relocations) in
+      let rising : Rising es = rising_kept start (entries section_relocations) (rising_from (entries section_relocations) (entries_sorted section_relocations)) in
+      let from : AllFrom start es = all_kept start (entries section_relocations) in
+      let known = λ (q : ℕ) (le : start ≤ q). get-entries section_relocations q ∙ sym (find_kept start q (entries section_relocations) le) in
+      scanned es None rising from (λ q g. known q (at_least_start q es from g)) (none_pending es rising known) ∙ first_kept fault start (entries section_relocations) outside_none

@@ -9,7 +9,7 @@ use Rattle.ebpf_base.specs.Keyed.{put_all}
 use Rattle.ebpf_parts.specs.Maps.{section_index_of, symbol_index_of}
 use Rattle.ebpf_passes.specs.declared.map_tables.MapTables.{MapTables}
 use Rattle.ebpf_passes.specs.declared.map_tables.MapTarget.{MapTarget}
-use Rattle.ebpf_passes.specs.Maps.{GivenMap, LentMap, given_by, target_of, at_symbol, tables_of, with_symbol, with_map}
+use Rattle.ebpf_passes.specs.Maps.{GivenMap, LentMap, given_map, map_target, at_symbol, tables_of, with_symbol, with_map_target}
 
 abbrev Table : Type 0
 Table = FinMap nat_cmp MapTarget
@@ -19,20 +19,20 @@ put_symbol table None target = refl
 put_symbol table (Some symbol) target = refl
 
 symbols_push : (table : Table) (given : List GivenMap) (m : GivenMap)
-    → put_all table (flat_map (λ m. at_symbol (symbol_index_of m.1) (target_of m)) (given ++ m ∷ [])) ≡ with_symbol (put_all table (flat_map (λ m. at_symbol (symbol_index_of m.1) (target_of m)) given)) (symbol_index_of m.1) (target_of m)
-symbols_push table [] m = put_all-append table (at_symbol (symbol_index_of m.1) (target_of m)) [] ∙ put_symbol table (symbol_index_of m.1) (target_of m)
+    → put_all table (flat_map (λ m. at_symbol (symbol_index_of m.1) (map_target m)) (given ++ m ∷ [])) ≡ with_symbol (put_all table (flat_map (λ m. at_symbol (symbol_index_of m.1) (map_target m)) given)) (symbol_index_of m.1) (map_target m)
+symbols_push table [] m = put_all-append table (at_symbol (symbol_index_of m.1) (map_target m)) [] ∙ put_symbol table (symbol_index_of m.1) (map_target m)
 symbols_push table (n ∷ given) m =
-    let first = at_symbol (symbol_index_of n.1) (target_of n) in
-    put_all-append table first (flat_map (λ m. at_symbol (symbol_index_of m.1) (target_of m)) (given ++ m ∷ []))
+    let first = at_symbol (symbol_index_of n.1) (map_target n) in
+    put_all-append table first (flat_map (λ m. at_symbol (symbol_index_of m.1) (map_target m)) (given ++ m ∷ []))
     ∙ symbols_push (put_all table first) given m
-    ∙ ap (λ t. with_symbol t (symbol_index_of m.1) (target_of m)) (sym (put_all-append table first (flat_map (λ m. at_symbol (symbol_index_of m.1) (target_of m)) given)))
+    ∙ ap (λ t. with_symbol t (symbol_index_of m.1) (map_target m)) (sym (put_all-append table first (flat_map (λ m. at_symbol (symbol_index_of m.1) (map_target m)) given)))
 
 sections_push : (table : Table) (given : List GivenMap) (m : GivenMap)
-    → put_all table (map (λ m. (section_index_of m.1, target_of m)) (given ++ m ∷ [])) ≡ insert (put_all table (map (λ m. (section_index_of m.1, target_of m)) given)) (section_index_of m.1) (target_of m)
+    → put_all table (map (λ m. (section_index_of m.1, map_target m)) (given ++ m ∷ [])) ≡ insert (put_all table (map (λ m. (section_index_of m.1, map_target m)) given)) (section_index_of m.1) (map_target m)
 sections_push table [] m = refl
-sections_push table (n ∷ given) m = sections_push (insert table (section_index_of n.1) (target_of n)) given m
+sections_push table (n ∷ given) m = sections_push (insert table (section_index_of n.1) (map_target n)) given m
 
-tables_push : (given : List GivenMap) (m : GivenMap) → tables_of (given ++ m ∷ []) ≡ with_map (tables_of given) m.0 m.1
+tables_push : (given : List GivenMap) (m : GivenMap) → tables_of (given ++ m ∷ []) ≡ with_map_target (tables_of given) m.0 m.1
 unfolding tables_of
 tables_push given m = λ i. record { by_symbol = symbols_push empty given m i; by_section = sections_push empty given m i }
 
@@ -42,6 +42,6 @@ tables_none = refl
 
 -- one more of the maps that were read
 pub tables_next : (tables next : MapTables) (lent : List LentMap) (m : LentMap)
-    → tables ≡ tables_of (map given_by lent) → next ≡ with_map tables m.1 m.2.now → next ≡ tables_of (map given_by (lent ++ m ∷ []))
+    → tables ≡ tables_of (map given_map lent) → next ≡ with_map_target tables m.1 m.2.now → next ≡ tables_of (map given_map (lent ++ m ∷ []))
 tables_next tables next lent m before is =
-    is ∙ ap (λ t. with_map t m.1 m.2.now) before ∙ sym (tables_push (map given_by lent) (given_by m)) ∙ ap tables_of (sym (map-append given_by lent (m ∷ [])))
+    is ∙ ap (λ t. with_map_target t m.1 m.2.now) before ∙ sym (tables_push (map given_map lent) (given_map m)) ∙ ap tables_of (sym (map-append given_map lent (m ∷ [])))

@@ -16,9 +16,9 @@ use Rattle.ebpf_passes.specs.declared.extern_rule.Load.{Load}
 use Rattle.ebpf_passes.specs.declared.extern_rule.Load.TheVariants.{Id, Address}
 use Rattle.ebpf_passes.specs.declared.refusal.Fault.{Fault}
 use Rattle.ebpf_passes.specs.declared.refusal.Fault.TheVariants.{UnknownSymbol, InvalidOffset, ExternNotFound, UnresolvableSymbol}
-use Rattle.ebpf_passes.specs.Maps.{pointed}
+use Rattle.ebpf_passes.specs.Maps.{with_source}
 
--- what is read to write what is known of externs
+-- what is read to write externs
 pub record ExternInputs : Type 0 where
   pub symbols : FinMap nat_cmp Symbol
   pub externs : FinMap text_cmp ExternDesc
@@ -31,14 +31,14 @@ kernel_call slot id = record slot { regs = registers 2 (dst_of slot); off = pos 
 abbrev pub absent_call : bpf_insn → ℕ → bpf_insn
 absent_call slot symbol = record slot { regs = 0; off = pos 0; imm = cast_signed w32 ((2002000000 + symbol) % 2 ^ 32) }
 
-abbrev pub known_call : Option ℕ → bpf_insn → Result Edit Fault
-known_call None slot = Err UnresolvableSymbol
-known_call (Some id) slot = Ok (Slot (kernel_call slot id))
+abbrev pub resolved_call : Option ℕ → bpf_insn → Result Edit Fault
+resolved_call None slot = Err UnresolvableSymbol
+resolved_call (Some id) slot = Ok (Slot (kernel_call slot id))
 
 -- a call: of a function with its id where it is resolved, of nothing where it is weak
 abbrev pub call_edit : ExternDesc → ℕ → bpf_insn → Result Edit Fault
 call_edit desc symbol slot =
-    if desc.is_resolved then known_call desc.kernel_btf_id slot
+    if desc.is_resolved then resolved_call desc.kernel_btf_id slot
     else (if desc.is_weak then Ok (Slot (absent_call slot symbol)) else Err UnresolvableSymbol)
 
 abbrev pub address_without_id : Option ℕ → Bool → Option Load
@@ -56,28 +56,28 @@ load_of desc = load_by desc.kernel_btf_id desc.ksym_addr desc.is_weak
 -- An id has source 3 (the kernel's BPF_PSEUDO_BTF_ID) and 0 in the slot after it; an address has source 0, its low
 -- half in the slot and its high half in the one after it.
 abbrev pub loaded : Load → bpf_insn → Edit
-loaded (Id id) slot = Pair (pointed slot 3 (cast_signed w32 id)) (pos 0)
-loaded (Address address) slot = Pair (pointed slot 0 (cast_signed w32 (address % 2 ^ 32))) (cast_signed w32 (address / 2 ^ 32))
+loaded (Id id) slot = Pair (with_source slot 3 (cast_signed w32 id)) (pos 0)
+loaded (Address address) slot = Pair (with_source slot 0 (cast_signed w32 (address % 2 ^ 32))) (cast_signed w32 (address / 2 ^ 32))
 
 abbrev pub load_edit : Option Load → bpf_insn → Bool → Result Edit Fault
-load_edit None slot more = Err UnresolvableSymbol
-load_edit (Some load) slot more = if more then Ok (loaded load slot) else Err InvalidOffset
+load_edit None slot has_next = Err UnresolvableSymbol
+load_edit (Some load) slot has_next = if has_next then Ok (loaded load slot) else Err InvalidOffset
 
 -- a call has code 0x85, a load of 64 bits 0x18 (RFC 9669, sections 4.3 and 5.4)
-abbrev pub known_edit : Option ExternDesc → ℕ → bpf_insn → Bool → Result Edit Fault
-known_edit None symbol slot more = Err ExternNotFound
-known_edit (Some desc) symbol slot more =
+abbrev pub declared_extern_edit : Option ExternDesc → ℕ → bpf_insn → Bool → Result Edit Fault
+declared_extern_edit None symbol slot has_next = Err ExternNotFound
+declared_extern_edit (Some desc) symbol slot has_next =
     if slot.code == 0x85 then call_edit desc symbol slot
-    else (if slot.code == 0x18 then load_edit (load_of desc) slot more else Err InvalidOffset)
+    else (if slot.code == 0x18 then load_edit (load_of desc) slot has_next else Err InvalidOffset)
 
 -- a symbol that is no extern is no matter of externs
-abbrev pub to_symbol : ExternInputs → Option Symbol → ElfRelocation → bpf_insn → Bool → Result Edit Fault
-to_symbol inputs None relocation slot more = Err UnknownSymbol
-to_symbol inputs (Some symbol) relocation slot more =
+abbrev pub extern_edit_of_symbol : ExternInputs → Option Symbol → ElfRelocation → bpf_insn → Bool → Result Edit Fault
+extern_edit_of_symbol inputs None relocation slot has_next = Err UnknownSymbol
+extern_edit_of_symbol inputs (Some symbol) relocation slot has_next =
     if is_extern symbol
-    then known_edit (get inputs.externs (unwrap_or symbol.name [])) relocation.symbol_index slot more
+    then declared_extern_edit (get inputs.externs (unwrap_or symbol.name [])) relocation.symbol_index slot has_next
     else Ok Stay
 
 -- what becomes of a slot with a relocation
 abbrev pub extern_edit : ExternInputs → ElfRelocation → bpf_insn → Bool → Result Edit Fault
-extern_edit inputs relocation slot more = to_symbol inputs (get inputs.symbols relocation.symbol_index) relocation slot more
+extern_edit inputs relocation slot has_next = extern_edit_of_symbol inputs (get inputs.symbols relocation.symbol_index) relocation slot has_next

@@ -6,4 +6,4 @@ pub mod Passes
 pub mod Relocated
 pub mod Rules
 pub mod Shapes
-pub mod Turns
+pub mod InPlaceEdits

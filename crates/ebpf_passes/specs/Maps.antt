@@ -1,4 +1,4 @@
--- Descriptors of maps in slots.
+-- File descriptors of maps in slots.
 use Rattle.std.specs.Prelude.{ℕ, ℤ, pos, negsuc, ◌^◌, ◌+ℤ◌, Bool, true, false, ◌||◌, if◌then◌else◌, nat_lt, List, [], ◌∷◌, map, Option, Some, None, Result, Ok, Err}
 use Rattle.std.specs.FinMap.{FinMap, get, insert, empty}
 use Rattle.std.specs.List.{flat_map}
@@ -11,7 +11,7 @@ use Rattle.ebpf_parts.specs.declared.insn.bpf_insn.{bpf_insn}
 use Rattle.ebpf_parts.specs.declared.maps.either.Map.{Map}
 use Rattle.ebpf_parts.specs.Maps.{bytes_of, section_index_of, symbol_index_of}
 use Rattle.ebpf_parts.specs.Slots.{dst_of, registers}
-use Rattle.ebpf_reloc.specs.Places.{TextSections}
+use Rattle.ebpf_reloc.specs.SlotTargets.{TextSections}
 use Rattle.ebpf_reloc.specs.declared.symbol.Symbol.{Symbol}
 use Rattle.ebpf_passes.specs.declared.edit.Edit.{Edit}
 use Rattle.ebpf_passes.specs.declared.edit.Edit.TheVariants.{Stay, Slot, Pair}
@@ -29,16 +29,16 @@ GivenMap = ℤ × Map
 abbrev pub LentMap : Type 0
 LentMap = Bor (List ℕ) × ℤ × Bor Map
 
-abbrev pub given_by : LentMap → GivenMap
-given_by lent = (lent.1, lent.2.now)
+abbrev pub given_map : LentMap → GivenMap
+given_map lent = (lent.1, lent.2.now)
 
 abbrev pub has_data : List ℕ → Bool
 has_data [] = false
 has_data (byte ∷ bytes) = true
 
 -- what a slot takes from it
-abbrev pub target_of : GivenMap → MapTarget
-target_of given = record { descriptor = given.0; has_data = has_data (bytes_of given.1) }
+abbrev pub map_target : GivenMap → MapTarget
+map_target given = record { descriptor = given.0; has_data = has_data (bytes_of given.1) }
 
 abbrev pub at_symbol : Option ℕ → MapTarget → List (ℕ × MapTarget)
 at_symbol None target = []
@@ -47,8 +47,8 @@ at_symbol (Some symbol) target = (symbol, target) ∷ []
 -- the maps that are handed in, by symbol and by section, the later over the earlier
 unfoldable pub tables_of : List GivenMap → MapTables
 tables_of given = record {
-  by_symbol = put_all empty (flat_map (λ m. at_symbol (symbol_index_of m.1) (target_of m)) given);
-  by_section = put_all empty (map (λ m. (section_index_of m.1, target_of m)) given);
+  by_symbol = put_all empty (flat_map (λ m. at_symbol (symbol_index_of m.1) (map_target m)) given);
+  by_section = put_all empty (map (λ m. (section_index_of m.1, map_target m)) given);
 }
 
 -- the tables with one map more
@@ -56,8 +56,8 @@ abbrev pub with_symbol : FinMap nat_cmp MapTarget → Option ℕ → MapTarget �
 with_symbol table None target = table
 with_symbol table (Some symbol) target = insert table symbol target
 
-abbrev pub with_map : MapTables → ℤ → Map → MapTables
-with_map tables descriptor m =
+abbrev pub with_map_target : MapTables → ℤ → Map → MapTables
+with_map_target tables descriptor m =
     let target : MapTarget = record { descriptor = descriptor; has_data = has_data (bytes_of m) } in
     record {
       by_symbol = with_symbol tables.by_symbol (symbol_index_of m) target;
@@ -71,52 +71,52 @@ pub record MapInputs : Type 0 where
   pub text_sections : TextSections
 
 -- the slot with another source register and immediate
-abbrev pub pointed : bpf_insn → ℕ → ℤ → bpf_insn
-pointed slot source imm = record slot { regs = registers source (dst_of slot); imm = imm }
+abbrev pub with_source : bpf_insn → ℕ → ℤ → bpf_insn
+with_source slot source imm = record slot { regs = registers source (dst_of slot); imm = imm }
 
-abbrev pub fits : ℤ → Bool
-fits (pos n) = nat_lt n (2 ^ 31)
-fits (negsuc n) = nat_lt n (2 ^ 31)
+abbrev pub fits_imm : ℤ → Bool
+fits_imm (pos n) = nat_lt n (2 ^ 31)
+fits_imm (negsuc n) = nat_lt n (2 ^ 31)
 
 -- the sum of a slot's immediate and a symbol's address, where 32 signed bits hold it
-abbrev pub shifted : ℤ → ℕ → Option ℤ
-shifted imm address = if fits (imm +ℤ pos address) then Some (imm +ℤ pos address) else None
+abbrev pub value_offset : ℤ → ℕ → Option ℤ
+value_offset imm address = if fits_imm (imm +ℤ pos address) then Some (imm +ℤ pos address) else None
 
 abbrev pub value_edit : Option ℤ → bpf_insn → ℤ → Result Edit Fault
 value_edit None slot descriptor = Err MapAddressOverflow
-value_edit (Some next) slot descriptor = Ok (Pair (pointed slot 2 descriptor) next)
+value_edit (Some next) slot descriptor = Ok (Pair (with_source slot 2 descriptor) next)
 
--- A map with data is named by source 2, with the place in its data in the slot after it
+-- A map with data is named by source 2, with the offset in its data in the slot after it
 -- (RFC 9669, section 5.4: the address of a map's value); a map by source 1.
 abbrev pub target_edit : MapTarget → ℕ → bpf_insn → Bool → Result Edit Fault
-target_edit target address slot more =
+target_edit target address slot has_next =
     if target.has_data
-    then (if more then value_edit (shifted slot.imm address) slot target.descriptor else Err InvalidOffset)
-    else Ok (Slot (pointed slot 1 target.descriptor))
+    then (if has_next then value_edit (value_offset slot.imm address) slot target.descriptor else Err InvalidOffset)
+    else Ok (Slot (with_source slot 1 target.descriptor))
 
 abbrev pub found_edit : Option MapTarget → ℕ → ℕ → bpf_insn → Bool → Result Edit Fault
-found_edit None section address slot more = Err (SectionNotFound section)
-found_edit (Some target) section address slot more = target_edit target address slot more
+found_edit None section address slot has_next = Err (SectionNotFound section)
+found_edit (Some target) section address slot has_next = target_edit target address slot has_next
 
 -- the last map of the symbol, else the last of its section
-abbrev pub target_at : MapTables → ℕ → ℕ → Option MapTarget
-target_at tables symbol section = or_else (get tables.by_symbol symbol) (get tables.by_section section)
+abbrev pub map_target_at : MapTables → ℕ → ℕ → Option MapTarget
+map_target_at tables symbol section = or_else (get tables.by_symbol symbol) (get tables.by_section section)
 
 -- a call of a function and a symbol among the functions are no matter of maps
 abbrev pub section_edit : MapInputs → ℕ → ElfRelocation → Symbol → bpf_insn → Bool → Result Edit Fault
-section_edit inputs section relocation symbol slot more =
+section_edit inputs section relocation symbol slot has_next =
     if is_pseudo_call slot || inputs.text_sections section
     then Ok Stay
-    else found_edit (target_at inputs.tables relocation.symbol_index section) section symbol.address slot more
+    else found_edit (map_target_at inputs.tables relocation.symbol_index section) section symbol.address slot has_next
 
-abbrev pub in_section : MapInputs → Option ℕ → ElfRelocation → Symbol → bpf_insn → Bool → Result Edit Fault
-in_section inputs None relocation symbol slot more = Ok Stay
-in_section inputs (Some section) relocation symbol slot more = section_edit inputs section relocation symbol slot more
+abbrev pub edit_in_section : MapInputs → Option ℕ → ElfRelocation → Symbol → bpf_insn → Bool → Result Edit Fault
+edit_in_section inputs None relocation symbol slot has_next = Ok Stay
+edit_in_section inputs (Some section) relocation symbol slot has_next = section_edit inputs section relocation symbol slot has_next
 
-abbrev pub to_symbol : MapInputs → Option Symbol → ElfRelocation → bpf_insn → Bool → Result Edit Fault
-to_symbol inputs None relocation slot more = Err UnknownSymbol
-to_symbol inputs (Some symbol) relocation slot more = in_section inputs symbol.section_index relocation symbol slot more
+abbrev pub map_edit_of_symbol : MapInputs → Option Symbol → ElfRelocation → bpf_insn → Bool → Result Edit Fault
+map_edit_of_symbol inputs None relocation slot has_next = Err UnknownSymbol
+map_edit_of_symbol inputs (Some symbol) relocation slot has_next = edit_in_section inputs symbol.section_index relocation symbol slot has_next
 
 -- what becomes of a slot with a relocation
 abbrev pub map_edit : MapInputs → ElfRelocation → bpf_insn → Bool → Result Edit Fault
-map_edit inputs relocation slot more = to_symbol inputs (get inputs.symbols relocation.symbol_index) relocation slot more
+map_edit inputs relocation slot has_next = map_edit_of_symbol inputs (get inputs.symbols relocation.symbol_index) relocation slot has_next

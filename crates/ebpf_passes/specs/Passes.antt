@@ -4,25 +4,25 @@ use Rattle.std.specs.FinMap.{FinMap}
 use Rattle.std.specs.Iterator.{Drains}
 use Rattle.std.specs.Ordering.{nat_cmp}
 use Rattle.ebpf_base.specs.Keys.{key_cmp, text_cmp}
-use Rattle.ebpf_reloc.specs.Places.{TextSections}
+use Rattle.ebpf_reloc.specs.SlotTargets.{TextSections}
 use Rattle.ebpf_reloc.specs.declared.error.EbpfRelocationError.{EbpfRelocationError}
 use Rattle.ebpf_reloc.specs.declared.extern_desc.ExternDesc.{ExternDesc}
 use Rattle.ebpf_reloc.specs.declared.function.Function.{Function}
 use Rattle.ebpf_reloc.specs.declared.symbol.Symbol.{Symbol}
 use Rattle.ebpf_passes.specs.Externs.{extern_edit}
-use Rattle.ebpf_passes.specs.Maps.{GivenMap, LentMap, given_by, MapInputs, tables_of, map_edit}
+use Rattle.ebpf_passes.specs.Maps.{GivenMap, LentMap, given_map, MapInputs, tables_of, map_edit}
 use Rattle.ebpf_passes.specs.Relocated.{Relocations, relocated, first_fault}
 
 -- what holds of the maps that an iterator gives until it ends
 abbrev pub Given : {I : Type 0} → (I → Option LentMap → I → Type 0) → I → (List GivenMap → Type 0) → Type 0
-Given next_gives maps P = (lent : List LentMap) × Drains next_gives maps lent × P (map given_by lent)
+Given next_gives maps P = (lent : List LentMap) × Drains next_gives maps lent × P (map given_map lent)
 
 abbrev pub inputs_of : FinMap nat_cmp Symbol → TextSections → List GivenMap → MapInputs
 inputs_of symbols text_sections given = record { symbols = symbols; tables = tables_of given; text_sections = text_sections }
 
 -- a function with the descriptors of maps in its slots
-abbrev pub mapped : FinMap nat_cmp Symbol → TextSections → List GivenMap → Relocations → Function → Function
-mapped symbols text_sections given relocations f = relocated (map_edit (inputs_of symbols text_sections given)) relocations f
+abbrev pub with_map_fds : FinMap nat_cmp Symbol → TextSections → List GivenMap → Relocations → Function → Function
+with_map_fds symbols text_sections given relocations f = relocated (map_edit (inputs_of symbols text_sections given)) relocations f
 
 -- the first relocation whose descriptor can't be written
 abbrev pub map_fault : FinMap nat_cmp Symbol → TextSections → List GivenMap → Relocations → FinMap key_cmp Function → Option EbpfRelocationError

@@ -1,8 +1,8 @@
 -- What the passes leave of functions: all but their slots, and how many these are.
 use Rattle.ebpf_reloc.specs.Shapes.{KeepsShape}
 use Rattle.ebpf_reloc.specs.declared.function.Function.{Function}
-use Rattle.ebpf_passes.specs.Relocated.{Says, Relocations, relocated}
+use Rattle.ebpf_passes.specs.Relocated.{EditRule, Relocations, relocated}
 
--- whatever a pass says of relocations
+-- whatever a pass makes of relocations
 abbrev pub PassesKeepShapes : Type 0
-PassesKeepShapes = (says : Says) (relocations : Relocations) (f : Function) → KeepsShape f (relocated says relocations f)
+PassesKeepShapes = (rule_edit : EditRule) (relocations : Relocations) (f : Function) → KeepsShape f (relocated rule_edit relocations f)

@@ -3,7 +3,7 @@
 ghost use Rattle.std.specs.Prelude.{◌≡◌, true, ⊤, IfOk, MatchBool, unwrap_or, []};
 ghost use Rattle.std.specs.FinMap as map;
 ghost use Rattle.ebpf_reloc.specs.Memory.{is_memory_at};
-ghost use Rattle.ebpf_passes.specs.Relocated.{number_of, name_of, error_of, out_of_memory};
+ghost use Rattle.ebpf_passes.specs.Relocated.{number_of, symbol_name_of, error_of, out_of_memory};
 
 use crate::refusal::{Fault, Refusal};
 use ebpf_base::{ByIndex, ByOffset, Text};
@@ -12,11 +12,11 @@ use ebpf_reloc::{EbpfRelocationError, Function, RelocationError, Symbol};
 use std::alloc::{AllocError, Global};
 
 /// The number of a relocation among those of its section, by its offset.
-fn number_of(kept: &ByOffset<Relocation>, offset: u64) -> usize
-    ensures { result ≡ number_of kept.now offset }
+fn number_of(section_relocations: &ByOffset<Relocation>, offset: u64) -> usize
+    ensures { result ≡ number_of section_relocations.now offset }
 {
     let mut number = 0;
-    for (before, _) in kept.iter() {
+    for (before, _) in section_relocations.iter() {
         if *before < offset {
             number += 1;
         }
@@ -25,8 +25,8 @@ fn number_of(kept: &ByOffset<Relocation>, offset: u64) -> usize
 }
 
 /// A copy of a symbol's name.
-fn name_of(symbols: &ByIndex<Symbol>, symbol: usize) -> Result<Option<Text>, AllocError>
-    ensures { IfOk result (λ name. name ≡ name_of (map.get symbols.now symbol)) }
+fn symbol_name_of(symbols: &ByIndex<Symbol>, symbol: usize) -> Result<Option<Text>, AllocError>
+    ensures { IfOk result (λ name. name ≡ symbol_name_of (map.get symbols.now symbol)) }
 {
     let Some(found) = symbols.get(symbol) else {
         return Ok(None);
@@ -39,9 +39,9 @@ fn name_of(symbols: &ByIndex<Symbol>, symbol: usize) -> Result<Option<Text>, All
 
 /// A copy of a symbol's name, empty where it has none.
 fn text_of(alloc: Global, symbols: &ByIndex<Symbol>, symbol: usize) -> Result<Text, AllocError>
-    ensures { IfOk result (λ name. name ≡ unwrap_or (name_of (map.get symbols.now symbol)) []) }
+    ensures { IfOk result (λ name. name ≡ unwrap_or (symbol_name_of (map.get symbols.now symbol)) []) }
 {
-    match name_of(symbols, symbol)? {
+    match symbol_name_of(symbols, symbol)? {
         Some(name) => Ok(name),
         None => Ok(Text::empty(alloc)),
     }
@@ -51,10 +51,10 @@ fn text_of(alloc: Global, symbols: &ByIndex<Symbol>, symbol: usize) -> Result<Te
 fn error_of(
     alloc: Global,
     symbols: &ByIndex<Symbol>,
-    kept: &ByOffset<Relocation>,
+    section_relocations: &ByOffset<Relocation>,
     refusal: Refusal,
 ) -> Result<RelocationError, AllocError>
-    ensures { IfOk result (λ error. error ≡ error_of symbols.now kept.now refusal) }
+    ensures { IfOk result (λ error. error ≡ error_of symbols.now section_relocations.now refusal) }
 {
     let offset = refusal.offset;
     let symbol = refusal.relocation.symbol_index;
@@ -62,12 +62,12 @@ fn error_of(
         Fault::UnknownSymbol => Ok(RelocationError::UnknownSymbol { index: symbol }),
         Fault::InvalidOffset => Ok(RelocationError::InvalidRelocationOffset {
             offset,
-            relocation_number: number_of(kept, offset),
+            relocation_number: number_of(section_relocations, offset),
         }),
         Fault::SectionNotFound(section_index) => Ok(RelocationError::SectionNotFound {
             section_index,
             symbol_index: symbol,
-            symbol_name: name_of(symbols, symbol)?,
+            symbol_name: symbol_name_of(symbols, symbol)?,
         }),
         Fault::MapAddressOverflow => Ok(RelocationError::MapAddressOverflow { offset }),
         Fault::ExternNotFound => Ok(RelocationError::ExternNotFound {
@@ -83,17 +83,17 @@ fn error_of(
 pub fn refused(
     alloc: Global,
     symbols: &ByIndex<Symbol>,
-    kept: &ByOffset<Relocation>,
+    section_relocations: &ByOffset<Relocation>,
     function: &Function,
     refusal: Refusal,
 ) -> EbpfRelocationError
-    ensures error { MatchBool (is_memory_at result) (result ≡ out_of_memory) (result ≡ record { function = function.now.name; error = error_of symbols.now kept.now refusal }) }
+    ensures error { MatchBool (is_memory_at result) (result ≡ out_of_memory) (result ≡ record { function = function.now.name; error = error_of symbols.now section_relocations.now refusal }) }
 {
     let copy: Result<Text, AllocError> = function.name.clone();
     let Ok(name) = copy else {
         return EbpfRelocationError::memory(alloc);
     };
-    let Ok(error) = error_of(alloc, symbols, kept, refusal) else {
+    let Ok(error) = error_of(alloc, symbols, section_relocations, refusal) else {
         return EbpfRelocationError::memory(alloc);
     };
     EbpfRelocationError {

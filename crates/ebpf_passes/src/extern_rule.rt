@@ -1,11 +1,11 @@
 //! What relocations to externs make of slots.
 
 ghost use Rattle.std.specs.Prelude.{◌≡◌, ◌<◌, [], Some, unwrap_or};
-ghost use Rattle.ebpf_passes.specs.Externs.{kernel_call, absent_call, call_edit, load_of, loaded, load_edit, known_edit, extern_edit};
+ghost use Rattle.ebpf_passes.specs.Externs.{kernel_call, absent_call, call_edit, load_of, loaded, load_edit, declared_extern_edit, extern_edit};
 ghost use Rattle.ebpf_passes.specs.Rules.{extern_inputs};
 
 use crate::edit::Edit;
-use crate::map_rule::pointed;
+use crate::map_rule::with_source;
 use crate::refusal::Fault;
 use ebpf_base::{ByIndex, ByName};
 use ebpf_parts::Relocation;
@@ -15,7 +15,7 @@ use ebpf_reloc::{ExternDesc, Symbol};
 /// What is read to write the kernel's ids and addresses.
 #[derive(Clone, Copy)]
 pub struct ExternRule<'a> {
-    /// The symbols by their number.
+    /// The symbols by their index.
     pub symbols: &'a ByIndex<Symbol>,
     /// The externs by name.
     pub externs: &'a ByName<ExternDesc>,
@@ -94,35 +94,35 @@ fn loaded(load: Load, slot: bpf_insn) -> Edit
     ensures { result ≡ loaded load slot }
 {
     match load {
-        Load::Id(id) => Edit::Pair(pointed(slot, 3, id.cast_signed()), 0),
+        Load::Id(id) => Edit::Pair(with_source(slot, 3, id.cast_signed()), 0),
         Load::Address(address) => {
             let low = ((address % BITS) as u32).cast_signed();
             let high = ((address / BITS) as u32).cast_signed();
-            Edit::Pair(pointed(slot, 0, low), high)
+            Edit::Pair(with_source(slot, 0, low), high)
         }
     }
 }
 
 /// What a load of an extern becomes.
-fn load_edit(desc: &ExternDesc, slot: bpf_insn, more: bool) -> Result<Edit, Fault>
-    ensures { result ≡ load_edit (load_of desc.now) slot more }
+fn load_edit(desc: &ExternDesc, slot: bpf_insn, has_next: bool) -> Result<Edit, Fault>
+    ensures { result ≡ load_edit (load_of desc.now) slot has_next }
 {
     let Some(load) = load_of(desc) else {
         return Err(Fault::UnresolvableSymbol);
     };
-    if !more {
+    if !has_next {
         return Err(Fault::InvalidOffset);
     }
     Ok(loaded(load, slot))
 }
 
 /// What an extern makes of a slot that refers to it.
-fn known_edit(desc: &ExternDesc, symbol: usize, slot: bpf_insn, more: bool) -> Result<Edit, Fault>
-    ensures { result ≡ known_edit (Some desc.now) symbol slot more }
+fn declared_extern_edit(desc: &ExternDesc, symbol: usize, slot: bpf_insn, has_next: bool) -> Result<Edit, Fault>
+    ensures { result ≡ declared_extern_edit (Some desc.now) symbol slot has_next }
 {
     match slot.code {
         0x85 => call_edit(desc, symbol, slot),
-        0x18 => load_edit(desc, slot, more),
+        0x18 => load_edit(desc, slot, has_next),
         _ => Err(Fault::InvalidOffset),
     }
 }
@@ -142,9 +142,9 @@ pub fn extern_edit(
     rule: &ExternRule<'_>,
     relocation: Relocation,
     slot: bpf_insn,
-    more: bool,
+    has_next: bool,
 ) -> Result<Edit, Fault>
-    ensures { result ≡ extern_edit (extern_inputs rule.now) relocation slot more }
+    ensures { result ≡ extern_edit (extern_inputs rule.now) relocation slot has_next }
 {
     let Some(symbol) = rule.symbols.get(relocation.symbol_index) else {
         return Err(Fault::UnknownSymbol);
@@ -153,7 +153,7 @@ pub fn extern_edit(
         return Ok(Edit::Stay);
     }
     match rule.externs.get(name_of(symbol)) {
-        Some(desc) => known_edit(desc, relocation.symbol_index, slot, more),
+        Some(desc) => declared_extern_edit(desc, relocation.symbol_index, slot, has_next),
         None => Err(Fault::ExternNotFound),
     }
 }

@@ -1,4 +1,4 @@
-//! The pass that writes what is known of externs.
+//! The pass that writes externs.
 
 ghost use Rattle.std.specs.Prelude.{◌≡◌, true, OnOk, OnErr, IfErr};
 ghost use Rattle.ebpf_base.specs.Faults.{Refuses};
@@ -15,7 +15,7 @@ use ebpf_parts::Relocation;
 use ebpf_reloc::{EbpfRelocationError, ExternDesc, Function, Symbol};
 use std::alloc::Global;
 
-/// Writes what is known of externs into the slots that refer to them. `externs` has them by the names of their
+/// Writes the ids and addresses of resolved externs into the slots that refer to them. `externs` has them by the names of their
 /// symbols.
 ///
 /// A call, code 0x85, of a resolved extern with an id of the kernel gets source 2, the id and offset 0; one of a weak

@@ -5,7 +5,7 @@ ghost use Rattle.ebpf_base.specs.Faults.{Refuses};
 ghost use Rattle.ebpf_base.specs.Mapped.{map_values};
 ghost use Rattle.ebpf_reloc.specs.Memory.{is_memory_at};
 ghost use Rattle.ebpf_passes.specs.Relocated.{relocated, function_fault, first_fault, out_of_memory};
-ghost use Rattle.ebpf_passes.specs.Rules.{says_of, symbols_of};
+ghost use Rattle.ebpf_passes.specs.Rules.{rule_edit_of, rule_symbols};
 
 use crate::errors::refused;
 use crate::rule::Rule;
@@ -24,16 +24,16 @@ fn check_function(
     relocations: &BySection<ByOffset<Relocation>>,
     function: &Function,
 ) -> Result<bool, EbpfRelocationError>
-    ensures stays { IfOk result (λ edits. edits ≡ false → relocated (says_of rule.now) relocations.now function.now ≡ function.now) }
-    ensures fault { Refuses is_memory_at result (function_fault (says_of rule.now) (symbols_of rule.now) relocations.now function.now) }
+    ensures stays { IfOk result (λ edits. edits ≡ false → relocated (rule_edit_of rule.now) relocations.now function.now ≡ function.now) }
+    ensures fault { Refuses is_memory_at result (function_fault (rule_edit_of rule.now) (rule_symbols rule.now) relocations.now function.now) }
     ensures memory { IfErr result (λ e. is_memory_at e ≡ true → e ≡ out_of_memory) }
 {
-    let Some(kept) = relocations.get(function.section_index.0) else {
+    let Some(section_relocations) = relocations.get(function.section_index.0) else {
         return Ok(false);
     };
-    match edits_or_refusal(rule, kept, function) {
+    match edits_or_refusal(rule, section_relocations, function) {
         Ok(edits) => Ok(edits),
-        Err(refusal) => Err(refused(alloc, rule.symbols(), kept, function, refusal)),
+        Err(refusal) => Err(refused(alloc, rule.symbols(), section_relocations, function, refusal)),
     }
 }
 
@@ -46,8 +46,8 @@ fn check_functions(
     relocations: &BySection<ByOffset<Relocation>>,
     functions: &ByKey<Function>,
 ) -> Result<bool, EbpfRelocationError>
-    ensures stay { IfOk result (λ edits. edits ≡ false → map_values (relocated (says_of rule.now) relocations.now) functions.now ≡ functions.now) }
-    ensures fault { Refuses is_memory_at result (first_fault (says_of rule.now) (symbols_of rule.now) relocations.now functions.now) }
+    ensures stay { IfOk result (λ edits. edits ≡ false → map_values (relocated (rule_edit_of rule.now) relocations.now) functions.now ≡ functions.now) }
+    ensures fault { Refuses is_memory_at result (first_fault (rule_edit_of rule.now) (rule_symbols rule.now) relocations.now functions.now) }
     ensures memory { IfErr result (λ e. is_memory_at e ≡ true → e ≡ out_of_memory) }
 {
     let mut edits = false;
@@ -65,14 +65,14 @@ fn write_function(
     relocations: &BySection<ByOffset<Relocation>>,
     function: &mut Function,
 )
-    ensures { function.new ≡ relocated (says_of rule.now) relocations.now function.old }
+    ensures { function.new ≡ relocated (rule_edit_of rule.now) relocations.now function.old }
 {
-    let Some(kept) = relocations.get(function.section_index.0) else {
+    let Some(section_relocations) = relocations.get(function.section_index.0) else {
         return;
     };
     let start = function.section_offset as u64;
     let slots = function.instructions.as_vec_mut().as_mut_slice();
-    write_slots(rule, start, kept, slots);
+    write_slots(rule, start, section_relocations, slots);
 }
 
 /// Writes the relocations of all functions, or of none where one of them can't be applied.
@@ -82,8 +82,8 @@ pub fn relocate(
     relocations: &BySection<ByOffset<Relocation>>,
     functions: &mut ByKey<Function>,
 ) -> Result<(), EbpfRelocationError>
-    ensures ok { OnOk result (functions.new ≡ map_values (relocated (says_of rule.now) relocations.now) functions.old) }
-    ensures fault { Refuses is_memory_at result (first_fault (says_of rule.now) (symbols_of rule.now) relocations.now functions.old) }
+    ensures ok { OnOk result (functions.new ≡ map_values (relocated (rule_edit_of rule.now) relocations.now) functions.old) }
+    ensures fault { Refuses is_memory_at result (first_fault (rule_edit_of rule.now) (rule_symbols rule.now) relocations.now functions.old) }
     ensures memory { IfErr result (λ e. is_memory_at e ≡ true → e ≡ out_of_memory) }
     ensures err { OnErr result (functions.new ≡ functions.old) }
 {

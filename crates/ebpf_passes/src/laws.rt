@@ -1,12 +1,12 @@
 //! Laws of the passes.
 
-ghost use Rattle.ebpf_passes.specs.MapChains.{PlacesAddUp};
+ghost use Rattle.ebpf_passes.specs.MapChains.{OffsetsAddUp};
 ghost use Rattle.ebpf_passes.specs.Shapes.{PassesKeepShapes};
 
-/// The place in a map's data that a slot is found with: where the slots before it, from one on that follows none such,
+/// The offset in a map's data that a slot is found with: where the slots before it, from one on that follows none such,
 /// are all relocated to maps with data, it is the immediate of the first of them plus the addresses of their symbols.
-pub fn places_add_up()
-    ensures { PlacesAddUp }
+pub fn offsets_add_up()
+    ensures { OffsetsAddUp }
 {}
 
 /// A pass keeps all of a function but its slots, and as many of these.

@@ -1,4 +1,4 @@
-//! The descriptors of maps and what is known of externs, written into the slots of functions.
+//! The file descriptors of maps, and externs, written into the slots of functions.
 #![tactic(auto)]
 
 mod edit;

@@ -1,7 +1,7 @@
 //! What relocations to maps make of slots.
 
 ghost use Rattle.std.specs.Prelude.{◌≡◌, ◌<◌};
-ghost use Rattle.ebpf_passes.specs.Maps.{shifted, pointed, target_at, target_edit, section_edit, map_edit};
+ghost use Rattle.ebpf_passes.specs.Maps.{value_offset, with_source, map_target_at, target_edit, section_edit, map_edit};
 ghost use Rattle.ebpf_passes.specs.Rules.{map_inputs};
 
 use crate::edit::Edit;
@@ -17,18 +17,18 @@ use std::collections::HashSet;
 /// What is read to write maps' descriptors.
 #[derive(Clone, Copy)]
 pub struct MapRule<'a> {
-    /// The symbols by their number.
+    /// The symbols by their index.
     pub symbols: &'a ByIndex<Symbol>,
     /// The maps.
     pub tables: &'a MapTables,
-    /// The numbers of the sections that hold functions.
+    /// The indexes of the sections that hold functions.
     pub text_sections: &'a HashSet<usize>,
 }
 
 /// The slot with another source register and immediate.
-pub fn pointed(slot: bpf_insn, source: u8, imm: i32) -> bpf_insn
+pub fn with_source(slot: bpf_insn, source: u8, imm: i32) -> bpf_insn
     requires { source < 16 }
-    ensures { result ≡ pointed slot source imm }
+    ensures { result ≡ with_source slot source imm }
 {
     bpf_insn {
         regs: source * 16 + slot.dst_reg(),
@@ -38,8 +38,8 @@ pub fn pointed(slot: bpf_insn, source: u8, imm: i32) -> bpf_insn
 }
 
 /// The sum of a slot's immediate and a symbol's address, where 32 signed bits hold it.
-fn shifted(imm: i32, address: u64) -> Option<i32>
-    ensures { result ≡ shifted imm address }
+fn value_offset(imm: i32, address: u64) -> Option<i32>
+    ensures { result ≡ value_offset imm address }
 {
     if address > 0xffff_ffff {
         return None;
@@ -52,24 +52,24 @@ fn shifted(imm: i32, address: u64) -> Option<i32>
 }
 
 /// What a map makes of a slot that refers to it, by the address of the slot's symbol.
-fn target_edit(target: MapTarget, address: u64, slot: bpf_insn, more: bool) -> Result<Edit, Fault>
-    ensures { result ≡ target_edit target address slot more }
+fn target_edit(target: MapTarget, address: u64, slot: bpf_insn, has_next: bool) -> Result<Edit, Fault>
+    ensures { result ≡ target_edit target address slot has_next }
 {
     if !target.has_data {
-        return Ok(Edit::Slot(pointed(slot, 1, target.descriptor)));
+        return Ok(Edit::Slot(with_source(slot, 1, target.descriptor)));
     }
-    if !more {
+    if !has_next {
         return Err(Fault::InvalidOffset);
     }
-    match shifted(slot.imm, address) {
-        Some(next) => Ok(Edit::Pair(pointed(slot, 2, target.descriptor), next)),
+    match value_offset(slot.imm, address) {
+        Some(next) => Ok(Edit::Pair(with_source(slot, 2, target.descriptor), next)),
         None => Err(Fault::MapAddressOverflow),
     }
 }
 
 /// The last map of a symbol, else the last one of its section.
-fn target_at(tables: &MapTables, symbol: usize, section: usize) -> Option<MapTarget>
-    ensures { result ≡ target_at tables.now symbol section }
+fn map_target_at(tables: &MapTables, symbol: usize, section: usize) -> Option<MapTarget>
+    ensures { result ≡ map_target_at tables.now symbol section }
 {
     match tables.by_symbol.get(symbol) {
         Some(target) => Some(*target),
@@ -84,15 +84,15 @@ fn section_edit(
     relocation: Relocation,
     symbol: &Symbol,
     slot: bpf_insn,
-    more: bool,
+    has_next: bool,
 ) -> Result<Edit, Fault>
-    ensures { result ≡ section_edit (map_inputs rule.now) section relocation symbol.now slot more }
+    ensures { result ≡ section_edit (map_inputs rule.now) section relocation symbol.now slot has_next }
 {
     if is_pseudo_call(slot) || rule.text_sections.contains(&section) {
         return Ok(Edit::Stay);
     }
-    match target_at(rule.tables, relocation.symbol_index, section) {
-        Some(target) => target_edit(target, symbol.address, slot, more),
+    match map_target_at(rule.tables, relocation.symbol_index, section) {
+        Some(target) => target_edit(target, symbol.address, slot, has_next),
         None => Err(Fault::SectionNotFound(section)),
     }
 }
@@ -102,15 +102,15 @@ pub fn map_edit(
     rule: &MapRule<'_>,
     relocation: Relocation,
     slot: bpf_insn,
-    more: bool,
+    has_next: bool,
 ) -> Result<Edit, Fault>
-    ensures { result ≡ map_edit (map_inputs rule.now) relocation slot more }
+    ensures { result ≡ map_edit (map_inputs rule.now) relocation slot has_next }
 {
     let Some(symbol) = rule.symbols.get(relocation.symbol_index) else {
         return Err(Fault::UnknownSymbol);
     };
     match symbol.section_index {
-        Some(section) => section_edit(rule, section, relocation, symbol, slot, more),
+        Some(section) => section_edit(rule, section, relocation, symbol, slot, has_next),
         None => Ok(Edit::Stay),
     }
 }

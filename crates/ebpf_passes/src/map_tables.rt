@@ -2,7 +2,7 @@
 
 ghost use Rattle.std.specs.Prelude.{◌≡◌, List, map, OnOk, IfOk};
 ghost use Rattle.std.specs.Iterator.{IsFinite, Drains};
-ghost use Rattle.ebpf_passes.specs.Maps.{LentMap, given_by, tables_of, has_data, with_map};
+ghost use Rattle.ebpf_passes.specs.Maps.{LentMap, given_map, tables_of, has_data, with_map_target};
 ghost use Rattle.ebpf_parts.specs.Maps.{bytes_of};
 
 use ebpf_base::ByIndex;
@@ -18,7 +18,7 @@ pub struct MapTarget {
     pub has_data: bool,
 }
 
-/// The maps by the number of the symbol that names them, and by that of their section.
+/// The maps by the index of the symbol that names them, and by that of their section.
 #[derive(Debug, Drop)]
 pub struct MapTables {
     /// The last map of each symbol.
@@ -28,7 +28,7 @@ pub struct MapTables {
 }
 
 /// What a slot takes from a map with this descriptor.
-fn target_of(descriptor: i32, map: &Map) -> MapTarget
+fn map_target(descriptor: i32, map: &Map) -> MapTarget
     ensures { result ≡ record { descriptor = descriptor; has_data = has_data (bytes_of map.now) } }
 {
     MapTarget {
@@ -40,9 +40,9 @@ fn target_of(descriptor: i32, map: &Map) -> MapTarget
 impl MapTables {
     /// Puts a map over those of its symbol and its section.
     fn put(&mut self, descriptor: i32, map: &Map) -> Result<(), AllocError>
-        ensures { OnOk result (self.new ≡ with_map self.old descriptor map.now) }
+        ensures { OnOk result (self.new ≡ with_map_target self.old descriptor map.now) }
     {
-        let target = target_of(descriptor, map);
+        let target = map_target(descriptor, map);
         if let Some(symbol) = map.symbol_index() {
             self.by_symbol.insert(symbol, target)?;
         }
@@ -57,7 +57,7 @@ impl MapTables {
     ) -> Result<MapTables, AllocError>
         requires can { I.can_next maps }
         requires ends { IsFinite (I.remaining maps) }
-        ensures { IfOk result (λ tables. (lent : List LentMap) × Drains I.next_gives maps lent × (tables ≡ tables_of (map given_by lent))) }
+        ensures { IfOk result (λ tables. (lent : List LentMap) × Drains I.next_gives maps lent × (tables ≡ tables_of (map given_map lent))) }
     {
         let mut tables = MapTables {
             by_symbol: ByIndex::new(alloc),

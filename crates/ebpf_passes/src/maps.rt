@@ -3,9 +3,9 @@
 ghost use Rattle.std.specs.Prelude.{◌≡◌, None, Some, OnOk, OnErr, IfErr, MatchBool};
 ghost use Rattle.std.specs.Iterator.{IsFinite};
 ghost use Rattle.ebpf_base.specs.Mapped.{map_values};
-ghost use Rattle.ebpf_reloc.specs.Places.{sections_in};
+ghost use Rattle.ebpf_reloc.specs.SlotTargets.{text_sections_in};
 ghost use Rattle.ebpf_reloc.specs.Memory.{is_memory_at};
-ghost use Rattle.ebpf_passes.specs.Passes.{Given, mapped, map_fault};
+ghost use Rattle.ebpf_passes.specs.Passes.{Given, with_map_fds, map_fault};
 ghost use Rattle.ebpf_passes.specs.Relocated.{out_of_memory};
 
 use crate::functions::relocate;
@@ -21,7 +21,7 @@ use std::collections::HashSet;
 
 /// Writes the descriptors of maps into the slots that refer to them (RFC 9669, section 5.4). `maps` gives each map
 /// with its name and its descriptor; of maps of one symbol or one section the later one counts. `text_sections` has
-/// the numbers of the sections that hold functions.
+/// the indexes of the sections that hold functions.
 ///
 /// A relocation of a function refers to the map of its symbol, else to that of the symbol's section. A slot that
 /// refers to a map without data gets source 1 and the descriptor. One that refers to a map with data gets source 2
@@ -45,8 +45,8 @@ pub fn relocate_maps<'a, I: Iterator<Item = (&'a str, i32, &'a Map)> + Drop>(
 ) -> Result<(), EbpfRelocationError>
     requires can { I.can_next maps }
     requires ends { IsFinite (I.remaining maps) }
-    ensures ok { OnOk result (Given I.next_gives maps (λ given. (functions.new ≡ map_values (mapped symbols.now (sections_in text_sections.now) given relocations.now) functions.old) × (map_fault symbols.now (sections_in text_sections.now) given relocations.now functions.old ≡ None))) }
-    ensures fault { IfErr result (λ e. MatchBool (is_memory_at e) (e ≡ out_of_memory) (Given I.next_gives maps (λ given. map_fault symbols.now (sections_in text_sections.now) given relocations.now functions.old ≡ Some e))) }
+    ensures ok { OnOk result (Given I.next_gives maps (λ given. (functions.new ≡ map_values (with_map_fds symbols.now (text_sections_in text_sections.now) given relocations.now) functions.old) × (map_fault symbols.now (text_sections_in text_sections.now) given relocations.now functions.old ≡ None))) }
+    ensures fault { IfErr result (λ e. MatchBool (is_memory_at e) (e ≡ out_of_memory) (Given I.next_gives maps (λ given. map_fault symbols.now (text_sections_in text_sections.now) given relocations.now functions.old ≡ Some e))) }
     ensures err { OnErr result (functions.new ≡ functions.old) }
 {
     let Ok(tables) = MapTables::gather(alloc, maps) else {

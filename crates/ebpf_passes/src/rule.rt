@@ -1,7 +1,7 @@
-//! What the passes say of relocations.
+//! What the passes make of relocations.
 
 ghost use Rattle.std.specs.Prelude.{◌≡◌};
-ghost use Rattle.ebpf_passes.specs.Rules.{says_of, symbols_of};
+ghost use Rattle.ebpf_passes.specs.Rules.{rule_edit_of, rule_symbols};
 
 use crate::edit::Edit;
 use crate::extern_rule::{ExternRule, extern_edit};
@@ -12,7 +12,7 @@ use ebpf_parts::Relocation;
 use ebpf_parts::insn::bpf_insn;
 use ebpf_reloc::Symbol;
 
-/// What a pass says of relocations.
+/// What a pass makes of relocations.
 #[derive(Clone, Copy)]
 pub enum Rule<'a> {
     /// Descriptors of maps are written.
@@ -23,18 +23,18 @@ pub enum Rule<'a> {
 
 impl<'a> Rule<'a> {
     /// What becomes of a slot with a relocation.
-    pub fn edit(&self, relocation: Relocation, slot: bpf_insn, more: bool) -> Result<Edit, Fault>
-        ensures { result ≡ says_of self.now relocation slot more }
+    pub fn edit(&self, relocation: Relocation, slot: bpf_insn, has_next: bool) -> Result<Edit, Fault>
+        ensures { result ≡ rule_edit_of self.now relocation slot has_next }
     {
         match self {
-            Rule::Maps(rule) => map_edit(rule, relocation, slot, more),
-            Rule::Externs(rule) => extern_edit(rule, relocation, slot, more),
+            Rule::Maps(rule) => map_edit(rule, relocation, slot, has_next),
+            Rule::Externs(rule) => extern_edit(rule, relocation, slot, has_next),
         }
     }
 
     /// The symbols that are read.
     pub fn symbols(&self) -> &'a ByIndex<Symbol>
-        ensures { result.now ≡ symbols_of self.now }
+        ensures { result.now ≡ rule_symbols self.now }
     {
         match self {
             Rule::Maps(rule) => rule.symbols,

@@ -4,8 +4,8 @@ ghost use Rattle.std.specs.Prelude.{◌≡◌, ◌/◌, ◌<◌, ◌^◌, length
 ghost use Rattle.ebpf_base.specs.Faults.{fault_of};
 ghost use Rattle.ebpf_passes.specs.Edits.{slots_after};
 ghost use Rattle.ebpf_passes.specs.Relocated.{first_refusal, edit_at};
-ghost use Rattle.ebpf_passes.specs.Rules.{says_of};
-ghost use Rattle.ebpf_passes.specs.Turns.{pending_slot, pending_of, left_by, tried, turn};
+ghost use Rattle.ebpf_passes.specs.Rules.{rule_edit_of};
+ghost use Rattle.ebpf_passes.specs.InPlaceEdits.{pending_slot, pending_of, left_by, tried, slots_after_relocation};
 ghost use Rattle.ebpf_passes.specs.declared.edit.Edit.TheVariants.{Stay};
 
 use crate::edit::Edit;
@@ -49,8 +49,8 @@ fn edit_of(
     relocation: Relocation,
 ) -> Result<Edit, Fault>
     requires { distance / 8 < length slots.now }
-    ensures tried { left_by (distance / 8) result ≡ tried (says_of rule.now) slots.now pending distance relocation }
-    ensures stays { pending ≡ None → result ≡ Ok Stay → turn (says_of rule.now) distance relocation slots.now ≡ slots.now }
+    ensures tried { left_by (distance / 8) result ≡ tried (rule_edit_of rule.now) slots.now pending distance relocation }
+    ensures stays { pending ≡ None → result ≡ Ok Stay → slots_after_relocation (rule_edit_of rule.now) distance relocation slots.now ≡ slots.now }
 {
     if distance % 8 != 0 {
         return Err(Fault::InvalidOffset);
@@ -64,17 +64,17 @@ fn edit_of(
 #[tactic(auto, using(crate::proofs::Idle::stays_on, crate::proofs::Idle::stays_past, crate::proofs::Idle::stays_all))]
 pub fn edits_or_refusal(
     rule: &Rule<'_>,
-    kept: &ByOffset<Relocation>,
+    section_relocations: &ByOffset<Relocation>,
     function: &Function,
 ) -> Result<bool, Refusal>
-    ensures refusal { fault_of result ≡ first_refusal (says_of rule.now) kept.now function.now }
-    ensures stays { IfOk result (λ edits. edits ≡ false → slots_after (edit_at (says_of rule.now) kept.now function.now.section_offset (length function.now.instructions)) function.now.instructions ≡ function.now.instructions) }
+    ensures refusal { fault_of result ≡ first_refusal (rule_edit_of rule.now) section_relocations.now function.now }
+    ensures stays { IfOk result (λ edits. edits ≡ false → slots_after (edit_at (rule_edit_of rule.now) section_relocations.now function.now.section_offset (length function.now.instructions)) function.now.instructions ≡ function.now.instructions) }
 {
     let slots = function.instructions.as_slice();
     let start = function.section_offset as u64;
     let mut pending = None;
     let mut edits = false;
-    for (offset, relocation) in kept.from_offset(start) {
+    for (offset, relocation) in section_relocations.from_offset(start) {
         let distance = offset.saturating_sub(start);
         if distance / 8 >= slots.len() as u64 {
             return Ok(edits);

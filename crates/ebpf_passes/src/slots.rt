@@ -1,10 +1,10 @@
 //! Relocations written into the slots of a function.
 
 ghost use Rattle.std.specs.Prelude.{◌≡◌, ◌/◌, ◌<◌, length, slice_set};
-ghost use Rattle.ebpf_passes.specs.Edits.{slot_at, slots_after};
+ghost use Rattle.ebpf_passes.specs.Edits.{slot_or_zeros, slots_after};
 ghost use Rattle.ebpf_passes.specs.Relocated.{edit_of, edit_at};
-ghost use Rattle.ebpf_passes.specs.Rules.{says_of};
-ghost use Rattle.ebpf_passes.specs.Turns.{applied, turn};
+ghost use Rattle.ebpf_passes.specs.Rules.{rule_edit_of};
+ghost use Rattle.ebpf_passes.specs.InPlaceEdits.{applied, slots_after_relocation};
 
 use crate::edit::Edit;
 use crate::rule::Rule;
@@ -14,7 +14,7 @@ use ebpf_parts::insn::bpf_insn;
 
 /// Writes the immediate of a slot, if there is one at that place.
 fn write_imm(slots: &mut [bpf_insn], at: usize, imm: i32)
-    ensures { slots.new ≡ slice_set slots.old at (record (slot_at slots.old at) { imm = imm }) }
+    ensures { slots.new ≡ slice_set slots.old at (record (slot_or_zeros slots.old at) { imm = imm }) }
 {
     if at < slots.len() {
         slots[at].imm = imm;
@@ -37,10 +37,10 @@ fn apply(slots: &mut [bpf_insn], at: usize, edit: Edit)
 }
 
 /// The edit of a slot with a relocation, nothing where it can't be applied.
-fn edit_of(rule: &Rule<'_>, relocation: Relocation, slot: bpf_insn, more: bool) -> Edit
-    ensures { result ≡ edit_of (says_of rule.now relocation slot more) }
+fn edit_of(rule: &Rule<'_>, relocation: Relocation, slot: bpf_insn, has_next: bool) -> Edit
+    ensures { result ≡ edit_of (rule_edit_of rule.now relocation slot has_next) }
 {
-    match rule.edit(relocation, slot, more) {
+    match rule.edit(relocation, slot, has_next) {
         Ok(edit) => edit,
         Err(_) => Edit::Stay,
     }
@@ -49,7 +49,7 @@ fn edit_of(rule: &Rule<'_>, relocation: Relocation, slot: bpf_insn, more: bool) 
 /// Writes a relocation at a distance from the first slot.
 fn write_one(rule: &Rule<'_>, distance: u64, relocation: Relocation, slots: &mut [bpf_insn])
     requires { distance / 8 < length slots.old }
-    ensures { slots.new ≡ turn (says_of rule.now) distance relocation slots.old }
+    ensures { slots.new ≡ slots_after_relocation (rule_edit_of rule.now) distance relocation slots.old }
 {
     if distance % 8 != 0 {
         return;
@@ -60,10 +60,10 @@ fn write_one(rule: &Rule<'_>, distance: u64, relocation: Relocation, slots: &mut
 }
 
 /// Writes the relocations of a section into the slots of a function that begins at an offset.
-pub fn write_slots(rule: &Rule<'_>, start: u64, kept: &ByOffset<Relocation>, slots: &mut [bpf_insn])
-    ensures { slots.new ≡ slots_after (edit_at (says_of rule.now) kept.now start (length slots.old)) slots.old }
+pub fn write_slots(rule: &Rule<'_>, start: u64, section_relocations: &ByOffset<Relocation>, slots: &mut [bpf_insn])
+    ensures { slots.new ≡ slots_after (edit_at (rule_edit_of rule.now) section_relocations.now start (length slots.old)) slots.old }
 {
-    for (offset, relocation) in kept.from_offset(start) {
+    for (offset, relocation) in section_relocations.from_offset(start) {
         let distance = offset.saturating_sub(start);
         if distance / 8 >= slots.len() as u64 {
             break;

@@ -12,22 +12,22 @@ use Rattle.ebpf_places.specs.declared.steps.Step.{Step}
 use Rattle.ebpf_places.specs.declared.steps.Step.TheVariants.{Name, Index}
 use Rattle.ebpf_places.specs.declared.walk.Spot.{Spot}
 use Rattle.ebpf_places.specs.FirstMembers.{IsFirstMember}
-use Rattle.ebpf_places.specs.Members.{if_read, known, members_in, unnamed_levels}
+use Rattle.ebpf_places.specs.Members.{if_read, member_search, members_in, anonymous_levels}
 use Rattle.ebpf_places.specs.Paths.{PathLeads, NoStep, NoIndex, NoRoot, Begun, StepLeads, TooLong, NoType, ToElement, ToMember, StepsLead, Arrived, Refused, Lost, Onward}
-use Rattle.ebpf_places.specs.Places.{begun, by_found, by_step, followed, if_fine, onward, path_parts, place_of, stepped}
-use Rattle.ebpf_places.specs.Searches.{search_entries, sought}
-use Rattle.ebpf_places.proofs.FirstEntries.{one_first, sought_first}
+use Rattle.ebpf_places.specs.Places.{root_spot, by_found, by_step, followed, if_fine, onward, path_parts, place_of, stepped}
+use Rattle.ebpf_places.specs.Searches.{search_entries, first_fitting}
+use Rattle.ebpf_places.proofs.FirstEntries.{one_first, fitting_is_first}
 use Rattle.ebpf_places.proofs.Shallow.{shallow}
 
 module _ (local target : TypeInfo) where
-  -- what is sought is the first member
-  pub first_member : (name : List ℕ) (local_type parent : ℕ) → IsFirstMember local target name local_type parent (sought (known local target name local_type) search_entries (members_in target.types parent))
-  first_member name local_type parent = sought_first (known local target name local_type) search_entries (shallow local target name local_type) (members_in target.types parent)
+  -- the first fitting member is the first member
+  pub first_member : (name : List ℕ) (local_type parent : ℕ) → IsFirstMember local target name local_type parent (first_fitting (member_search local target name local_type) search_entries (members_in target.types parent))
+  first_member name local_type parent = fitting_is_first (member_search local target name local_type) search_entries (shallow local target name local_type) (members_in target.types parent)
 
   pub one_first_member : (name : List ℕ) (local_type parent : ℕ) (a b : Result (Option FoundMember) PlaceFault)
       → IsFirstMember local target name local_type parent a → IsFirstMember local target name local_type parent b → a ≡ b
   one_first_member name local_type parent a b =
-      one_first (known local target name local_type) search_entries (members_in target.types parent) unnamed_levels (shallow local target name local_type) a b
+      one_first (member_search local target name local_type) search_entries (members_in target.types parent) anonymous_levels (shallow local target name local_type) a b
 
   -- ---- a step
 
@@ -43,7 +43,7 @@ module _ (local target : TypeInfo) where
 
   lead_by : (from : Spot) (by : Step) (id : ℕ) → from.parts < path_parts → resolved target.types from.type_id ≡ Ok id → StepLeads local target from by (by_step local target from id by)
   lead_by from (Name name local_type) id near is =
-      ToMember name local_type id (sought (known local target name local_type) search_entries (members_in target.types id)) near is (first_member name local_type id)
+      ToMember name local_type id (first_fitting (member_search local target name local_type) search_entries (members_in target.types id)) near is (first_member name local_type id)
   lead_by from (Index index) id near is = ToElement index id near is
 
   lead_read : (from : Spot) (by : Step) (r : Result ℕ BtfError) → from.parts < path_parts → resolved target.types from.type_id ≡ r
@@ -63,7 +63,7 @@ module _ (local target : TypeInfo) where
   one_step from (ToElement index id near is) = sym (step_read from (Index index) (Ok id) near is)
   one_step from (ToMember name local_type id first near is member) =
       ap (λ (x : Result (Option FoundMember) PlaceFault). if_fine x (by_found from))
-      (one_first_member name local_type id first (sought (known local target name local_type) search_entries (members_in target.types id)) member (first_member name local_type id))
+      (one_first_member name local_type id first (first_fitting (member_search local target name local_type) search_entries (members_in target.types id)) member (first_member name local_type id))
       ∙ sym (step_read from (Name name local_type) (Ok id) near is)
 
   -- ---- some steps
@@ -97,7 +97,7 @@ module _ (local target : TypeInfo) where
 
   -- ---- a path
 
-  lead_from : (root index : ℕ) (path : List Step) (r : Result Spot PlaceFault) → begun target root index ≡ r
+  lead_from : (root index : ℕ) (path : List Step) (r : Result Spot PlaceFault) → root_spot target root index ≡ r
       → PathLeads local target root (Index index ∷ path) (if_fine r (followed local target path))
   lead_from root index path (Ok from) is = Begun index path from (followed local target path from) is (steps_lead path from)
   lead_from root index path (Err f) is = NoRoot index path f is
@@ -106,7 +106,7 @@ module _ (local target : TypeInfo) where
   unfolding place_of
   path_leads root [] = NoStep
   path_leads root (Name name local_type ∷ path) = NoIndex name local_type path
-  path_leads root (Index index ∷ path) = lead_from root index path (begun target root index) refl
+  path_leads root (Index index ∷ path) = lead_from root index path (root_spot target root index) refl
 
   pub one_place : {root : ℕ} {path : List Step} {a : Result (Option Place) PlaceFault} → PathLeads local target root path a → a ≡ place_of local target root path
   unfolding place_of

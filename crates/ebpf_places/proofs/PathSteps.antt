@@ -6,7 +6,7 @@ use Rattle.ebpf_places.specs.declared.fault.PlaceFault.{PlaceFault}
 use Rattle.ebpf_places.specs.declared.steps.Step.{Step}
 use Rattle.ebpf_places.specs.declared.steps.Step.TheVariants.{Name, Index}
 use Rattle.ebpf_places.specs.declared.walk.Spot.{Spot}
-use Rattle.ebpf_places.specs.Places.{begun, followed, if_fine, onward, place_of, stepped}
+use Rattle.ebpf_places.specs.Places.{root_spot, followed, if_fine, onward, place_of, stepped}
 
 module _ (local target : TypeInfo) where
   followed_cons : (by : Step) (path : List Step) (from : Spot)
@@ -47,7 +47,7 @@ module _ (local target : TypeInfo) where
   unfolding place_of
   place_named root path rest by name local_type split is = rw (split, is) refl
 
-  pub place_begun : (root : ℕ) (path rest : List Step) (by : Step) (index : ℕ) (r : Result Spot PlaceFault) → path ≡ by ∷ rest → by ≡ Index index → r ≡ begun target root index
+  pub place_begun : (root : ℕ) (path rest : List Step) (by : Step) (index : ℕ) (r : Result Spot PlaceFault) → path ≡ by ∷ rest → by ≡ Index index → r ≡ root_spot target root index
       → place_of local target root path ≡ if_fine r (followed local target rest)
   unfolding place_of
   place_begun root path rest by index r split is begins = rw (split, is, begins) refl

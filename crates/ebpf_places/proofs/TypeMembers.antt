@@ -5,7 +5,7 @@ use Rattle.ebpf_btf.specs.declared.members.BtfMember.{BtfMember}
 use Rattle.ebpf_btf.specs.declared.types.BtfType.{BtfType}
 use Rattle.ebpf_btf.specs.TypeInfo.{TypeInfo}
 use Rattle.ebpf_btf.specs.Types.{members_of}
-use Rattle.ebpf_places.specs.Members.{Member, known, members_from, members_in, role}
+use Rattle.ebpf_places.specs.Members.{Member, member_search, members_from, members_in, role}
 
 pub no_type : (types : List BtfType) (id : ℕ) → slice_get types id ≡ None → members_in types id ≡ []
 unfolding members_in
@@ -21,10 +21,10 @@ unfolding members_in
 its_members types id t ms is some = rw (is, some) refl
 
 module _ (local target : TypeInfo) (name : List ℕ) (local_type : ℕ) where
-  pub known_members : (id : ℕ) → (known local target name local_type).members_of id ≡ members_in target.types id
-  unfolding known
+  pub known_members : (id : ℕ) → (member_search local target name local_type).members_of id ≡ members_in target.types id
+  unfolding member_search
   known_members id = refl
 
-  pub known_role : (inside : ℕ) (m : Member) → (known local target name local_type).role_of inside m ≡ role local target name local_type inside m.name m.type_id
-  unfolding known
+  pub known_role : (inside : ℕ) (m : Member) → (member_search local target name local_type).role_of inside m ≡ role local target name local_type inside m.name m.type_id
+  unfolding member_search
   known_role inside m = refl

@@ -8,7 +8,7 @@ abbrev pub is_memory : PlaceFault → Bool
 is_memory NestingLevel = false
 is_memory (Btf e) = is_btf_memory e
 
--- what is said of an answer holds of this one, unless it is a want of memory
+-- what holds of an answer holds of this one, unless it is a want of memory
 abbrev pub MemoryAside : {X : Type 0} → Result X PlaceFault → (Result X PlaceFault → Type 0) → Type 0
 MemoryAside (Ok x) Holds = Holds (Ok x)
 MemoryAside (Err e) Holds = MatchBool (is_memory e) ⊤ (Holds (Err e))

@@ -11,7 +11,7 @@ use Rattle.ebpf_places.specs.declared.steps.Step.{Step}
 use Rattle.ebpf_places.specs.declared.steps.Step.TheVariants.{Name, Index}
 use Rattle.ebpf_places.specs.declared.walk.Spot.{Spot}
 use Rattle.ebpf_places.specs.FirstMembers.{IsFirstMember}
-use Rattle.ebpf_places.specs.Places.{begun, by_found, by_index, if_fine, path_parts}
+use Rattle.ebpf_places.specs.Places.{root_spot, by_found, by_index, if_fine, path_parts}
 
 -- A step from a spot leads so. The number of parts is tested first, then the type there is resolved; an index leads to
 -- an element of it, a name to the first member of its view.
@@ -39,7 +39,7 @@ pub data StepsLead (local target : TypeInfo) : List Step → Spot → Result (Op
 pub data PathLeads (local target : TypeInfo) (root : ℕ) : List Step → Result (Option Place) PlaceFault → Type 0 where
   NoStep : PathLeads local target root [] (Ok None)
   NoIndex : (name : List ℕ) (local_type : ℕ) (path : List Step) → PathLeads local target root (Name name local_type ∷ path) (Ok None)
-  NoRoot : (index : ℕ) (path : List Step) (fault : PlaceFault) → begun target root index ≡ Err fault
+  NoRoot : (index : ℕ) (path : List Step) (fault : PlaceFault) → root_spot target root index ≡ Err fault
       → PathLeads local target root (Index index ∷ path) (Err fault)
-  Begun : (index : ℕ) (path : List Step) (from : Spot) (answer : Result (Option Place) PlaceFault) → begun target root index ≡ Ok from
+  Begun : (index : ℕ) (path : List Step) (from : Spot) (answer : Result (Option Place) PlaceFault) → root_spot target root index ≡ Ok from
       → StepsLead local target path from answer → PathLeads local target root (Index index ∷ path) answer

@@ -17,10 +17,10 @@ use Rattle.ebpf_places.specs.declared.search.FoundMember.{FoundMember}
 use Rattle.ebpf_places.specs.declared.steps.Step.{Step}
 use Rattle.ebpf_places.specs.declared.steps.Step.TheVariants.{Name, Index}
 use Rattle.ebpf_places.specs.declared.walk.Spot.{Spot}
-use Rattle.ebpf_places.specs.Members.{if_read, known, members_in}
-use Rattle.ebpf_places.specs.Searches.{search_entries, sought}
+use Rattle.ebpf_places.specs.Members.{if_read, member_search, members_in}
+use Rattle.ebpf_places.specs.Searches.{search_entries, first_fitting}
 
--- how many parts a path may have before a step: a part is a step, or an unnamed member that a step passes
+-- how many parts a path may have before a step: a part is a step, or an anonymous member that a step passes
 abbrev pub path_parts : ℕ
 path_parts = 64
 
@@ -29,8 +29,8 @@ abbrev pub spot : ℕ → PlaceEnd → ℕ → ℕ → Spot
 spot bits end type_id parts = record { place = record { bits = bits; end = end }; type_id = type_id; parts = parts }
 
 -- a spot whose bits fit 32 bits
-abbrev pub reached : ℕ → PlaceEnd → ℕ → ℕ → Result Spot PlaceFault
-reached bits end type_id parts = if nat_lt bits (2 ^ 32) then Ok (spot bits end type_id parts) else Err (Btf InvalidTypeInfo)
+abbrev pub checked_spot : ℕ → PlaceEnd → ℕ → ℕ → Result Spot PlaceFault
+checked_spot bits end type_id parts = if nat_lt bits (2 ^ 32) then Ok (spot bits end type_id parts) else Err (Btf InvalidTypeInfo)
 
 -- what follows an answer that is no fault
 abbrev pub if_fine : {A X : Type 0} → Result A PlaceFault → (A → Result X PlaceFault) → Result X PlaceFault
@@ -53,25 +53,25 @@ is_last_at index (Some t) = is_last_of index t
 is_last_at index None = false
 
 -- an element that is itself an ARRAY is no STRUCT's member
-abbrev pub is_last_member : List BtfType → PlaceEnd → Bool
-is_last_member types (Member parent index) = is_last_at index (slice_get types parent)
-is_last_member types (Element id) = false
+abbrev pub ends_in_last_member : List BtfType → PlaceEnd → Bool
+ends_in_last_member types (Member parent index) = is_last_at index (slice_get types parent)
+ends_in_last_member types (Element id) = false
 
 -- an index has to be below the number of elements; an ARRAY of none that is the last member of a STRUCT has as many as
 -- there is room for
 abbrev pub is_accepted : List BtfType → PlaceEnd → ℕ → ℕ → Bool
-is_accepted types end count index = nat_lt index count || (count == 0 && is_last_member types end)
+is_accepted types end count index = nat_lt index count || (count == 0 && ends_in_last_member types end)
 
--- the element with a number, of a type of which the first begins so many bits from the start
-abbrev pub to_element : TypeInfo → ℕ → ℕ → ℕ → ℕ → Result Spot PlaceFault
-to_element target bits parts type_id index =
-    if_read (size_of target.types type_id) (λ size. reached (bits + index * size * 8) (Element type_id) type_id parts)
+-- the element with an index, of a type of which the first begins so many bits from the start
+abbrev pub element_spot : TypeInfo → ℕ → ℕ → ℕ → ℕ → Result Spot PlaceFault
+element_spot target bits parts type_id index =
+    if_read (size_of target.types type_id) (λ size. checked_spot (bits + index * size * 8) (Element type_id) type_id parts)
 
 abbrev pub by_array : TypeInfo → Spot → ℕ → Option BtfArray → Result (Option Spot) PlaceFault
 by_array target from index None = Ok None
 by_array target from index (Some array) =
     if is_accepted target.types from.place.end array.len index
-    then led (to_element target from.place.bits (from.parts + 1) array.element_type index)
+    then led (element_spot target from.place.bits (from.parts + 1) array.element_type index)
     else Ok None
 
 -- where an index leads in the type with an id
@@ -80,17 +80,17 @@ by_index target from id index = by_array target from index (option_and_then arra
 
 -- ---- to a member
 
-abbrev pub to_member : Spot → FoundMember → Result Spot PlaceFault
-to_member from m = reached (from.place.bits + m.bits) (Member m.parent m.index) m.type_id (from.parts + m.inside + 1)
+abbrev pub member_spot : Spot → FoundMember → Result Spot PlaceFault
+member_spot from m = checked_spot (from.place.bits + m.bits) (Member m.parent m.index) m.type_id (from.parts + m.inside + 1)
 
 abbrev pub by_found : Spot → Option FoundMember → Result (Option Spot) PlaceFault
 by_found from None = Ok None
-by_found from (Some m) = led (to_member from m)
+by_found from (Some m) = led (member_spot from m)
 
 -- where a name leads in the type with an id
 abbrev pub by_name : TypeInfo → TypeInfo → Spot → ℕ → List ℕ → ℕ → Result (Option Spot) PlaceFault
 by_name local target from id name local_type =
-    if_fine (sought (known local target name local_type) search_entries (members_in target.types id)) (by_found from)
+    if_fine (first_fitting (member_search local target name local_type) search_entries (members_in target.types id)) (by_found from)
 
 -- ---- along a path
 
@@ -116,11 +116,11 @@ followed local target [] from = Ok (Some from.place)
 followed local target (by ∷ path) from = if_fine (stepped local target from by) (λ led_to. onward led_to (followed local target path))
 
 -- the root index counts in the type that the root stands for
-abbrev pub begun : TypeInfo → ℕ → ℕ → Result Spot PlaceFault
-begun target root index = if_read (resolved target.types root) (λ id. to_element target 0 1 id index)
+abbrev pub root_spot : TypeInfo → ℕ → ℕ → Result Spot PlaceFault
+root_spot target root index = if_read (resolved target.types root) (λ id. element_spot target 0 1 id index)
 
 -- where a path leads whose first step is the root index; another path leads nowhere
 unfoldable pub place_of : TypeInfo → TypeInfo → ℕ → List Step → Result (Option Place) PlaceFault
 place_of local target root [] = Ok None
 place_of local target root (Name name local_type ∷ path) = Ok None
-place_of local target root (Index index ∷ path) = if_fine (begun target root index) (followed local target path)
+place_of local target root (Index index ∷ path) = if_fine (root_spot target root index) (followed local target path)

@@ -2,7 +2,7 @@
 
 ghost use Rattle.ebpf_places.specs.Laws.{FirstMemberIsOne, PathLeadsSo, PlaceIsOne};
 
-/// No two answers are the first member of a name, among the entries of a type's view by their numbers.
+/// No two answers are the first member of a name, among the entries of a type's view by their indices.
 pub fn one_first_member()
     ensures { FirstMemberIsOne }
 {}

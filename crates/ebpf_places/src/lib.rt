@@ -1,7 +1,7 @@
 //! Where a named path leads in a target type.
 //!
 //! A path of a CO-RE relocation names members of a local type. Here it is followed in a type of a target (the types of
-//! a kernel, as a rule), where the members may lie elsewhere, or inside other unnamed members.
+//! a kernel, as a rule), where the members may lie elsewhere, or inside other anonymous members.
 #![tactic(auto)]
 
 mod fault;

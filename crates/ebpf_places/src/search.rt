@@ -1,12 +1,12 @@
-//! The first member of a name, through unnamed members.
+//! The first member of a name, through anonymous members.
 
 ghost use Rattle.std.specs.Prelude.{◌≡◌, ◌+◌, ◌-◌, ◌*◌, ◌<◌, ◌≤◌, ◌^◌, IfOk};
 ghost use Rattle.ebpf_base.specs.Faults.{Gives};
 ghost use Rattle.ebpf_places.specs.FirstMembers.{IsFirstMember};
-ghost use Rattle.ebpf_places.specs.Members.{known, members_in};
+ghost use Rattle.ebpf_places.specs.Members.{member_search, members_in};
 ghost use Rattle.ebpf_places.specs.Memory.{MemoryAside, is_memory};
 ghost use Rattle.ebpf_places.specs.MemberViews.{view};
-ghost use Rattle.ebpf_places.specs.Searches.{IsFoundSmall, IsSmall, run, search_entries, sought};
+ghost use Rattle.ebpf_places.specs.Searches.{IsFoundSmall, IsSmall, run_search, search_entries, first_fitting};
 
 use crate::fault::PlaceFault;
 use crate::role::{Role, Wanted, role_of};
@@ -21,11 +21,11 @@ const SEARCH_ENTRIES: u32 = 1_048_576;
 pub struct FoundMember {
     /// The bits from the start of the type that was searched.
     pub bits: u64,
-    /// The number of unnamed members around it.
+    /// The number of anonymous members around it.
     pub inside: u32,
     /// The id of the STRUCT or UNION that it is a member of.
     pub parent: u32,
-    /// Its number there.
+    /// Its index there.
     pub index: usize,
     /// The id of its type.
     pub type_id: u32,
@@ -38,7 +38,7 @@ pub enum Answer {
     Absent { left: u32 },
 }
 
-/// Looks through the members of a type that lies inside so many unnamed ones and begins at a bit, over so many entries.
+/// Looks through the members of a type that lies inside so many anonymous ones and begins at a bit, over so many entries.
 fn search(
     wanted: Wanted<'_>,
     parent: u32,
@@ -48,8 +48,8 @@ fn search(
 ) -> Result<Answer, PlaceFault>
     requires depth { inside ≤ 64 }
     requires room { bits ≤ inside * 2 ^ 32 }
-    ensures gives { let scene = known wanted.entry.local.now wanted.entry.target.now wanted.entry.name.now wanted.entry.local_type in
-        Gives is_memory result (run scene entries (view scene (64 - inside) inside bits (members_in wanted.entry.target.now.types parent))) }
+    ensures gives { let name_search = member_search wanted.entry.local.now wanted.entry.target.now wanted.entry.name.now wanted.entry.local_type in
+        Gives is_memory result (run_search name_search entries (view name_search (64 - inside) inside bits (members_in wanted.entry.target.now.types parent))) }
     ensures small { IsSmall result }
 {
     let Some(ty) = type_at(wanted.target, parent) else {
@@ -69,7 +69,7 @@ fn search(
         match role {
             Role::Other => continue,
             Role::Misfit => return Ok(Answer::Absent { left }),
-            Role::Sought => {
+            Role::Fitting => {
                 return Ok(Answer::Found(FoundMember {
                     bits,
                     inside,
@@ -78,7 +78,7 @@ fn search(
                     type_id: member.btf_type,
                 }));
             }
-            Role::Unnamed { type_id } => {
+            Role::Anonymous { type_id } => {
                 let answer = search(wanted, type_id, inside + 1, bits, left)?;
                 match answer {
                     Answer::Absent { left: rest } => left = rest,
@@ -91,10 +91,10 @@ fn search(
 }
 
 /// Looks through all members of a type.
-#[tactic(auto, unfolding(crate::specs::Searches::sought))]
+#[tactic(auto, unfolding(crate::specs::Searches::first_fitting))]
 fn find(wanted: Wanted<'_>, parent: u32) -> Result<Option<FoundMember>, PlaceFault>
-    ensures same { let scene = known wanted.entry.local.now wanted.entry.target.now wanted.entry.name.now wanted.entry.local_type in
-        Gives is_memory result (sought scene search_entries (members_in wanted.entry.target.now.types parent)) }
+    ensures same { let name_search = member_search wanted.entry.local.now wanted.entry.target.now wanted.entry.name.now wanted.entry.local_type in
+        Gives is_memory result (first_fitting name_search search_entries (members_in wanted.entry.target.now.types parent)) }
     ensures small { IsFoundSmall result }
 {
     match search(wanted, parent, 0, 0, SEARCH_ENTRIES)? {
@@ -106,12 +106,12 @@ fn find(wanted: Wanted<'_>, parent: u32) -> Result<Option<FoundMember>, PlaceFau
 /// The first member of a name in the target type with the id `parent`, whose type is compatible with the local one.
 /// None where there is none; a type that is no STRUCT or UNION has no members.
 ///
-/// The members are met in order, each unnamed one followed by the members of the type that its own stands for. The first
+/// The members are met in order, each anonymous one followed by the members of the type that its own stands for. The first
 /// member of the name in one type is found, if `fields_are_compatible` says that the local type fits it; else that type's
-/// members end there, and the search goes on after the unnamed member that led to it.
+/// members end there, and the search goes on after the anonymous member that led to it.
 ///
-/// At each member that is met, in turn: `NestingLevel` at member 1,048,577, and at an unnamed one inside 64 unnamed ones;
-/// `Btf` where its name, or the type of an unnamed one, can't be read, or where the types can't be compared.
+/// At each member that is met, in turn: `NestingLevel` at member 1,048,577, and at an anonymous one inside 64 anonymous ones;
+/// `Btf` where its name, or the type of an anonymous one, can't be read, or where the types can't be compared.
 /// `Btf(OutOfMemory)` as in `fields_are_compatible`.
 pub fn find_member(
     local: &Btf,
@@ -121,7 +121,7 @@ pub fn find_member(
     local_type: u32,
 ) -> Result<Option<FoundMember>, PlaceFault>
     ensures first { MemoryAside result (λ answer. IsFirstMember local.now target.now name.now local_type parent answer) }
-    ensures same { Gives is_memory result (sought (known local.now target.now name.now local_type) search_entries (members_in target.now.types parent)) }
+    ensures same { Gives is_memory result (first_fitting (member_search local.now target.now name.now local_type) search_entries (members_in target.now.types parent)) }
     ensures small { IsFoundSmall result }
 {
     let wanted = Wanted {

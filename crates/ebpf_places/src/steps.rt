@@ -8,6 +8,6 @@ pub enum Step {
     /// To the member with a name. `local_type` is the id of the local member's type, which the target member's type has
     /// to be compatible with.
     Name { name: Text, local_type: u32 },
-    /// To the element with a number. The first step of a path counts in the root type itself.
+    /// To the element with an index. The first step of a path counts in the root type itself.
     Index { index: usize },
 }

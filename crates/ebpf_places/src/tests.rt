@@ -39,7 +39,7 @@ fn member(name_offset: u32, btf_type: u32, offset: u32) -> BtfMember {
     }
 }
 
-/// A type inside so many structs, in each as the unnamed member at bit 8.
+/// A type inside so many structs, in each as the anonymous member at bit 8.
 fn add_levels(alloc: Global, btf: &mut Btf, innermost: u32, levels: u32) -> Result<u32, BtfError> {
     let mut id = innermost;
     for _level in 0..levels {
@@ -48,7 +48,7 @@ fn add_levels(alloc: Global, btf: &mut Btf, innermost: u32, levels: u32) -> Resu
     Ok(id)
 }
 
-/// So many structs, each of two unnamed members of the one before, the first of an empty struct.
+/// So many structs, each of two anonymous members of the one before, the first of an empty struct.
 fn add_pairs(alloc: Global, btf: &mut Btf, structs: u32) -> Result<u32, BtfError> {
     let mut id = add_struct(alloc, btf, &[])?;
     for _level in 0..structs {
@@ -68,7 +68,7 @@ fn path_to_a(alloc: Global) -> Result<Vec<Step>, AllocError> {
     Ok(path)
 }
 
-fn told(alloc: Global, outcome: Result<Option<Place>, PlaceFault>) -> Result<String, AllocError> {
+fn debug_text(alloc: Global, outcome: Result<Option<Place>, PlaceFault>) -> Result<String, AllocError> {
     format!(in alloc; "{outcome:?}")
 }
 
@@ -80,15 +80,15 @@ fn start(alloc: Global) -> Result<Btf, BtfError> {
     Ok(btf)
 }
 
-/// What looking for `a` comes to where it lies inside so many unnamed members.
+/// What looking for `a` comes to where it lies inside so many anonymous members.
 fn at_level(alloc: Global, levels: u32) -> Result<String, BtfError> {
     let mut btf = start(alloc)?;
     let innermost = add_struct(alloc, &mut btf, &[member(A, 1, 32)])?;
     let root = add_levels(alloc, &mut btf, innermost, levels)?;
-    Ok(told(alloc, place_in(&btf, &btf, root, &path_to_a(alloc)?))?)
+    Ok(debug_text(alloc, place_in(&btf, &btf, root, &path_to_a(alloc)?))?)
 }
 
-/// What looking for `a` comes to behind an unnamed member with so many structs of pairs, and as many named ones.
+/// What looking for `a` comes to behind an anonymous member with so many structs of pairs, and as many named ones.
 fn behind_pairs(alloc: Global, structs: u32, others: u32) -> Result<String, BtfError> {
     let mut btf = start(alloc)?;
     let other = btf.add_string("b")?;
@@ -100,7 +100,7 @@ fn behind_pairs(alloc: Global, structs: u32, others: u32) -> Result<String, BtfE
     }
     members.push(member(A, 1, 96))?;
     let root = add_struct(alloc, &mut btf, &members)?;
-    Ok(told(alloc, place_in(&btf, &btf, root, &path_to_a(alloc)?))?)
+    Ok(debug_text(alloc, place_in(&btf, &btf, root, &path_to_a(alloc)?))?)
 }
 
 #[test]
@@ -125,7 +125,7 @@ fn looks_at_1_048_576_members(rt: HostRuntime) -> Result<(), Fail> {
     Ok(())
 }
 
-/// A struct of a pointer and of an unnamed struct whose `a` is a pointer and has another `a` behind it.
+/// A struct of a pointer and of an anonymous struct whose `a` is a pointer and has another `a` behind it.
 #[test]
 fn passes_a_misfit_in_an_inner_type(rt: HostRuntime) -> Result<(), Fail> {
     let alloc = rt.alloc();
@@ -133,12 +133,12 @@ fn passes_a_misfit_in_an_inner_type(rt: HostRuntime) -> Result<(), Fail> {
     let pointer = add_pointer(&mut btf)?;
     let inner = add_struct(alloc, &mut btf, &[member(A, pointer, 0), member(A, 1, 64)])?;
     let root = add_struct(alloc, &mut btf, &[member(0, inner, 0), member(A, 1, 96)])?;
-    let found = told(alloc, place_in(&btf, &btf, root, &path_to_a(alloc)?))?;
+    let found = debug_text(alloc, place_in(&btf, &btf, root, &path_to_a(alloc)?))?;
     assert_eq!(rt;
         found.as_str(),
         "Ok(Some(Place { bits: 96, end: Member { parent: 4, index: 1 } }))"
     );
-    let absent = told(alloc, place_in(&btf, &btf, inner, &path_to_a(alloc)?))?;
+    let absent = debug_text(alloc, place_in(&btf, &btf, inner, &path_to_a(alloc)?))?;
     assert_eq!(rt; absent.as_str(), "Ok(None)");
     Ok(())
 }

@@ -4,7 +4,7 @@ ghost use Rattle.std.specs.Prelude.{◌≡◌, ◌+◌, ◌*◌, ◌<◌, ◌≤
 ghost use Rattle.ebpf_base.specs.Faults.{Gives};
 ghost use Rattle.ebpf_places.specs.Memory.{MemoryAside, is_memory};
 ghost use Rattle.ebpf_places.specs.Paths.{PathLeads};
-ghost use Rattle.ebpf_places.specs.Places.{begun, by_index, by_name, followed, is_accepted, is_last_member, is_last_of, place_of, stepped, to_element, to_member};
+ghost use Rattle.ebpf_places.specs.Places.{root_spot, by_index, by_name, followed, is_accepted, ends_in_last_member, is_last_of, place_of, stepped, element_spot, member_spot};
 
 use crate::fault::PlaceFault;
 use crate::places::{Place, PlaceEnd};
@@ -16,7 +16,7 @@ use ebpf_btf::{Btf, BtfError, BtfType};
 /// How many parts a path may have before a step.
 const PATH_PARTS: u32 = 64;
 
-/// How far a path has come: a place, the type there, and how many steps and unnamed members led to it.
+/// How far a path has come: a place, the type there, and how many steps and anonymous members led to it.
 #[derive(Clone, Copy)]
 pub struct Spot {
     pub place: Place,
@@ -36,8 +36,8 @@ fn is_last_of(index: usize, ty: &BtfType) -> bool
 }
 
 /// Whether a path ends in the last member of a STRUCT.
-fn is_last_member(target: &Btf, end: PlaceEnd) -> bool
-    ensures { result ≡ is_last_member target.now.types end }
+fn ends_in_last_member(target: &Btf, end: PlaceEnd) -> bool
+    ensures { result ≡ ends_in_last_member target.now.types end }
 {
     match end {
         PlaceEnd::Element { .. } => false,
@@ -52,7 +52,7 @@ fn is_last_member(target: &Btf, end: PlaceEnd) -> bool
 fn is_accepted(target: &Btf, end: PlaceEnd, count: u32, index: usize) -> bool
     ensures { result ≡ is_accepted target.now.types end count index }
 {
-    index < count as usize || (count == 0 && is_last_member(target, end))
+    index < count as usize || (count == 0 && ends_in_last_member(target, end))
 }
 
 /// The bits before an element of so many bytes, which follows so many bits. None where they are past 32 bits.
@@ -65,15 +65,15 @@ fn bits_before(bits: u32, index: usize, size: u32) -> Option<u32>
     u32::try_from(sum).ok()
 }
 
-/// The element with a number, of a type of which the first begins so many bits from the start.
-fn to_element(
+/// The element with an index, of a type of which the first begins so many bits from the start.
+fn element_spot(
     target: &Btf,
     bits: u32,
     parts: u32,
     type_id: u32,
     index: usize,
 ) -> Result<Spot, PlaceFault>
-    ensures { result ≡ to_element target.now bits parts type_id index }
+    ensures { result ≡ element_spot target.now bits parts type_id index }
 {
     let size = target.type_size(type_id)?;
     let Some(bits) = bits_before(bits, index, size) else {
@@ -106,7 +106,7 @@ fn by_index(
     if !is_accepted(target, from.place.end, array.len, index) {
         return Ok(None);
     }
-    let spot = to_element(
+    let spot = element_spot(
         target,
         from.place.bits,
         from.parts + 1,
@@ -117,11 +117,11 @@ fn by_index(
 }
 
 /// The member that was found from a spot.
-fn to_member(from: Spot, member: FoundMember) -> Result<Spot, PlaceFault>
+fn member_spot(from: Spot, member: FoundMember) -> Result<Spot, PlaceFault>
     requires parts { from.parts < 64 }
     requires near { member.bits < 2 ^ 39 }
     requires shallow { member.inside ≤ 64 }
-    ensures { result ≡ to_member from member }
+    ensures { result ≡ member_spot from member }
 {
     let Ok(bits) = u32::try_from(u64::from(from.place.bits) + member.bits) else {
         return Err(PlaceFault::Btf(BtfError::InvalidTypeInfo));
@@ -150,7 +150,7 @@ fn by_name(
     ensures { Gives is_memory result (by_name local.now target.now from type_id name.now local_type) }
 {
     match find_member(local, target, type_id, name, local_type)? {
-        Some(member) => Ok(Some(to_member(from, member)?)),
+        Some(member) => Ok(Some(member_spot(from, member)?)),
         None => Ok(None),
     }
 }
@@ -192,10 +192,10 @@ fn follow_all(
 
 /// The spot of the root index: its elements are of the type that the root type stands for.
 fn begin(target: &Btf, root_type: u32, index: usize) -> Result<Spot, PlaceFault>
-    ensures { result ≡ begun target.now root_type index }
+    ensures { result ≡ root_spot target.now root_type index }
 {
     let type_id = target.resolve_type(root_type)?;
-    to_element(target, 0, 1, type_id, index)
+    element_spot(target, 0, 1, type_id, index)
 }
 
 /// Where a path leads whose first step is the root index; another path leads nowhere.
@@ -225,7 +225,7 @@ fn place(
 /// index where the ARRAY is the last member of a STRUCT; a name as in `find_member`, with the id of the local member's
 /// type in `local`.
 ///
-/// `NestingLevel` before a step where 64 steps and unnamed members were passed, and as in `find_member`; `Btf` as in
+/// `NestingLevel` before a step where 64 steps and anonymous members were passed, and as in `find_member`; `Btf` as in
 /// `find_member`, and where a type or the size of an element (also for index 0) can't be read; `Btf(InvalidTypeInfo)`
 /// where the bits are past 4,294,967,295 after a step. The first fault on the way is given.
 pub fn place_in(

@@ -2,11 +2,11 @@
 use Rattle.std.proofs.Common.{◌≡◌, ◌≢◌, ℕ, Bool, true, false, cond, refl, arith, eqb, eq-eqb}
 use Rattle.std.proofs.lemmas.Bool.Decides.{nat_tests}
 use Rattle.ebpf_parts.specs.declared.insn.bpf_insn.{bpf_insn}
-use Rattle.ebpf_linker.specs.Slots.{Flow, Return, Enter, Wide, Jump, Branch, Next, flow, is_pseudo_call, is_branch}
+use Rattle.ebpf_linker.specs.Slots.{Flow, Return, PseudoCall, WideLoad, Jump, Branch, Next, flow, is_pseudo_call, is_branch}
 
 -- the table of `flow`, by what its tests say
 chosen : Bool → Bool → Bool → Bool → Bool → Bool → bpf_insn → Flow
-chosen a b c d e f slot = cond a Return (cond b Enter (cond c Wide (cond d (Jump slot.off) (cond e (Jump slot.imm) (cond f (Branch slot.off) Next)))))
+chosen a b c d e f slot = cond a Return (cond b PseudoCall (cond c WideLoad (cond d (Jump slot.off) (cond e (Jump slot.imm) (cond f (Branch slot.off) Next)))))
 
 flow_chosen : (slot : bpf_insn) → flow slot ≡ chosen (eqb slot.code 0x95) (is_pseudo_call slot) (eqb slot.code 0x18) (eqb slot.code 0x05) (eqb slot.code 0x06) (is_branch slot.code) slot
 unfolding flow chosen
@@ -22,11 +22,11 @@ pub flow_return : (slot : bpf_insn) → slot.code ≡ 0x95 → flow slot ≡ Ret
 unfolding chosen
 flow_return slot p = flow_by slot true _ _ _ _ _ (eq-eqb slot.code 0x95 p) refl refl refl refl refl
 
-pub flow_enter : (slot : bpf_insn) → slot.code ≢ 0x95 → is_pseudo_call slot ≡ true → flow slot ≡ Enter
+pub flow_enter : (slot : bpf_insn) → slot.code ≢ 0x95 → is_pseudo_call slot ≡ true → flow slot ≡ PseudoCall
 unfolding chosen
 flow_enter slot p q = flow_by slot false true _ _ _ _ (differ slot.code 0x95 p) q refl refl refl refl
 
-pub flow_wide : (slot : bpf_insn) → slot.code ≢ 0x95 → is_pseudo_call slot ≡ false → slot.code ≡ 0x18 → flow slot ≡ Wide
+pub flow_wide : (slot : bpf_insn) → slot.code ≢ 0x95 → is_pseudo_call slot ≡ false → slot.code ≡ 0x18 → flow slot ≡ WideLoad
 unfolding chosen
 flow_wide slot p q r = flow_by slot false false true _ _ _ (differ slot.code 0x95 p) q (eq-eqb slot.code 0x18 r) refl refl refl
 

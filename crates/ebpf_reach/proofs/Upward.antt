@@ -4,7 +4,7 @@ use Rattle.std.specs.Prelude.{slice_get}
 use Rattle.std.proofs.lemmas.Bool.Decides.{nat_tests}
 use Rattle.ebpf_parts.specs.declared.insn.bpf_insn.{bpf_insn}
 use Rattle.ebpf_parts.specs.Slots.{dst_of}
-use Rattle.ebpf_linker.specs.Slots.{Flow, Return, Enter, Wide, Jump, Branch, Next, flow}
+use Rattle.ebpf_linker.specs.Slots.{Flow, Return, PseudoCall, WideLoad, Jump, Branch, Next, flow}
 use Rattle.ebpf_reach.specs.declared.registers.Registers.{Registers}
 use Rattle.ebpf_reach.specs.declared.steps.Step.{Step}
 use Rattle.ebpf_reach.specs.Registers.{IsBelow, unknown, learned, called}
@@ -62,11 +62,11 @@ ways_below A (Some false) (Some true) s t u v p q r h = absurd (let e : Some fal
 
 follow_below : (slots : List bpf_insn) (A : Assignment) (i : ℕ) (slot : bpf_insn) (a b : Registers) (f : Flow) → IsBelow a b → Holds A (follow slots i slot b f) → Holds A (follow slots i slot a f)
 follow_below slots A i slot a b Return p h = tt
-follow_below slots A i slot a b Enter p h =
+follow_below slots A i slot a b PseudoCall p h =
     let back = leads slots (behind i) (called b) in
     let there = leads slots (further i slot.imm) unknown in
     holds_both A (leads slots (behind i) (called a)) there (leads_below slots A (behind i) _ _ (called_below a b p) (holds_first A back there h)) (holds_second A back there h)
-follow_below slots A i slot a b Wide p h =
+follow_below slots A i slot a b WideLoad p h =
     let next = leads slots (pos i +ℤ pos 2) (learned b (dst_of slot) (loaded slots i slot)) in
     let there = callback slots i slot in
     holds_both A (leads slots (pos i +ℤ pos 2) (learned a (dst_of slot) (loaded slots i slot))) there (leads_below slots A (pos i +ℤ pos 2) _ _ (learned_below a b (dst_of slot) _ _ p (λ n e. e)) (holds_first A next there h)) (holds_second A next there h)

@@ -5,8 +5,8 @@ use Rattle.std.specs.Option.{option_and_then}
 use Rattle.std.proofs.lemmas.Option.{slice_get_within}
 use Rattle.ebpf_parts.specs.declared.insn.bpf_insn.{bpf_insn}
 use Rattle.ebpf_parts.specs.Slots.{dst_of}
-use Rattle.ebpf_linker.specs.Slots.{Flow, Return, Enter, Wide, Jump, Branch, Next, flow, slot_at}
-use Rattle.ebpf_linker.specs.Machine.{State, Turn, Goes, Ends, Waits, Leaves, run, begin, flat, turn_at, follow, after}
+use Rattle.ebpf_linker.specs.Slots.{Flow, Return, PseudoCall, WideLoad, Jump, Branch, Next, flow, slot_at}
+use Rattle.ebpf_linker.specs.Machine.{State, StepResult, Goes, Ends, Waits, Leaves, run, begin, flat, step_at, follow, after}
 use Rattle.ebpf_reach.specs.declared.registers.Registers.{Registers}
 use Rattle.ebpf_reach.specs.Registers.{known, unknown, learned, called}
 use Rattle.ebpf_reach.specs.Effects as effects
@@ -65,11 +65,11 @@ Visits slots A n = (place : ℤ) (stack : List ℤ) (decisions : List Bool) → 
 visit_by : (slots : List bpf_insn) (A : Assignment) (n i : ℕ) (slot : bpf_insn) (a : Registers) (f : Flow) (stack : List ℤ) (decisions : List Bool) → Visits slots A n → HeedsOne (known_way (Some a) slot f) decisions → HeedsTurn (Heeds slots A n) (follow (flat slots) (at_place (pos i) stack decisions) slot f) → Holds A (ours.follow slots i slot a f) → AllReady slots A stack → IsSome (state_at A i) → AllReached A (after (run (flat slots) n) (pos i) (follow (flat slots) (at_place (pos i) stack decisions) slot f)).visited
 visit_by slots A n i slot a Return [] decisions rest one turn h q here = (here, tt)
 visit_by slots A n i slot a Return (x ∷ stack) decisions rest one turn h q here = (here, rest x stack decisions turn q.0 q.1)
-visit_by slots A n i slot a Enter stack decisions rest one turn h q here =
+visit_by slots A n i slot a PseudoCall stack decisions rest one turn h q here =
     let back = ours.leads slots (ours.behind i) (called a) in
     let there = ours.leads slots (ours.further i slot.imm) unknown in
     (here, rest (ours.further i slot.imm) (ours.behind i ∷ stack) decisions turn (leads_ready slots A (ours.further i slot.imm) unknown (holds_second A back there h)) (leads_ready slots A (ours.behind i) (called a) (holds_first A back there h), q))
-visit_by slots A n i slot a Wide stack decisions rest one turn h q here =
+visit_by slots A n i slot a WideLoad stack decisions rest one turn h q here =
     let next = learned a (dst_of slot) (effects.loaded slots i slot) in
     (here, rest (pos i +ℤ pos 2) stack decisions turn (leads_ready slots A (pos i +ℤ pos 2) next (holds_first A (ours.leads slots (pos i +ℤ pos 2) next) (ours.callback slots i slot) h)) q)
 visit_by slots A n i slot a (Jump d) stack decisions rest one turn h q here =
@@ -88,7 +88,7 @@ visit_slot slots A n i slot (Some a) stack decisions closed rest one turn there 
     let here : IsSome (state_at A i) = subst (λ (x : Option Registers). IsSome x) (sym is) refl in
     visit_by slots A n i slot a (flow slot) stack decisions rest one turn held q here
 
-visit_at : (slots : List bpf_insn) (A : Assignment) (n i : ℕ) (x : Option bpf_insn) (stack : List ℤ) (decisions : List Bool) → IsClosed slots A → Visits slots A n → HeedsAt A (pos i) x decisions → HeedsTurn (Heeds slots A n) (turn_at (flat slots) (at_place (pos i) stack decisions) x) → slice_get slots i ≡ x → Ready slots A (pos i) → AllReady slots A stack → AllReached A (after (run (flat slots) n) (pos i) (turn_at (flat slots) (at_place (pos i) stack decisions) x)).visited
+visit_at : (slots : List bpf_insn) (A : Assignment) (n i : ℕ) (x : Option bpf_insn) (stack : List ℤ) (decisions : List Bool) → IsClosed slots A → Visits slots A n → HeedsAt A (pos i) x decisions → HeedsTurn (Heeds slots A n) (step_at (flat slots) (at_place (pos i) stack decisions) x) → slice_get slots i ≡ x → Ready slots A (pos i) → AllReady slots A stack → AllReached A (after (run (flat slots) n) (pos i) (step_at (flat slots) (at_place (pos i) stack decisions) x)).visited
 visit_at slots A n i None stack decisions closed rest one turn is p q = tt
 visit_at slots A n i (Some slot) stack decisions closed rest one turn is p q =
     visit_slot slots A n i slot (state_at A i) stack decisions closed rest one turn is refl (p (slice_get_within slots i slot is)) q
@@ -110,8 +110,8 @@ nothing_heeded (Some d) decisions h = cc
 
 no_way : (z : Option Registers) (slot : bpf_insn) (f : Flow) → ((a : Registers) → z ≡ Some a → (r : ℕ) → known a r ≡ None) → known_way z slot f ≡ None
 no_way z slot Return h = refl
-no_way z slot Enter h = refl
-no_way z slot Wide h = refl
+no_way z slot PseudoCall h = refl
+no_way z slot WideLoad h = refl
 no_way z slot (Jump d) h = refl
 no_way None slot (Branch d) h = refl
 no_way (Some a) slot (Branch d) h = nothing_decided slot a (h a refl)
@@ -123,7 +123,7 @@ heeds_at A (pos i) None decisions nothing = tt
 heeds_at A (pos i) (Some slot) decisions nothing =
     nothing_heeded (known_way (state_at A i) slot (flow slot)) decisions (no_way (state_at A i) slot (flow slot) (λ a is r. nothing i r a is))
 
-turn_heeds : (rest : State ℤ → Type 0) → ((s : State ℤ) → rest s) → (t : Turn ℤ) → HeedsTurn rest t
+turn_heeds : (rest : State ℤ → Type 0) → ((s : State ℤ) → rest s) → (t : StepResult ℤ) → HeedsTurn rest t
 turn_heeds rest h (Goes s) = h s
 turn_heeds rest h Ends = tt
 turn_heeds rest h Waits = tt
@@ -132,7 +132,7 @@ turn_heeds rest h Leaves = tt
 heeds : (slots : List bpf_insn) (A : Assignment) → KnowsNothing A → (n : ℕ) (s : State ℤ) → Heeds slots A n s
 heeds slots A nothing zero s = tt
 heeds slots A nothing (suc n) s =
-    (heeds_at A s.place (slot_at slots s.place) s.decisions nothing, turn_heeds (Heeds slots A n) (heeds slots A nothing n) (turn_at (flat slots) s (slot_at slots s.place)))
+    (heeds_at A s.place (slot_at slots s.place) s.decisions nothing, turn_heeds (Heeds slots A n) (heeds slots A nothing n) (step_at (flat slots) s (slot_at slots s.place)))
 
 pub all_visits_are_reached : AllVisitsAreReached
 all_visits_are_reached slots A closed nothing decisions n =

@@ -3,7 +3,7 @@ use Rattle.std.specs.Option.{option_to_list}
 use Rattle.std.specs.Prelude.{ℕ, ◌<◌, IfSome, ℤ, pos, negsuc, ◌+ℤ◌, Bool, true, false, Option, Some, None, List, [], ◌∷◌, ◌++◌, length, nat_lt, slice_get, if◌then◌else◌, ◌==◌}
 use Rattle.ebpf_parts.specs.declared.insn.bpf_insn.{bpf_insn}
 use Rattle.ebpf_parts.specs.Slots.{dst_of, src_of}
-use Rattle.ebpf_linker.specs.Slots.{Flow, Return, Enter, Wide, Jump, Branch, Next, flow}
+use Rattle.ebpf_linker.specs.Slots.{Flow, Return, PseudoCall, WideLoad, Jump, Branch, Next, flow}
 use Rattle.ebpf_reach.specs.declared.registers.Registers.{Registers}
 use Rattle.ebpf_reach.specs.declared.steps.Step.{Step}
 use Rattle.ebpf_reach.specs.Registers.{unknown, learned, called}
@@ -34,8 +34,8 @@ callback slots i slot = if src_of slot == 4 then leads slots (further i slot.imm
 
 abbrev pub follow : List bpf_insn → ℕ → bpf_insn → Registers → Flow → List Step
 follow slots i slot a Return = []
-follow slots i slot a Enter = leads slots (behind i) (called a) ++ leads slots (further i slot.imm) unknown
-follow slots i slot a Wide = leads slots (pos i +ℤ pos 2) (learned a (dst_of slot) (loaded slots i slot)) ++ callback slots i slot
+follow slots i slot a PseudoCall = leads slots (behind i) (called a) ++ leads slots (further i slot.imm) unknown
+follow slots i slot a WideLoad = leads slots (pos i +ℤ pos 2) (learned a (dst_of slot) (loaded slots i slot)) ++ callback slots i slot
 follow slots i slot a (Jump d) = leads slots (further i d) a
 follow slots i slot a (Branch d) = ways (decided slot a) (leads slots (behind i) a) (leads slots (further i d) a)
 follow slots i slot a Next = leads slots (behind i) (after slot a)

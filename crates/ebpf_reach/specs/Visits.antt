@@ -3,7 +3,7 @@ use Rattle.std.specs.Prelude.{◌≡◌, ℕ, zero, suc, ◌<◌, ℤ, pos, negs
 use Rattle.std.specs.Option.{option_and_then}
 use Rattle.ebpf_parts.specs.declared.insn.bpf_insn.{bpf_insn}
 use Rattle.ebpf_linker.specs.Slots.{Flow, Branch, flow, slot_at}
-use Rattle.ebpf_linker.specs.Machine.{State, Turn, Goes, Ends, Waits, Leaves, run, begin, flat, turn_at}
+use Rattle.ebpf_linker.specs.Machine.{State, StepResult, Goes, Ends, Waits, Leaves, run, begin, flat, step_at}
 use Rattle.ebpf_reach.specs.declared.registers.Registers.{Registers}
 use Rattle.ebpf_reach.specs.declared.steps.Step.{Step}
 use Rattle.ebpf_reach.specs.Registers.{IsBelow, known}
@@ -39,7 +39,7 @@ HeedsAt A (negsuc i) slot decisions = ⊤
 HeedsAt A (pos i) None decisions = ⊤
 HeedsAt A (pos i) (Some slot) decisions = HeedsOne (known_way (state_at A i) slot (flow slot)) decisions
 
-abbrev pub HeedsTurn : (State ℤ → Type 0) → Turn ℤ → Type 0
+abbrev pub HeedsTurn : (State ℤ → Type 0) → StepResult ℤ → Type 0
 HeedsTurn rest (Goes s) = rest s
 HeedsTurn rest Ends = ⊤
 HeedsTurn rest Waits = ⊤
@@ -48,7 +48,7 @@ HeedsTurn rest Leaves = ⊤
 -- In a run of the flat program's machine each decision at a jump heeds what is known there.
 abbrev pub Heeds : List bpf_insn → Assignment → ℕ → State ℤ → Type 0
 Heeds slots A zero s = ⊤
-Heeds slots A (suc n) s = HeedsAt A s.place (slot_at slots s.place) s.decisions × HeedsTurn (Heeds slots A n) (turn_at (flat slots) s (slot_at slots s.place))
+Heeds slots A (suc n) s = HeedsAt A s.place (slot_at slots s.place) s.decisions × HeedsTurn (Heeds slots A n) (step_at (flat slots) s (slot_at slots s.place))
 
 -- Each place that such a run visits from the first slot is reached.
 abbrev pub VisitsAreReached : Type 0

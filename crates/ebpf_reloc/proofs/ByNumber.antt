@@ -5,18 +5,18 @@ use Rattle.std.proofs.lemmas.Bool.Decides.{nat_tests}
 use Rattle.ebpf_linker.specs.declared.reference.Call.{Call}
 use Rattle.ebpf_linker.specs.declared.reference.Fault.{Fault}
 use Rattle.ebpf_linker.specs.declared.reference.Target.{Target}
-use Rattle.ebpf_linker.specs.Functions.{Reference, Nothing}
+use Rattle.ebpf_linker.specs.Functions.{SlotReference, Nothing}
 use Rattle.ebpf_linker.specs.Numbered.{of_target, referred, Rises}
 use Rattle.ebpf_parts.specs.declared.insn.bpf_insn.{bpf_insn}
 use Rattle.ebpf_reloc.specs.Numbers.{calls_by, with_call}
 
 -- what an optional target refers to
-abbrev pub of_option : Option Target → Reference ℕ Fault
+abbrev pub of_option : Option Target → SlotReference ℕ Fault
 of_option None = Nothing
 of_option (Some target) = of_target target
 
 module _ (leads : ℕ → bpf_insn → Option Target) where
-  abbrev pub led : ℕ → Option bpf_insn → Reference ℕ Fault
+  abbrev pub led : ℕ → Option bpf_insn → SlotReference ℕ Fault
   led i None = Nothing
   led i (Some slot) = of_option (leads i slot)
 

@@ -5,7 +5,7 @@ use Rattle.std.specs.FinMap.{get, entries}
 use Rattle.std.proofs.lemmas.List.{length-map}
 use Rattle.std.proofs.lemmas.Option.{slice_get_cases}
 use Rattle.ebpf_linker.specs.declared.body.LinkedProgram.{LinkedProgram}
-use Rattle.ebpf_linker.specs.Faults.{LeastFault, linking}
+use Rattle.ebpf_linker.specs.Faults.{LeastFault, checked_references}
 use Rattle.ebpf_linker.specs.Result.{IsLinking}
 use Rattle.ebpf_linker.proofs.Visits.{same_visits}
 use Rattle.ebpf_reloc.proofs.CallsRefer.{calls_refer}
@@ -14,10 +14,10 @@ use Rattle.ebpf_reloc.specs.declared.error.EbpfRelocationError.{EbpfRelocationEr
 use Rattle.ebpf_reloc.specs.declared.error.RelocationError.{RelocationError}
 use Rattle.ebpf_reloc.specs.declared.error.RelocationError.TheVariants.{UnknownProgram}
 use Rattle.ebpf_reloc.specs.declared.function.Function.{Function}
-use Rattle.ebpf_reloc.specs.Linking.{ProgramValue, key_of, with_linked, IsLinked, IsFault, IsRefused}
+use Rattle.ebpf_reloc.specs.Linking.{ProgramValue, key_of, with_linked, IsLinked, IsProgramFault, IsProgramRefusal}
 use Rattle.ebpf_reloc.specs.Memory.{is_memory, is_memory_at}
-use Rattle.ebpf_reloc.specs.Numbers.{function_keys, function_list, number_in, key_in}
-use Rattle.ebpf_reloc.specs.Places.{LinkableValue}
+use Rattle.ebpf_reloc.specs.Numbers.{function_keys, function_list, number_of_key, key_in}
+use Rattle.ebpf_reloc.specs.SlotTargets.{LinkableValue}
 use Rattle.ebpf_reloc.specs.References.{Key, functions_of}
 
 -- what holds holds also where memory was refused
@@ -44,12 +44,12 @@ module _ (parts : LinkableValue) where
     visits = λ on. same_visits (functions_of parts) (key_in keys number) h.0 l.slots h.1.linked (calls_refer parts) on;
   }
 
-  fault_where : (key : Key) (e : RelocationError) (o : Option Function) → (o ≡ None → ⊥) → LeastFault (functions_of parts) (linking (functions_of parts) key) key e
-      → MatchOption o (e ≡ UnknownProgram key.0 key.1) (λ _. LeastFault (functions_of parts) (linking (functions_of parts) key) key e)
+  fault_where : (key : Key) (e : RelocationError) (o : Option Function) → (o ≡ None → ⊥) → LeastFault (functions_of parts) (checked_references (functions_of parts) key) key e
+      → MatchOption o (e ≡ UnknownProgram key.0 key.1) (λ _. LeastFault (functions_of parts) (checked_references (functions_of parts) key) key e)
   fault_where key e None there h = absurd (there refl)
   fault_where key e (Some f) there h = h
 
-  pub is_fault : (number : ℕ) (e : RelocationError) → number < length keys → IsLinking (functions_of parts) (key_in keys number) (Err e) → IsFault parts (key_in keys number) e
+  pub is_fault : (number : ℕ) (e : RelocationError) → number < length keys → IsLinking (functions_of parts) (key_in keys number) (Err e) → IsProgramFault parts (key_in keys number) e
   is_fault number e lt h = fault_where (key_in keys number) e (get parts.functions (key_in keys number)) there h
     where
       there : get parts.functions (key_in keys number) ≡ None → ⊥
@@ -61,21 +61,21 @@ module _ (parts : LinkableValue) where
           clash x e = cc
 
   -- no function stands at a key without a number
-  pub no_program : (key : Key) → number_in keys key ≡ None → IsFault parts key (UnknownProgram key.0 key.1)
+  pub no_program : (key : Key) → number_of_key keys key ≡ None → IsProgramFault parts key (UnknownProgram key.0 key.1)
   no_program key none = step (get parts.functions key) (has_number parts.functions key ∙ ap is_some none)
     where
-      step : (o : Option Function) → is_some o ≡ false → MatchOption o (UnknownProgram key.0 key.1 ≡ UnknownProgram key.0 key.1) (λ _. LeastFault (functions_of parts) (linking (functions_of parts) key) key (UnknownProgram key.0 key.1))
+      step : (o : Option Function) → is_some o ≡ false → MatchOption o (UnknownProgram key.0 key.1 ≡ UnknownProgram key.0 key.1) (λ _. LeastFault (functions_of parts) (checked_references (functions_of parts) key) key (UnknownProgram key.0 key.1))
       step None h = refl
       step (Some f) h = cc
 
 -- a fault, with the program's name
 pub with_name : (parts : LinkableValue) (program : ProgramValue) (error : RelocationError) (e : EbpfRelocationError) → MatchBool (is_memory_at e) ⊤ (e ≡ record { function = program.name; error = error })
-    → MatchBool (is_memory error) ⊤ (IsFault parts (key_of program) error) → MatchBool (is_memory_at e) ⊤ (IsRefused parts program e)
+    → MatchBool (is_memory error) ⊤ (IsProgramFault parts (key_of program) error) → MatchBool (is_memory_at e) ⊤ (IsProgramRefusal parts program e)
 with_name parts program error e is fault = step (is_memory_at e) refl is
   where
-    step : (b : Bool) → is_memory_at e ≡ b → MatchBool b ⊤ (e ≡ record { function = program.name; error = error }) → MatchBool b ⊤ (IsRefused parts program e)
+    step : (b : Bool) → is_memory_at e ≡ b → MatchBool b ⊤ (e ≡ record { function = program.name; error = error }) → MatchBool b ⊤ (IsProgramRefusal parts program e)
     step true at h = tt
     step false at h =
         let other : is_memory error ≡ false = sym (ap is_memory_at h) ∙ at in
-        let stands : IsFault parts (key_of program) error = subst (λ (b : Bool). MatchBool b ⊤ (IsFault parts (key_of program) error)) other fault in
-        subst (λ (x : EbpfRelocationError). IsRefused parts program x) (sym h) (refl, stands)
+        let stands : IsProgramFault parts (key_of program) error = subst (λ (b : Bool). MatchBool b ⊤ (IsProgramFault parts (key_of program) error)) other fault in
+        subst (λ (x : EbpfRelocationError). IsProgramRefusal parts program x) (sym h) (refl, stands)

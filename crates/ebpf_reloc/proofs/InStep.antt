@@ -12,11 +12,11 @@ use Rattle.std.proofs.lemmas.Bool.Decides.{nat_tests}
 use Rattle.std.proofs.lemmas.List.Kept.{IsStrictlySortedBy-filter}
 use Rattle.ebpf_base.proofs.Lists.{filter-map}
 use Rattle.ebpf_base.proofs.Sorted.{entries_rise}
-use Rattle.ebpf_base.specs.Parts.{entries_from}
+use Rattle.ebpf_base.specs.EntriesFrom.{entries_from}
 use Rattle.ebpf_elf.specs.declared.entries.ElfRelocation.{ElfRelocation}
 use Rattle.ebpf_reloc.specs.declared.walk.Walk.{Walk}
-use Rattle.ebpf_reloc.specs.Places.{found_at}
-use Rattle.ebpf_reloc.specs.Walks.{entries_in, ahead_in, left, walked, is_passed, at_offset, IsBefore}
+use Rattle.ebpf_reloc.specs.SlotTargets.{found_at}
+use Rattle.ebpf_reloc.specs.Walks.{entries_or_none, ahead_in, left, walked_relocations, is_passed, at_offset, IsBefore}
 
 abbrev Entries : Type 0
 Entries = List (ℕ × ElfRelocation)
@@ -106,13 +106,13 @@ value_first (Some e) ahead offset up none = step (nat_cmp offset e.0) refl
 from_up : (es : Entries) (from : ℕ) → IsStrictlySortedBy nat_cmp (keys_of es) → IsStrictlySortedBy nat_cmp (keys_of (entries_from from es))
 from_up es from up = subst (IsStrictlySortedBy nat_cmp) (filter-map (λ k. nat_le from k) (λ e. e.0) es) (IsStrictlySortedBy-filter nat_cmp (λ k. nat_le from k) (keys_of es) up)
 
-entries_up : (kept : Option (FinMap nat_cmp ElfRelocation)) → IsStrictlySortedBy nat_cmp (keys_of (entries_in kept))
+entries_up : (section_relocations : Option (FinMap nat_cmp ElfRelocation)) → IsStrictlySortedBy nat_cmp (keys_of (entries_or_none section_relocations))
 unfolding IsStrictlySortedBy
 entries_up None = tt
-entries_up (Some kept) = entries_rise kept
+entries_up (Some section_relocations) = entries_rise section_relocations
 
 -- the next one is passed, and the first of those behind it is next
-pub one_passed : (walk after : Walk) (offset : ℕ) → IsBefore walk offset → is_passed walk.next offset ≡ true → walked after ≡ walked walk → left after.next after.ahead ≡ ahead_in walk.ahead → IsBefore after offset
+pub one_passed : (walk after : Walk) (offset : ℕ) → IsBefore walk offset → is_passed walk.next offset ≡ true → walked_relocations after ≡ walked_relocations walk → left after.next after.ahead ≡ ahead_in walk.ahead → IsBefore after offset
 one_passed walk after offset h passed same taken = step walk.next refl
   where
     step : (next : Option (ℕ × ElfRelocation)) → walk.next ≡ next → IsBefore after offset
@@ -120,32 +120,32 @@ one_passed walk after offset h passed same taken = step walk.next refl
     step (Some e) is =
         let below : nat_lt e.0 offset ≡ true = cc in
         let low : e.0 < offset = grind (arith, nat_tests) in
-        let all : e ∷ ahead_in walk.ahead ≡ entries_from h.from (entries_in (walked walk)) = sym (ap (λ n. left n walk.ahead) is) ∙ h.are_left in
-        let rest : ahead_in walk.ahead ≡ entries_from (e.0 + 1) (entries_in (walked walk)) = behind (entries_in (walked walk)) h.from e (ahead_in walk.ahead) (entries_up (walked walk)) all in
-        record { from = e.0 + 1; before = omega (arith, low); are_left = taken ∙ rest ∙ ap (λ k. entries_from (e.0 + 1) (entries_in k)) (sym same) }
+        let all : e ∷ ahead_in walk.ahead ≡ entries_from h.from (entries_or_none (walked_relocations walk)) = sym (ap (λ n. left n walk.ahead) is) ∙ h.are_left in
+        let rest : ahead_in walk.ahead ≡ entries_from (e.0 + 1) (entries_or_none (walked_relocations walk)) = behind (entries_or_none (walked_relocations walk)) h.from e (ahead_in walk.ahead) (entries_up (walked_relocations walk)) all in
+        record { from = e.0 + 1; before = omega (arith, low); are_left = taken ∙ rest ∙ ap (λ k. entries_from (e.0 + 1) (entries_or_none k)) (sym same) }
 
 -- what stands at an offset is the next one, if that is there
-pub found_next : (walk : Walk) (offset : ℕ) → offset < 2 ^ 64 → IsBefore walk offset → is_passed walk.next offset ≡ false → found_at (walked walk) offset ≡ at_offset walk.next offset
-found_next walk offset fits h none = step (walked walk) refl
+pub found_next : (walk : Walk) (offset : ℕ) → offset < 2 ^ 64 → IsBefore walk offset → is_passed walk.next offset ≡ false → found_at (walked_relocations walk) offset ≡ at_offset walk.next offset
+found_next walk offset fits h none = step (walked_relocations walk) refl
   where
     up : IsStrictlySortedBy nat_cmp (keys_of (left walk.next walk.ahead))
-    up = subst (λ es. IsStrictlySortedBy nat_cmp (keys_of es)) (sym h.are_left) (from_up (entries_in (walked walk)) h.from (entries_up (walked walk)))
+    up = subst (λ es. IsStrictlySortedBy nat_cmp (keys_of es)) (sym h.are_left) (from_up (entries_or_none (walked_relocations walk)) h.from (entries_up (walked_relocations walk)))
 
     there : value_at nat_cmp offset (left walk.next walk.ahead) ≡ at_offset walk.next offset
     there = value_first walk.next walk.ahead offset up none
 
-    step : (kept : Option (FinMap nat_cmp ElfRelocation)) → walked walk ≡ kept → found_at kept offset ≡ at_offset walk.next offset
+    step : (section_relocations : Option (FinMap nat_cmp ElfRelocation)) → walked_relocations walk ≡ section_relocations → found_at section_relocations offset ≡ at_offset walk.next offset
     step None is =
-        let nothing : left walk.next walk.ahead ≡ [] = h.are_left ∙ ap (λ k. entries_from h.from (entries_in k)) is in
+        let nothing : left walk.next walk.ahead ≡ [] = h.are_left ∙ ap (λ k. entries_from h.from (entries_or_none k)) is in
         sym (ap (value_at nat_cmp offset) nothing) ∙ there
-    step (Some kept) is =
+    step (Some section_relocations) is =
         let small : nat_lt offset (2 ^ 64) ≡ true = grind (arith, nat_tests) in
-        let some : left walk.next walk.ahead ≡ entries_from h.from (entries kept) = h.are_left ∙ ap (λ k. entries_from h.from (entries_in k)) is in
-        rw (small, get-entries kept offset) (value_left (entries kept) h.from offset h.before ∙ sym (ap (value_at nat_cmp offset) some) ∙ there)
+        let some : left walk.next walk.ahead ≡ entries_from h.from (entries section_relocations) = h.are_left ∙ ap (λ k. entries_from h.from (entries_or_none k)) is in
+        rw (small, get-entries section_relocations offset) (value_left (entries section_relocations) h.from offset h.before ∙ sym (ap (value_at nat_cmp offset) some) ∙ there)
 
 -- past 64 bits nothing stands
-pub found_past : (kept : Option (FinMap nat_cmp ElfRelocation)) (offset : ℕ) → 2 ^ 64 ≤ offset → found_at kept offset ≡ None
+pub found_past : (section_relocations : Option (FinMap nat_cmp ElfRelocation)) (offset : ℕ) → 2 ^ 64 ≤ offset → found_at section_relocations offset ≡ None
 found_past None offset past = refl
-found_past (Some kept) offset past =
+found_past (Some section_relocations) offset past =
     let large : nat_lt offset (2 ^ 64) ≡ false = grind (arith, nat_tests) in
     rw large refl

@@ -19,7 +19,7 @@ use Rattle.ebpf_base.proofs.Sorted.{entries_rise}
 use Rattle.ebpf_base.specs.Keys.{key_cmp, key_total}
 use Rattle.ebpf_reloc.proofs.Searched.{flipped}
 use Rattle.ebpf_reloc.specs.declared.function.Function.{Function}
-use Rattle.ebpf_reloc.specs.Numbers.{function_keys, function_list, key_in, number_in}
+use Rattle.ebpf_reloc.specs.Numbers.{function_keys, function_list, key_in, number_of_key}
 
 pub is_equal : (r : Ordering) → is_eq r ≡ true → r ≡ Equal
 is_equal Less h = cc
@@ -58,11 +58,11 @@ module _ (functions : FinMap key_cmp Function) where
   function_at m lt = get-entries functions (key_in (function_keys functions) m) ∙ at_place key_total (entries functions) m (0, 0) rising (omega (arith, count_keys))
 
   -- a key stands where it has a number
-  pub has_number : (key : ℕ × ℕ) → contains_key functions key ≡ is_some (number_in (function_keys functions) key)
+  pub has_number : (key : ℕ × ℕ) → contains_key functions key ≡ is_some (number_of_key (function_keys functions) key)
   has_number key = contains_key-keys functions key ∙ sym (is_some-position (eq_by_cmp key_cmp key) (function_keys functions) 0)
 
 -- the number of a key names that key
-pub number_names : (keys : List (ℕ × ℕ)) (key : ℕ × ℕ) (n : ℕ) → number_in keys key ≡ Some n → (n < length keys) × (key_in keys n ≡ key)
+pub number_names : (keys : List (ℕ × ℕ)) (key : ℕ × ℕ) (n : ℕ) → number_of_key keys key ≡ Some n → (n < length keys) × (key_in keys n ≡ key)
 number_names keys key n found =
     let at = position-Some (eq_by_cmp key_cmp key) keys n (0, 0) (position_from-zero (eq_by_cmp key_cmp key) keys ∙ found) in
     (at.0, sym (key_exact key (key_in keys n) (is_equal _ at.1)))

@@ -10,5 +10,5 @@ pub mod Finished
 pub mod SoFar
 pub mod Shapes
 pub mod OneResult
-pub mod KeyedMaps
+pub mod KeyedLinkMaps
 pub mod OneLinkMap

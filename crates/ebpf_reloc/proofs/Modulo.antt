@@ -5,7 +5,7 @@ use Rattle.std.proofs.lemmas.Int.{int_rem_euclid_is, ints}
 use Rattle.std.specs.Int.{w64, cast_unsigned}
 use Rattle.std.specs.Int.RustNames.{FitsSigned}
 use Rattle.std.specs.Prelude.{ℤ, pos, negsuc, ◌+ℤ◌, unsigned_abs}
-use Rattle.ebpf_reloc.specs.Places.{modulo}
+use Rattle.ebpf_reloc.specs.SlotTargets.{modulo}
 
 modulo_is : (z : ℤ) (m : ℕ) → z +ℤ pos (1 * 2 ^ 64) ≡ pos m → modulo z ≡ m % 2 ^ 64
 unfolding modulo

@@ -1,13 +1,13 @@
--- A program has one map, which is that of the linked program, and is refused as linking it is.
+-- A program has one link map, which is that of the linked program, and is refused as linking it is.
 use Rattle.std.proofs.Common.{◌≡◌, ℕ, zero, suc, true, false, List, [], ◌∷◌, length, map, Option, Some, None, Ok, Err, refl, sym, ap, subst, ◌∙◌}
 use Rattle.std.specs.Prelude.{slice_get, is_some, MatchOption, ◌||◌}
 use Rattle.std.specs.FinMap.{FinMap, get}
 use Rattle.std.specs.Cmp.{eq_by_cmp_equiv}
 use Rattle.ebpf_base.specs.Keys.{key_cmp, key_total}
-use Rattle.ebpf_linker.specs.Faults.{LeastFault, linking}
+use Rattle.ebpf_linker.specs.Faults.{LeastFault, checked_references}
 use Rattle.ebpf_linker.specs.LinkMap.{CopyOf}
-use Rattle.ebpf_linker.specs.MapLaws.{Lands, slots_of}
-use Rattle.ebpf_linker.proofs.OneMap.{one_map, same_order, same_size, lands}
+use Rattle.ebpf_linker.specs.LinkMapLaws.{Lands, copied_slot_count}
+use Rattle.ebpf_linker.proofs.OneLinkMap.{one_link_map, same_order, same_size, lands}
 use Rattle.ebpf_linker.proofs.Visits.{same_visits}
 use Rattle.ebpf_linker.proofs.Written.{can_be_linked}
 use Rattle.ebpf_parts.specs.declared.insn.bpf_insn.{bpf_insn}
@@ -18,25 +18,25 @@ use Rattle.ebpf_reloc.specs.declared.error.RelocationError.{RelocationError}
 use Rattle.ebpf_reloc.specs.declared.error.RelocationError.TheVariants.{UnknownProgram}
 use Rattle.ebpf_reloc.specs.declared.function.Function.{Function}
 use Rattle.ebpf_reloc.specs.declared.link_map.LinkMap.{LinkMap}
-use Rattle.ebpf_reloc.specs.LinkMaps.{code_copy, IsMapped}
-use Rattle.ebpf_reloc.specs.Linking.{ProgramValue, key_of, with_linked, IsLinked, IsFault, IsRefused, AreLinked, IsFirstFault}
-use Rattle.ebpf_reloc.specs.MapLaws.{copy_of, OneMap, OneMapAnswer, RefusedAsLinking, MapsTell, MappedAreLinked, FirstWithoutMap, AllWithMaps}
-use Rattle.ebpf_reloc.specs.Places.{LinkableValue}
+use Rattle.ebpf_reloc.specs.LinkMaps.{code_copy, IsLinkMapAt}
+use Rattle.ebpf_reloc.specs.Linking.{ProgramValue, key_of, with_linked, IsLinked, IsProgramFault, IsProgramRefusal, AreLinked, IsFirstRefusal}
+use Rattle.ebpf_reloc.specs.LinkMapLaws.{copy_of, OneLinkMap, OneLinkMapAnswer, RefusedAsLinking, LinkMapsMatch, WithLinkMapAreLinked, FirstWithoutLinkMap, AllWithLinkMaps}
+use Rattle.ebpf_reloc.specs.SlotTargets.{LinkableValue}
 use Rattle.ebpf_reloc.specs.References.{Key, functions_of}
 
-pub one : OneMap
+pub one : OneLinkMap
 one parts key m n a b =
-    let same = one_map (functions_of parts) key a.order b.order a.copies b.copies m.references n.references a.program b.program in
+    let same = one_link_map (functions_of parts) key a.order b.order a.copies b.copies m.references n.references a.program b.program in
     let copies : m.copies ≡ n.copies = a.named ∙ ap (map (code_copy parts.functions)) same.1 ∙ sym b.named in
     (λ i. record { copies = copies i; references = same.2 i }, same.0)
 
 -- a program with a map is not refused
-not_mapped : (parts : LinkableValue) (key : Key) (m : LinkMap) (e : RelocationError) → IsMapped parts key m → IsFault parts key e → ⊥
+not_mapped : (parts : LinkableValue) (key : Key) (m : LinkMap) (e : RelocationError) → IsLinkMapAt parts key m → IsProgramFault parts key e → ⊥
 not_mapped parts key m e a h =
-    let fault : LeastFault (functions_of parts) (linking (functions_of parts) key) key e = subst (λ (o : Option Function). MatchOption o (e ≡ UnknownProgram key.0 key.1) (λ _. LeastFault (functions_of parts) (linking (functions_of parts) key) key e)) a.stands h in
+    let fault : LeastFault (functions_of parts) (checked_references (functions_of parts) key) key e = subst (λ (o : Option Function). MatchOption o (e ≡ UnknownProgram key.0 key.1) (λ _. LeastFault (functions_of parts) (checked_references (functions_of parts) key) key e)) a.stands h in
     a.program.faultless fault.path fault.slot e fault.stands
 
-pub one_answer : OneMapAnswer
+pub one_answer : OneLinkMapAnswer
 one_answer parts program (Ok m) (Ok n) a b = ap Ok (one parts (key_of program) m n a b).0
 one_answer parts program (Ok m) (Err e) a b = absurd (not_mapped parts (key_of program) m e.error a b.1)
 one_answer parts program (Err d) (Ok n) a b = absurd (not_mapped parts (key_of program) n d.error b a.1)
@@ -48,8 +48,8 @@ only : (program p : ProgramValue) (i : ℕ) → slice_get (program ∷ []) i ≡
 only program p zero at = cc
 only program p (suc i) at = cc
 
-refused_alone : (parts : LinkableValue) (program : ProgramValue) (e : EbpfRelocationError) → IsFirstFault parts (program ∷ []) e → IsRefused parts program e
-refused_alone parts program e h = subst (λ (p : ProgramValue). IsRefused parts p e) (only program h.program h.place h.at) h.refused
+refused_alone : (parts : LinkableValue) (program : ProgramValue) (e : EbpfRelocationError) → IsFirstRefusal parts (program ∷ []) e → IsProgramRefusal parts program e
+refused_alone parts program e h = subst (λ (p : ProgramValue). IsProgramRefusal parts p e) (only program h.program h.place h.at) h.refused
 
 linked_alone : (parts : LinkableValue) (program : ProgramValue) (m : FinMap key_cmp Function) → AreLinked parts (program ∷ []) m → (g : Function) × IsLinked parts (key_of program) g
 linked_alone parts program m h = step (get m (key_of program)) refl (h.keys (key_of program) ∙ ap (λ b. b || false) ((eq_by_cmp_equiv key_total).refl (key_of program)))
@@ -70,20 +70,20 @@ without_names : (parts : LinkableValue) (cs : List (CopyOf Key)) → map copy_of
 without_names parts [] = refl
 without_names parts (c ∷ cs) = ap (λ (u : List (CopyOf Key)). c ∷ u) (without_names parts cs)
 
-pub maps_tell : MapsTell
-maps_tell parts key m linked a b =
+pub link_maps_match : LinkMapsMatch
+link_maps_match parts key m linked a b =
     let copies : a.copies ≡ map copy_of m.copies = sym (ap (map copy_of) a.named ∙ without_names parts a.copies) in
     let slots : b.made.slots ≡ linked.instructions = sym (ap (λ (f : Function). f.instructions) b.is) in
     record {
       order = same_order (functions_of parts) key a.order b.order a.copies m.references b.made a.program b.program;
-      size = ap slots_of (sym copies) ∙ same_size (functions_of parts) key a.order b.order a.copies m.references b.made a.program b.program ∙ ap length slots;
+      size = ap copied_slot_count (sym copies) ∙ same_size (functions_of parts) key a.order b.order a.copies m.references b.made a.program b.program ∙ ap length slots;
       lands = λ r listed.
           let here = lands (functions_of parts) key a.order b.order a.copies m.references b.made a.program b.program r listed in
           subst (λ (s : List bpf_insn). Lands (functions_of parts) (map copy_of m.copies) s r) slots (subst (λ (cs : List (CopyOf Key)). Lands (functions_of parts) cs b.made.slots r) copies here);
     }
 
 -- a program that has a map can be linked
-pub mapped_are_linked : MappedAreLinked
+pub mapped_are_linked : WithLinkMapAreLinked
 mapped_are_linked parts key m a =
     let (made, program) = can_be_linked (functions_of parts) key a.order a.copies m.references a.program in (
       with_linked a.function made,
@@ -100,7 +100,7 @@ mapped_are_linked parts key m a =
 
 -- ---- all programs
 
-pub first_without_map : FirstWithoutMap
+pub first_without_map : FirstWithoutLinkMap
 first_without_map parts programs place program e at refused earlier = record {
   place = place;
   program = program;
@@ -109,5 +109,5 @@ first_without_map parts programs place program e at refused earlier = record {
   before = λ k p below here. let (m, a) = earlier k p below here in mapped_are_linked parts (key_of p) m a;
 }
 
-pub all_with_maps : AllWithMaps
+pub all_with_maps : AllWithLinkMaps
 all_with_maps parts programs all e h = let (m, a) = all h.place h.program h.at in not_mapped parts (key_of h.program) m e.error a h.refused.1

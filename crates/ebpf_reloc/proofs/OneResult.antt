@@ -8,15 +8,15 @@ use Rattle.std.specs.Cmp.{eq_by_cmp_equiv}
 use Rattle.std.proofs.lemmas.Bool.{cases_lt}
 use Rattle.ebpf_base.proofs.Maps.{key_exact}
 use Rattle.ebpf_base.specs.Keys.{key_cmp, key_total}
-use Rattle.ebpf_linker.specs.Faults.{LeastFault, linking}
+use Rattle.ebpf_linker.specs.Faults.{LeastFault, checked_references}
 use Rattle.ebpf_linker.proofs.OneResult.{same_order, one_program, one_fault, not_linked, plain_stays}
 use Rattle.ebpf_reloc.specs.declared.error.EbpfRelocationError.{EbpfRelocationError}
 use Rattle.ebpf_reloc.specs.declared.error.RelocationError.{RelocationError}
 use Rattle.ebpf_reloc.specs.declared.error.RelocationError.TheVariants.{UnknownProgram}
 use Rattle.ebpf_reloc.specs.declared.function.Function.{Function}
 use Rattle.ebpf_reloc.specs.Laws.{OneResult, OneProgram, OwnSlotsStay, CopiedSlotsStay}
-use Rattle.ebpf_reloc.specs.Linking.{ProgramValue, key_of, with_linked, IsLinked, IsFault, IsRefused, AreLinked, IsFirstFault}
-use Rattle.ebpf_reloc.specs.Places.{LinkableValue}
+use Rattle.ebpf_reloc.specs.Linking.{ProgramValue, key_of, with_linked, IsLinked, IsProgramFault, IsProgramRefusal, AreLinked, IsFirstRefusal}
+use Rattle.ebpf_reloc.specs.SlotTargets.{LinkableValue}
 use Rattle.ebpf_reloc.specs.References.{Key, functions_of}
 
 same_value : {X : Type 0} (o : Option X) (x y : X) → o ≡ Some x → o ≡ Some y → x ≡ y
@@ -38,29 +38,29 @@ one_program_each parts key f g a b = (one_way parts key f g a b, same_order (fun
 
 -- ---- faults
 
-one_fault_of : (parts : LinkableValue) (key : Key) (d e : RelocationError) → IsFault parts key d → IsFault parts key e → d ≡ e
+one_fault_of : (parts : LinkableValue) (key : Key) (d e : RelocationError) → IsProgramFault parts key d → IsProgramFault parts key e → d ≡ e
 one_fault_of parts key d e a b = step (get parts.functions key) a b
   where
-    step : (o : Option Function) → MatchOption o (d ≡ UnknownProgram key.0 key.1) (λ _. LeastFault (functions_of parts) (linking (functions_of parts) key) key d) → MatchOption o (e ≡ UnknownProgram key.0 key.1) (λ _. LeastFault (functions_of parts) (linking (functions_of parts) key) key e) → d ≡ e
+    step : (o : Option Function) → MatchOption o (d ≡ UnknownProgram key.0 key.1) (λ _. LeastFault (functions_of parts) (checked_references (functions_of parts) key) key d) → MatchOption o (e ≡ UnknownProgram key.0 key.1) (λ _. LeastFault (functions_of parts) (checked_references (functions_of parts) key) key e) → d ≡ e
     step None h g = h ∙ sym g
-    step (Some f) h g = one_fault (functions_of parts) (linking (functions_of parts) key) key d e h g
+    step (Some f) h g = one_fault (functions_of parts) (checked_references (functions_of parts) key) key d e h g
 
-pub one_refusal : (parts : LinkableValue) (program : ProgramValue) (d e : EbpfRelocationError) → IsRefused parts program d → IsRefused parts program e → d ≡ e
+pub one_refusal : (parts : LinkableValue) (program : ProgramValue) (d e : EbpfRelocationError) → IsProgramRefusal parts program d → IsProgramRefusal parts program e → d ≡ e
 one_refusal parts program d e a b =
     let name : d.function ≡ e.function = a.0 ∙ sym b.0 in
     let error : d.error ≡ e.error = one_fault_of parts (key_of program) d.error e.error a.1 b.1 in
     λ i. record { function = name i; error = error i }
 
 -- a program that is linked is not refused
-pub not_refused : (parts : LinkableValue) (key : Key) (f : Function) (e : RelocationError) → IsLinked parts key f → IsFault parts key e → ⊥
+pub not_refused : (parts : LinkableValue) (key : Key) (f : Function) (e : RelocationError) → IsLinked parts key f → IsProgramFault parts key e → ⊥
 not_refused parts key f e a h =
-    let fault : LeastFault (functions_of parts) (linking (functions_of parts) key) key e = subst (λ (o : Option Function). MatchOption o (e ≡ UnknownProgram key.0 key.1) (λ _. LeastFault (functions_of parts) (linking (functions_of parts) key) key e)) a.stands h in
+    let fault : LeastFault (functions_of parts) (checked_references (functions_of parts) key) key e = subst (λ (o : Option Function). MatchOption o (e ≡ UnknownProgram key.0 key.1) (λ _. LeastFault (functions_of parts) (checked_references (functions_of parts) key) key e)) a.stands h in
     not_linked (functions_of parts) key a.order a.made e a.program fault
 
 -- ---- all programs
 
-one_map : (parts : LinkableValue) (programs : List ProgramValue) (m n : FinMap key_cmp Function) → AreLinked parts programs m → AreLinked parts programs n → m ≡ n
-one_map parts programs m n a b = same_map key_total key_exact m n (λ key. step key (get m key) (get n key) refl refl (a.keys key ∙ sym (b.keys key)))
+one_link_map : (parts : LinkableValue) (programs : List ProgramValue) (m n : FinMap key_cmp Function) → AreLinked parts programs m → AreLinked parts programs n → m ≡ n
+one_link_map parts programs m n a b = same_map key_total key_exact m n (λ key. step key (get m key) (get n key) refl refl (a.keys key ∙ sym (b.keys key)))
   where
     step : (key : Key) (o q : Option Function) → get m key ≡ o → get n key ≡ q → is_some (get m key) ≡ is_some (get n key) → get m key ≡ get n key
     step key None None at at' same = at ∙ sym at'
@@ -68,7 +68,7 @@ one_map parts programs m n a b = same_map key_total key_exact m n (λ key. step 
     step key (Some f) None at at' same = let clash : true ≡ false = sym (ap is_some at) ∙ same ∙ ap is_some at' in cc
     step key (Some f) (Some g) at at' same = at ∙ ap Some (one_way parts key f g (a.each key f at) (b.each key g at')) ∙ sym at'
 
-one_first : (parts : LinkableValue) (programs : List ProgramValue) (d e : EbpfRelocationError) → IsFirstFault parts programs d → IsFirstFault parts programs e → d ≡ e
+one_first : (parts : LinkableValue) (programs : List ProgramValue) (d e : EbpfRelocationError) → IsFirstRefusal parts programs d → IsFirstRefusal parts programs e → d ≡ e
 one_first parts programs d e a b = ⊎_elim
     (λ (low : a.place < b.place). let earlier = b.before a.place a.program low a.at in absurd (not_refused parts (key_of a.program) earlier.0 d.error earlier.1 a.refused.1))
     (λ (rest : b.place ≤ a.place). ⊎_elim
@@ -76,7 +76,7 @@ one_first parts programs d e a b = ⊎_elim
     (λ (same : a.place ≤ b.place).
     let place : a.place ≡ b.place = omega arith in
     let program : a.program ≡ b.program = same_value (slice_get programs b.place) a.program b.program (ap (slice_get programs) (sym place) ∙ a.at) b.at in
-    one_refusal parts b.program d e (subst (λ (p : ProgramValue). IsRefused parts p d) program a.refused) b.refused)
+    one_refusal parts b.program d e (subst (λ (p : ProgramValue). IsProgramRefusal parts p d) program a.refused) b.refused)
     (cases_lt b.place a.place))
     (cases_lt a.place b.place)
 
@@ -89,7 +89,7 @@ any_at p (q ∷ programs) (suc i) program at h = ap (λ b. p q || b) (any_at p p
     or_true true = refl
     or_true false = refl
 
-not_both : (parts : LinkableValue) (programs : List ProgramValue) (m : FinMap key_cmp Function) (e : EbpfRelocationError) → AreLinked parts programs m → IsFirstFault parts programs e → ⊥
+not_both : (parts : LinkableValue) (programs : List ProgramValue) (m : FinMap key_cmp Function) (e : EbpfRelocationError) → AreLinked parts programs m → IsFirstRefusal parts programs e → ⊥
 not_both parts programs m e a h =
     let key = key_of h.program in
     let there : is_some (get m key) ≡ true = a.keys key ∙ any_at (λ p. eq_by_cmp key_cmp key (key_of p)) programs h.place h.program h.at ((eq_by_cmp_equiv key_total).refl key) in
@@ -100,7 +100,7 @@ not_both parts programs m e a h =
     step (Some f) at is = not_refused parts (key_of h.program) f e.error (a.each (key_of h.program) f at) h.refused.1
 
 pub one_result : OneResult
-one_result parts programs (Ok m) (Ok n) a b = ap Ok (one_map parts programs m n a b)
+one_result parts programs (Ok m) (Ok n) a b = ap Ok (one_link_map parts programs m n a b)
 one_result parts programs (Ok m) (Err e) a b = absurd (not_both parts programs m e a b)
 one_result parts programs (Err d) (Ok n) a b = absurd (not_both parts programs n d b a)
 one_result parts programs (Err d) (Err e) a b = ap Err (one_first parts programs d e a b)

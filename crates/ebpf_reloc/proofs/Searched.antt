@@ -10,7 +10,7 @@ use Rattle.std.specs.Ordering.{ordering_index, ordering_reverse, eq_by_cmp, is_e
 use Rattle.std.proofs.lemmas.Map.Keys.{Less-from_sorted}
 use Rattle.std.proofs.lemmas.Bool.{cases_lt}
 use Rattle.ebpf_base.specs.Keys.{key_cmp, key_total}
-use Rattle.ebpf_reloc.specs.Numbers.{number_in}
+use Rattle.ebpf_reloc.specs.Numbers.{number_of_key}
 
 module _ {K : Type 0} {R : K → K → Ordering} (o : IsTotalOrder R) where
   pub flipped : (a b : K) (r : Ordering) → R a b ≡ r → R b a ≡ ordering_reverse r
@@ -74,11 +74,11 @@ module _ {K : Type 0} {R : K → K → Ordering} (o : IsTotalOrder R) where
       let e : m + 1 + n ≡ m + suc n = omega arith in
       rw above (present ks x (m + 1) n up.1 (omega arith) h ∙ ap Some e)
 
-pub found_key : (keys : List (ℕ × ℕ)) (key : ℕ × ℕ) (n : ℕ) → IsStrictlySortedBy key_cmp keys → n < length keys → HoldsAt (λ y. key_cmp y key ≡ Equal) keys n → Some n ≡ number_in keys key
+pub found_key : (keys : List (ℕ × ℕ)) (key : ℕ × ℕ) (n : ℕ) → IsStrictlySortedBy key_cmp keys → n < length keys → HoldsAt (λ y. key_cmp y key ≡ Equal) keys n → Some n ≡ number_of_key keys key
 found_key keys key n up lt h = sym (present key_total keys key 0 n up lt h ∙ ap Some (omega arith))
 
-pub key_here : (keys : List (ℕ × ℕ)) (key : ℕ × ℕ) (n : ℕ) → IsStrictlySortedBy key_cmp keys → n < length keys → ((d : ℕ × ℕ) → get_or keys n d ≡ key) → Some n ≡ number_in keys key
+pub key_here : (keys : List (ℕ × ℕ)) (key : ℕ × ℕ) (n : ℕ) → IsStrictlySortedBy key_cmp keys → n < length keys → ((d : ℕ × ℕ) → get_or keys n d ≡ key) → Some n ≡ number_of_key keys key
 key_here keys key n up lt same = found_key keys key n up lt (λ d. ap (λ k. key_cmp k key) (same d) ∙ tied_itself key_total key)
 
-pub no_key : (keys : List (ℕ × ℕ)) (key : ℕ × ℕ) (i : ℕ) → IsStrictlySortedBy key_cmp keys → IsBinarySearchResult (λ y. key_cmp y key) keys (Err i) → None ≡ number_in keys key
+pub no_key : (keys : List (ℕ × ℕ)) (key : ℕ × ℕ) (i : ℕ) → IsStrictlySortedBy key_cmp keys → IsBinarySearchResult (λ y. key_cmp y key) keys (Err i) → None ≡ number_of_key keys key
 no_key keys key i up h = sym (absent key_total keys key i up h)

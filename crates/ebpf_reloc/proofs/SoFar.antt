@@ -12,9 +12,9 @@ use Rattle.ebpf_parts.proofs.Walks.{rest_more, rest_none}
 use Rattle.ebpf_reloc.proofs.Keys.{is_equal}
 use Rattle.ebpf_reloc.specs.declared.error.EbpfRelocationError.{EbpfRelocationError}
 use Rattle.ebpf_reloc.specs.declared.function.Function.{Function}
-use Rattle.ebpf_reloc.specs.Linking.{ProgramValue, key_of, IsLinked, IsRefused, AreLinked, IsFirstFault}
+use Rattle.ebpf_reloc.specs.Linking.{ProgramValue, key_of, IsLinked, IsProgramRefusal, AreLinked, IsFirstRefusal}
 use Rattle.ebpf_reloc.specs.Memory.{is_memory_at}
-use Rattle.ebpf_reloc.specs.Places.{LinkableValue}
+use Rattle.ebpf_reloc.specs.SlotTargets.{LinkableValue}
 use Rattle.ebpf_reloc.specs.References.{Key}
 
 abbrev has_key : Key → ProgramValue → Bool
@@ -52,7 +52,7 @@ module _ (parts : LinkableValue) (programs : List ProgramValue) where
       here : program ≡ slice_index_or programs i program
       here = sym (get_or_from_slice_get programs i program program at_here)
 
-      pub first_fault : (e : EbpfRelocationError) → IsRefused parts program e → IsFirstFault parts programs e
+      pub first_fault : (e : EbpfRelocationError) → IsProgramRefusal parts program e → IsFirstRefusal parts programs e
       first_fault e refused = record { place = i; program = program; at = at_here; refused = refused; before = so_far.before }
 
       module _ (has : contains_key linked (key_of program) ≡ true) where
@@ -142,9 +142,9 @@ module _ (parts : LinkableValue) (programs : List ProgramValue) (i : ℕ) (linke
   step_same has = linked_before parts programs i linked so_far program below stands has
 
   -- the program at a place can't be linked
-  pub refused_here : (e : EbpfRelocationError) → MatchBool (is_memory_at e) ⊤ (IsRefused other program e) → MatchBool (is_memory_at e) ⊤ (IsFirstFault parts programs e)
+  pub refused_here : (e : EbpfRelocationError) → MatchBool (is_memory_at e) ⊤ (IsProgramRefusal other program e) → MatchBool (is_memory_at e) ⊤ (IsFirstRefusal parts programs e)
   refused_here e h = step (is_memory_at e) h
     where
-      step : (b : Bool) → MatchBool b ⊤ (IsRefused other program e) → MatchBool b ⊤ (IsFirstFault parts programs e)
+      step : (b : Bool) → MatchBool b ⊤ (IsProgramRefusal other program e) → MatchBool b ⊤ (IsFirstRefusal parts programs e)
       step true g = tt
-      step false g = first_fault parts programs i linked so_far program below stands e (subst (λ (p : LinkableValue). IsRefused p program e) same g)
+      step false g = first_fault parts programs i linked so_far program below stands e (subst (λ (p : LinkableValue). IsProgramRefusal p program e) same g)

@@ -1,6 +1,6 @@
 pub mod Memory
 pub mod Symbols
-pub mod Places
+pub mod SlotTargets
 pub mod Walks
 pub mod Shapes
 pub mod References
@@ -8,4 +8,4 @@ pub mod Numbers
 pub mod Linking
 pub mod Laws
 pub mod LinkMaps
-pub mod MapLaws
+pub mod LinkMapLaws

@@ -5,14 +5,14 @@ use Rattle.std.specs.List.{list_any}
 use Rattle.std.specs.Ordering.{eq_by_cmp}
 use Rattle.ebpf_base.specs.Keys.{key_cmp}
 use Rattle.ebpf_linker.specs.declared.body.LinkedProgram.{LinkedProgram}
-use Rattle.ebpf_linker.specs.Faults.{LeastFault, linking}
+use Rattle.ebpf_linker.specs.Faults.{LeastFault, checked_references}
 use Rattle.ebpf_linker.specs.Machine.{SameVisits, OnCallsOrLoads}
 use Rattle.ebpf_linker.specs.Result.{IsProgram}
 use Rattle.ebpf_reloc.specs.declared.error.EbpfRelocationError.{EbpfRelocationError}
 use Rattle.ebpf_reloc.specs.declared.error.RelocationError.{RelocationError}
 use Rattle.ebpf_reloc.specs.declared.error.RelocationError.TheVariants.{UnknownProgram}
 use Rattle.ebpf_reloc.specs.declared.function.Function.{Function}
-use Rattle.ebpf_reloc.specs.Places.{LinkableValue}
+use Rattle.ebpf_reloc.specs.SlotTargets.{LinkableValue}
 use Rattle.ebpf_reloc.specs.References.{Key, functions_of}
 
 -- a program: its name, and the section and the address of its function
@@ -45,13 +45,13 @@ pub record IsLinked (parts : LinkableValue) (key : Key) (linked : Function) : Ty
   pub visits : OnCallsOrLoads (functions_of parts) (key ∷ order) → SameVisits (functions_of parts) key order made.slots
 
 -- why the program at a key can't be linked: no function stands there, or the least fault of its references
-abbrev pub IsFault : LinkableValue → Key → RelocationError → Type 0
-IsFault parts key e =
-    MatchOption (get parts.functions key) (e ≡ UnknownProgram key.0 key.1) (λ _. LeastFault (functions_of parts) (linking (functions_of parts) key) key e)
+abbrev pub IsProgramFault : LinkableValue → Key → RelocationError → Type 0
+IsProgramFault parts key e =
+    MatchOption (get parts.functions key) (e ≡ UnknownProgram key.0 key.1) (λ _. LeastFault (functions_of parts) (checked_references (functions_of parts) key) key e)
 
 -- the refusal of a program: its name, and its fault
-abbrev pub IsRefused : LinkableValue → ProgramValue → EbpfRelocationError → Type 0
-IsRefused parts program e = (e.function ≡ program.name) × IsFault parts (key_of program) e.error
+abbrev pub IsProgramRefusal : LinkableValue → ProgramValue → EbpfRelocationError → Type 0
+IsProgramRefusal parts program e = (e.function ≡ program.name) × IsProgramFault parts (key_of program) e.error
 
 -- the programs are linked, each from the functions as they stood
 pub record AreLinked (parts : LinkableValue) (programs : List ProgramValue) (linked : FinMap key_cmp Function) : Type 0 where
@@ -59,9 +59,9 @@ pub record AreLinked (parts : LinkableValue) (programs : List ProgramValue) (lin
   pub each : (key : Key) (g : Function) → get linked key ≡ Some g → IsLinked parts key g
 
 -- the refusal of the first program that can't be linked
-pub record IsFirstFault (parts : LinkableValue) (programs : List ProgramValue) (e : EbpfRelocationError) : Type 0 where
+pub record IsFirstRefusal (parts : LinkableValue) (programs : List ProgramValue) (e : EbpfRelocationError) : Type 0 where
   pub place : ℕ
   pub program : ProgramValue
   pub at : slice_get programs place ≡ Some program
-  pub refused : IsRefused parts program e
+  pub refused : IsProgramRefusal parts program e
   pub before : (k : ℕ) (earlier : ProgramValue) → k < place → slice_get programs k ≡ Some earlier → (linked : Function) × IsLinked parts (key_of earlier) linked

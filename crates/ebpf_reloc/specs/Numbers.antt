@@ -14,10 +14,10 @@ use Rattle.ebpf_parts.specs.declared.insn.bpf_insn.{bpf_insn}
 use Rattle.ebpf_reloc.specs.declared.error.RelocationError.{RelocationError}
 use Rattle.ebpf_reloc.specs.declared.error.RelocationError.TheVariants.{UnsupportedTextSymbol as NoTextSymbol, UnknownFunction as NoFunction, FunctionInfoMismatch as Mismatch, ProgramTooLong as TooLong, InvalidLineInfo as StrayLine}
 use Rattle.ebpf_reloc.specs.declared.function.Function.{Function}
-use Rattle.ebpf_reloc.specs.declared.place.Place.{Place}
-use Rattle.ebpf_reloc.specs.declared.place.Place.TheVariants.{Absent, Unsupported, At}
-use Rattle.ebpf_reloc.specs.Places.{LinkableValue, place_of}
-use Rattle.ebpf_reloc.specs.References.{name_of}
+use Rattle.ebpf_reloc.specs.declared.slot_target.SlotTarget.{SlotTarget}
+use Rattle.ebpf_reloc.specs.declared.slot_target.SlotTarget.TheVariants.{Absent, Unsupported, At}
+use Rattle.ebpf_reloc.specs.SlotTargets.{LinkableValue, slot_target_of}
+use Rattle.ebpf_reloc.specs.References.{function_name_or_empty}
 
 -- the keys of the functions in their order: the number of a function is the place of its key
 abbrev pub function_keys : FinMap key_cmp Function → List (ℕ × ℕ)
@@ -28,21 +28,21 @@ abbrev pub function_list : FinMap key_cmp Function → List Function
 function_list functions = map (λ e. e.1) (entries functions)
 
 -- the number of a key
-abbrev pub number_in : List (ℕ × ℕ) → ℕ × ℕ → Option ℕ
-number_in keys key = position_from (λ k. eq_by_cmp key_cmp key k) 0 keys
+abbrev pub number_of_key : List (ℕ × ℕ) → ℕ × ℕ → Option ℕ
+number_of_key keys key = position_from (λ k. eq_by_cmp key_cmp key k) 0 keys
 
-abbrev pub target_by : Option ℕ → ℕ → ℕ → Target
-target_by None caller address = Nowhere (UnknownFunction address caller)
-target_by (Some number) caller address = ToFunction number
+abbrev pub numbered_target_by : Option ℕ → ℕ → ℕ → Target
+numbered_target_by None caller address = Nowhere (UnknownFunction address caller)
+numbered_target_by (Some number) caller address = ToFunction number
 
--- where a slot of the function with this number leads, by where it points
-abbrev pub target_of : List (ℕ × ℕ) → ℕ → Place → Option Target
-target_of keys caller Absent = None
-target_of keys caller (Unsupported index) = Some (Nowhere (UnsupportedTextSymbol index))
-target_of keys caller (At section address) = Some (target_by (number_in keys (section, address)) caller address)
+-- the target of a slot of the function with this number, by what the slot refers to
+abbrev pub numbered_target : List (ℕ × ℕ) → ℕ → SlotTarget → Option Target
+numbered_target keys caller Absent = None
+numbered_target keys caller (Unsupported index) = Some (Nowhere (UnsupportedTextSymbol index))
+numbered_target keys caller (At section address) = Some (numbered_target_by (number_of_key keys (section, address)) caller address)
 
-abbrev pub target_at : LinkableValue → List (ℕ × ℕ) → ℕ → Function → ℕ → bpf_insn → Option Target
-target_at parts keys caller f i slot = target_of keys caller (place_of parts f i slot)
+abbrev pub numbered_target_at : LinkableValue → List (ℕ × ℕ) → ℕ → Function → ℕ → bpf_insn → Option Target
+numbered_target_at parts keys caller f i slot = numbered_target keys caller (slot_target_of parts f i slot)
 
 abbrev pub with_call : ℕ → Option Target → List Call → List Call
 with_call i None calls = calls
@@ -55,7 +55,7 @@ calls_by leads i (slot ∷ slots) = with_call i (leads i slot) (calls_by leads (
 
 -- the calls of the function with this number
 abbrev pub calls_of : LinkableValue → List (ℕ × ℕ) → ℕ → Function → List Call
-calls_of parts keys caller f = calls_by (target_at parts keys caller f) 0 f.instructions
+calls_of parts keys caller f = calls_by (numbered_target_at parts keys caller f) 0 f.instructions
 
 -- the calls of functions that are numbered from n on
 abbrev pub calls_from : LinkableValue → List (ℕ × ℕ) → ℕ → List Function → List (List Call)
@@ -67,13 +67,13 @@ abbrev pub key_in : List (ℕ × ℕ) → ℕ → ℕ × ℕ
 key_in keys number = slice_index_or keys number (0, 0)
 
 -- the name of the function with a number
-abbrev pub name_in : List Function → ℕ → List ℕ
-name_in functions number = name_of (slice_get functions number)
+abbrev pub function_name : List Function → ℕ → List ℕ
+function_name functions number = function_name_or_empty (slice_get functions number)
 
 -- a fault, with the names of functions for their numbers
-abbrev pub told : List Function → Fault → RelocationError
-told functions (UnsupportedTextSymbol index) = NoTextSymbol index
-told functions (UnknownFunction address caller) = NoFunction address (name_in functions caller)
-told functions (FunctionInfoMismatch callee) = Mismatch (name_in functions callee)
-told functions (ProgramTooLong callee) = TooLong (name_in functions callee)
-told functions (InvalidLineInfo callee) = StrayLine (name_in functions callee)
+abbrev pub with_function_names : List Function → Fault → RelocationError
+with_function_names functions (UnsupportedTextSymbol index) = NoTextSymbol index
+with_function_names functions (UnknownFunction address caller) = NoFunction address (function_name functions caller)
+with_function_names functions (FunctionInfoMismatch callee) = Mismatch (function_name functions callee)
+with_function_names functions (ProgramTooLong callee) = TooLong (function_name functions callee)
+with_function_names functions (InvalidLineInfo callee) = StrayLine (function_name functions callee)

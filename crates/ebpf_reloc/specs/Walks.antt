@@ -3,17 +3,17 @@ use Rattle.std.specs.Prelude.{◌≡◌, ◌≤◌, ◌==◌, ℕ, Bool, false, 
 use Rattle.std.specs.FinMap.{FinMap, entries}
 use Rattle.std.specs.Option.{option_copied}
 use Rattle.std.specs.Ordering.{nat_cmp}
-use Rattle.ebpf_base.specs.Parts.{entries_from}
+use Rattle.ebpf_base.specs.EntriesFrom.{entries_from}
 use Rattle.ebpf_elf.specs.declared.entries.ElfRelocation.{ElfRelocation}
 use Rattle.ebpf_reloc.specs.declared.walk.Walk.{Walk}
 
 -- the relocations that the walk is over
-abbrev pub walked : Walk → Option (FinMap nat_cmp ElfRelocation)
-walked walk = option_copied walk.kept
+abbrev pub walked_relocations : Walk → Option (FinMap nat_cmp ElfRelocation)
+walked_relocations walk = option_copied walk.section_relocations
 
-abbrev pub entries_in : Option (FinMap nat_cmp ElfRelocation) → List (ℕ × ElfRelocation)
-entries_in None = []
-entries_in (Some kept) = entries kept
+abbrev pub entries_or_none : Option (FinMap nat_cmp ElfRelocation) → List (ℕ × ElfRelocation)
+entries_or_none None = []
+entries_or_none (Some section_relocations) = entries section_relocations
 
 abbrev pub ahead_in : Option (List (ℕ × ElfRelocation)) → List (ℕ × ElfRelocation)
 ahead_in None = []
@@ -38,4 +38,4 @@ at_offset (Some e) offset = if e.0 == offset then Some e.1 else None
 pub record IsBefore (walk : Walk) (offset : ℕ) : Type 0 where
   pub from : ℕ
   pub before : from ≤ offset
-  pub are_left : left walk.next walk.ahead ≡ entries_from from (entries_in (walked walk))
+  pub are_left : left walk.next walk.ahead ≡ entries_from from (entries_or_none (walked_relocations walk))

@@ -2,16 +2,16 @@
 
 ghost use Rattle.std.specs.Prelude.{◌≡◌, ◌+◌, ◌*◌, length, map, IfOk, OnOk};
 ghost use Rattle.std.specs.FinMap.{get};
-ghost use Rattle.ebpf_reloc.specs.Numbers.{target_of, calls_of, calls_from};
-ghost use Rattle.ebpf_reloc.specs.Places.{place_of, found_at, relocation_of, read};
-ghost use Rattle.ebpf_reloc.specs.Walks.{walked, IsBefore};
+ghost use Rattle.ebpf_reloc.specs.Numbers.{numbered_target, calls_of, calls_from};
+ghost use Rattle.ebpf_reloc.specs.SlotTargets.{slot_target_of, found_at, relocation_of, read};
+ghost use Rattle.ebpf_reloc.specs.Walks.{walked_relocations, IsBefore};
 ghost use Rattle.std.specs.List.Sorted.{IsStrictlySortedBy};
 ghost use Rattle.ebpf_base.specs.Keys.{key_cmp};
 
 use crate::function::Function;
 use crate::key_numbers::KeyNumbers;
 use crate::linkable::Linkable;
-use crate::place::{Place, own_place, relocated_place};
+use crate::slot_target::{SlotTarget, own_target, relocated_target};
 use crate::walk::Walk;
 use ebpf_linker::slot::is_pseudo_call;
 use ebpf_linker::{Call, Fault, Target};
@@ -19,33 +19,33 @@ use ebpf_parts::Relocation;
 use ebpf_parts::insn::bpf_insn;
 use std::alloc::{AllocError, Global};
 
-/// Where a slot of a function points, by its relocation where that is usable, else by itself.
-fn place_of(
+/// What a slot of a function refers to, by its relocation where that is usable, else by itself.
+fn slot_target_of(
     parts: &Linkable<'_>,
     function: &Function,
     slot: usize,
     instruction: bpf_insn,
     relocation: Option<Relocation>,
-) -> Place
+) -> SlotTarget
     requires { relocation ≡ relocation_of (read parts.now) function.now slot }
-    ensures { result ≡ place_of (read parts.now) function.now slot instruction }
+    ensures { result ≡ slot_target_of (read parts.now) function.now slot instruction }
 {
-    match relocated_place(parts, instruction.imm, relocation) {
-        Some(place) => place,
-        None => own_place(function, slot, instruction),
+    match relocated_target(parts, instruction.imm, relocation) {
+        Some(slot_target) => slot_target,
+        None => own_target(function, slot, instruction),
     }
 }
 
-/// Where a slot of the function with this number leads, by where it points.
-fn target_of(numbers: &KeyNumbers<'_>, caller: usize, place: Place) -> Option<Target>
-    ensures { result ≡ target_of numbers.now.keys.now caller place }
+/// The target of a slot of the function with this number, by what it refers to.
+fn numbered_target(numbers: &KeyNumbers<'_>, caller: usize, slot_target: SlotTarget) -> Option<Target>
+    ensures { result ≡ numbered_target numbers.now.keys.now caller slot_target }
 {
-    let (section, address) = match place {
-        Place::Absent => return None,
-        Place::Unsupported(index) => {
+    let (section, address) = match slot_target {
+        SlotTarget::Absent => return None,
+        SlotTarget::Unsupported(index) => {
             return Some(Target::Nowhere(Fault::UnsupportedTextSymbol { index }));
         }
-        Place::At(section, address) => (section, address),
+        SlotTarget::At(section, address) => (section, address),
     };
     match numbers.number_of(section, address) {
         Some(number) => Some(Target::Function(number)),
@@ -69,18 +69,18 @@ fn calls_of(
     caller: usize,
     function: &Function,
 ) -> Result<Vec<Call>, AllocError>
-    requires kept { walked walk.old ≡ get (read parts.now).relocations function.now.section_index.0 }
+    requires section_relocations { walked_relocations walk.old ≡ get (read parts.now).relocations function.now.section_index.0 }
     requires before { IsBefore walk.old function.now.section_offset }
     ensures calls { IfOk result (λ calls. calls.items ≡ calls_of (read parts.now) numbers.now.keys.now caller function.now) }
-    ensures kept { walked walk.new ≡ walked walk.old }
+    ensures section_relocations { walked_relocations walk.new ≡ walked_relocations walk.old }
     ensures before { OnOk result (IsBefore walk.new (function.now.section_offset + 8 * length function.now.instructions)) }
 {
     let slots = function.instructions.as_slice();
     let mut calls = Vec::with_capacity(alloc, count_calls(slots))?;
     for slot in 0..slots.len() {
         let relocation = walk.relocation_of(function, slot);
-        let place = place_of(parts, function, slot, slots[slot], relocation);
-        let Some(target) = target_of(numbers, caller, place) else {
+        let slot_target = slot_target_of(parts, function, slot, slots[slot], relocation);
+        let Some(target) = numbered_target(numbers, caller, slot_target) else {
             continue;
         };
         calls.push(Call { slot, target })?;
@@ -98,9 +98,9 @@ fn walk_to<'a>(
     end: u128,
     function: &Function,
 )
-    requires kept { walked walk.old ≡ get (read parts.now).relocations section }
+    requires section_relocations { walked_relocations walk.old ≡ get (read parts.now).relocations section }
     requires before { IsBefore walk.old end }
-    ensures kept { walked walk.new ≡ get (read parts.now).relocations function.now.section_index.0 }
+    ensures section_relocations { walked_relocations walk.new ≡ get (read parts.now).relocations function.now.section_index.0 }
     ensures before { IsBefore walk.new function.now.section_offset }
 {
     let index = function.section_index.0;

@@ -21,9 +21,9 @@ pub struct Function {
     pub section_offset: usize,
     /// Its slots.
     pub instructions: Items<bpf_insn>,
-    /// What `.BTF.ext` says of it and, once linked, of the functions after it, by slot.
+    /// Its func info of `.BTF.ext` and, once linked, that of the functions after it, by slot.
     pub func_info: FuncSecInfo,
-    /// What `.BTF.ext` says of its lines, by slot.
+    /// Its line info of `.BTF.ext`, by slot.
     pub line_info: LineSecInfo,
     /// The size of a record on functions in the file, in bytes; 0 without one.
     pub func_info_rec_size: u32,
@@ -31,7 +31,7 @@ pub struct Function {
     pub line_info_rec_size: u32,
 }
 
-/// A copy of what is said of functions.
+/// A copy of func info.
 fn copy_func_info(info: &FuncSecInfo) -> Result<FuncSecInfo, AllocError>
     ensures { IfOk result (λ copy. copy ≡ info.now) }
 {
@@ -42,7 +42,7 @@ fn copy_func_info(info: &FuncSecInfo) -> Result<FuncSecInfo, AllocError>
     })
 }
 
-/// A copy of what is said of lines.
+/// A copy of line info.
 fn copy_line_info(info: &LineSecInfo) -> Result<LineSecInfo, AllocError>
     ensures { IfOk result (λ copy. copy ≡ info.now) }
 {

@@ -1,12 +1,12 @@
-//! The numbers of keys that are asked for one after the other.
+//! The numbers of keys that are looked up one after the other.
 
 ghost use Rattle.std.specs.Prelude.{◌≡◌, IfSome, Some};
 ghost use Rattle.std.proofs.Props.{props};
 ghost use Rattle.std.specs.List.Sorted.{IsStrictlySortedBy};
 ghost use Rattle.ebpf_base.specs.Keys.{key_cmp};
-ghost use Rattle.ebpf_reloc.specs.Numbers.{number_in};
+ghost use Rattle.ebpf_reloc.specs.Numbers.{number_of_key};
 
-use crate::numbers::number_in;
+use crate::numbers::number_of_key;
 use std::cell::Cell;
 
 /// Keys in their order, and the number that was found last: those beside it are tried first, since a reference mostly
@@ -22,7 +22,7 @@ pub struct KeyNumbers<'k> {
 /// This number, where it is that of a key.
 fn number_if(keys: &[(usize, u64)], number: usize, section: usize, address: u64) -> Option<usize>
     requires { IsStrictlySortedBy key_cmp keys.now }
-    ensures { IfSome result (λ found. Some found ≡ number_in keys.now (section, address)) }
+    ensures { IfSome result (λ found. Some found ≡ number_of_key keys.now (section, address)) }
 {
     match keys.get(number) {
         Some(key) if key.0 == section && key.1 == address => Some(number),
@@ -38,7 +38,7 @@ fn number_beside(
     address: u64,
 ) -> Option<usize>
     requires { IsStrictlySortedBy key_cmp keys.now }
-    ensures { IfSome result (λ found. Some found ≡ number_in keys.now (section, address)) }
+    ensures { IfSome result (λ found. Some found ≡ number_of_key keys.now (section, address)) }
 {
     let first = number.saturating_sub(1);
     for beside in first..first.saturating_add(4) {
@@ -63,11 +63,11 @@ impl<'k> KeyNumbers<'k> {
 
     /// The number of a key.
     pub fn number_of(&self, section: usize, address: u64) -> Option<usize>
-        ensures { result ≡ number_in self.now.keys.now (section, address) }
+        ensures { result ≡ number_of_key self.now.keys.now (section, address) }
     {
         let number = match number_beside(self.keys, self.last.get(), section, address) {
             Some(found) => Some(found),
-            None => number_in(self.keys, section, address),
+            None => number_of_key(self.keys, section, address),
         };
         if let Some(found) = number {
             self.last.set(found);

@@ -1,7 +1,7 @@
 //! What follows of linked programs.
 
 ghost use Rattle.ebpf_reloc.specs.Laws.{OneResult, OneProgram, OwnSlotsStay, CopiedSlotsStay};
-ghost use Rattle.ebpf_reloc.specs.MapLaws.{OneMap, OneMapAnswer, RefusedAsLinking, MapsTell, MappedAreLinked, FirstWithoutMap, AllWithMaps};
+ghost use Rattle.ebpf_reloc.specs.LinkMapLaws.{OneLinkMap, OneLinkMapAnswer, RefusedAsLinking, LinkMapsMatch, WithLinkMapAreLinked, FirstWithoutLinkMap, AllWithLinkMaps};
 
 /// What `relocate_calls` promises leaves one result, want of memory aside: the functions, the order of the copies
 /// in each, and the error. It follows from the functions, symbols, relocations, sections and programs as values,
@@ -18,25 +18,25 @@ pub fn plain_slots_stay()
     ensures copied { CopiedSlotsStay }
 {}
 
-/// What `NumberedFunctions::program_map` promises leaves one map of a program, with its copies in one order, and one answer, want of
+/// What `NumberedFunctions::program_link_map` promises leaves one link map of a program, with its copies in one order, and one answer, want of
 /// memory aside. It is refused exactly where `relocate_calls` refuses the program alone, with the same error.
-pub fn one_map()
-    ensures map { OneMap }
-    ensures answer { OneMapAnswer }
+pub fn one_link_map()
+    ensures map { OneLinkMap }
+    ensures answer { OneLinkMapAnswer }
     ensures refusal { RefusedAsLinking }
 {}
 
-/// The map of a program is that of the linked program: the copies stand in the order in which they are linked and
+/// The link map of a program is that of the linked program: the copies stand in the order in which they are linked and
 /// have all slots, and the slot at each reference's place holds the distance from the slot after it to the base of
-/// a listed copy of the function that it refers to. Each program that has a map can be linked.
-pub fn maps_tell()
-    ensures tell { MapsTell }
-    ensures linked { MappedAreLinked }
+/// a listed copy of the function that it refers to. Each program that has a link map can be linked.
+pub fn link_maps_match()
+    ensures tell { LinkMapsMatch }
+    ensures linked { WithLinkMapAreLinked }
 {}
 
-/// Asking for the maps of programs one after the other refuses exactly where `relocate_calls` refuses them, with the
-/// same error: that of the first program without a map.
-pub fn maps_refuse_alike()
-    ensures first { FirstWithoutMap }
-    ensures none { AllWithMaps }
+/// Making the link maps of programs one after the other refuses exactly where `relocate_calls` refuses them, with the
+/// same error: that of the first program without a link map.
+pub fn link_maps_refuse_alike()
+    ensures first { FirstWithoutLinkMap }
+    ensures none { AllWithLinkMaps }
 {}

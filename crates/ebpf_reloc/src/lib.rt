@@ -12,7 +12,7 @@ mod linkable;
 mod linking;
 mod numbered;
 mod numbers;
-mod place;
+mod slot_target;
 mod symbol;
 mod walk;
 

@@ -1,28 +1,28 @@
 //! What the linked program of a program is made of.
 
 ghost use Rattle.std.specs.Prelude.{◌≡◌, ◌<◌, length, map, IfOk, IfErr, ⊤, MatchBool};
-ghost use Rattle.ebpf_reloc.specs.LinkMaps.{named_copy, IsKeyedMapping, IsMapped};
-ghost use Rattle.ebpf_reloc.specs.Linking.{key_of, IsFault, IsRefused};
+ghost use Rattle.ebpf_reloc.specs.LinkMaps.{named_copy, IsKeyedLinkMapAnswer, IsLinkMapAt};
+ghost use Rattle.ebpf_reloc.specs.Linking.{key_of, IsProgramFault, IsProgramRefusal};
 ghost use Rattle.ebpf_reloc.specs.Memory.{is_memory, is_memory_at, NamesNoneForMemory};
 ghost use Rattle.ebpf_reloc.specs.Numbers.{function_keys, function_list, key_in};
-ghost use Rattle.ebpf_reloc.specs.Places.{read};
+ghost use Rattle.ebpf_reloc.specs.SlotTargets.{read};
 
 use crate::error::{EbpfRelocationError, RelocationError};
 use crate::function::Function;
 use crate::linkable::Linkable;
 use crate::linking::{ProgramKey, numbered};
-use crate::numbered::{NumberedFunctions, name_in, told};
-use crate::numbers::number_in;
+use crate::numbered::{NumberedFunctions, function_name, with_function_names};
+use crate::numbers::number_of_key;
 use ebpf_base::{Items, Text};
 use ebpf_linker::Fault;
 pub use ebpf_linker::link_map::Reference;
-use ebpf_linker::link_map::{NumberedCopy, NumberedMap, link_map};
+use ebpf_linker::link_map::{NumberedCopy, NumberedLinkMap, link_map};
 use std::alloc::{AllocError, Global};
 
 /// A copy of a function in a linked program.
 #[derive(Debug, Drop)]
 pub struct CodeCopy {
-    /// The function's key: the number of its section, and its address.
+    /// The function's key: the index of its section, and its address.
     pub key: (usize, u64),
     /// The function's name.
     pub name: Text,
@@ -62,7 +62,7 @@ fn named_copy(
 {
     Ok(CodeCopy {
         key: key_in(keys, copy.function),
-        name: name_in(alloc, functions, copy.function)?,
+        name: function_name(alloc, functions, copy.function)?,
         base: copy.base,
         slots: copy.slots,
     })
@@ -86,13 +86,13 @@ fn named_copies(
 
 impl<'a> NumberedFunctions<'a> {
     /// What the program with a number is made of, by numbers.
-    fn map_by_number(
+    fn link_map_by_number(
         &self,
         alloc: Global,
         number: usize,
-    ) -> Result<Result<NumberedMap, Fault>, AllocError>
+    ) -> Result<Result<NumberedLinkMap, Fault>, AllocError>
         requires { number < length (function_keys (read self.now.parts).functions) }
-        ensures { IfOk result (λ answer. IsKeyedMapping (read self.now.parts) number answer) }
+        ensures { IfOk result (λ answer. IsKeyedLinkMapAnswer (read self.now.parts) number answer) }
     {
         link_map(
             alloc,
@@ -104,16 +104,16 @@ impl<'a> NumberedFunctions<'a> {
     }
 
     /// What the program with a number is made of, by what was found by numbers.
-    fn keyed(
+    fn keyed_link_map(
         &self,
         alloc: Global,
         number: usize,
-        answer: Result<NumberedMap, Fault>,
+        answer: Result<NumberedLinkMap, Fault>,
     ) -> Result<LinkMap, RelocationError>
         requires number { number < length (function_keys (read self.now.parts).functions) }
-        requires answer { IsKeyedMapping (read self.now.parts) number answer }
-        ensures mapped { IfOk result (λ m. IsMapped (read self.now.parts) (key_in (function_keys (read self.now.parts).functions) number) m) }
-        ensures fault { IfErr result (λ e. MatchBool (is_memory e) ⊤ (IsFault (read self.now.parts) (key_in (function_keys (read self.now.parts).functions) number) e)) }
+        requires answer { IsKeyedLinkMapAnswer (read self.now.parts) number answer }
+        ensures mapped { IfOk result (λ m. IsLinkMapAt (read self.now.parts) (key_in (function_keys (read self.now.parts).functions) number) m) }
+        ensures fault { IfErr result (λ e. MatchBool (is_memory e) ⊤ (IsProgramFault (read self.now.parts) (key_in (function_keys (read self.now.parts).functions) number) e)) }
     {
         let functions = self.functions.as_slice();
         match answer {
@@ -125,24 +125,24 @@ impl<'a> NumberedFunctions<'a> {
                     references: map.references,
                 })
             }
-            Err(fault) => Err(told(alloc, functions, fault)?),
+            Err(fault) => Err(with_function_names(alloc, functions, fault)?),
         }
     }
 
     /// What the program at a key is made of.
-    fn map_at(
+    fn link_map_at(
         &self,
         alloc: Global,
         section: usize,
         address: u64,
     ) -> Result<LinkMap, RelocationError>
-        ensures mapped { IfOk result (λ m. IsMapped (read self.now.parts) (section, address) m) }
-        ensures fault { IfErr result (λ e. MatchBool (is_memory e) ⊤ (IsFault (read self.now.parts) (section, address) e)) }
+        ensures mapped { IfOk result (λ m. IsLinkMapAt (read self.now.parts) (section, address) m) }
+        ensures fault { IfErr result (λ e. MatchBool (is_memory e) ⊤ (IsProgramFault (read self.now.parts) (section, address) e)) }
     {
-        match number_in(self.keys.as_slice(), section, address) {
+        match number_of_key(self.keys.as_slice(), section, address) {
             Some(number) => {
-                let answer = self.map_by_number(alloc, number)?;
-                self.keyed(alloc, number, answer)
+                let answer = self.link_map_by_number(alloc, number)?;
+                self.keyed_link_map(alloc, number, answer)
             }
             None => Err(RelocationError::UnknownProgram {
                 section_index: section,
@@ -161,16 +161,16 @@ impl NumberedFunctions<'_> {
     ///
     /// Those of `relocate_calls` for this program alone.
     #[tactic(auto, using(crate::proofs::Finished::with_name))]
-    pub fn program_map(
+    pub fn program_link_map(
         &self,
         alloc: Global,
         program: &ProgramKey<'_>,
     ) -> Result<LinkMap, EbpfRelocationError>
-        ensures mapped { IfOk result (λ m. IsMapped (read self.now.parts) (key_of program.now) m) }
-        ensures fault { IfErr result (λ e. MatchBool (is_memory_at e) ⊤ (IsRefused (read self.now.parts) program.now e)) }
+        ensures mapped { IfOk result (λ m. IsLinkMapAt (read self.now.parts) (key_of program.now) m) }
+        ensures fault { IfErr result (λ e. MatchBool (is_memory_at e) ⊤ (IsProgramRefusal (read self.now.parts) program.now e)) }
         ensures memory { IfErr result NamesNoneForMemory }
     {
-        match self.map_at(alloc, program.section_index, program.address) {
+        match self.link_map_at(alloc, program.section_index, program.address) {
             Ok(map) => Ok(map),
             Err(error) => Err(EbpfRelocationError::named(alloc, program.name, error)),
         }

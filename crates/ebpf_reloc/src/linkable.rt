@@ -9,12 +9,12 @@ use std::collections::HashSet;
 /// What linking reads of an object.
 #[derive(Clone, Copy)]
 pub struct Linkable<'a> {
-    /// The functions by section number and address.
+    /// The functions by section index and address.
     pub functions: &'a ByKey<Function>,
-    /// The symbols by their number.
+    /// The symbols by their index.
     pub symbols: &'a ByIndex<Symbol>,
-    /// The relocations by section number and offset in the section, in bytes.
+    /// The relocations by section index and offset in the section, in bytes.
     pub relocations: &'a BySection<ByOffset<Relocation>>,
-    /// The numbers of the sections that hold functions.
+    /// The indexes of the sections that hold functions.
     pub text_sections: &'a HashSet<usize>,
 }

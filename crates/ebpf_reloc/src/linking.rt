@@ -4,17 +4,17 @@ ghost use Rattle.std.specs.Prelude.{◌≡◌, ◌<◌, length, true, IfOk, OnOk
 ghost use Rattle.std.specs.FinMap as map;
 ghost use Rattle.ebpf_linker.specs.Renaming.{answer_named};
 ghost use Rattle.ebpf_linker.specs.Result.{IsLinking};
-ghost use Rattle.ebpf_reloc.specs.Linking.{ProgramValue, key_of, with_linked, IsLinked, IsFault, IsRefused, AreLinked, IsFirstFault};
+ghost use Rattle.ebpf_reloc.specs.Linking.{ProgramValue, key_of, with_linked, IsLinked, IsProgramFault, IsProgramRefusal, AreLinked, IsFirstRefusal};
 ghost use Rattle.ebpf_reloc.specs.Memory.{is_memory, is_memory_at, NamesNoneForMemory};
-ghost use Rattle.ebpf_reloc.specs.Numbers.{function_keys, function_list, key_in, told};
-ghost use Rattle.ebpf_reloc.specs.Places.{read};
+ghost use Rattle.ebpf_reloc.specs.Numbers.{function_keys, function_list, key_in, with_function_names};
+ghost use Rattle.ebpf_reloc.specs.SlotTargets.{read};
 ghost use Rattle.ebpf_reloc.specs.References.{functions_of};
 
 use crate::error::{EbpfRelocationError, RelocationError};
 use crate::function::Function;
 use crate::linkable::Linkable;
-use crate::numbered::{NumberedFunctions, told};
-use crate::numbers::number_in;
+use crate::numbered::{NumberedFunctions, with_function_names};
+use crate::numbers::number_of_key;
 use ebpf_base::ByKey;
 use ebpf_ext::{FuncSecInfo, LineSecInfo};
 use ebpf_linker::{Fault, LinkedProgram};
@@ -26,7 +26,7 @@ use std::marker::Model;
 pub struct ProgramKey<'a> {
     /// The name of the program.
     pub name: &'a str,
-    /// The number of the section of its function.
+    /// The index of the section of its function.
     pub section_index: usize,
     /// The address of its function.
     pub address: u64,
@@ -39,7 +39,7 @@ impl<'a> Model for ProgramKey<'a> {
 }
 
 impl ProgramKey<'_> {
-    /// The key of its function: the number of its section, and its address.
+    /// The key of its function: the index of its section, and its address.
     fn key(&self) -> (usize, u64)
         ensures { result ≡ key_of self.now }
     {
@@ -91,13 +91,13 @@ impl<'a> NumberedFunctions<'a> {
         answer: Result<LinkedProgram, Fault>,
     ) -> Result<Function, RelocationError>
         requires number { number < length (function_keys (read self.now.parts).functions) }
-        requires answer { IsLinking (functions_of (read self.now.parts)) (key_in (function_keys (read self.now.parts).functions) number) (answer_named (told (function_list (read self.now.parts).functions)) answer) }
+        requires answer { IsLinking (functions_of (read self.now.parts)) (key_in (function_keys (read self.now.parts).functions) number) (answer_named (with_function_names (function_list (read self.now.parts).functions)) answer) }
         ensures linked { IfOk result (λ f. IsLinked (read self.now.parts) (key_in (function_keys (read self.now.parts).functions) number) f) }
-        ensures fault { IfErr result (λ e. MatchBool (is_memory e) ⊤ (IsFault (read self.now.parts) (key_in (function_keys (read self.now.parts).functions) number) e)) }
+        ensures fault { IfErr result (λ e. MatchBool (is_memory e) ⊤ (IsProgramFault (read self.now.parts) (key_in (function_keys (read self.now.parts).functions) number) e)) }
     {
         match answer {
             Ok(linked) => Ok(with_linked(self.function(number), linked)?),
-            Err(fault) => Err(told(alloc, self.functions.as_slice(), fault)?),
+            Err(fault) => Err(with_function_names(alloc, self.functions.as_slice(), fault)?),
         }
     }
 
@@ -109,9 +109,9 @@ impl<'a> NumberedFunctions<'a> {
         address: u64,
     ) -> Result<Function, RelocationError>
         ensures linked { IfOk result (λ f. IsLinked (read self.now.parts) (section, address) f) }
-        ensures fault { IfErr result (λ e. MatchBool (is_memory e) ⊤ (IsFault (read self.now.parts) (section, address) e)) }
+        ensures fault { IfErr result (λ e. MatchBool (is_memory e) ⊤ (IsProgramFault (read self.now.parts) (section, address) e)) }
     {
-        match number_in(self.keys.as_slice(), section, address) {
+        match number_of_key(self.keys.as_slice(), section, address) {
             Some(number) => {
                 let answer = self.link(alloc, number)?;
                 self.finished(alloc, number, answer)
@@ -133,7 +133,7 @@ impl NumberedFunctions<'_> {
         program: &ProgramKey<'_>,
     ) -> Result<Function, EbpfRelocationError>
         ensures linked { IfOk result (λ f. IsLinked (read self.now.parts) (key_of program.now) f) }
-        ensures fault { IfErr result (λ e. MatchBool (is_memory_at e) ⊤ (IsRefused (read self.now.parts) program.now e)) }
+        ensures fault { IfErr result (λ e. MatchBool (is_memory_at e) ⊤ (IsProgramRefusal (read self.now.parts) program.now e)) }
         ensures memory { IfErr result NamesNoneForMemory }
     {
         match self.linked_at(alloc, program.section_index, program.address) {
@@ -192,7 +192,7 @@ pub fn relocate_calls(
     parts: &Linkable<'_>,
 ) -> Result<ByKey<Function>, EbpfRelocationError>
     ensures linked { IfOk result (λ linked. AreLinked (read parts.now) programs.now linked) }
-    ensures fault { IfErr result (λ e. MatchBool (is_memory_at e) ⊤ (IsFirstFault (read parts.now) programs.now e)) }
+    ensures fault { IfErr result (λ e. MatchBool (is_memory_at e) ⊤ (IsFirstRefusal (read parts.now) programs.now e)) }
     ensures memory { IfErr result NamesNoneForMemory }
 {
     let functions = numbered(alloc, parts)?;

@@ -1,11 +1,11 @@
 //! The functions of an object as linking needs them: numbered, with their calls.
 
 ghost use Rattle.std.specs.Prelude.{◌≡◌, ◌<◌, length, map, IfOk};
-ghost use Rattle.ebpf_linker.specs.Numbered.{content_of as body_content};
+ghost use Rattle.ebpf_linker.specs.Numbered.{body_content};
 ghost use Rattle.ebpf_linker.specs.Renaming.{answer_named};
 ghost use Rattle.ebpf_linker.specs.Result.{IsLinking};
-ghost use Rattle.ebpf_reloc.specs.Numbers.{function_keys, function_list, calls_from, key_in, name_in, told};
-ghost use Rattle.ebpf_reloc.specs.Places.{read};
+ghost use Rattle.ebpf_reloc.specs.Numbers.{function_keys, function_list, calls_from, key_in, function_name, with_function_names};
+ghost use Rattle.ebpf_reloc.specs.SlotTargets.{read};
 ghost use Rattle.ebpf_reloc.specs.References.{content_of, functions_of};
 
 use crate::calls::all_calls;
@@ -87,7 +87,7 @@ impl<'a> NumberedFunctions<'a> {
         number: usize,
     ) -> Result<Result<LinkedProgram, Fault>, AllocError>
         requires { number < length (function_keys (read self.now.parts).functions) }
-        ensures { IfOk result (λ answer. IsLinking (functions_of (read self.now.parts)) (key_in (function_keys (read self.now.parts).functions) number) (answer_named (told (function_list (read self.now.parts).functions)) answer)) }
+        ensures { IfOk result (λ answer. IsLinking (functions_of (read self.now.parts)) (key_in (function_keys (read self.now.parts).functions) number) (answer_named (with_function_names (function_list (read self.now.parts).functions)) answer)) }
     {
         link(
             alloc,
@@ -100,8 +100,8 @@ impl<'a> NumberedFunctions<'a> {
 }
 
 /// The name of the function with a number.
-pub fn name_in(alloc: Global, functions: &[&Function], number: usize) -> Result<Text, AllocError>
-    ensures { IfOk result (λ name. name ≡ name_in (map (λ f. f.now) functions.now) number) }
+pub fn function_name(alloc: Global, functions: &[&Function], number: usize) -> Result<Text, AllocError>
+    ensures { IfOk result (λ name. name ≡ function_name (map (λ f. f.now) functions.now) number) }
 {
     match functions.get(number) {
         Some(function) => function.name.clone(),
@@ -110,12 +110,12 @@ pub fn name_in(alloc: Global, functions: &[&Function], number: usize) -> Result<
 }
 
 /// A fault, with the names of functions for their numbers.
-pub fn told(
+pub fn with_function_names(
     alloc: Global,
     functions: &[&Function],
     fault: Fault,
 ) -> Result<RelocationError, AllocError>
-    ensures { IfOk result (λ error. error ≡ told (map (λ f. f.now) functions.now) fault) }
+    ensures { IfOk result (λ error. error ≡ with_function_names (map (λ f. f.now) functions.now) fault) }
 {
     match fault {
         Fault::UnsupportedTextSymbol { index } => {
@@ -123,16 +123,16 @@ pub fn told(
         }
         Fault::UnknownFunction { address, caller } => Ok(RelocationError::UnknownFunction {
             address,
-            caller_name: name_in(alloc, functions, caller)?,
+            caller_name: function_name(alloc, functions, caller)?,
         }),
         Fault::FunctionInfoMismatch { callee } => Ok(RelocationError::FunctionInfoMismatch {
-            name: name_in(alloc, functions, callee)?,
+            name: function_name(alloc, functions, callee)?,
         }),
         Fault::ProgramTooLong { callee } => Ok(RelocationError::ProgramTooLong {
-            name: name_in(alloc, functions, callee)?,
+            name: function_name(alloc, functions, callee)?,
         }),
         Fault::InvalidLineInfo { callee } => Ok(RelocationError::InvalidLineInfo {
-            name: name_in(alloc, functions, callee)?,
+            name: function_name(alloc, functions, callee)?,
         }),
     }
 }

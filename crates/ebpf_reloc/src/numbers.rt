@@ -3,7 +3,7 @@
 ghost use Rattle.std.specs.Prelude.{◌≡◌, map, IfOk};
 ghost use Rattle.std.specs.List.Sorted.{IsStrictlySortedBy};
 ghost use Rattle.ebpf_base.specs.Keys.{key_cmp};
-ghost use Rattle.ebpf_reloc.specs.Numbers.{function_keys, function_list, number_in};
+ghost use Rattle.ebpf_reloc.specs.Numbers.{function_keys, function_list, number_of_key};
 
 use crate::function::Function;
 use ebpf_base::ByKey;
@@ -38,9 +38,9 @@ pub fn function_list<'a>(
 }
 
 /// The number of a key.
-pub fn number_in(keys: &[(usize, u64)], section: usize, address: u64) -> Option<usize>
+pub fn number_of_key(keys: &[(usize, u64)], section: usize, address: u64) -> Option<usize>
     requires { IsStrictlySortedBy key_cmp keys.now }
-    ensures { result ≡ number_in keys.now (section, address) }
+    ensures { result ≡ number_of_key keys.now (section, address) }
 {
     match keys.binary_search(&(section, address)) {
         Ok(number) => Some(number),

@@ -10,7 +10,7 @@ use std::alloc::AllocError;
 /// A symbol of the file's symbol table.
 #[derive(Debug, Drop)]
 pub struct Symbol {
-    /// Its number in the table.
+    /// Its index in the table.
     pub index: usize,
     /// The section that it stands in, where it has one.
     pub section_index: Option<usize>,

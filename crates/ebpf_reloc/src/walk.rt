@@ -2,9 +2,9 @@
 
 ghost use Rattle.std.specs.Prelude.{◌≡◌, ◌+◌, ◌*◌, ◌≤◌, ◌^◌, IsTrue, MatchOption, false};
 ghost use Rattle.std.specs.Option.{option_copied};
-ghost use Rattle.ebpf_base.specs.Parts.{entries_from};
-ghost use Rattle.ebpf_reloc.specs.Places.{found_at};
-ghost use Rattle.ebpf_reloc.specs.Walks.{at_offset, ahead_in, entries_in, left, walked, is_passed, IsBefore};
+ghost use Rattle.ebpf_base.specs.EntriesFrom.{entries_from};
+ghost use Rattle.ebpf_reloc.specs.SlotTargets.{found_at};
+ghost use Rattle.ebpf_reloc.specs.Walks.{at_offset, ahead_in, entries_or_none, left, walked_relocations, is_passed, IsBefore};
 
 use crate::function::Function;
 use ebpf_base::ByOffset;
@@ -15,7 +15,7 @@ use std::collections::btree_map;
 #[derive(Drop)]
 pub struct Walk<'a> {
     /// The relocations of the section, where it has some.
-    pub kept: Option<&'a ByOffset<Relocation>>,
+    pub section_relocations: Option<&'a ByOffset<Relocation>>,
     /// The first relocation that is not passed, with its offset.
     pub next: Option<(u64, Relocation)>,
     /// The relocations behind that one, where the section has some.
@@ -34,13 +34,13 @@ fn offset_of(function: &Function, slot: usize) -> Option<u64>
 
 /// The relocations from an offset on.
 fn all_from(
-    kept: Option<&ByOffset<Relocation>>,
+    section_relocations: Option<&ByOffset<Relocation>>,
     offset: u64,
 ) -> Option<btree_map::Range<'_, u64, Relocation>>
-    ensures { ahead_in result ≡ entries_from offset (entries_in (option_copied kept.entry)) }
+    ensures { ahead_in result ≡ entries_from offset (entries_or_none (option_copied section_relocations.entry)) }
 {
-    match kept {
-        Some(kept) => Some(kept.from_offset(offset)),
+    match section_relocations {
+        Some(section_relocations) => Some(section_relocations.from_offset(offset)),
         None => None,
     }
 }
@@ -65,7 +65,7 @@ fn is_passed(next: Option<(u64, Relocation)>, offset: u64) -> bool
     ensures { result ≡ is_passed next offset }
 {
     match next {
-        Some((place, _)) => place < offset,
+        Some((at, _)) => at < offset,
         None => false,
     }
 }
@@ -75,21 +75,21 @@ fn at_offset(next: Option<(u64, Relocation)>, offset: u64) -> Option<Relocation>
     ensures { result ≡ at_offset next offset }
 {
     match next {
-        Some((place, relocation)) if place == offset => Some(relocation),
+        Some((at, relocation)) if at == offset => Some(relocation),
         _ => None,
     }
 }
 
 impl<'a> Walk<'a> {
     /// A walk from an offset on.
-    pub fn new(kept: Option<&'a ByOffset<Relocation>>, start: u64) -> Walk<'a>
-        ensures kept { walked result ≡ option_copied kept.entry }
+    pub fn new(section_relocations: Option<&'a ByOffset<Relocation>>, start: u64) -> Walk<'a>
+        ensures section_relocations { walked_relocations result ≡ option_copied section_relocations.entry }
         ensures before { IsBefore result start }
         ensures none { is_passed result.next start ≡ false }
     {
-        let mut ahead = all_from(kept, start);
+        let mut ahead = all_from(section_relocations, start);
         let next = take_first(&mut ahead);
-        Walk { kept, next, ahead }
+        Walk { section_relocations, next, ahead }
     }
 
     /// Passes the next relocation, which stands before an offset.
@@ -97,7 +97,7 @@ impl<'a> Walk<'a> {
     fn pass(&mut self, offset: u64)
         requires before { IsBefore self.old offset }
         requires passed { IsTrue (is_passed self.old.next offset) }
-        ensures kept { walked self.new ≡ walked self.old }
+        ensures section_relocations { walked_relocations self.new ≡ walked_relocations self.old }
         ensures before { IsBefore self.new offset }
     {
         self.next = take_first(&mut self.ahead);
@@ -105,18 +105,18 @@ impl<'a> Walk<'a> {
 
     /// Begins anew at an offset.
     fn begin_anew(&mut self, offset: u64)
-        ensures kept { walked self.new ≡ walked self.old }
+        ensures section_relocations { walked_relocations self.new ≡ walked_relocations self.old }
         ensures before { IsBefore self.new offset }
         ensures none { is_passed self.new.next offset ≡ false }
     {
-        *self = Walk::new(self.kept, offset);
+        *self = Walk::new(self.section_relocations, offset);
     }
 
     /// Passes the relocations before an offset. One alone is the rule, since the next slot has the next one;
     /// past more of them the walk begins anew.
     fn pass_all(&mut self, offset: u64)
         requires { IsBefore self.old offset }
-        ensures kept { walked self.new ≡ walked self.old }
+        ensures section_relocations { walked_relocations self.new ≡ walked_relocations self.old }
         ensures before { IsBefore self.new offset }
         ensures none { is_passed self.new.next offset ≡ false }
     {
@@ -132,8 +132,8 @@ impl<'a> Walk<'a> {
     #[tactic(auto, using(crate::proofs::InStep::found_next))]
     fn at(&mut self, offset: u64) -> Option<Relocation>
         requires { IsBefore self.old offset }
-        ensures relocation { result ≡ found_at (walked self.old) offset }
-        ensures kept { walked self.new ≡ walked self.old }
+        ensures relocation { result ≡ found_at (walked_relocations self.old) offset }
+        ensures section_relocations { walked_relocations self.new ≡ walked_relocations self.old }
         ensures before { IsBefore self.new offset }
     {
         self.pass_all(offset);
@@ -144,8 +144,8 @@ impl<'a> Walk<'a> {
     #[tactic(auto, using(crate::proofs::InStep::found_past))]
     pub fn relocation_of(&mut self, function: &Function, slot: usize) -> Option<Relocation>
         requires { IsBefore self.old (function.now.section_offset + 8 * slot) }
-        ensures relocation { result ≡ found_at (walked self.old) (function.now.section_offset + 8 * slot) }
-        ensures kept { walked self.new ≡ walked self.old }
+        ensures relocation { result ≡ found_at (walked_relocations self.old) (function.now.section_offset + 8 * slot) }
+        ensures section_relocations { walked_relocations self.new ≡ walked_relocations self.old }
         ensures before { IsBefore self.new (function.now.section_offset + 8 * slot) }
     {
         match offset_of(function, slot) {

@@ -62,9 +62,9 @@ fn go_one_by_one(
     print_outcome(rt, &outcome)
 }
 
-/// Prepares the object itself for a kernel, with names of maps that are written out, and joins nothing.
+/// Prepares the object itself for a kernel, with names of maps that are written out, and links nothing.
 fn go_taken(rt: &HostRuntime, object: &Object, kernel: &Btf, symbols: &[u8]) -> io::Result<()> {
-    println!(rt; "the object itself, not joined")?;
+    println!(rt; "the object itself, not linked")?;
     let descriptors = [("counts", 3), (".bss", 4), (".rodata", 5)];
     let steps = Steps::none()
         .with_types(kernel)
@@ -88,7 +88,7 @@ fn go_in_place(
 }
 
 /// Prepares the object without descriptors, which is refused.
-fn go_undescribed(rt: &HostRuntime, object: &Object) -> io::Result<()> {
+fn go_without_fds(rt: &HostRuntime, object: &Object) -> io::Result<()> {
     println!(rt; "in place, without descriptors")?;
     go_in_place(rt, object, &Steps::without_kernel(&[]), &[])
 }
@@ -100,7 +100,7 @@ fn go_by_symbols(rt: &HostRuntime, object: &Object, symbols: &[u8]) -> io::Resul
     go_in_place(rt, object, &steps, symbols)
 }
 
-/// Joins programs whose externs are left alone, which is refused where one is called.
+/// Links programs whose externs are left alone, which is refused where one is called.
 fn go_unresolved(rt: &HostRuntime, object: &Object) -> io::Result<()> {
     println!(rt; "in place, externs left alone")?;
     let descriptors = [("counts", 3), (".bss", 4), (".rodata", 5)];
@@ -147,7 +147,7 @@ fn go_with_types(
 
 /// Prepares the object in ways that are refused.
 fn go_refused(rt: &HostRuntime, object: &Object, symbols: &[u8]) -> io::Result<()> {
-    go_undescribed(rt, object)?;
+    go_without_fds(rt, object)?;
     go_by_symbols(rt, object, symbols)?;
     go_unresolved(rt, object)
 }

@@ -5,7 +5,7 @@ use ebpf_object::obj::Btf;
 use ebpf_object::prepare::{PrepareError, relocate_own_maps};
 use std::alloc::Global;
 
-/// The object with its functions adapted to a kernel's types.
+/// The object with its functions relocated to a kernel's types.
 fn typed(object: Object, kernel: &Btf) -> Result<Object, PrepareError> {
     let mut object = object;
     match object.relocate_btf(kernel) {
@@ -15,7 +15,7 @@ fn typed(object: Object, kernel: &Btf) -> Result<Object, PrepareError> {
 }
 
 /// The object with the descriptors of its maps in the slots.
-fn described(
+fn fds_written(
     alloc: Global,
     object: Object,
     descriptors: &[(&str, i32)],
@@ -45,8 +45,8 @@ fn written(object: Object) -> Result<Object, PrepareError> {
     }
 }
 
-/// The object with each program joined with the functions that it reaches.
-fn joined(object: Object) -> Result<Object, PrepareError> {
+/// The object with each program linked with the functions that it reaches.
+fn linked(object: Object) -> Result<Object, PrepareError> {
     let mut object = object;
     match object.relocate_own_calls() {
         Ok(()) => Ok(object),
@@ -63,8 +63,8 @@ pub fn one_by_one(
     symbols: &[u8],
 ) -> Result<Object, PrepareError> {
     let object = typed(object, kernel)?;
-    let object = described(alloc, object, descriptors)?;
+    let object = fds_written(alloc, object, descriptors)?;
     let object = resolved(object, kernel, symbols)?;
     let object = written(object)?;
-    joined(object)
+    linked(object)
 }

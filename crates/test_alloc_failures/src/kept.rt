@@ -1,4 +1,4 @@
-//! Calls on what an object keeps: its maps, what is said of instructions, and its programs.
+//! Calls on what an object keeps: its maps, the records of `.BTF.ext`, and its programs.
 
 use crate::call::Call;
 use crate::still_object::read_object;
@@ -32,27 +32,27 @@ fn on_map(rt: &HostRuntime, map: &Map, call: Call<'_>) -> io::Result<()> {
     }
 }
 
-/// What is said of the functions of the section that the word names.
+/// The func info of the section that the word names.
 fn funcs(rt: &HostRuntime, ext: &BtfExt, call: Call<'_>) -> io::Result<()> {
     call.begin(rt);
     let answer = ext.func_info.get(call.word);
     call.tell(rt, &answer)
 }
 
-/// What is said of the lines of the section that the word names.
+/// The line info of the section that the word names.
 fn lines(rt: &HostRuntime, ext: &BtfExt, call: Call<'_>) -> io::Result<()> {
     call.begin(rt);
     let answer = ext.line_info.get(call.word);
     call.tell(rt, &answer)
 }
 
-/// Whether something is said of functions of the section, which is found before.
+/// Whether the section has func info, which is found before.
 fn has_funcs(alloc: Global, ext: &BtfExt, section: &str) -> Result<bool, AllocError> {
     let found = ext.func_info.found(alloc, &[section])?;
     Ok(found.get(section).is_some())
 }
 
-/// Whether something is said of lines of the section, which is found before.
+/// Whether the section has line info, which is found before.
 fn has_lines(alloc: Global, ext: &BtfExt, section: &str) -> Result<bool, AllocError> {
     let found = ext.line_info.found(alloc, &[section])?;
     Ok(found.get(section).is_some())
@@ -72,14 +72,14 @@ fn found_lines(rt: &HostRuntime, ext: &BtfExt, call: Call<'_>) -> io::Result<()>
     call.tell(rt, &answer)
 }
 
-/// A copy of all that is said of instructions.
+/// A copy of the records of `.BTF.ext`.
 fn clone_ext(rt: &HostRuntime, ext: &BtfExt, call: Call<'_>) -> io::Result<()> {
     call.begin(rt);
     let answer: Result<_, _> = ext.clone();
     call.tell(rt, &answer)
 }
 
-/// A call on what is said of instructions.
+/// A call on the records of `.BTF.ext`.
 fn on_ext(rt: &HostRuntime, ext: &BtfExt, call: Call<'_>) -> io::Result<()> {
     match call.name {
         "kept_funcs" => funcs(rt, ext, call),

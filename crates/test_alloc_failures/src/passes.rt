@@ -11,7 +11,7 @@ use std::alloc::{AllocError, Global};
 use std::collections::{HashMap, HashSet};
 use std::{io, mem};
 
-/// Adapts the functions to these types.
+/// Relocates the functions to these types.
 fn relocate_btf(
     rt: &HostRuntime,
     object: &mut Object,
@@ -73,7 +73,7 @@ fn relocate_externs(rt: &HostRuntime, object: &mut Object, call: Call<'_>) -> io
     call.tell(rt, &answer)
 }
 
-/// Joins the programs with what they reach.
+/// Links the programs with what they reach.
 fn relocate_calls(
     rt: &HostRuntime,
     object: &mut Object,

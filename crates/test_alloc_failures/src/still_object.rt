@@ -62,8 +62,8 @@ fn changed_map(alloc: Global) -> u64 {
     of_map(0, &map)
 }
 
-/// A map that a kernel describes.
-fn described_map(alloc: Global) -> u64 {
+/// A map of a kernel's `bpf_map_info`.
+fn map_by_info(alloc: Global) -> u64 {
     let info = bpf_map_info {
         type_: 30,
         id: 7,
@@ -97,6 +97,6 @@ fn of_slots(object: &Object) -> u64 {
 pub fn read_object(rt: &HostRuntime, object: &Object, call: Call<'_>) -> io::Result<()> {
     call.begin(rt);
     let read = [of_maps(object), of_object(object), of_slots(object)];
-    let made = [changed_map(rt.alloc()), described_map(rt.alloc())];
+    let made = [changed_map(rt.alloc()), map_by_info(rt.alloc())];
     call.tell(rt, &(read, made))
 }

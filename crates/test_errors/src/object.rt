@@ -59,7 +59,7 @@ fn bytes(rt: &HostRuntime) -> Result<Items<u8>, AllocError> {
 }
 
 /// Prints the errors on the file, the license and the version.
-fn show_terms(rt: &HostRuntime) -> io::Result<()> {
+fn show_license_and_version(rt: &HostRuntime) -> io::Result<()> {
     show(rt, ParseError::ElfError(ElfReadError::BadMagic))?;
     show(rt, ParseError::BtfError(BtfError::InvalidInfo))?;
     let license = bytes(rt)?;
@@ -130,7 +130,7 @@ fn show_maps(rt: &HostRuntime) -> io::Result<()> {
 
 /// Prints each error of parsing and of changing variables.
 pub fn show_all(rt: &HostRuntime) -> io::Result<()> {
-    show_terms(rt)?;
+    show_license_and_version(rt)?;
     show_code(rt)?;
     show_maps(rt)?;
     show(rt, PinningError::Unsupported { pinning_type: 2 })

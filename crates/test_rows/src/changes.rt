@@ -1,7 +1,7 @@
 //! Files that are cut, and files with another byte.
 
 use crate::objects::on_object;
-use crate::prepared::joined_in_one_call;
+use crate::prepared::linked_in_one_call;
 use std::alloc::{AllocError, Global};
 use test_cases::{Action, Files, changed, front, no_action, tally_each};
 
@@ -52,10 +52,10 @@ fn changed_preparation(
     value: u8,
 ) -> Result<String, AllocError> {
     let bytes = changed(alloc, files.get("object"), place, value)?;
-    joined_in_one_call(alloc, &bytes)
+    linked_in_one_call(alloc, &bytes)
 }
 
-/// The same of preparing them, with the programs joined.
+/// The same of preparing them, with the programs linked.
 pub fn prepared_bytes(
     alloc: Global,
     files: &Files,

@@ -56,7 +56,7 @@ fn put_map(text: &mut String, name: &str, map: &Map) -> Result<(), AllocError> {
 }
 
 /// A line for each map that types declare, in byte order of their names.
-pub fn put_declared_maps(
+pub fn put_btf_defined_maps(
     alloc: Global,
     text: &mut String,
     maps: &ByName<Map>,

@@ -1,14 +1,14 @@
 //! Rows over all crates: reads cases of files, and prints what each of their actions gives.
 #![tactic(auto)]
 
-mod adapted;
+mod types_relocated;
 mod changes;
 mod declared;
-mod joined;
-mod known;
-mod known_externs;
+mod linked;
+mod extern_words;
+mod externs_written;
 mod lines;
-mod mapped;
+mod fds_written;
 mod maps;
 mod names;
 mod objects;

@@ -42,7 +42,7 @@ fn put_section(text: &mut String, map: &Map) -> Result<(), AllocError> {
 }
 
 /// What may be read of a map.
-fn put_described(text: &mut String, map: &Map) -> Result<(), AllocError> {
+fn put_map_text(text: &mut String, map: &Map) -> Result<(), AllocError> {
     put_map_numbers(text, map)?;
     put_numbers(text, &[("extra", map.map_extra())])?;
     put_section(text, map)?;
@@ -50,9 +50,9 @@ fn put_described(text: &mut String, map: &Map) -> Result<(), AllocError> {
 }
 
 /// What may be read of a map, and the id that a legacy map keeps.
-fn described_with_id(alloc: Global, map: &Map) -> Result<String, AllocError> {
+fn map_text_with_id(alloc: Global, map: &Map) -> Result<String, AllocError> {
     let mut text = String::new(alloc);
-    put_described(&mut text, map)?;
+    put_map_text(&mut text, map)?;
     if let Map::Legacy(legacy) = map {
         put_numbers(&mut text, &[("id", u64::from(legacy.def.id))])?;
     }
@@ -78,7 +78,7 @@ pub fn put_map_ids(alloc: Global, text: &mut String, maps: &ByName<Map>) -> Resu
     Ok(())
 }
 
-/// A Bloom filter, as a kernel describes it.
+/// A Bloom filter, as a kernel's `bpf_map_info` has it.
 fn bloom_filter(id: u32, value_type: u32) -> bpf_map_info {
     bpf_map_info {
         type_: 30,
@@ -91,7 +91,7 @@ fn bloom_filter(id: u32, value_type: u32) -> bpf_map_info {
     }
 }
 
-/// What is made of a Bloom filter that a kernel describes with an id and a value type.
+/// What is made of a Bloom filter whose `bpf_map_info` has an id and a value type.
 pub fn map_info(alloc: Global, action: &Action<'_>) -> Result<String, AllocError> {
     let (Some(id), Some(value_type)) = (action.small_number(0), action.small_number(1)) else {
         return no_action(alloc);
@@ -102,7 +102,7 @@ pub fn map_info(alloc: Global, action: &Action<'_>) -> Result<String, AllocError
         PinningType::None
     };
     let map = parse_map_info(alloc, bloom_filter(id, value_type), pinning);
-    described_with_id(alloc, &map)
+    map_text_with_id(alloc, &map)
 }
 
 /// Changes a map.
@@ -114,9 +114,9 @@ fn change(map: &mut Map) -> Result<(), AllocError> {
 }
 
 /// What may be read of a map, and whether it holds others.
-fn described_with_inner(alloc: Global, map: &Map) -> Result<String, AllocError> {
+fn map_text_with_inner(alloc: Global, map: &Map) -> Result<String, AllocError> {
     let mut text = String::new(alloc);
-    put_described(&mut text, map)?;
+    put_map_text(&mut text, map)?;
     let holds = map.inner()?.is_some();
     write!(text, " holds a map {holds}")?;
     Ok(text)
@@ -126,7 +126,7 @@ fn described_with_inner(alloc: Global, map: &Map) -> Result<String, AllocError> 
 fn changed_copy(alloc: Global, map: &mut Map) -> Result<String, AllocError> {
     change(map)?;
     let copy = map.clone()?;
-    described_with_inner(alloc, &copy)
+    map_text_with_inner(alloc, &copy)
 }
 
 /// What is made of a map by its parameters that is changed and then copied.

@@ -1,10 +1,10 @@
 //! Actions on an object.
 
-use crate::adapted::adapted;
+use crate::types_relocated::types_relocated;
 use crate::declared::put_types;
-use crate::joined::joined;
-use crate::known_externs::known_externs;
-use crate::mapped::mapped;
+use crate::linked::linked;
+use crate::externs_written::externs_written;
+use crate::fds_written::fds_written;
 use crate::patched::patched;
 use crate::resolved::resolved;
 use crate::sanitized::sanitized;
@@ -15,7 +15,7 @@ use std::alloc::{AllocError, Global};
 use test_cases::{Action, Files, no_action, shown};
 
 /// The tables that the words name, one after the other.
-fn described(alloc: Global, object: &Object, action: &Action<'_>) -> Result<String, AllocError> {
+fn put_tables(alloc: Global, object: &Object, action: &Action<'_>) -> Result<String, AllocError> {
     let mut text = String::new(alloc);
     for table in &action.words {
         put_table(alloc, &mut text, object, table)?;
@@ -41,12 +41,12 @@ fn of_object(
 ) -> Result<String, AllocError> {
     match action.name {
         "is_object" => String::from_str(alloc, "parsed"),
-        "parsed" => described(alloc, object, action),
+        "parsed" => put_tables(alloc, object, action),
         "types" => types(alloc, object, action),
-        "joined" => joined(alloc, object, action),
-        "adapted" => adapted(alloc, files, object, action),
-        "mapped" => mapped(alloc, object, action),
-        "known_externs" => known_externs(alloc, object, action),
+        "linked" => linked(alloc, object, action),
+        "types_relocated" => types_relocated(alloc, files, object, action),
+        "fds_written" => fds_written(alloc, object, action),
+        "externs_written" => externs_written(alloc, object, action),
         "resolved" | "resolved_text" => resolved(alloc, files, object, action),
         "patched" => patched(alloc, files, object, action),
         "sanitized" => sanitized(alloc, object, action),

@@ -1,6 +1,6 @@
 //! Files that are prepared in one call.
 
-use crate::joined::put_slots;
+use crate::linked::put_slots;
 use ebpf_btf::{Btf, BtfError, Endianness};
 use ebpf_object::Object;
 use ebpf_object::prepare::{Steps, prepare};
@@ -30,10 +30,10 @@ fn has(words: &[&str], asked: &str) -> bool {
     words.iter().any(|word| *word == asked)
 }
 
-/// What words choose: `types`, `maps` with the descriptors, `externs` without a kernel's types or `known_externs` with
+/// What words choose: `types`, `maps` with the descriptors, `externs` without a kernel's types or `externs_written` with
 /// them, and `calls`.
 fn steps<'a>(words: &[&str], types: &'a Btf, given: &'a [(&'a str, i32)]) -> Steps<'a> {
-    let externs = if has(words, "known_externs") {
+    let externs = if has(words, "externs_written") {
         Some(Some(types))
     } else if has(words, "externs") {
         Some(None)
@@ -72,8 +72,8 @@ fn prepared_with(
     }
 }
 
-/// Whether the programs of a file can be joined with the functions that they reach, or the error.
-pub fn joined_in_one_call(alloc: Global, bytes: &[u8]) -> Result<String, AllocError> {
+/// Whether the programs of a file can be linked with the functions that they reach, or the error.
+pub fn linked_in_one_call(alloc: Global, bytes: &[u8]) -> Result<String, AllocError> {
     let steps = Steps {
         target_btf: None,
         map_fds: None,

@@ -1,8 +1,8 @@
 //! Externs that are found in a kernel: its types are the file `kernel`, if there is one, and its addresses the file
 //! `kallsyms`.
 
-use crate::known::set_externs;
-use crate::known_externs::written;
+use crate::extern_words::set_externs;
+use crate::externs_written::written;
 use crate::lines::put_lines;
 use ebpf_btf::Btf;
 use ebpf_object::Object;

@@ -1,7 +1,7 @@
 //! The tables of an object, line by line.
 
-use crate::declared::{put_declared_maps, put_types};
-use crate::joined::put_slots;
+use crate::declared::{put_btf_defined_maps, put_types};
+use crate::linked::put_slots;
 use crate::lines::{Line, put_lines, put_numbers};
 use crate::maps::put_map_ids;
 use crate::records::{put_records, put_type_relocations};
@@ -96,7 +96,7 @@ fn put_relocations(
 }
 
 /// The license and the kernel version.
-fn put_terms(text: &mut String, object: &Object) -> Result<(), AllocError> {
+fn put_license_and_version(text: &mut String, object: &Object) -> Result<(), AllocError> {
     let license = object.license.as_slice();
     let version = object.kernel_version;
     writeln!(text, "{license:?} {version:?}")
@@ -115,10 +115,10 @@ pub fn put_table(
         "symbols" => put_symbols(alloc, text, &object.symbol_table),
         "relocations" => put_relocations(text, &object.relocations),
         "sections" => put_lines(alloc, text, &object.section_infos),
-        "terms" => put_terms(text, object),
+        "license_and_version" => put_license_and_version(text, object),
         "maps" => put_lines(alloc, text, &object.maps),
         "map_ids" => put_map_ids(alloc, text, &object.maps),
-        "declared_maps" => put_declared_maps(alloc, text, &object.maps),
+        "btf_defined_maps" => put_btf_defined_maps(alloc, text, &object.maps),
         "externs" => put_lines(alloc, text, &object.externs),
         "records" => put_records(text, &object.functions),
         "type_relocations" => put_type_relocations(alloc, text, object),

@@ -22,7 +22,7 @@ pub enum Error {
     NoMap,
     /// The file is no object, or has no such variable.
     Parse(Refusal),
-    /// A kernel's types can't be read, or functions can't be adapted to them.
+    /// A kernel's types can't be read, or functions can't be relocated to them.
     Types(Refusal),
     /// The descriptors of maps can't be written.
     Maps(Refusal),
@@ -30,7 +30,7 @@ pub enum Error {
     Ksyms(Refusal),
     /// What is known of the externs can't be written.
     Externs(Refusal),
-    /// Programs can't be joined with the functions that they reach.
+    /// Programs can't be linked with the functions that they reach.
     Calls(Refusal),
     /// A number that this wrapper doesn't know.
     Other(Refusal),

@@ -16,7 +16,7 @@ pub struct Object {
 /// A kernel, and the maps that are made in it.
 #[derive(Clone, Copy, Default)]
 pub struct Target<'a> {
-    /// Its types, as /sys/kernel/btf/vmlinux has them; none: functions aren't adapted to it.
+    /// Its types, as /sys/kernel/btf/vmlinux has them; none: functions aren't relocated to it.
     pub types: &'a [u8],
     /// Its symbols, as /proc/kallsyms has them.
     pub symbols: &'a [u8],
@@ -35,7 +35,7 @@ pub struct Info {
 }
 
 /// Names one after the other, and a row for each.
-fn described(maps: &[(&str, i32)]) -> (Vec<Descriptor>, String) {
+fn map_fds(maps: &[(&str, i32)]) -> (Vec<Descriptor>, String) {
     let (mut rows, mut text) = (Vec::new(), String::new());
     for (name, descriptor) in maps {
         rows.push(Descriptor {
@@ -105,7 +105,7 @@ impl Object {
         let mut handle = Handle {
             at: std::ptr::null_mut(),
         };
-        let (rows, text) = described(target.maps);
+        let (rows, text) = map_fds(target.maps);
         let (types, symbols) = (target.types, target.symbols);
         telling(|about, room, len| {
             // SAFETY: the slices are borrowed for the call, and a handle of zeros is a closed one.
@@ -296,7 +296,7 @@ impl Object {
         plain(unsafe { raw::ebpf_sanitize(self.handle.get_mut(), has_newer.into()) })
     }
 
-    /// Adapts the functions to a kernel's types.
+    /// Relocates the functions to a kernel's types.
     pub fn relocate_types(&mut self, types: &[u8]) -> Result<(), Error> {
         let handle = self.handle.get_mut();
         telling(|about, room, len| {
@@ -308,7 +308,7 @@ impl Object {
     /// Writes descriptors of maps into the slots that refer to them.
     pub fn relocate_maps(&mut self, maps: &[(&str, i32)]) -> Result<(), Error> {
         let handle = self.handle.get_mut();
-        let (rows, text) = described(maps);
+        let (rows, text) = map_fds(maps);
         telling(|about, room, len| {
             // SAFETY: an `Object` is open, and the slices are borrowed for the call.
             unsafe {
@@ -353,7 +353,7 @@ impl Object {
         telling(|about, room, len| unsafe { raw::ebpf_relocate_externs(handle, about, room, len) })
     }
 
-    /// Joins each program with the functions that it reaches.
+    /// Links each program with the functions that it reaches.
     pub fn relocate_calls(&mut self) -> Result<(), Error> {
         let handle = self.handle.get_mut();
         // SAFETY: an `Object` is open.

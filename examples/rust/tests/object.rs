@@ -14,11 +14,11 @@ fn small() -> Object {
 }
 
 #[test]
-fn programs_are_joined() {
+fn programs_are_linked() {
     let mut object = small();
     let copy = object.try_clone().expect("a copy");
     assert_eq!(object.slots("p").expect("slots").len(), 2);
-    object.relocate_calls().expect("joined");
+    object.relocate_calls().expect("linked");
     let slots = object.slots("p").expect("slots");
     assert_eq!((slots.len(), slots[0].imm), (3, 1));
     assert_eq!(copy.slots("p").expect("slots").len(), 2);
@@ -37,7 +37,7 @@ fn one_call_does_all() {
 }
 
 #[test]
-fn maps_are_listed_and_described() {
+fn map_fds_are_written() {
     let mut object = Object::open(&file("test_rows/data/counter.o")).expect("an object");
     let maps = object.maps().expect("maps");
     let names: Vec<&str> = maps.iter().map(|map| map.name.as_str()).collect();
@@ -54,7 +54,7 @@ fn maps_are_listed_and_described() {
     assert_eq!(object.map_data(".rodata").expect("data"), [42, 0, 0, 0]);
     object
         .relocate_maps(&[("counts", 5), (".bss", 6), (".rodata", 7), ("tables", 8)])
-        .expect("described");
+        .expect("descriptors written");
     assert_eq!(
         object
             .slots("on_packet")

@@ -1,22 +1,22 @@
 //! Maps by type information.
 
 ghost use Rattle.std.specs.Prelude.{◌≡◌};
-ghost use Rattle.ebpf_parts.specs.Maps.{btf_map};
+ghost use Rattle.ebpf_parts.specs.Maps.{undeclared_btf_map};
 
 use crate::maps::definition::BtfMapDef;
 use ebpf_base::Items;
 use std::alloc::{AllocError, Global};
 
-/// A map that type information describes.
+/// A BTF-defined map.
 #[derive(Debug, Drop)]
 pub struct BtfMap {
-    /// What the declaration says.
+    /// The map definition.
     pub def: BtfMapDef,
-    /// What it says of the maps that a map of maps holds.
+    /// The definition of the inner maps, of a map of maps.
     pub inner_def: Option<BtfMapDef>,
-    /// The number of the section that declares it, 0 where none does.
+    /// The index of the section that declares it, 0 where none does.
     pub section_index: usize,
-    /// The number of the symbol that names it, 0 where none does.
+    /// The index of the symbol that names it, 0 where none does.
     pub symbol_index: usize,
     /// The data that it begins with.
     pub bytes: Items<u8>,
@@ -24,8 +24,8 @@ pub struct BtfMap {
 
 impl BtfMap {
     /// A map that no section declares, without data and without an inner map.
-    pub(crate) fn unplaced(alloc: Global, def: BtfMapDef) -> BtfMap
-        ensures { result ≡ btf_map def }
+    pub(crate) fn undeclared(alloc: Global, def: BtfMapDef) -> BtfMap
+        ensures { result ≡ undeclared_btf_map def }
     {
         BtfMap {
             def,

@@ -1,4 +1,4 @@
-//! What a map's declaration says.
+//! The definitions of maps.
 
 use crate::maps::pinning::PinningType;
 
@@ -22,7 +22,7 @@ pub struct bpf_map_def {
     pub pinning: PinningType,
 }
 
-/// What type information says of a map.
+/// The definition of a BTF-defined map.
 #[derive(Clone, Copy, Debug, Default, PartialEq, Eq)]
 pub struct BtfMapDef {
     /// The number of the map's type.

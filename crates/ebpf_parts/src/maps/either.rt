@@ -147,7 +147,7 @@ impl Map {
         }
     }
 
-    /// The number of the section that declares the map, 0 where none does.
+    /// The index of the section that declares the map, 0 where none does.
     pub fn section_index(&self) -> usize
         ensures { result ≡ maps.section_index_of self.now }
     {
@@ -167,7 +167,7 @@ impl Map {
         }
     }
 
-    /// The number of the symbol that names the map. A data section is named by none.
+    /// The index of the symbol that names the map. A data section is named by none.
     pub fn symbol_index(&self) -> Option<usize>
         ensures { result ≡ maps.symbol_index_of self.now }
     {
@@ -200,7 +200,7 @@ impl Map {
             id: 0,
             pinning: PinningType::None,
         };
-        Map::Legacy(LegacyMap::unplaced(alloc, def))
+        Map::Legacy(LegacyMap::undeclared(alloc, def))
     }
 
     /// The map that a map of maps holds: in no section, without data. None for other maps. It has no data to be
@@ -213,14 +213,14 @@ impl Map {
                 let alloc = *map.bytes.as_vec().allocator();
                 Ok(
                     map.inner_def
-                        .map(|def| Map::Legacy(LegacyMap::unplaced(alloc, def))),
+                        .map(|def| Map::Legacy(LegacyMap::undeclared(alloc, def))),
                 )
             }
             Map::Btf(map) => {
                 let alloc = *map.bytes.as_vec().allocator();
                 Ok(
                     map.inner_def
-                        .map(|def| Map::Btf(BtfMap::unplaced(alloc, def))),
+                        .map(|def| Map::Btf(BtfMap::undeclared(alloc, def))),
                 )
             }
         }

@@ -1,7 +1,7 @@
-//! Maps that the kernel describes.
+//! Maps that the kernel reports.
 
 ghost use Rattle.std.specs.Prelude.{◌≡◌};
-ghost use Rattle.ebpf_parts.specs.Maps.{described_map};
+ghost use Rattle.ebpf_parts.specs.Maps.{map_from_info};
 
 use crate::maps::btf::BtfMap;
 use crate::maps::definition::{BtfMapDef, bpf_map_def};
@@ -10,7 +10,7 @@ use crate::maps::legacy::LegacyMap;
 use crate::maps::pinning::PinningType;
 use std::alloc::Global;
 
-/// What the kernel says of a map that it holds (of its `struct bpf_map_info`).
+/// What the kernel reports of a map that it holds (of its `struct bpf_map_info`).
 #[derive(Clone, Copy, Debug, Default, PartialEq, Eq)]
 pub struct bpf_map_info {
     /// The number of the map's type.
@@ -33,10 +33,10 @@ pub struct bpf_map_info {
     pub btf_value_type_id: u32,
 }
 
-/// The map that the kernel describes, without data and inner map: one with type information where its value
+/// The map that the kernel reports, without data and inner map: one with type information where its value
 /// has a type, else one by a fixed struct. Takes no memory.
 pub fn parse_map_info(alloc: Global, info: bpf_map_info, pinned: PinningType) -> Map
-    ensures { result ≡ described_map info pinned }
+    ensures { result ≡ map_from_info info pinned }
 {
     if info.btf_value_type_id == 0 {
         let def = bpf_map_def {
@@ -48,7 +48,7 @@ pub fn parse_map_info(alloc: Global, info: bpf_map_info, pinned: PinningType) ->
             id: info.id,
             pinning: pinned,
         };
-        return Map::Legacy(LegacyMap::unplaced(alloc, def));
+        return Map::Legacy(LegacyMap::undeclared(alloc, def));
     }
     let def = BtfMapDef {
         map_type: info.type_,
@@ -61,5 +61,5 @@ pub fn parse_map_info(alloc: Global, info: bpf_map_info, pinned: PinningType) ->
         btf_key_type_id: info.btf_key_type_id,
         btf_value_type_id: info.btf_value_type_id,
     };
-    Map::Btf(BtfMap::unplaced(alloc, def))
+    Map::Btf(BtfMap::undeclared(alloc, def))
 }

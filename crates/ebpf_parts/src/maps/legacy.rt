@@ -1,7 +1,7 @@
 //! Maps by a fixed struct.
 
 ghost use Rattle.std.specs.Prelude.{◌≡◌};
-ghost use Rattle.ebpf_parts.specs.Maps.{legacy_map};
+ghost use Rattle.ebpf_parts.specs.Maps.{undeclared_legacy_map};
 
 use crate::maps::definition::bpf_map_def;
 use crate::section_kind::EbpfSectionKind;
@@ -11,15 +11,15 @@ use std::alloc::{AllocError, Global};
 /// A map that a fixed struct or a data section declares.
 #[derive(Debug, Drop)]
 pub struct LegacyMap {
-    /// What the declaration says.
+    /// The map definition.
     pub def: bpf_map_def,
-    /// What it says of the maps that a map of maps holds.
+    /// The definition of the inner maps, of a map of maps.
     pub inner_def: Option<bpf_map_def>,
-    /// The number of the section that declares it, 0 where none does.
+    /// The index of the section that declares it, 0 where none does.
     pub section_index: usize,
     /// What that section is for.
     pub section_kind: EbpfSectionKind,
-    /// The number of the symbol that names it. A data section is named by none.
+    /// The index of the symbol that names it. A data section is named by none.
     pub symbol_index: Option<usize>,
     /// The data that it begins with.
     pub bytes: Items<u8>,
@@ -27,8 +27,8 @@ pub struct LegacyMap {
 
 impl LegacyMap {
     /// A map that no section declares, without data and without an inner map.
-    pub(crate) fn unplaced(alloc: Global, def: bpf_map_def) -> LegacyMap
-        ensures { result ≡ legacy_map def }
+    pub(crate) fn undeclared(alloc: Global, def: bpf_map_def) -> LegacyMap
+        ensures { result ≡ undeclared_legacy_map def }
     {
         LegacyMap {
             def,

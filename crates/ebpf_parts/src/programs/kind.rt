@@ -3,7 +3,7 @@
 ghost use Rattle.std.specs.Prelude.{◌≡◌, ◌==◌, ◌<◌, IfSome, length};
 ghost use Rattle.std.specs.List.{position};
 ghost use Rattle.std.specs.Option.{option_copied, option_map};
-ghost use Rattle.ebpf_parts.specs.ProgramKinds.{fits, has_target, is_marked, kind_in, longer, longest_fit, name_of, program_kind, unmarked};
+ghost use Rattle.ebpf_parts.specs.ProgramKinds.{name_fits, has_target, is_marked, kind_in, longer, longest_fit, row_name, program_kind, unmarked};
 
 use crate::programs::named_kinds::NAMED_KINDS;
 use crate::programs::program_type::bpf_prog_type;
@@ -38,7 +38,7 @@ pub struct NamedKind {
 
 /// Where the first space stands.
 fn first_space(padded: &[u8]) -> Option<usize>
-    ensures place { result ≡ position (λ b. b == 32) padded.now }
+    ensures index { result ≡ position (λ b. b == 32) padded.now }
     ensures inside { IfSome result (λ at. at < length padded.now) }
 {
     padded.iter().position(|byte| *byte == b' ')
@@ -47,7 +47,7 @@ fn first_space(padded: &[u8]) -> Option<usize>
 impl NamedKind {
     /// The name.
     pub fn name(&self) -> &[u8]
-        ensures { result.now ≡ name_of self.now }
+        ensures { result.now ≡ row_name self.now }
     {
         match first_space(&self.padded_name) {
             Some(at) => &self.padded_name[..at],
@@ -64,8 +64,8 @@ fn has_target(name: &[u8], own: &[u8]) -> bool
 }
 
 /// Whether a name is that of a row: its own, or its own with a target where it takes one.
-fn fits(row: &NamedKind, name: &[u8]) -> bool
-    ensures { result ≡ fits name.now row.now }
+fn name_fits(row: &NamedKind, name: &[u8]) -> bool
+    ensures { result ≡ name_fits name.now row.now }
 {
     let own = row.name();
     name == own || (row.takes_target && has_target(name, own))
@@ -88,7 +88,7 @@ fn longest_fit<'a>(rows: &'a [NamedKind], name: &[u8]) -> Option<&'a NamedKind>
 {
     let mut found = None;
     for row in rows {
-        if !fits(row, name) {
+        if !name_fits(row, name) {
             continue;
         }
         found = longer(found, row);

@@ -8,48 +8,48 @@ const EXACT: bool = false;
 /// The name alone, or followed by a slash and a target.
 const LONGER: bool = true;
 
-/// What a name says beside its types.
+/// The flags of a name.
 #[derive(Clone, Copy)]
-struct Says {
+struct KindFlags {
     is_sleepable: bool,
     has_frags: bool,
     wants_target_type: bool,
 }
 
-const PLAIN: Says = Says {
+const PLAIN: KindFlags = KindFlags {
     is_sleepable: false,
     has_frags: false,
     wants_target_type: false,
 };
 
-const SLEEPABLE: Says = Says {
+const SLEEPABLE: KindFlags = KindFlags {
     is_sleepable: true,
     has_frags: false,
     wants_target_type: false,
 };
 
-const FRAGS: Says = Says {
+const FRAGS: KindFlags = KindFlags {
     is_sleepable: false,
     has_frags: true,
     wants_target_type: false,
 };
 
-const TARGETED: Says = Says {
+const TARGETED: KindFlags = KindFlags {
     is_sleepable: false,
     has_frags: false,
     wants_target_type: true,
 };
 
-const SLEEPABLE_TARGETED: Says = Says {
+const SLEEPABLE_TARGETED: KindFlags = KindFlags {
     is_sleepable: true,
     has_frags: false,
     wants_target_type: true,
 };
 
 /// Rows: the name, how it may stand, the type of its programs, the kernel's number of the way of attaching them, and
-/// what it says beside.
+/// its flags.
 macro_rules! rows {
-    ($($name:literal => $takes_target:expr, $program_type:ident, $attach_type:expr, $says:expr;)*) => {
+    ($($name:literal => $takes_target:expr, $program_type:ident, $attach_type:expr, $flags:expr;)*) => {
         [
             $(NamedKind {
                 padded_name: *$name,
@@ -57,9 +57,9 @@ macro_rules! rows {
                 kind: ProgramKind {
                     program_type: bpf_prog_type::$program_type,
                     attach_type: $attach_type,
-                    is_sleepable: $says.is_sleepable,
-                    has_frags: $says.has_frags,
-                    wants_target_type: $says.wants_target_type,
+                    is_sleepable: $flags.is_sleepable,
+                    has_frags: $flags.has_frags,
+                    wants_target_type: $flags.wants_target_type,
                     is_optional: false,
                 },
             }),*

@@ -86,7 +86,7 @@ impl bpf_prog_type {
     #[tactic(auto, unfolding(crate::specs::ProgramTypes::program_types, crate::specs::ProgramTypes::program_type_number))]
     pub fn number(self) -> u32
         ensures number { result ≡ program_type_number self }
-        ensures place { slice_get program_types result ≡ Some self }
+        ensures index { slice_get program_types result ≡ Some self }
     {
         self as u32
     }

@@ -1,7 +1,7 @@
 use Rattle.std.proofs.Common.{◌≡◌, ◌-◌}
 use Rattle.std.specs.Slice.Iter.{iter_rest}
 use Rattle.std.specs.Iterator.Adapters.{zip_first, zip_second}
-use Rattle.ebpf_candidates.specs.Comparisons.{compared}
+use Rattle.ebpf_candidates.specs.Comparisons.{compared_from}
 use Rattle.ebpf_candidates.proofs.Comparing.{rest_alike}
 use Rattle.ebpf_candidates.proofs.compatible_types.+compare.Given as goal
 
@@ -14,4 +14,4 @@ invariant-loop-one l =
     let local = l.fn.sides.local.now.types in
     let target = l.fn.sides.target.now.types in
     rest_alike (l.levels - 1) local target l.fn.sides.root l.left l.local l.target (iter_rest (zip_first l.one-iterator)) (iter_rest (zip_second l.one-iterator))
-    ≡ compared l.levels local target l.fn.sides.root l.fn.left l.fn.pair
+    ≡ compared_from l.levels local target l.fn.sides.root l.fn.left l.fn.pair

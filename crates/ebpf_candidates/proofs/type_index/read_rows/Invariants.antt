@@ -3,15 +3,15 @@ use Rattle.std.specs.Prelude.{slice_index_or}
 use Rattle.ebpf_base.specs.Faults.{or_else}
 use Rattle.ebpf_btf.specs.declared.kind.BtfKind.{BtfKind}
 use Rattle.ebpf_candidates.specs.Candidates.{candidates}
-use Rattle.ebpf_candidates.specs.TypeRows.{rows, rows_from, unreadable_from}
+use Rattle.ebpf_candidates.specs.TypeRows.{rows, type_rows_from, unreadable_from}
 use Rattle.ebpf_btf.specs.Types.{kind_number}
-use Rattle.ebpf_candidates.proofs.WithoutNames.{nameless_from}
+use Rattle.ebpf_candidates.proofs.WithoutNames.{anonymous_from}
 use Rattle.ebpf_candidates.proofs.type_index.read_rows.Given as goal
 
 abbrev pub invariant-loop-id : goal.invariant-loop-id
 invariant-loop-id l = record {
-  rows : l.rows.items ++ rows_from l.names l.id (drop l.id l.names.types) ≡ rows l.names;
-  without : (kind : BtfKind) → slice_index_or l.nameless.items (kind_number kind) [] ++ nameless_from l.names kind l.id (drop l.id l.names.types) ≡ candidates l.names kind [];
+  rows : l.rows.items ++ type_rows_from l.names l.id (drop l.id l.names.types) ≡ rows l.names;
+  without : (kind : BtfKind) → slice_index_or l.anonymous.items (kind_number kind) [] ++ anonymous_from l.names kind l.id (drop l.id l.names.types) ≡ candidates l.names kind [];
   unread : (kind : BtfKind) → or_else (slice_index_or l.unreadable (kind_number kind) None) (unreadable_from l.names kind l.id (drop l.id l.names.types)) ≡ unreadable_from l.names kind 0 l.names.types;
-  kinds : (length l.nameless.items ≡ 20) × (length l.unreadable ≡ 20);
+  kinds : (length l.anonymous.items ≡ 20) × (length l.unreadable ≡ 20);
 }

@@ -1,5 +1,5 @@
 use Rattle.std.proofs.Common.{◌∙◌}
-use Rattle.ebpf_core.proofs.Parts.{part_read}
+use Rattle.ebpf_core.proofs.AccessParts.{part_read}
 use Rattle.ebpf_core.proofs.access.part_of.Goals as goal
 
 pub returns : goal.returns

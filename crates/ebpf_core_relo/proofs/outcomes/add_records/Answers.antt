@@ -1,24 +1,24 @@
 use Rattle.std.proofs.Common.{ap, ◌∙◌}
 use Rattle.ebpf_core.specs.Sides.{Sides}
-use Rattle.ebpf_core_relo.specs.Records.{scene_of}
+use Rattle.ebpf_core_relo.specs.Records.{relocation_inputs}
 use Rattle.ebpf_core_relo.specs.Sections.{found_number}
 use Rattle.ebpf_core_relo.proofs.OutcomeRows.{record_more, rest_at, slots_more}
 use Rattle.ebpf_core_relo.proofs.outcomes.add_records.Goals as goal
 
 pub loop-relocation-preserved : goal.loop-relocation-preserved
 loop-relocation-preserved c =
-    let scene = λ (sides : Sides). scene_of sides c.args.places.now.functions.now c.args.places.now.section_infos.now in
+    let inputs = λ (sides : Sides). relocation_inputs sides c.args.function_spans.now.functions.now c.args.function_spans.now.section_infos.now in
     let before = c.loop-relocation in
     record {
       search = c.in_ok-add_record.ensures.search ∙ before.invariant.search;
       absences = c.in_ok-add_record.ensures.absences ∙ before.invariant.absences;
       records =
-          record_more (scene c.args.search.now) (scene before.search) (ap scene before.invariant.search) c.args.section.name (found_number c.args.section.found) c.requires.section
+          record_more (inputs c.args.search.now) (inputs before.search) (ap inputs before.invariant.search) c.args.section.name (found_number c.args.section.found) c.requires.section
           c.args.relocations.now before.relocation-index _ (rest_at c.args.relocations.now before.relocation-index _ c.loop-relocation-test.true)
           before.outcomes.written c.add_record.new.outcomes.written c.in_ok-add_record.ensures.written _ _ c.in_ok-add_record.ensures.records
           ∙ before.invariant.records;
       written =
-          slots_more (scene c.args.search.now) (scene before.search) (ap scene before.invariant.search) c.args.section.name (found_number c.args.section.found) c.requires.section
+          slots_more (inputs c.args.search.now) (inputs before.search) (ap inputs before.invariant.search) c.args.section.name (found_number c.args.section.found) c.requires.section
           c.args.relocations.now before.relocation-index _ (rest_at c.args.relocations.now before.relocation-index _ c.loop-relocation-test.true)
           before.outcomes.written c.add_record.new.outcomes.written c.in_ok-add_record.ensures.written
           ∙ before.invariant.written;

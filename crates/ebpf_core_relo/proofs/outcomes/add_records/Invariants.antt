@@ -1,17 +1,17 @@
 use Rattle.std.proofs.Common.{◌≡◌, ◌++◌, map, drop}
 use Rattle.ebpf_core_relo.specs.RecordOutcomes.{named_in, outcomes_from, slots_left, told_outcome}
-use Rattle.ebpf_core_relo.specs.Records.{scene_of}
+use Rattle.ebpf_core_relo.specs.Records.{relocation_inputs}
 use Rattle.ebpf_core_relo.proofs.outcomes.add_records.Given as goal
 
 -- with those that are left the records come to what all come to
 abbrev pub invariant-loop-relocation : goal.invariant-loop-relocation
 invariant-loop-relocation l =
-    let scene = scene_of l.fn.search l.places.functions.now l.places.section_infos.now in
+    let inputs = relocation_inputs l.fn.search l.function_spans.functions.now l.function_spans.section_infos.now in
     record {
       search : l.search ≡ l.fn.search;
       absences : l.absences ≡ l.fn.absences;
-      records : map told_outcome l.outcomes.records ++ outcomes_from scene l.outcomes.written (named_in l.section.name (drop l.relocation-index l.relocations))
-          ≡ map told_outcome l.fn.outcomes.records ++ outcomes_from scene l.fn.outcomes.written (named_in l.section.name l.relocations);
-      written : slots_left scene l.outcomes.written (named_in l.section.name (drop l.relocation-index l.relocations))
-          ≡ slots_left scene l.fn.outcomes.written (named_in l.section.name l.relocations);
+      records : map told_outcome l.outcomes.records ++ outcomes_from inputs l.outcomes.written (named_in l.section.name (drop l.relocation-index l.relocations))
+          ≡ map told_outcome l.fn.outcomes.records ++ outcomes_from inputs l.fn.outcomes.written (named_in l.section.name l.relocations);
+      written : slots_left inputs l.outcomes.written (named_in l.section.name (drop l.relocation-index l.relocations))
+          ≡ slots_left inputs l.fn.outcomes.written (named_in l.section.name l.relocations);
     }

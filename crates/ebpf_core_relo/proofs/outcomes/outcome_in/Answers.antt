@@ -1,12 +1,12 @@
 use Rattle.std.proofs.Common.{ap, sym, ◌∙◌}
 use Rattle.ebpf_core_relo.specs.RecordOutcomes.{outcome_in}
-use Rattle.ebpf_core_relo.specs.Records.{scene_of}
+use Rattle.ebpf_core_relo.specs.Records.{relocation_inputs}
 use Rattle.ebpf_core_relo.specs.Sections.{found_number}
 use Rattle.ebpf_core_relo.proofs.OutcomeRows.{same_row}
 use Rattle.ebpf_core_relo.proofs.outcomes.outcome_in.Goals as goal
 
 pub returns-in_ok-result-in-Number-clause-outcome : goal.returns-in_ok-result-in-Number-clause-outcome
 returns-in_ok-result-in-Number-clause-outcome c =
-    let scene = scene_of c.args.search.now c.args.places.now.functions.now c.args.places.now.section_infos.now in
+    let inputs = relocation_inputs c.args.search.now c.args.function_spans.now.functions.now c.args.function_spans.now.section_infos.now in
     same_row _ _ _ _ _ _ (c.slot_in.ensures c.args.search.now) c.in_ok-result-in-Number.ensures.answered
-    ∙ ap (λ section. outcome_in scene c.args.section.name (found_number section) c.args.written.now c.args.relocation.now) (sym c.in-Number.is)
+    ∙ ap (λ section. outcome_in inputs c.args.section.name (found_number section) c.args.written.now c.args.relocation.now) (sym c.in-Number.is)

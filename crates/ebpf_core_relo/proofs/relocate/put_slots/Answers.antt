@@ -12,7 +12,7 @@ loop-key-init c =
     let given = c.into_iter-key-iterator.ensures.into_iter_gives in
     record {
       sorted = subst (λ es. IsStrictlySortedBy key_cmp (keys_of es)) (sym given.0) given.5;
-      places = λ q. ap (λ w. with_slots w (get c.args.functions.now q)) (ap (find key_cmp q) given.0 ∙ all_found c.args.written _ c.into_map-key-items.ensures q);
+      function_spans = λ q. ap (λ w. with_slots w (get c.args.functions.now q)) (ap (find key_cmp q) given.0 ∙ all_found c.args.written _ c.into_map-key-items.ensures q);
     }
 
 pub loop-key-preserved : goal.loop-key-preserved
@@ -22,8 +22,8 @@ loop-key-preserved c =
     let sorted = subst (λ es. IsStrictlySortedBy key_cmp (keys_of es)) front c.loop-key.invariant.sorted in
     record {
       sorted = sorted.1;
-      places = λ q.
+      function_spans = λ q.
           one_more c.loop-key.functions c.set_slots_at.new.functions c.in-Some.key c.in-Some.slots c.next.new.self sorted c.set_slots_at.ensures q
           ∙ sym (ap (λ es. with_slots (find key_cmp q es) (get c.loop-key.functions q)) front)
-          ∙ c.loop-key.invariant.places q;
+          ∙ c.loop-key.invariant.function_spans q;
     }

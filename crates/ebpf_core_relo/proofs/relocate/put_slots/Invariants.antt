@@ -10,5 +10,5 @@ use Rattle.ebpf_core_relo.proofs.relocate.put_slots.Given as goal
 abbrev pub invariant-loop-key : goal.invariant-loop-key
 invariant-loop-key l = record {
   sorted : IsStrictlySortedBy key_cmp (keys_of l.key-iterator);
-  places : (q : ℕ × ℕ) → with_slots (find key_cmp q l.key-iterator) (get l.functions q) ≡ with_slots (get l.fn.written q) (get l.fn.functions q);
+  function_spans : (q : ℕ × ℕ) → with_slots (find key_cmp q l.key-iterator) (get l.functions q) ≡ with_slots (get l.fn.written q) (get l.fn.functions q);
 }

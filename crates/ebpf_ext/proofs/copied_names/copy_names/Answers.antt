@@ -11,7 +11,7 @@ loop-offset-preserved g c =
     let i = c.loop-offset.offset-index in
     let s = c.loop-offset-item.result in
     let offsets = c.loop-offset.offsets.items in
-    let copied : IsCopied strings (names ++ c.in-Some.name.now) s.0 c.in-Some.place =
-    subst (λ l. IsCopied strings (l ++ c.in-Some.name.now) s.0 c.in-Some.place) c.as_slice.ensures c.in-Some.ensures in
-    let more = one_more_copied strings names c.in-Some.name.now c.extend_from_slice.new.self sections i s offsets c.in-Some.place c.loop-offset.invariant c.loop-offset-test.true c.loop-offset-item.is c.in_ok-extend_from_slice.ensures.ok copied in
+    let copied : IsCopied strings (names ++ c.in-Some.name.now) s.0 c.in-Some.copied =
+    subst (λ l. IsCopied strings (l ++ c.in-Some.name.now) s.0 c.in-Some.copied) c.as_slice.ensures c.in-Some.ensures in
+    let more = one_more_copied strings names c.in-Some.name.now c.extend_from_slice.new.self sections i s offsets c.in-Some.copied c.loop-offset.invariant c.loop-offset-test.true c.loop-offset-item.is c.in_ok-extend_from_slice.ensures.ok copied in
     subst (λ l. AreCopied strings c.extend_from_slice.new.self (take (i + 1) sections) l) (sym {A = List ℕ} c.in_ok-push.ensures.items) more

@@ -2,12 +2,12 @@ use Rattle.std.proofs.Common.{◌<◌, ◌∙◌, length, ap, refl, arith, slice
 use Rattle.ebpf_ext.proofs.CopiedNames.{one_put}
 use Rattle.ebpf_ext.proofs.copied_names.with_offsets.Goals as goal
 
-pub loop-place-preserved : goal.loop-place-preserved
-loop-place-preserved g c =
+pub loop-index-preserved : goal.loop-index-preserved
+loop-index-preserved g c =
     let offsets = c.args.offsets.now in
-    let place = c.loop-place.place in
-    let offset = slice_index_or offsets place 0 in
+    let index = c.loop-index.index in
+    let offset = slice_index_or offsets index 0 in
     let s = c.index_mut.result.now in
-    let within : place < length c.args.sections = omega (arith, c.requires, c.loop-place-test.true) in
-    ap (λ l. slice_set l place (offset, s.1)) c.loop-place.invariant
-    ∙ one_put offsets c.args.sections place offset s c.loop-place-test.true within refl (c.index_mut.ensures.value ∙ ap (λ l. slice_index_or l place s) c.loop-place.invariant)
+    let within : index < length c.args.sections = omega (arith, c.requires, c.loop-index-test.true) in
+    ap (λ l. slice_set l index (offset, s.1)) c.loop-index.invariant
+    ∙ one_put offsets c.args.sections index offset s c.loop-index-test.true within refl (c.index_mut.ensures.value ∙ ap (λ l. slice_index_or l index s) c.loop-index.invariant)

@@ -3,5 +3,5 @@ use Rattle.ebpf_ext.specs.CopiedNames.{with_offsets}
 use Rattle.ebpf_ext.proofs.copied_names.with_offsets.Given as goal
 
 -- the sections so far have their new offsets
-abbrev pub invariant-loop-place : goal.invariant-loop-place
-invariant-loop-place g l = l.sections.items ≡ with_offsets (take l.place l.offsets) l.fn.sections
+abbrev pub invariant-loop-index : goal.invariant-loop-index
+invariant-loop-index g l = l.sections.items ≡ with_offsets (take l.index l.offsets) l.fn.sections

@@ -3,7 +3,7 @@ use Rattle.std.specs.FinMap.{FinMap, insert}
 use Rattle.std.proofs.lemmas.Result.{err_from_is_err_and}
 use Rattle.ebpf_base.specs.Keys.{text_cmp}
 use Rattle.ebpf_ext.specs.declared.ext_infos.LineSecInfo.{LineSecInfo}
-use Rattle.ebpf_ext.specs.ExtReading.{line_said, line_section, sections_from}
+use Rattle.ebpf_ext.specs.ExtReading.{named_line_info, line_section, sections_from}
 use Rattle.ebpf_ext.specs.SectionNames.{by_offsets}
 use Rattle.ebpf_ext.proofs.ExtSections.{fold_ok, section_advances, sections_more, sections_over, sections_cut}
 use Rattle.ebpf_ext.proofs.SectionNames.{no_sections, one_more}
@@ -12,46 +12,46 @@ use Rattle.ebpf_ext.proofs.ext_sections.read_line_sections.Goals as goal
 abbrev put : FinMap text_cmp LineSecInfo → List ℕ × LineSecInfo → FinMap text_cmp LineSecInfo
 put kept e = insert kept e.0 e.1
 
-pub loop-place-init : goal.loop-place-init
-loop-place-init c =
+pub loop-offset-init : goal.loop-offset-init
+loop-offset-init c =
     let read = line_section c.args.order c.args.bytes.now c.args.btf.now.strings c.args.part.record_size c.args.part.end in
     record {
       within = c.requires.before;
-      rest = ap (λ m. fold_ok put m (sections_from (c.args.part.end - c.args.part.place) read c.args.part.place c.args.part.end)) (ap (by_offsets c.args.btf.now.strings) c.new-sections.ensures ∙ no_sections c.args.btf.now.strings);
+      rest = ap (λ m. fold_ok put m (sections_from (c.args.part.end - c.args.part.offset) read c.args.part.offset c.args.part.end)) (ap (by_offsets c.args.btf.now.strings) c.new-sections.ensures ∙ no_sections c.args.btf.now.strings);
     }
 
 pub returns-in_err-section : goal.returns-in_err-section
 returns-in_err-section c =
     let p = err_from_is_err_and c.from_residual.result c.from_residual.ensures.1 in
     let read = line_section c.args.order c.args.bytes.now c.args.btf.now.strings c.args.part.record_size c.args.part.end in
-    rw (p.1, p.2) (sections_cut put read c.loop-place.place c.args.part.end (by_offsets c.args.btf.now.strings c.loop-place.sections) _ _ c.loop-place-test.true c.loop-place.invariant.rest c.in_err-section.ensures)
+    rw (p.1, p.2) (sections_cut put read c.loop-offset.offset c.args.part.end (by_offsets c.args.btf.now.strings c.loop-offset.sections) _ _ c.loop-offset-test.true c.loop-offset.invariant.rest c.in_err-section.ensures)
 
-pub loop-place-smaller : goal.loop-place-smaller
-loop-place-smaller c =
-    let said = line_said c.args.order c.args.bytes.now c.args.btf.now.strings c.args.part.record_size in
+pub loop-offset-smaller : goal.loop-offset-smaller
+loop-offset-smaller c =
+    let records = named_line_info c.args.order c.args.bytes.now c.args.btf.now.strings c.args.part.record_size in
     let found : (List ℕ × LineSecInfo) × ℕ = ((c.in_ok-section.ensures.0, c.in_ok-section.section.1), c.in_ok-section.next) in
-    let within = section_advances c.args.order c.args.bytes.now 16 c.args.part.record_size c.args.part.end said c.loop-place.place found c.in_ok-section.ensures.2 in
+    let within = section_advances c.args.order c.args.bytes.now 16 c.args.part.record_size c.args.part.end records c.loop-offset.offset found c.in_ok-section.ensures.2 in
     omega (arith, within.0, within.1)
 
-pub loop-place-preserved : goal.loop-place-preserved
-loop-place-preserved c =
-    let said = line_said c.args.order c.args.bytes.now c.args.btf.now.strings c.args.part.record_size in
-    let ahead = section_advances c.args.order c.args.bytes.now 16 c.args.part.record_size c.args.part.end said in
+pub loop-offset-preserved : goal.loop-offset-preserved
+loop-offset-preserved c =
+    let records = named_line_info c.args.order c.args.bytes.now c.args.btf.now.strings c.args.part.record_size in
+    let ahead = section_advances c.args.order c.args.bytes.now 16 c.args.part.record_size c.args.part.end records in
     let read = line_section c.args.order c.args.bytes.now c.args.btf.now.strings c.args.part.record_size c.args.part.end in
     let name : List ℕ = c.in_ok-section.ensures.0 in
     let found : (List ℕ × LineSecInfo) × ℕ = ((name, c.in_ok-section.section.1), c.in_ok-section.next) in
-    let within = ahead c.loop-place.place found c.in_ok-section.ensures.2 in
-    let before = by_offsets c.args.btf.now.strings c.loop-place.sections in
-    let step = sections_more put read c.loop-place.place c.args.part.end before found ahead c.loop-place-test.true c.in_ok-section.ensures.2 in
-    let more = ap (by_offsets c.args.btf.now.strings) c.in_ok-push.ensures.ok ∙ one_more c.args.btf.now.strings c.loop-place.sections c.in_ok-section.section name c.in_ok-section.ensures.1 in
+    let within = ahead c.loop-offset.offset found c.in_ok-section.ensures.2 in
+    let before = by_offsets c.args.btf.now.strings c.loop-offset.sections in
+    let step = sections_more put read c.loop-offset.offset c.args.part.end before found ahead c.loop-offset-test.true c.in_ok-section.ensures.2 in
+    let more = ap (by_offsets c.args.btf.now.strings) c.in_ok-push.ensures.ok ∙ one_more c.args.btf.now.strings c.loop-offset.sections c.in_ok-section.section name c.in_ok-section.ensures.1 in
     record {
       within = within.1;
-      rest = ap (λ m. fold_ok put m (sections_from (c.args.part.end - c.in_ok-section.next) read c.in_ok-section.next c.args.part.end)) more ∙ step ∙ c.loop-place.invariant.rest;
+      rest = ap (λ m. fold_ok put m (sections_from (c.args.part.end - c.in_ok-section.next) read c.in_ok-section.next c.args.part.end)) more ∙ step ∙ c.loop-offset.invariant.rest;
     }
 
 pub returns : goal.returns
 returns c =
     let read = line_section c.args.order c.args.bytes.now c.args.btf.now.strings c.args.part.record_size c.args.part.end in
-    let all = by_offsets c.args.btf.now.strings c.loop-place.sections in
-    sym c.loop-place.invariant.rest ∙ sections_over put read c.loop-place.place c.args.part.end all (omega arith)
-    ∙ ap (λ s. Ok (by_offsets s c.loop-place.sections)) (sym c.strings.ensures) ∙ ap Ok (sym c.in_ok-new.ensures)
+    let all = by_offsets c.args.btf.now.strings c.loop-offset.sections in
+    sym c.loop-offset.invariant.rest ∙ sections_over put read c.loop-offset.offset c.args.part.end all (omega arith)
+    ∙ ap (λ s. Ok (by_offsets s c.loop-offset.sections)) (sym c.strings.ensures) ∙ ap Ok (sym c.in_ok-new.ensures)

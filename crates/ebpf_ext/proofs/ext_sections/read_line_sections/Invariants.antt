@@ -5,12 +5,12 @@ use Rattle.ebpf_ext.specs.SectionNames.{by_offsets}
 use Rattle.ebpf_ext.proofs.ExtSections.{fold_ok}
 use Rattle.ebpf_ext.proofs.ext_sections.read_line_sections.Given as goal
 
-abbrev pub invariant-loop-place : goal.invariant-loop-place
-invariant-loop-place l = record {
-  within : l.place ≤ l.part.end;
-  rest : fold_ok (λ kept e. insert kept e.0 e.1) (by_offsets l.btf.strings l.sections) (sections_from (l.part.end - l.place) (line_section l.order l.bytes l.btf.strings l.part.record_size l.part.end) l.place l.part.end)
-      ≡ fold_ok (λ kept e. insert kept e.0 e.1) empty (sections_from (l.part.end - l.part.place) (line_section l.order l.bytes l.btf.strings l.part.record_size l.part.end) l.part.place l.part.end);
+abbrev pub invariant-loop-offset : goal.invariant-loop-offset
+invariant-loop-offset l = record {
+  within : l.offset ≤ l.part.end;
+  rest : fold_ok (λ kept e. insert kept e.0 e.1) (by_offsets l.btf.strings l.sections) (sections_from (l.part.end - l.offset) (line_section l.order l.bytes l.btf.strings l.part.record_size l.part.end) l.offset l.part.end)
+      ≡ fold_ok (λ kept e. insert kept e.0 e.1) empty (sections_from (l.part.end - l.part.offset) (line_section l.order l.bytes l.btf.strings l.part.record_size l.part.end) l.part.offset l.part.end);
 }
 
-abbrev pub decreases-loop-place : goal.decreases-loop-place
-decreases-loop-place l = l.part.end - l.place
+abbrev pub decreases-loop-offset : goal.decreases-loop-offset
+decreases-loop-offset l = l.part.end - l.offset

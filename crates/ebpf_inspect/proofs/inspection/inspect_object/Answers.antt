@@ -1,5 +1,5 @@
-use Rattle.ebpf_inspect.proofs.Joining.{inspected}
-use Rattle.ebpf_inspect.specs.Inspected.{joining}
+use Rattle.ebpf_inspect.proofs.LinkingAfter.{inspected}
+use Rattle.ebpf_inspect.specs.Inspected.{with_linking}
 use Rattle.ebpf_object.proofs.Staging.{of_error, of_prepared, file_refused}
 use Rattle.ebpf_object.specs.Steps.{chosen}
 use Rattle.ebpf_inspect.proofs.inspection.inspect_object.Goals as goal
@@ -10,4 +10,4 @@ returns-clause-inspected g c reading file parsed =
 
 pub returns-clause-first_fault : goal.returns-clause-first_fault
 returns-clause-first_fault g c reading file parsed =
-    of_error c.inspect_all.result (file_refused (joining (chosen c.args.steps.now)) (g.K.SymbolSource.source c.args.kallsyms) reading file c.args.object parsed) c.inspect_all.ensures.fault
+    of_error c.inspect_all.result (file_refused (with_linking (chosen c.args.steps.now)) (g.K.SymbolSource.source c.args.kallsyms) reading file c.args.object parsed) c.inspect_all.ensures.fault

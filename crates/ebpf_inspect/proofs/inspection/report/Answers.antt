@@ -3,10 +3,10 @@ use Rattle.ebpf_inspect.proofs.Gathered.{refused_by, of_calls}
 use Rattle.ebpf_inspect.proofs.Reports.{each_linked, none_refused, reports}
 use Rattle.ebpf_inspect.specs.Inspected.{AreReports}
 use Rattle.ebpf_inspect.specs.Named.{OneRefused}
-use Rattle.ebpf_object.specs.Joined.{linkable_of, programs_in_order, AreJoined}
+use Rattle.ebpf_object.specs.LinkedPrograms.{linkable_of, programs_in_order, ProgramsAreLinked}
 use Rattle.ebpf_object.specs.StageFaults.{Wrapped}
 use Rattle.ebpf_object.specs.declared.prepare_error.PrepareError.TheVariants.{Calls}
-use Rattle.ebpf_object.specs.Stages.{Joins, JoiningFault}
+use Rattle.ebpf_object.specs.Stages.{LinksPrograms, LinkingFault}
 use Rattle.ebpf_inspect.proofs.inspection.report.Goals as goal
 
 pub returns-in-Err-maps-clause-fault : goal.returns-in-Err-maps-clause-fault
@@ -14,11 +14,11 @@ returns-in-Err-maps-clause-fault c =
     let o = c.args.object.now in
     let linked = c.relocate_calls.new.self in
     let ps = programs_in_order o.programs in
-    let joins : Joins true o linked =
-    (subst (λ sections. AreJoined (linkable_of o sections) ps linked.functions) c.in_ok-text_sections.ensures c.in-Ok.ensures.functions, c.in-Ok.ensures.others_stay)
+    let links : LinksPrograms true o linked =
+    (subst (λ sections. ProgramsAreLinked (linkable_of o sections) ps linked.functions) c.in_ok-text_sections.ensures c.in-Ok.ensures.functions, c.in-Ok.ensures.others_stay)
     in
-    refused_by (Wrapped Calls (OneRefused o ps)) (Wrapped Calls (JoiningFault true o)) c.in-Err-maps.error
-    (of_calls (OneRefused o ps) (JoiningFault true o) (λ e r. absurd (none_refused o linked e ps (each_linked o linked joins) r)) c.in-Err-maps.error)
+    refused_by (Wrapped Calls (OneRefused o ps)) (Wrapped Calls (LinkingFault true o)) c.in-Err-maps.error
+    (of_calls (OneRefused o ps) (LinkingFault true o) (λ e r. absurd (none_refused o linked e ps (each_linked o linked links) r)) c.in-Err-maps.error)
     c.in-Err-maps.ensures.fault
 
 pub returns-clause-reports : goal.returns-clause-reports
@@ -26,7 +26,7 @@ returns-clause-reports c =
     let o = c.args.object.now in
     let linked = c.relocate_calls.new.self in
     let ps = programs_in_order o.programs in
-    let joins : Joins true o linked =
-    (subst (λ sections. AreJoined (linkable_of o sections) ps linked.functions) c.in_ok-text_sections.ensures c.in-Ok.ensures.functions, c.in-Ok.ensures.others_stay)
+    let links : LinksPrograms true o linked =
+    (subst (λ sections. ProgramsAreLinked (linkable_of o sections) ps linked.functions) c.in_ok-text_sections.ensures c.in-Ok.ensures.functions, c.in-Ok.ensures.others_stay)
     in
-    subst (λ rs. AreReports o linked ps rs) (sym c.in_ok-reports_of.ensures) (reports o linked ps c.in-Ok-maps.maps.items (each_linked o linked joins) c.in-Ok-maps.ensures.maps)
+    subst (λ rs. AreReports o linked ps rs) (sym c.in_ok-reports_of.ensures) (reports o linked ps c.in-Ok-maps.maps.items (each_linked o linked links) c.in-Ok-maps.ensures.maps)

@@ -1,8 +1,8 @@
 use Rattle.std.proofs.Common.{List, arith, subst, length, get_or}
 use Rattle.ebpf_parts.specs.declared.insn.bpf_insn.{bpf_insn}
-use Rattle.ebpf_linker.specs.Image.{Fit}
-use Rattle.ebpf_linker.proofs.MapWalks.{copies_first, copies_more}
-use Rattle.ebpf_linker.proofs.Placed.{body_read, no_body}
+use Rattle.ebpf_linker.specs.LinkedSlots.{Fit}
+use Rattle.ebpf_linker.proofs.LinkMapWalks.{copies_first, copies_more}
+use Rattle.ebpf_linker.proofs.BasesInOrder.{body_read, no_body}
 use Rattle.ebpf_linker.proofs.RecordWalks.{fit_more, room_more}
 use Rattle.ebpf_linker.proofs.link_map.copies_of.Goals as goal
 

@@ -2,10 +2,10 @@ use Rattle.std.proofs.Common.{ℕ, ◌<◌, ◌∙◌, List, sym, arith, subst, 
 use Rattle.std.specs.Prelude.{All}
 use Rattle.ebpf_parts.specs.declared.insn.bpf_insn.{bpf_insn}
 use Rattle.ebpf_linker.specs.declared.reference.Call.{Call}
-use Rattle.ebpf_linker.specs.Image.{Fit}
-use Rattle.ebpf_linker.specs.Numbered.{IsIn}
-use Rattle.ebpf_linker.proofs.MapWalks.{references_first, references_more}
-use Rattle.ebpf_linker.proofs.Placed.{body_read, calls_read, no_body}
+use Rattle.ebpf_linker.specs.LinkedSlots.{Fit}
+use Rattle.ebpf_linker.specs.Numbered.{IsWithin}
+use Rattle.ebpf_linker.proofs.LinkMapWalks.{references_first, references_more}
+use Rattle.ebpf_linker.proofs.BasesInOrder.{body_read, calls_read, no_body}
 use Rattle.ebpf_linker.proofs.RecordWalks.{fit_more, room_more}
 use Rattle.ebpf_linker.proofs.link_map.references_of.Goals as goal
 
@@ -27,8 +27,8 @@ add_references-requires-in-loop-function-clause-within c =
     let lt = c.requires.reached c.loop-function.function-index 0 c.loop-function-test.true in
     let lt' : k < length c.args.calls.now = omega (arith, lt, c.requires.calls) in
     let calls = calls_read c.args.calls.now k c.index-calls-function.result lt' c.index-calls-function.is ∙ sym c.deref-in-loop-function.ensures.value in
-    subst (λ (n : ℕ). All (λ call. IsIn n call.target) c.deref-in-loop-function.result.now) (sym c.requires.bases)
-    (subst (λ (cs : List Call). All (λ call. IsIn (length c.args.bodies.now) call.target) cs) calls (c.requires.sound.within k))
+    subst (λ (n : ℕ). All (λ call. IsWithin n call.target) c.deref-in-loop-function.result.now) (sym c.requires.bases)
+    (subst (λ (cs : List Call). All (λ call. IsWithin (length c.args.bodies.now) call.target) cs) calls (c.requires.sound.within k))
 
 pub add_references-requires-in-loop-function-clause-room : goal.add_references-requires-in-loop-function-clause-room
 add_references-requires-in-loop-function-clause-room c =

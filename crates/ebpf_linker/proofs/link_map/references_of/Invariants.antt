@@ -1,11 +1,11 @@
 use Rattle.std.proofs.Common.{◌≡◌, ◌++◌, ◌∷◌, drop}
-use Rattle.ebpf_linker.specs.Image.{Fit}
-use Rattle.ebpf_linker.specs.Noted.{noted_all}
+use Rattle.ebpf_linker.specs.LinkedSlots.{Fit}
+use Rattle.ebpf_linker.specs.LinkedReferences.{references_of_copies}
 use Rattle.ebpf_linker.proofs.link_map.references_of.Given as goal
 
 -- the references so far, and those of the functions that are left
 abbrev pub invariant-loop-function : goal.invariant-loop-function
 invariant-loop-function l = record {
-  whole : l.references.items ++ noted_all l.bodies l.calls l.bases l.base (drop l.function-index l.reached) ≡ noted_all l.bodies l.calls l.bases 0 (l.start ∷ l.reached);
+  whole : l.references.items ++ references_of_copies l.bodies l.calls l.bases l.base (drop l.function-index l.reached) ≡ references_of_copies l.bodies l.calls l.bases 0 (l.start ∷ l.reached);
   fit : Fit l.bodies l.base (drop l.function-index l.reached);
 }

@@ -1,5 +1,5 @@
 use Rattle.std.proofs.Common.{◌≡◌, ◌++◌, [], drop}
-use Rattle.ebpf_linker.specs.Image.{Fit}
+use Rattle.ebpf_linker.specs.LinkedSlots.{Fit}
 use Rattle.ebpf_linker.specs.Numbered.{functions}
 use Rattle.ebpf_linker.specs.Records.{func_records, linked_func_info}
 use Rattle.ebpf_linker.proofs.records.func_records.Given as goal

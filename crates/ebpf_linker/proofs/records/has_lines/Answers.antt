@@ -1,6 +1,6 @@
 use Rattle.std.proofs.Common.{◌≡◌, true, false, get_or, sym, ◌∙◌}
 use Rattle.ebpf_linker.specs.Faults.{has_some}
-use Rattle.ebpf_linker.proofs.Placed.{no_body}
+use Rattle.ebpf_linker.proofs.BasesInOrder.{no_body}
 use Rattle.ebpf_linker.proofs.RecordWalks.{lines_here, lines_after, some_if}
 use Rattle.ebpf_linker.proofs.records.has_lines.Goals as goal
 

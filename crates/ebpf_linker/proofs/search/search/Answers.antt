@@ -3,13 +3,13 @@ use Rattle.std.specs.Prelude.{slice_get, slice_index_or, All, Err, Ok, Vec}
 use Rattle.std.specs.declared.alloc.Global.{Global}
 use Rattle.ebpf_linker.specs.declared.reference.Fault.{Fault}
 use Rattle.ebpf_linker.specs.declared.search.Open.{Open}
-use Rattle.ebpf_linker.specs.Functions.{Content, Among}
+use Rattle.ebpf_linker.specs.Functions.{FunctionContent, Among}
 use Rattle.ebpf_linker.specs.Numbered.{functions}
-use Rattle.ebpf_linker.specs.Steps.{Advanced, Search, search_at, seen, target_of}
+use Rattle.ebpf_linker.specs.Steps.{Advanced, Search, search_at, checked_calls, call_target}
 use Rattle.ebpf_linker.proofs.Searched.{State, advanced, started}
 use Rattle.ebpf_linker.proofs.Counted.{counted, refused, found_all, counted_first}
 use Rattle.ebpf_linker.proofs.Ends.{less_left, left_in, unfound}
-use Rattle.ebpf_linker.proofs.Seen.{sought, finds, content_read}
+use Rattle.ebpf_linker.proofs.Checked.{are_sorted, finds, content_read}
 use Rattle.ebpf_linker.proofs.Unmarked.{found_within, set_among, stands_still}
 use Rattle.ebpf_linker.proofs.search.search.Goals as goal
 
@@ -19,11 +19,11 @@ loop-top-init c =
     let C = c.args.calls.now in
     let first : Open = record { copy = 0; function = c.args.start; next = 0 } in
     let o : c.push.new.self.items ≡ c.args.start ∷ [] = c.in_ok-push.ensures.items ∙ ap (λ (u : List ℕ). u ++ c.args.start ∷ []) c.new-order.ensures.items in
-    let s : c.push-2.new.self.items ≡ first ∷ [] = c.in_ok-push-2.ensures.items ∙ ap (λ (u : List Open). u ++ first ∷ []) c.new-pending.ensures.items in
-    let fs : c.in_ok-found.found.items ≡ replicate (length B) false = search rules in
+    let s : c.push-2.new.self.items ≡ first ∷ [] = c.in_ok-push-2.ensures.items ∙ ap (λ (u : List Open). u ++ first ∷ []) c.new-work_list.ensures.items in
+    let fs : c.in_ok-is_found.is_found.items ≡ replicate (length B) false = search rules in
     record {
-      state = started (length B) (seen B C c.args.start) c.args.start _ _ _ c.requires.start o fs s;
-      counted = counted_first (functions B C) c.args.start _ c.push.new.self.items o (ap (λ (u : Content). length u.slots) (sym (content_read B c.args.start _ c.requires.start)));
+      state = started (length B) (checked_calls B C c.args.start) c.args.start _ _ _ c.requires.start o fs s;
+      counted = counted_first (functions B C) c.args.start _ c.push.new.self.items o (ap (λ (u : FunctionContent). length u.slots) (sym (content_read B c.args.start _ c.requires.start)));
     }
 
 pub finish-order-requires-clause-within : goal.finish-order-requires-clause-within
@@ -32,12 +32,12 @@ finish-order-requires-clause-within c =
     let C = c.args.calls.now in
     let p = c.args.start in
     let F = functions B C in
-    let s = search_at c.loop-top.progress.order.items c.loop-top.progress.found.items c.pop.new.self.items c.loop-top.progress.used in
-    let t = search_at c.advance.new.self.order.items c.advance.new.self.found.items c.advance.new.self.pending.items c.advance.new.self.used in
+    let s = search_at c.loop-top.progress.order.items c.loop-top.progress.is_found.items c.pop.new.self.items c.loop-top.progress.used in
+    let t = search_at c.advance.new.self.order.items c.advance.new.self.is_found.items c.advance.new.self.work_list.items c.advance.new.self.used in
     let top = c.in-Some.top in
-    let a = subst (λ (u : Option Fault). Advanced F (seen B C p) top s t u) c.in-Some-step.is c.in_ok-step.ensures in
-    let same = stands_still F top s t c.in-Some-step.fault (target_of (slice_get (seen B C p top.function) top.next)) a in
-    subst (λ (u : Search). All (λ k. k < length u.found) u.order) (sym same) (found_within c.loop-top.invariant.state)
+    let a = subst (λ (u : Option Fault). Advanced F (checked_calls B C p) top s t u) c.in-Some-step.is c.in_ok-step.ensures in
+    let same = stands_still F top s t c.in-Some-step.fault (call_target (slice_get (checked_calls B C p top.function) top.next)) a in
+    subst (λ (u : Search). All (λ k. k < length u.is_found) u.order) (sym same) (found_within c.loop-top.invariant.state)
 
 pub finish-order-requires-clause-marked : goal.finish-order-requires-clause-marked
 finish-order-requires-clause-marked c =
@@ -45,12 +45,12 @@ finish-order-requires-clause-marked c =
     let C = c.args.calls.now in
     let p = c.args.start in
     let F = functions B C in
-    let s = search_at c.loop-top.progress.order.items c.loop-top.progress.found.items c.pop.new.self.items c.loop-top.progress.used in
-    let t = search_at c.advance.new.self.order.items c.advance.new.self.found.items c.advance.new.self.pending.items c.advance.new.self.used in
+    let s = search_at c.loop-top.progress.order.items c.loop-top.progress.is_found.items c.pop.new.self.items c.loop-top.progress.used in
+    let t = search_at c.advance.new.self.order.items c.advance.new.self.is_found.items c.advance.new.self.work_list.items c.advance.new.self.used in
     let top = c.in-Some.top in
-    let a = subst (λ (u : Option Fault). Advanced F (seen B C p) top s t u) c.in-Some-step.is c.in_ok-step.ensures in
-    let same = stands_still F top s t c.in-Some-step.fault (target_of (slice_get (seen B C p top.function) top.next)) a in
-    subst (λ (u : Search). (k : ℕ) → slice_index_or u.found k false ≡ true → Among u.order k) (sym same) (set_among c.loop-top.invariant.state)
+    let a = subst (λ (u : Option Fault). Advanced F (checked_calls B C p) top s t u) c.in-Some-step.is c.in_ok-step.ensures in
+    let same = stands_still F top s t c.in-Some-step.fault (call_target (slice_get (checked_calls B C p top.function) top.next)) a in
+    subst (λ (u : Search). (k : ℕ) → slice_index_or u.is_found k false ≡ true → Among u.order k) (sym same) (set_among c.loop-top.invariant.state)
 
 pub finish-requires-clause-within : goal.finish-requires-clause-within
 finish-requires-clause-within c = found_within c.loop-top.invariant.state
@@ -64,12 +64,12 @@ returns-in-Some-step c =
     let C = c.args.calls.now in
     let p = c.args.start in
     let F = functions B C in
-    let s = search_at c.loop-top.progress.order.items c.loop-top.progress.found.items c.pop.new.self.items c.loop-top.progress.used in
-    let t = search_at c.advance.new.self.order.items c.advance.new.self.found.items c.advance.new.self.pending.items c.advance.new.self.used in
+    let s = search_at c.loop-top.progress.order.items c.loop-top.progress.is_found.items c.pop.new.self.items c.loop-top.progress.used in
+    let t = search_at c.advance.new.self.order.items c.advance.new.self.is_found.items c.advance.new.self.work_list.items c.advance.new.self.used in
     let top = c.in-Some.top in
-    let st = subst (State (length B) (seen B C p) p c.loop-top.progress.order.items c.loop-top.progress.found.items) c.in-Some.ensures.items c.loop-top.invariant.state in
-    let a = subst (λ (u : Option Fault). Advanced F (seen B C p) top s t u) c.in-Some-step.is c.in_ok-step.ensures in
-    finds B C p (Err c.in-Some-step.fault) (refused F (length B) (seen B C p) p (sought B p (length B) C c.requires.sound) s t top c.in-Some-step.fault st c.loop-top.invariant.counted (slice_get (seen B C p top.function) top.next) refl a)
+    let st = subst (State (length B) (checked_calls B C p) p c.loop-top.progress.order.items c.loop-top.progress.is_found.items) c.in-Some.ensures.items c.loop-top.invariant.state in
+    let a = subst (λ (u : Option Fault). Advanced F (checked_calls B C p) top s t u) c.in-Some-step.is c.in_ok-step.ensures in
+    finds B C p (Err c.in-Some-step.fault) (refused F (length B) (checked_calls B C p) p (are_sorted B p (length B) C c.requires.sound) s t top c.in-Some-step.fault st c.loop-top.invariant.counted (slice_get (checked_calls B C p top.function) top.next) refl a)
 
 pub loop-top-smaller : goal.loop-top-smaller
 loop-top-smaller c =
@@ -77,12 +77,12 @@ loop-top-smaller c =
     let C = c.args.calls.now in
     let p = c.args.start in
     let F = functions B C in
-    let s = search_at c.loop-top.progress.order.items c.loop-top.progress.found.items c.pop.new.self.items c.loop-top.progress.used in
-    let t = search_at c.advance.new.self.order.items c.advance.new.self.found.items c.advance.new.self.pending.items c.advance.new.self.used in
+    let s = search_at c.loop-top.progress.order.items c.loop-top.progress.is_found.items c.pop.new.self.items c.loop-top.progress.used in
+    let t = search_at c.advance.new.self.order.items c.advance.new.self.is_found.items c.advance.new.self.work_list.items c.advance.new.self.used in
     let top = c.in-Some.top in
-    let a = subst (λ (u : Option Fault). Advanced F (seen B C p) top s t u) c.in_default-step.is c.in_ok-step.ensures in
-    let less = less_left F (length B) (seen B C p) top s t (sought B p (length B) C c.requires.sound) c.loop-top.invariant.state.flags a in
-    subst (λ (u : List Open). unfound c.advance.new.self.found.items (seen B C p) 0 + left_in (seen B C p) c.advance.new.self.pending.items < unfound c.loop-top.progress.found.items (seen B C p) 0 + left_in (seen B C p) u) (sym c.in-Some.ensures.items) less
+    let a = subst (λ (u : Option Fault). Advanced F (checked_calls B C p) top s t u) c.in_default-step.is c.in_ok-step.ensures in
+    let less = less_left F (length B) (checked_calls B C p) top s t (are_sorted B p (length B) C c.requires.sound) c.loop-top.invariant.state.flags a in
+    subst (λ (u : List Open). unfound c.advance.new.self.is_found.items (checked_calls B C p) 0 + left_in (checked_calls B C p) c.advance.new.self.work_list.items < unfound c.loop-top.progress.is_found.items (checked_calls B C p) 0 + left_in (checked_calls B C p) u) (sym c.in-Some.ensures.items) less
 
 pub loop-top-preserved : goal.loop-top-preserved
 loop-top-preserved c =
@@ -90,14 +90,14 @@ loop-top-preserved c =
     let C = c.args.calls.now in
     let p = c.args.start in
     let F = functions B C in
-    let s = search_at c.loop-top.progress.order.items c.loop-top.progress.found.items c.pop.new.self.items c.loop-top.progress.used in
-    let t = search_at c.advance.new.self.order.items c.advance.new.self.found.items c.advance.new.self.pending.items c.advance.new.self.used in
+    let s = search_at c.loop-top.progress.order.items c.loop-top.progress.is_found.items c.pop.new.self.items c.loop-top.progress.used in
+    let t = search_at c.advance.new.self.order.items c.advance.new.self.is_found.items c.advance.new.self.work_list.items c.advance.new.self.used in
     let top = c.in-Some.top in
-    let st = subst (State (length B) (seen B C p) p c.loop-top.progress.order.items c.loop-top.progress.found.items) c.in-Some.ensures.items c.loop-top.invariant.state in
-    let a = subst (λ (u : Option Fault). Advanced F (seen B C p) top s t u) c.in_default-step.is c.in_ok-step.ensures in
+    let st = subst (State (length B) (checked_calls B C p) p c.loop-top.progress.order.items c.loop-top.progress.is_found.items) c.in-Some.ensures.items c.loop-top.invariant.state in
+    let a = subst (λ (u : Option Fault). Advanced F (checked_calls B C p) top s t u) c.in_default-step.is c.in_ok-step.ensures in
     record {
-      state = advanced (length B) (seen B C p) p F (sought B p (length B) C c.requires.sound) s t top st a;
-      counted = counted F (length B) (seen B C p) p s t top c.loop-top.invariant.counted (target_of (slice_get (seen B C p top.function) top.next)) a;
+      state = advanced (length B) (checked_calls B C p) p F (are_sorted B p (length B) C c.requires.sound) s t top st a;
+      counted = counted F (length B) (checked_calls B C p) p s t top c.loop-top.invariant.counted (call_target (slice_get (checked_calls B C p top.function) top.next)) a;
     }
 
 pub returns : goal.returns
@@ -105,6 +105,6 @@ returns c =
     let B = c.args.bodies.now in
     let C = c.args.calls.now in
     let p = c.args.start in
-    let empty : length c.loop-top.progress.pending.items ≡ 0 = omega (arith, c.loop-top.progress.pending.ok.0, c.in_default.ensures.cases.0) in
-    let (ks, is, found) = found_all (functions B C) (length B) (seen B C p) p c.loop-top.progress.order.items c.loop-top.progress.found.items c.loop-top.progress.pending.items c.loop-top.progress.used empty c.loop-top.invariant.state c.loop-top.invariant.counted in
-    finds B C p (Ok c.finish.result) (ks, ap (λ (v : Vec ℕ Global). v.items) c.finish.ensures ∙ is, found)
+    let empty : length c.loop-top.progress.work_list.items ≡ 0 = omega (arith, c.loop-top.progress.work_list.ok.0, c.in_default.ensures.cases.0) in
+    let (ks, is, is_found) = found_all (functions B C) (length B) (checked_calls B C p) p c.loop-top.progress.order.items c.loop-top.progress.is_found.items c.loop-top.progress.work_list.items c.loop-top.progress.used empty c.loop-top.invariant.state c.loop-top.invariant.counted in
+    finds B C p (Ok c.finish.result) (ks, ap (λ (v : Vec ℕ Global). v.items) c.finish.ensures ∙ is, is_found)

@@ -1,5 +1,5 @@
 use Rattle.ebpf_linker.specs.Numbered.{functions}
-use Rattle.ebpf_linker.specs.Steps.{seen, search_at}
+use Rattle.ebpf_linker.specs.Steps.{checked_calls, search_at}
 use Rattle.ebpf_linker.proofs.Searched.{State}
 use Rattle.ebpf_linker.proofs.Counted.{Counted}
 use Rattle.ebpf_linker.proofs.Ends.{left_of}
@@ -8,9 +8,9 @@ use Rattle.ebpf_linker.proofs.search.search.Given as goal
 
 abbrev pub invariant-loop-top : goal.invariant-loop-top
 invariant-loop-top l = record {
-  state : State (length l.bodies) (seen l.bodies l.calls l.start) l.start l.progress.order.items l.progress.found.items l.progress.pending.items;
+  state : State (length l.bodies) (checked_calls l.bodies l.calls l.start) l.start l.progress.order.items l.progress.is_found.items l.progress.work_list.items;
   counted : Counted (functions l.bodies l.calls) l.progress.order.items l.progress.used;
 }
 
 abbrev pub decreases-loop-top : goal.decreases-loop-top
-decreases-loop-top l = left_of (seen l.bodies l.calls l.start) (search_at l.progress.order.items l.progress.found.items l.progress.pending.items l.progress.used)
+decreases-loop-top l = left_of (checked_calls l.bodies l.calls l.start) (search_at l.progress.order.items l.progress.is_found.items l.progress.work_list.items l.progress.used)

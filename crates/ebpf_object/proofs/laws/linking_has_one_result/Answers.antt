@@ -1,5 +1,5 @@
-use Rattle.ebpf_object.proofs.OneJoining as one
+use Rattle.ebpf_object.proofs.OneLinking as one
 use Rattle.ebpf_object.proofs.laws.linking_has_one_result.Goals as goal
 
 pub returns : goal.returns
-returns c = one.one_joining
+returns c = one.one_linking

@@ -1,9 +1,9 @@
 use Rattle.std.proofs.Common.{◌≡◌, ◌++◌, map, drop}
 use Rattle.ebpf_object.specs.Stages.{own_maps}
 use Rattle.ebpf_object.specs.Steps.{descriptor_of}
-use Rattle.ebpf_passes.specs.Maps.{given_by}
+use Rattle.ebpf_passes.specs.Maps.{given_map}
 use Rattle.ebpf_object.proofs.own_maps.own_maps.Given as goal
 
 -- with those of the names that are left, all are there
 abbrev pub invariant-loop-name : goal.invariant-loop-name
-invariant-loop-name l = map given_by l.own.items ++ own_maps l.maps (map descriptor_of (drop l.name-index l.descriptors)) ≡ own_maps l.fn.maps (map descriptor_of l.fn.descriptors)
+invariant-loop-name l = map given_map l.own.items ++ own_maps l.maps (map descriptor_of (drop l.name-index l.descriptors)) ≡ own_maps l.fn.maps (map descriptor_of l.fn.descriptors)

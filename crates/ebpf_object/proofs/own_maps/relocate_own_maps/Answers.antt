@@ -2,7 +2,7 @@ use Rattle.std.proofs.Common.{map, subst}
 use Rattle.std.specs.Prelude.{◌≡◌, Some, IfErr}
 use Rattle.std.specs.FinMap.{FinMap}
 use Rattle.ebpf_base.specs.Keys.{text_cmp}
-use Rattle.ebpf_object.specs.Prepared.{Refuses}
+use Rattle.ebpf_object.specs.Prepared.{RefusesPreparing}
 use Rattle.ebpf_object.specs.StageFaults.{Wrapped}
 use Rattle.ebpf_object.specs.Stages.{own_maps}
 use Rattle.ebpf_object.specs.Steps.{descriptor_of}
@@ -14,5 +14,5 @@ use Rattle.ebpf_object.proofs.own_maps.relocate_own_maps.Goals as goal
 
 pub returns-clause-fault : goal.returns-clause-fault
 returns-clause-fault c =
-    subst (λ (ms : FinMap text_cmp Map). IfErr c.relocate_some-answer.result (Refuses (Wrapped Maps (λ e. maps_fault c.args.object.now (has_function_in c.args.object.now.functions) (own_maps ms (map descriptor_of c.args.descriptors.now)) ≡ Some e))))
+    subst (λ (ms : FinMap text_cmp Map). IfErr c.relocate_some-answer.result (RefusesPreparing (Wrapped Maps (λ e. maps_fault c.args.object.now (has_function_in c.args.object.now.functions) (own_maps ms (map descriptor_of c.args.descriptors.now)) ≡ Some e))))
     c.replace-maps.ensures.value c.relocate_some-answer.ensures.fault

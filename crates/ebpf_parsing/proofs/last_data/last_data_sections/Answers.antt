@@ -5,7 +5,7 @@ use Rattle.ebpf_base.proofs.Keyed.{put_all-flat_map}
 use Rattle.ebpf_base.specs.Keyed.{put_all}
 use Rattle.ebpf_base.specs.Keys.{text_cmp}
 use Rattle.ebpf_elf.specs.Sections.{sections}
-use Rattle.ebpf_parsing.specs.Contents.{is_type_information}
+use Rattle.ebpf_parsing.specs.FileContents.{is_type_information}
 use Rattle.ebpf_parsing.specs.LastData.{data_row}
 use Rattle.ebpf_parsing.proofs.AddedLemmas.{others, kept}
 use Rattle.ebpf_parsing.proofs.last_data.last_data_sections.Goals as goal

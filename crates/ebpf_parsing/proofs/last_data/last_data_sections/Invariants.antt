@@ -1,7 +1,7 @@
 use Rattle.std.proofs.Common.{◌≡◌, map}
 use Rattle.std.specs.List.{flat_map}
 use Rattle.ebpf_base.specs.Keyed.{put_all}
-use Rattle.ebpf_parsing.specs.Contents.{object_sections}
+use Rattle.ebpf_parsing.specs.FileContents.{object_sections}
 use Rattle.ebpf_parsing.specs.LastData.{data_row, last_data}
 use Rattle.ebpf_parsing.proofs.AddedLemmas.{others}
 use Rattle.ebpf_parsing.proofs.last_data.last_data_sections.Given as goal

@@ -1,4 +1,4 @@
-use Rattle.ebpf_parsing.proofs.Standing.{functions_stand}
+use Rattle.ebpf_parsing.proofs.TableKeys.{functions_stand}
 use Rattle.ebpf_parsing.proofs.laws.functions_stand_at_their_keys.Goals as goal
 
 pub returns : goal.returns

@@ -1,4 +1,4 @@
-use Rattle.ebpf_parsing.proofs.Standing.{programs_stand}
+use Rattle.ebpf_parsing.proofs.TableKeys.{programs_stand}
 use Rattle.ebpf_parsing.proofs.laws.programs_have_functions.Goals as goal
 
 pub returns : goal.returns

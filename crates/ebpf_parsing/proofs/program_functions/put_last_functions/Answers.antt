@@ -4,13 +4,13 @@ use Rattle.std.specs.FinMap.{get}
 use Rattle.std.specs.Prelude.{slice_index_or}
 use Rattle.ebpf_parsing.proofs.LastPrograms.{fewer, program_passed, passed_fault, passed_put, next_fault, next_put}
 use Rattle.ebpf_parsing.proofs.Lasts.{all_lasts}
-use Rattle.ebpf_parsing.specs.LastData.{is_number}
-use Rattle.ebpf_parsing.specs.Programs.{is_program_symbol, program_fault, program_row}
+use Rattle.ebpf_parsing.specs.LastData.{is_index}
+use Rattle.ebpf_parsing.specs.Programs.{is_program_symbol, program_fault, program_symbol_row}
 use Rattle.ebpf_parsing.proofs.program_functions.put_last_functions.Goals as goal
 
 pub loop-symbol-init : goal.loop-symbol-init
 loop-symbol-init c = record {
-  lasts = all_lasts nat_cmp_total program_row c.args.last.now c.args.symbols.now c.requires;
+  lasts = all_lasts nat_cmp_total program_symbol_row c.args.last.now c.args.symbols.now c.requires;
   put = refl;
   fault = refl;
 }
@@ -26,12 +26,12 @@ loop-symbol-preserved-then-not-is_program c =
       fault = passed_fault c.args.records.now c.args.section.now c.args.symbols.now c.loop-symbol.symbol-index x (omega arith) item passed ∙ c.loop-symbol.invariant.fault;
     }
 
-pub loop-symbol-preserved-then-not-is_number : goal.loop-symbol-preserved-then-not-is_number
-loop-symbol-preserved-then-not-is_number c =
+pub loop-symbol-preserved-then-not-is_index : goal.loop-symbol-preserved-then-not-is_index
+loop-symbol-preserved-then-not-is_index c =
     let x = c.symbol-item.result in
     let item : x ≡ slice_index_or c.args.symbols.now c.loop-symbol.symbol-index x = search rules in
     let kept : is_program_symbol x ≡ true = search rules in
-    let differs : is_number x.index (get c.args.last.now x.address) ≡ false = search rules in
+    let differs : is_index x.index (get c.args.last.now x.address) ≡ false = search rules in
     let clear : program_fault c.args.section.now x ≡ None = search rules in
     record {
       lasts = fewer c.args.last.now c.args.symbols.now c.loop-symbol.symbol-index x (omega arith) item c.loop-symbol.invariant.lasts;

@@ -1,5 +1,5 @@
 use Rattle.std.proofs.Common.{rules}
-use Rattle.ebpf_parsing.proofs.SaidTables.{no_funcs, funcs_found, funcs_put}
+use Rattle.ebpf_parsing.proofs.ExtTables.{no_funcs, funcs_found, funcs_put}
 use Rattle.ebpf_parsing.proofs.records_by_name.funcs_of_names.Goals as goal
 
 pub loop-name-init : goal.loop-name-init

@@ -1,5 +1,5 @@
 use Rattle.std.proofs.Common.{rules}
-use Rattle.ebpf_parsing.proofs.SaidTables.{no_lines, lines_found, lines_put}
+use Rattle.ebpf_parsing.proofs.ExtTables.{no_lines, lines_found, lines_put}
 use Rattle.ebpf_parsing.proofs.records_by_name.lines_of_names.Goals as goal
 
 pub loop-name-init : goal.loop-name-init

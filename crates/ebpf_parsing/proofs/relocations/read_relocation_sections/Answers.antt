@@ -1,10 +1,10 @@
 use Rattle.std.proofs.Common.{◌≡◌, ◌∷◌, ◌++◌, [], filter, rules, sym, ap, subst, ◌∙◌}
 use Rattle.std.specs.Prelude.{◌==◌, if◌then◌else◌}
-use Rattle.ebpf_elf.specs.Relocations.{relocation_sections, target_of}
+use Rattle.ebpf_elf.specs.Relocations.{relocation_sections, relocated_section}
 use Rattle.ebpf_parsing.proofs.FromFile.{tables_from}
 use Rattle.ebpf_parsing.proofs.Grouped.{target_more}
-use Rattle.ebpf_parsing.proofs.TablePlaces.{none_noted}
-use Rattle.ebpf_parsing.specs.EntryPlaces.{AreNoted, AreOf}
+use Rattle.ebpf_parsing.proofs.TableRanges.{none_cached}
+use Rattle.ebpf_parsing.specs.EntryRanges.{AreCached, AreOf}
 use Rattle.ebpf_parsing.specs.Groups.{group_at}
 use Rattle.ebpf_parsing.proofs.relocations.read_relocation_sections.Goals as goal
 
@@ -14,8 +14,8 @@ loop-section-init c =
     let items : c.into_iter-section-iterator.result ≡ relocation_sections file = search rules in
     record {
       from = subst (AreOf file) (sym items) (tables_from file);
-      noted = none_noted file c.new-noted.result c.new-noted.ensures;
-      groups = λ q. ap (λ g. g ++ filter (λ r. target_of r == q) c.into_iter-section-iterator.result) (c.new-groups.ensures q) ∙ ap (filter (λ r. target_of r == q)) items;
+      cached = none_cached file c.new-cached.result c.new-cached.ensures;
+      groups = λ q. ap (λ g. g ++ filter (λ r. relocated_section r == q) c.into_iter-section-iterator.result) (c.new-groups.ensures q) ∙ ap (filter (λ r. relocated_section r == q)) items;
     }
 
 pub loop-section-preserved : goal.loop-section-preserved
@@ -27,10 +27,10 @@ loop-section-preserved c =
     let of_file = subst (AreOf file) front c.loop-section.invariant.from in
     record {
       from = of_file.1;
-      noted = subst (λ f. AreNoted f c.read_table.new.noted) of_file.0 c.in_ok-table.ensures.noted;
+      cached = subst (λ f. AreCached f c.read_table.new.cached) of_file.0 c.in_ok-table.ensures.cached;
       groups = λ q. target_more (group_at before q) (group_at c.add.new.self.groups q) s c.next.new.self q (
           c.in_ok-add.ensures.added q
           ∙ ap (λ t. if t == q then group_at before q ++ c.in_ok-table.table ∷ [] else group_at before q) c.target-target.ensures
-          ∙ ap (λ r. if target_of s == q then group_at before q ++ r ∷ [] else group_at before q) c.in_ok-table.ensures.table
-          ) ∙ sym (ap (λ l. group_at before q ++ filter (λ r. target_of r == q) l) front) ∙ c.loop-section.invariant.groups q;
+          ∙ ap (λ r. if relocated_section s == q then group_at before q ++ r ∷ [] else group_at before q) c.in_ok-table.ensures.table
+          ) ∙ sym (ap (λ l. group_at before q ++ filter (λ r. relocated_section r == q) l) front) ∙ c.loop-section.invariant.groups q;
     }

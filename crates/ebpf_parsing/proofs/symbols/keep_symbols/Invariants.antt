@@ -3,12 +3,12 @@ use Rattle.std.specs.Slice.Iter.{iter_rest}
 use Rattle.std.specs.Iterator.Adapters.{zip_first, zip_second}
 use Rattle.ebpf_base.specs.Keyed.{put_all}
 use Rattle.ebpf_base.specs.Keys.{lent_bytes}
-use Rattle.ebpf_parsing.specs.FileSymbols.{symbol_of, file_symbols, names_of, kept_of, symbol_table}
-use Rattle.ebpf_parsing.proofs.symbols.keep_symbols.Given as goal
+use Rattle.ebpf_parsing.specs.FileSymbols.{symbol_of, file_symbols, names_of, symbol_entry, symbol_table}
+use Rattle.ebpf_parsing.proofs.symbols.object_symbols.Given as goal
 
 -- what is left to do from here is what was to do from the start, and the names that are left are those of the symbols
 abbrev pub invariant-loop-symbol : goal.invariant-loop-symbol
 invariant-loop-symbol l = record {
-  table : put_all l.table (map kept_of (map symbol_of (zip_first l.symbol-iterator))) ≡ symbol_table (file_symbols l.file);
+  table : put_all l.table (map symbol_entry (map symbol_of (zip_first l.symbol-iterator))) ≡ symbol_table (file_symbols l.file);
   names : lent_bytes (iter_rest (zip_second l.symbol-iterator)) ≡ names_of (map symbol_of (zip_first l.symbol-iterator));
 }

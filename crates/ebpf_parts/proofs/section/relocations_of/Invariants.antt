@@ -6,6 +6,6 @@ use Rattle.ebpf_parts.proofs.section.relocations_of.Given as goal
 -- what is left to do from here is what was to do from the start
 abbrev pub invariant-loop-relocation : goal.invariant-loop-relocation
 invariant-loop-relocation l = record {
-  list : l.kept ++ l.relocation-iterator ≡ relocations l.section;
+  list : l.collected ++ l.relocation-iterator ≡ relocations l.section;
   fault : target_fault l.relocation-iterator ≡ target_fault (relocations l.section);
 }

@@ -1,7 +1,7 @@
 use Rattle.std.proofs.Common.{◌≡◌, ◌-◌}
-use Rattle.ebpf_places.specs.Members.{known, members_in}
+use Rattle.ebpf_places.specs.Members.{member_search, members_in}
 use Rattle.ebpf_places.specs.MemberViews.{view}
-use Rattle.ebpf_places.specs.Searches.{run}
+use Rattle.ebpf_places.specs.Searches.{run_search}
 use Rattle.ebpf_places.proofs.MemberSteps.{left_from}
 use Rattle.ebpf_places.proofs.search.+search.Given as goal
 
@@ -11,6 +11,6 @@ decreases-search l = 64 - l.inside
 -- the members that are left give what all of them give
 abbrev pub invariant-loop-index : goal.invariant-loop-index
 invariant-loop-index l =
-    let scene = known l.wanted.local.now l.wanted.target.now l.wanted.name.now l.wanted.local_type in
-    run scene l.entries (view scene (64 - l.inside) l.inside l.bits (members_in l.wanted.target.now.types l.parent))
-    ≡ run scene l.left (view scene (64 - l.inside) l.inside l.bits (left_from l.parent l.ty l.index l.members))
+    let name_search = member_search l.wanted.local.now l.wanted.target.now l.wanted.name.now l.wanted.local_type in
+    run_search name_search l.entries (view name_search (64 - l.inside) l.inside l.bits (members_in l.wanted.target.now.types l.parent))
+    ≡ run_search name_search l.left (view name_search (64 - l.inside) l.inside l.bits (left_from l.parent l.ty l.index l.members))

@@ -1,5 +1,5 @@
 use Rattle.ebpf_reloc.proofs.SoFar.{SoFar}
-use Rattle.ebpf_reloc.specs.Places.{read}
+use Rattle.ebpf_reloc.specs.SlotTargets.{read}
 use Rattle.ebpf_reloc.proofs.linking.relocate_calls.Given as goal
 
 -- the programs so far are linked

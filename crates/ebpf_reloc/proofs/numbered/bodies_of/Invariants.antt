@@ -1,5 +1,5 @@
 use Rattle.std.proofs.Common.{◌≡◌, ◌++◌, drop, map}
-use Rattle.ebpf_linker.specs.Numbered.{content_of as body_content}
+use Rattle.ebpf_linker.specs.Numbered.{body_content}
 use Rattle.ebpf_reloc.specs.References.{content_of}
 use Rattle.ebpf_reloc.proofs.numbered.bodies_of.Given as goal
 

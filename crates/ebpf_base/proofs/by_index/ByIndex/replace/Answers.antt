@@ -10,6 +10,6 @@ returns-in_default g c =
 
 pub returns : goal.returns
 returns g c =
-    let e : get c.args.self.now c.args.index ≡ Some c.in-Some.place.now = ap (λ m. get m c.args.index) (sym c.self.view_is) ∙ get-number _ c.args.index ∙ sym c.in-Some.ensures.value in
+    let e : get c.args.self.now c.args.index ≡ Some c.in-Some.stored.now = ap (λ m. get m c.args.index) (sym c.self.view_is) ∙ get-number _ c.args.index ∙ sym c.in-Some.ensures.value in
     let set = one_set_number _ _ c.args.index c.replace.new.dest ((c.get_mut.follows.holds c.replace.new.dest).3 (search rules)).0 in
     rw e (ap Ok c.replace.ensures.value, set ∙ ap (λ v. insert (from_entries c.self.inside.entries.entries) c.args.index v) c.replace.ensures.after ∙ ap (λ m. insert m c.args.index c.args.value) c.self.view_is)

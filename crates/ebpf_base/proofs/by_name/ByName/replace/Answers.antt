@@ -12,6 +12,6 @@ returns-in_default g c =
 
 pub returns : goal.returns
 returns g c =
-    let e : get c.args.self.now c.args.name.now ≡ Some c.in-Some.place.now = ap (λ m. get m c.args.name.now) (sym c.self.view_is) ∙ get-text _ c.args.name.now ∙ sym c.in-Some.ensures.value in
+    let e : get c.args.self.now c.args.name.now ≡ Some c.in-Some.stored.now = ap (λ m. get m c.args.name.now) (sym c.self.view_is) ∙ get-text _ c.args.name.now ∙ sym c.in-Some.ensures.value in
     let set = one_set_text _ _ c.args.name.now c.replace.new.dest (btree_map_updates_text c.args.name.now c.self.inside.entries (c.get_mut.follows.lender c.replace.new.dest) _ ((c.get_mut.follows.holds c.replace.new.dest).3 (search rules))) in
     rw e (ap Ok c.replace.ensures.value, set ∙ ap (λ v. insert (from_entries (by_bytes c.self.inside.entries.entries)) c.args.name.now v) c.replace.ensures.after ∙ ap (λ m. insert m c.args.name.now c.args.value) c.self.view_is)

@@ -3,7 +3,7 @@ use Rattle.std.proofs.lemmas.List.{get_or_read}
 use Rattle.ebpf_btf.specs.EssentialNames.{essential_name}
 use Rattle.ebpf_candidates.specs.Candidates.{candidates}
 use Rattle.ebpf_candidates.proofs.CandidateRows.{candidates_named}
-use Rattle.ebpf_candidates.proofs.WithoutNames.{nameless_found, no_bytes, some_bytes}
+use Rattle.ebpf_candidates.proofs.WithoutNames.{anonymous_found, no_bytes, some_bytes}
 use Rattle.ebpf_candidates.proofs.type_index.TypeIndex.ids_of.Goals as goal
 
 pub returns-then-is_empty : goal.returns-then-is_empty
@@ -11,16 +11,16 @@ returns-then-is_empty c =
     let name : c.essential_name-name.result.now ≡ essential_name c.args.name.now = c.essential_name-name.ensures ∙ ap essential_name c.as_bytes.ensures.value in
     let none : c.essential_name-name.result.now ≡ [] = no_bytes c.essential_name-name.result.now c.if-is_empty.ensures in
     let list : c.as_slice.result.now ≡ candidates c.args.self.now c.args.kind [] =
-    let inside : c.kind_number-number.result < length c.self.inside.nameless.items = omega (arith, c.kind_number-number.ensures.few, c.self.invariant.kinds.0) in
-    let read : c.index.result.now ≡ get_or c.self.inside.nameless.items c.kind_number-number.result [] = get_or_read c.self.inside.nameless.items c.kind_number-number.result c.index.result.now inside c.index.ensures [] in
-    let stored = c.self.invariant.nameless c.args.kind in
-    rw (← c.self.view_is) (c.as_slice.ensures ∙ read ∙ ap (λ k. get_or c.self.inside.nameless.items k []) c.kind_number-number.ensures.number ∙ stored) in
-    list ∙ nameless_found c.args.self.now c.args.kind c.args.name.now (sym name ∙ none)
+    let inside : c.kind_number-number.result < length c.self.inside.anonymous.items = omega (arith, c.kind_number-number.ensures.few, c.self.invariant.kinds.0) in
+    let read : c.index.result.now ≡ get_or c.self.inside.anonymous.items c.kind_number-number.result [] = get_or_read c.self.inside.anonymous.items c.kind_number-number.result c.index.result.now inside c.index.ensures [] in
+    let stored = c.self.invariant.anonymous c.args.kind in
+    rw (← c.self.view_is) (c.as_slice.ensures ∙ read ∙ ap (λ k. get_or c.self.inside.anonymous.items k []) c.kind_number-number.ensures.number ∙ stored) in
+    list ∙ anonymous_found c.args.self.now c.args.kind c.args.name.now (sym name ∙ none)
 
 pub returns : goal.returns
 returns c =
     let name : c.essential_name-name.result.now ≡ essential_name c.args.name.now = c.essential_name-name.ensures ∙ ap essential_name c.as_bytes.ensures.value in
     let some : (c.essential_name-name.result.now ≡ []) → ⊥ = some_bytes c.essential_name-name.result.now c.if-is_empty.ensures in
-    let found = candidates_named c.self.inside.names c.args.kind c.args.name.now c.self.inside.rows.items c.self.inside.ids.items c.places_of-start.result.0 c.places_of-start.result.1 c.kind_number-number.result c.essential_name-name.result.now
-    c.kind_number-number.ensures.number name some c.self.invariant.same_rows c.self.invariant.same_ids (rw c.deref.ensures.value at c.places_of-start.ensures.all) in
+    let found = candidates_named c.self.inside.names c.args.kind c.args.name.now c.self.inside.rows.items c.self.inside.ids.items c.row_range-start.result.0 c.row_range-start.result.1 c.kind_number-number.result c.essential_name-name.result.now
+    c.kind_number-number.ensures.number name some c.self.invariant.same_rows c.self.invariant.same_ids (rw c.deref.ensures.value at c.row_range-start.ensures.all) in
     rw (c.deref-2.ensures.value, ← c.self.view_is) found

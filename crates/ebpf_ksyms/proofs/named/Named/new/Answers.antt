@@ -1,5 +1,5 @@
 use Rattle.std.proofs.Common.{◌∙◌}
-use Rattle.ebpf_ksyms.specs.Named.{value_at}
+use Rattle.ebpf_ksyms.specs.Named.{value_named}
 use Rattle.ebpf_ksyms.proofs.Values.{named-step, named-end}
 use Rattle.ebpf_ksyms.proofs.named.Named.new.Goals as goal
 
@@ -9,5 +9,5 @@ loop-name-preserved g c = λ q.
     ∙ c.loop-name.invariant q
 
 pub returns : goal.returns
-unfolding value_at
+unfolding value_named
 returns g c = λ q. named-end c.args.names.now c.loop-name.name-index c.args.value c.loop-name.values c.loop-name-test.false q ∙ c.loop-name.invariant q

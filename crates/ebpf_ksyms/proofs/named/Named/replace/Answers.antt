@@ -3,12 +3,12 @@ use Rattle.std.specs.BTreeMap.{get_by}
 use Rattle.std.specs.Str.{bytes_eq}
 use Rattle.std.proofs.lemmas.Map.Text.{btree_map_updates_str}
 use Rattle.ebpf_base.specs.Keys.{text_cmp}
-use Rattle.ebpf_ksyms.specs.Named.{value_at}
+use Rattle.ebpf_ksyms.specs.Named.{value_named}
 use Rattle.ebpf_ksyms.proofs.Values.{put_there, not_there, same_bytes}
 use Rattle.ebpf_ksyms.proofs.named.Named.replace.Goals as goal
 
 pub returns-in-Some : goal.returns-in-Some
-unfolding value_at
+unfolding value_named
 returns-in-Some g c = λ q.
     let there : get_by (λ k. text_cmp c.args.name.now k.now) c.args.self.now.values ≡ Some c.in-Some.place.now = sym c.in-Some.ensures.value in
     btree_map_updates_str c.args.name.now c.args.self.now.values (c.get_mut.follows.lender c.args.value) (Some c.args.value) ((c.get_mut.follows.holds c.args.value).3 (search rules)) q
@@ -16,7 +16,7 @@ returns-in-Some g c = λ q.
     (λ e. subst (λ r. IsSome (get_by (λ k. text_cmp r k.now) c.args.self.now.values)) (same_bytes c.args.name.now q e) (subst IsSome (sym there) refl))
 
 pub returns-in_default : goal.returns-in_default
-unfolding value_at
+unfolding value_named
 returns-in_default g c = λ q.
     let none : get_by (λ k. text_cmp c.args.name.now k.now) c.args.self.now.values ≡ None = sym c.in_default.ensures.value in
     ap (λ m. get_by (λ k. text_cmp q k.now) m) c.get_mut.follows.holds-at-none

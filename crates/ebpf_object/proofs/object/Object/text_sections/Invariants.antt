@@ -2,9 +2,9 @@ use Rattle.std.proofs.Common.{◌≡◌, ℕ}
 use Rattle.std.specs.Prelude.{◌||◌, ◌==◌}
 use Rattle.std.specs.List.{list_any}
 use Rattle.ebpf_object.specs.TextSections.{has_function_in}
-use Rattle.ebpf_reloc.specs.Places.{sections_in}
+use Rattle.ebpf_reloc.specs.VariableLookup.{text_sections_in}
 use Rattle.ebpf_object.proofs.object.Object.text_sections.Given as goal
 
 -- the sections so far, and those of the functions that are left
 abbrev pub invariant-loop-key : goal.invariant-loop-key
-invariant-loop-key l = (section : ℕ) → (sections_in l.sections section || list_any (λ e. section == e.0.0) l.key-iterator) ≡ has_function_in l.fn.self.functions section
+invariant-loop-key l = (section : ℕ) → (text_sections_in l.sections section || list_any (λ e. section == e.0.0) l.key-iterator) ≡ has_function_in l.fn.self.functions section

@@ -1,6 +1,6 @@
 use Rattle.std.proofs.Common.{rules, sym, ap, ◌∙◌, ◌≡◌}
 use Rattle.std.proofs.lemmas.Int.{to_z-of_z}
-use Rattle.ebpf_passes.specs.Maps.{with_map}
+use Rattle.ebpf_passes.specs.Maps.{with_map_target}
 use Rattle.ebpf_passes.proofs.Tables.{tables_next, tables_none}
 use Rattle.ebpf_passes.proofs.map_tables.MapTables.gather.Goals as goal
 use mir.Syntax.{w32}
@@ -11,7 +11,7 @@ loop-descriptor-init g c = (λ i. record { by_symbol = c.new.ensures i; by_secti
 
 pub loop-descriptor-preserved : goal.loop-descriptor-preserved
 loop-descriptor-preserved g c =
-    let fits : SFits w32 c.in-Some.descriptor = search rules in
-    let put : c.put.new.self ≡ with_map c.loop-descriptor.tables c.in-Some.descriptor c.in-Some.map.now =
-    c.in_ok-put.ensures ∙ ap (λ d. with_map c.loop-descriptor.tables d c.in-Some.map.now) (to_z-of_z w32 c.in-Some.descriptor fits) in
+    let fits_imm : SFits w32 c.in-Some.descriptor = search rules in
+    let put : c.put.new.self ≡ with_map_target c.loop-descriptor.tables c.in-Some.descriptor c.in-Some.map.now =
+    c.in_ok-put.ensures ∙ ap (λ d. with_map_target c.loop-descriptor.tables d c.in-Some.map.now) (to_z-of_z w32 c.in-Some.descriptor fits_imm) in
     tables_next c.loop-descriptor.tables c.put.new.self c.loop-descriptor.yielded (c.in-Some.field-0-0, c.in-Some.descriptor, c.in-Some.map) c.loop-descriptor.invariant put

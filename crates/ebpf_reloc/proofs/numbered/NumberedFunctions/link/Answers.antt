@@ -1,7 +1,7 @@
 use Rattle.std.proofs.Common.{ℕ, map, subst, sym, ap, ◌∙◌}
-use Rattle.ebpf_linker.specs.Numbered.{content_of as body_content, Sound}
+use Rattle.ebpf_linker.specs.Numbered.{body_content, Sound}
 use Rattle.ebpf_reloc.proofs.NumberedKeys.{calls_sound, count_bodies, count_calls, linked_by_key}
-use Rattle.ebpf_reloc.specs.Places.{read}
+use Rattle.ebpf_reloc.specs.SlotTargets.{read}
 use Rattle.ebpf_reloc.proofs.numbered.NumberedFunctions.link.Goals as goal
 
 pub link-requires-clause-calls : goal.link-requires-clause-calls

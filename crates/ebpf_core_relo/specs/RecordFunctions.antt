@@ -1,0 +1,32 @@
+-- Which function of a section a record is about, and which of its slots.
+use Rattle.std.specs.Prelude.{ℕ, ◌+◌, ◌/◌, nat_eq, List, [], ◌∷◌, ◌++◌, length, map, filter, Option, Some, None}
+use Rattle.std.specs.FinMap.{FinMap, entries, insert}
+use Rattle.std.specs.Ordering.{nat_cmp}
+use Rattle.ebpf_base.specs.Keys.{key_cmp}
+use Rattle.ebpf_core_relo.specs.declared.spans.Span.{Span}
+use Rattle.ebpf_reloc.specs.declared.function.Function.{Function}
+
+-- what a function takes of its section's data
+abbrev pub span_of : (ℕ × ℕ) × Function → Span
+span_of e = record { address = e.0.1; start = e.1.section_offset; end = e.1.section_offset / 8 + length e.1.instructions }
+
+-- the entries of one section
+abbrev pub entries_of_section : ℕ → List ((ℕ × ℕ) × Function) → List ((ℕ × ℕ) × Function)
+entries_of_section section es = filter (λ e. nat_eq e.0.0 section) es
+
+-- the functions of a section, in the order of their addresses, by what they take of its data
+abbrev pub spans_among : ℕ → List ((ℕ × ℕ) × Function) → List Span
+spans_among section es = map span_of (entries_of_section section es)
+
+abbrev pub spans_of : FinMap key_cmp Function → ℕ → List Span
+spans_of functions section = spans_among section (entries functions)
+
+-- what a table has of a section
+abbrev pub spans_or_none : Option (List Span) → List Span
+spans_or_none None = []
+spans_or_none (Some spans) = spans
+
+-- a table with one more span behind those of its section, by those that are there
+abbrev pub with_span : FinMap nat_cmp (List Span) → ℕ → Span → Option (List Span) → FinMap nat_cmp (List Span)
+with_span m section span None = insert m section (span ∷ [])
+with_span m section span (Some spans) = insert m section (spans ++ span ∷ [])

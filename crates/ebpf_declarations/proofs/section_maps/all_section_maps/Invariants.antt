@@ -1,0 +1,10 @@
+use Rattle.ebpf_declarations.specs.DistinctMaps.{AreSectionMaps}
+use Rattle.ebpf_declarations.specs.KnownStructs.{Knows}
+use Rattle.ebpf_declarations.proofs.section_maps.all_section_maps.Given as goal
+
+-- the names so far are kept
+abbrev pub invariant-loop-name : goal.invariant-loop-name
+invariant-loop-name l = record {
+  known : Knows l.reading l.btf l.known;
+  kept : AreSectionMaps l.reading l.btf l.kept;
+}

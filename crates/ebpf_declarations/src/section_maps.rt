@@ -1,0 +1,251 @@
+//! The BTF-defined maps of sections of some names, read once for all sections.
+
+ghost use Rattle.std.specs.Prelude.{◌≡◌, ⊤, ℕ, List, Ok, Some, None, IfOk, IfErr, IfSome, OnOk, true};
+ghost use Rattle.std.specs.Bool.{MatchBool};
+ghost use Rattle.std.specs.FinMap as map;
+ghost use Rattle.ebpf_base.specs.Faults.{Gives, fault_of};
+ghost use Rattle.ebpf_btf.specs.Memory.{is_memory};
+ghost use Rattle.ebpf_declarations.specs.Attempts.{given};
+ghost use Rattle.ebpf_declarations.specs.DistinctMaps.{AreNamed, RemembersNames, IsKnown, IsWith, Adds, AreSectionMaps, type_definitions};
+ghost use Rattle.ebpf_declarations.specs.KnownStructs.{Knows};
+ghost use Rattle.ebpf_declarations.specs.Maps.{entry_map, entries_maps, entries_fault};
+ghost use Rattle.ebpf_declarations.specs.NamedSections.{ids_maps, ids_fault, AreFound};
+ghost use Rattle.ebpf_declarations.specs.declared.definitions.MapDefinitions.{MapDefinitions};
+
+use crate::definitions::MapDefinitions;
+use crate::distinct_maps::DistinctMaps;
+use crate::known_structs::{KnownStructs, struct_definitions};
+use crate::maps::{declared, variable};
+use crate::named_sections::{NamedSections, datasec_entries_at};
+use ebpf_base::ByName;
+use ebpf_btf::{Btf, BtfError, DataSecEntry};
+use ebpf_parts::Reading;
+use std::alloc::Global;
+
+/// The number of the name of an entry's VAR, where a name was read at its offset before, and the id of the type that
+/// the VAR holds.
+fn known_name(distinct: &DistinctMaps, btf: &Btf, entry: &DataSecEntry) -> Option<(usize, u32)>
+    ensures { IfSome result (λ r. IsKnown btf.now distinct.now entry.now r.0 r.1) }
+{
+    let Ok(ty) = btf.type_by_id(entry.btf_type) else {
+        return None;
+    };
+    let held = variable(ty)?;
+    let number = distinct.offsets.get(&ty.name_offset())?;
+    Some((*number, held))
+}
+
+/// What the type with an id says of the map with a name.
+fn type_definitions(
+    alloc: Global,
+    btf: &Btf,
+    reading: Reading,
+    known: &mut KnownStructs,
+    name: &str,
+    type_id: u32,
+) -> Result<MapDefinitions, BtfError>
+    requires { Knows reading btf.now known.old }
+    ensures says { Gives is_memory result (type_definitions reading btf.now name.now type_id) }
+    ensures known { OnOk result (Knows reading btf.now known.new) }
+{
+    let held = btf.resolve_type(type_id)?;
+    struct_definitions(alloc, btf, reading, known, name, held)
+}
+
+/// Adds a map whose name has a number, and which a type defines.
+fn add_known(
+    alloc: Global,
+    distinct: &mut DistinctMaps,
+    btf: &Btf,
+    reading: Reading,
+    known: &mut KnownStructs,
+    number: usize,
+    type_id: u32,
+) -> Result<(), BtfError>
+    requires named { AreNamed distinct.old }
+    requires known { Knows reading btf.now known.old }
+    ensures known { OnOk result (Knows reading btf.now known.new) }
+    ensures added { (name : List ℕ) → map.get distinct.old.numbers name ≡ Some number → OnOk result ((d : MapDefinitions) × (type_definitions reading btf.now name type_id ≡ Ok d) × IsWith distinct.old name d distinct.new) }
+{
+    let Some(name) = distinct.names.get(number) else {
+        return Err(BtfError::InvalidSymbolName);
+    };
+    let definitions = type_definitions(alloc, btf, reading, known, name.as_str(), type_id)?;
+    distinct.set(number, definitions);
+    Ok(())
+}
+
+/// Adds a map whose name is read, unless the entry has a fault or the name no symbol.
+fn add_read(
+    alloc: Global,
+    distinct: &mut DistinctMaps,
+    btf: &Btf,
+    reading: Reading,
+    known: &mut KnownStructs,
+    symbols: &ByName<usize>,
+    entry: &DataSecEntry,
+) -> Result<(), BtfError>
+    requires named { AreNamed distinct.old }
+    requires remembers { RemembersNames btf.now distinct.old }
+    requires known { Knows reading btf.now known.old }
+    ensures known { OnOk result (Knows reading btf.now known.new) }
+    ensures remembers { OnOk result (RemembersNames btf.now distinct.new) }
+    ensures added { OnOk result (Adds distinct.old distinct.new (λ symbols section. given (entry_map reading btf.now symbols section entry.now)) (λ symbols section. fault_of (entry_map reading btf.now symbols section entry.now))) }
+{
+    let (name, definitions) = declared(alloc, btf, reading, known, entry)?;
+    if symbols.get(name.as_str()).is_none() {
+        return Err(BtfError::InvalidSymbolName);
+    }
+    let number = distinct.add(alloc, name, definitions)?;
+    let offset = btf.type_by_id(entry.btf_type)?.name_offset();
+    distinct.remember(offset, number)
+}
+
+/// Adds what an entry declares, unless it has a fault or a name that no symbol has. The name at an offset is read once.
+fn add_entry(
+    alloc: Global,
+    distinct: &mut DistinctMaps,
+    btf: &Btf,
+    reading: Reading,
+    known: &mut KnownStructs,
+    symbols: &ByName<usize>,
+    entry: &DataSecEntry,
+) -> Result<(), BtfError>
+    requires named { AreNamed distinct.old }
+    requires remembers { RemembersNames btf.now distinct.old }
+    requires known { Knows reading btf.now known.old }
+    ensures known { OnOk result (Knows reading btf.now known.new) }
+    ensures remembers { OnOk result (RemembersNames btf.now distinct.new) }
+    ensures added { OnOk result (Adds distinct.old distinct.new (λ symbols section. given (entry_map reading btf.now symbols section entry.now)) (λ symbols section. fault_of (entry_map reading btf.now symbols section entry.now))) }
+{
+    match known_name(distinct, btf, entry) {
+        Some((number, held)) => add_known(alloc, distinct, btf, reading, known, number, held),
+        None => add_read(alloc, distinct, btf, reading, known, symbols, entry),
+    }
+}
+
+/// Adds what entries declare, unless one has a fault or a name that no symbol has.
+fn add_entries(
+    alloc: Global,
+    distinct: &mut DistinctMaps,
+    btf: &Btf,
+    reading: Reading,
+    known: &mut KnownStructs,
+    symbols: &ByName<usize>,
+    entries: &[DataSecEntry],
+) -> Result<(), BtfError>
+    requires named { AreNamed distinct.old }
+    requires remembers { RemembersNames btf.now distinct.old }
+    requires known { Knows reading btf.now known.old }
+    ensures known { OnOk result (Knows reading btf.now known.new) }
+    ensures remembers { OnOk result (RemembersNames btf.now distinct.new) }
+    ensures added { OnOk result (Adds distinct.old distinct.new (λ symbols section. entries_maps reading btf.now symbols section entries.now) (λ symbols section. entries_fault reading btf.now symbols section entries.now)) }
+{
+    for entry in entries {
+        add_entry(alloc, distinct, btf, reading, known, symbols, entry)?;
+    }
+    Ok(())
+}
+
+/// Adds what the DATASECs with these ids declare, unless an entry has a fault or a name that no symbol has.
+fn add_sections(
+    alloc: Global,
+    distinct: &mut DistinctMaps,
+    btf: &Btf,
+    reading: Reading,
+    known: &mut KnownStructs,
+    symbols: &ByName<usize>,
+    ids: &[u32],
+) -> Result<(), BtfError>
+    requires named { AreNamed distinct.old }
+    requires remembers { RemembersNames btf.now distinct.old }
+    requires known { Knows reading btf.now known.old }
+    ensures known { OnOk result (Knows reading btf.now known.new) }
+    ensures added { OnOk result (Adds distinct.old distinct.new (λ symbols section. ids_maps reading btf.now symbols section ids.now) (λ symbols section. ids_fault reading btf.now symbols section ids.now)) }
+{
+    for id in ids {
+        add_entries(
+            alloc,
+            distinct,
+            btf,
+            reading,
+            known,
+            symbols,
+            datasec_entries_at(btf, *id),
+        )?;
+    }
+    Ok(())
+}
+
+/// Keeps what the DATASECs of a name declare, unless an entry has a fault or a name that no symbol has. Whether none
+/// has.
+fn add_section_maps(
+    alloc: Global,
+    kept: &mut ByName<DistinctMaps>,
+    btf: &Btf,
+    reading: Reading,
+    known: &mut KnownStructs,
+    sections: &NamedSections,
+    symbols: &ByName<usize>,
+    name: &str,
+) -> Result<bool, BtfError>
+    requires found { AreFound btf.now sections.now }
+    requires readable { sections.now.unreadable ≡ None }
+    requires kept { AreSectionMaps reading btf.now kept.old }
+    requires known { Knows reading btf.now known.old }
+    ensures kept { OnOk result (AreSectionMaps reading btf.now kept.new) }
+    ensures known { IfOk result (λ clear. MatchBool clear (Knows reading btf.now known.new) ⊤) }
+    ensures memory { IfErr result (λ e. is_memory e ≡ true) }
+{
+    if kept.contains_key(name) {
+        return Ok(true);
+    }
+    let Some(ids) = sections.by_name.get(name) else {
+        return Ok(true);
+    };
+    let mut distinct = DistinctMaps::none(alloc);
+    match add_sections(
+        alloc,
+        &mut distinct,
+        btf,
+        reading,
+        known,
+        symbols,
+        ids.as_slice(),
+    ) {
+        Ok(()) => {}
+        Err(BtfError::OutOfMemory) => return Err(BtfError::OutOfMemory),
+        Err(_) => return Ok(false),
+    }
+    kept.insert(String::from_str(alloc, name)?, distinct)?;
+    Ok(true)
+}
+
+/// What the DATASECs of these names declare, up to the first name of which an entry has a fault or a name that no
+/// symbol has; nothing where a DATASEC's name can't be read. `OutOfMemory` where memory is refused.
+pub fn all_section_maps(
+    alloc: Global,
+    btf: &Btf,
+    reading: Reading,
+    sections: &NamedSections,
+    names: &[&str],
+    symbols: &ByName<usize>,
+) -> Result<ByName<DistinctMaps>, BtfError>
+    requires { AreFound btf.now sections.now }
+    ensures kept { IfOk result (λ kept. AreSectionMaps reading btf.now kept) }
+    ensures memory { IfErr result (λ e. is_memory e ≡ true) }
+{
+    let mut kept = ByName::new(alloc);
+    if sections.unreadable.is_some() {
+        return Ok(kept);
+    }
+    let mut known = KnownStructs::none(alloc);
+    for name in names {
+        if !add_section_maps(
+            alloc, &mut kept, btf, reading, &mut known, sections, symbols, name,
+        )? {
+            return Ok(kept);
+        }
+    }
+    Ok(kept)
+}

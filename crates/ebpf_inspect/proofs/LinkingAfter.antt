@@ -1,0 +1,72 @@
+-- An object that is prepared without linking its programs, and then linked.
+use Rattle.std.proofs.Common.{◌≡◌, ◌∙◌, ℕ, true, false, List, Option, None, sym, subst}
+use Rattle.ebpf_inspect.specs.Inspected.{with_linking, AreReports, AreReportsOf, IsInspected}
+use Rattle.ebpf_inspect.specs.declared.report.ProgramReport.{ProgramReport}
+use Rattle.ebpf_ksyms.specs.Sources.{Source}
+use Rattle.ebpf_object.proofs.Headline.{finished}
+use Rattle.ebpf_object.specs.LinkedPrograms.{programs_in_order}
+use Rattle.ebpf_object.specs.Objects.{object_as, parse_fault_as}
+use Rattle.ebpf_object.specs.Prepared.{IsStageFault, IsParsed, IsPrepared, Stages}
+use Rattle.ebpf_object.specs.StageFaults.{Wrapped}
+use Rattle.ebpf_object.specs.Stages.{LinksPrograms, LinkingFault}
+use Rattle.ebpf_object.specs.Steps.{Chosen}
+use Rattle.ebpf_object.specs.declared.object.Object.{Object}
+use Rattle.ebpf_object.specs.declared.prepare_error.PrepareError.{PrepareError}
+use Rattle.ebpf_object.specs.declared.prepare_error.PrepareError.TheVariants.{Parse, Types, Maps, Ksyms, Externs, Calls, OutOfMemory}
+use Rattle.ebpf_parts.specs.declared.reading.Reading.{Reading}
+
+module _ (s : Chosen) (lines : Source) where
+  abbrev pub alone : Chosen
+  alone = record s { calls = false }
+
+  -- a fault before linking
+  pub same_fault : (o : Object) (e : PrepareError) → IsStageFault alone lines o e → IsStageFault (with_linking s) lines o e
+  same_fault o (Parse e) f = elim f [ ]
+  same_fault o (Types e) f = f
+  same_fault o (Maps e) f = f
+  same_fault o (Ksyms e) f = f
+  same_fault o (Externs e) f = f
+  same_fault o (Calls e) f = absurd f.fault
+  same_fault o OutOfMemory f = elim f [ ]
+
+  module _ (o d : Object) (stages : Stages alone lines o d) where
+    -- a fault of linking
+    pub unlinked : (e : PrepareError) → Wrapped Calls (LinkingFault true d) e → IsStageFault (with_linking s) lines o e
+    unlinked e f = subst (λ (x : PrepareError). IsStageFault (with_linking s) lines o x) (sym f.1) (record { before = d; stages = stages; fault = f.2 })
+
+    abbrev is_linked : (linked : Object) → LinksPrograms true d linked → Stages (with_linking s) lines o linked
+    is_linked linked links = record {
+      relocated = stages.relocated;
+      fds_written = stages.fds_written;
+      resolved = stages.resolved;
+      unlinked = d;
+      types = stages.types;
+      maps_sound = stages.maps_sound;
+      maps = stages.maps;
+      resolution = stages.resolution;
+      externs_sound = stages.externs_sound;
+      externs = stages.calls ∙ stages.externs;
+      calls = links;
+    }
+
+    pub reported : (linked : Object) (links : LinksPrograms true d linked) (rs : List ProgramReport) → AreReports d linked (programs_in_order d.programs) rs → AreReportsOf s lines o rs
+    reported linked links rs each =
+        record {
+          linked = linked;
+          stages = is_linked linked links;
+          each = subst (λ (x : Object). AreReports d linked (programs_in_order x.programs) rs) (sym links.1) each;
+        }
+
+  -- of a file
+  module _ (reading : Reading) (bytes : List ℕ) (rs : List ProgramReport) where
+    inspected_parsed : parse_fault_as reading bytes ≡ None → AreReportsOf s lines (object_as reading bytes) rs → IsInspected s lines reading bytes rs
+    inspected_parsed sound of =
+        let whole : IsPrepared (with_linking s) lines reading bytes of.linked = record { sound = sound; stages = of.stages } in
+        record {
+          linked = of.linked;
+          headline = record { prepared = whole; finished = finished (with_linking s) lines reading bytes of.linked whole };
+          each = of.each;
+        }
+
+    pub inspected : (o : Object) → IsParsed reading bytes o → AreReportsOf s lines o rs → IsInspected s lines reading bytes rs
+    inspected o parsed of = inspected_parsed parsed.sound (subst (λ (x : Object). AreReportsOf s lines x rs) parsed.is of)

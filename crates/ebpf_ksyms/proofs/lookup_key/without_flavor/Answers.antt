@@ -1,0 +1,14 @@
+use Rattle.std.proofs.Common.{◌≡◌, ℕ, ◌<◌, Some, None, length, sym, ◌∙◌, arith, take}
+use Rattle.std.proofs.lemmas.Grind.{common_steps}
+use Rattle.ebpf_btf.specs.EssentialNames.{essential_name}
+use Rattle.ebpf_ksyms.proofs.Flavors.{no_flavor, with_flavor, take_all}
+use Rattle.ebpf_ksyms.proofs.lookup_key.without_flavor.Goals as goal
+
+pub returns-in-Some : goal.returns-in-Some
+returns-in-Some c =
+    let h = c.in-Some.ensures.cases in
+    let inside : h.0 < length c.args.name.now = omega (arith, h.2.1.ends) in
+    h.3 ∙ sym (with_flavor c.args.name.now h.0 h.1 inside h.2)
+
+pub returns-in-None : goal.returns-in-None
+returns-in-None c = sym (no_flavor c.args.name.now c.in-None.ensures.cases ∙ take_all c.args.name.now)

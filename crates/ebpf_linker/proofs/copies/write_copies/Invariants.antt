@@ -1,0 +1,5 @@
+use Rattle.ebpf_linker.proofs.BasesInOrder.{Laying}
+use Rattle.ebpf_linker.proofs.copies.write_copies.Given as goal
+
+abbrev pub invariant-loop-function : goal.invariant-loop-function
+invariant-loop-function l = Laying l.bodies l.calls l.bases l.order l.out.items l.function-index

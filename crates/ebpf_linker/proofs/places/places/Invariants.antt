@@ -1,5 +1,0 @@
-use Rattle.ebpf_linker.proofs.Placed.{Placing}
-use Rattle.ebpf_linker.proofs.places.places.Given as goal
-
-abbrev pub invariant-loop-function : goal.invariant-loop-function
-invariant-loop-function l = Placing l.bodies l.first l.initial.bases.items l.functions l.bases.items l.end l.function-index

@@ -1,0 +1,31 @@
+//! Where the copies of functions begin.
+
+ghost use Rattle.std.specs.Prelude.{◌≡◌, ℕ, ◌+◌, ◌<◌, ◌^◌, length, IfOk, All, List};
+ghost use Rattle.ebpf_linker.specs.LinkedSlots.{Fit, with_bases};
+
+use crate::body::Body;
+use crate::tables::Tables;
+use std::alloc::{AllocError, Global};
+
+/// The places at which copies of these functions begin, by number, where the first begins at `first`; those of other
+/// functions can be any.
+pub fn copy_bases(
+    alloc: Global,
+    tables: &Tables,
+    bodies: &[Body<'_>],
+    first: usize,
+    functions: &[usize],
+) -> Result<Vec<usize>, AllocError>
+    requires functions { All (λ k. k < length bodies.now) functions.now }
+    requires fit { Fit bodies.now first functions.now }
+    ensures copy_bases { IfOk result (λ v. (before : List ℕ) × (length before ≡ length bodies.now) × (v.items ≡ with_bases bodies.now first before functions.now)) }
+    ensures below { IfOk result (λ v. All (λ b. b < 2 ^ 31) v.items) }
+{
+    let mut bases = tables.take_bases(alloc, bodies.len())?;
+    let mut end = first;
+    for function in functions {
+        bases[*function] = end;
+        end += bodies[*function].slots.len();
+    }
+    Ok(bases)
+}

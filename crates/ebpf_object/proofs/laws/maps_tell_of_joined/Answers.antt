@@ -1,5 +1,0 @@
-use Rattle.ebpf_object.proofs.MapsOfJoined as maps
-use Rattle.ebpf_object.proofs.laws.maps_tell_of_joined.Goals as goal
-
-pub returns : goal.returns
-returns c = maps.maps_tell_of_joined

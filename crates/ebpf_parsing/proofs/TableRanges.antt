@@ -1,0 +1,130 @@
+-- Sections of relocations whose entries stand at the same places.
+use Rattle.std.proofs.Common.{◌≡◌, ℕ, ◌+◌, ◌<◌, ◌≤◌, Bool, true, false, cond, ◌||◌, List, [], ◌∷◌, ◌++◌, map, length, drop, Some, None, refl, sym, ap, subst, ◌∙◌}
+use Rattle.std.proofs.lemmas.List.{map-append}
+use Rattle.std.proofs.lemmas.Option.{none-some}
+use Rattle.std.proofs.lemmas.Map.Lookups.{exact_pairs, exact_unsigned}
+use Rattle.std.specs.Cmp.{IsTotalOrder, nat_cmp_total}
+use Rattle.std.specs.FinMap.{FinMap, IsAntisymmetric, get, insert, empty, get-empty, get-insert, same_map, nat_cmp-IsAntisymmetric}
+use Rattle.std.specs.List.{flat_map}
+use Rattle.std.specs.Ordering.{nat_cmp, eq_by_cmp}
+use Rattle.std.specs.Prelude.{slice_index_or}
+use Rattle.std.specs.declared.cmp.Ordering.{Ordering}
+use Rattle.ebpf_base.proofs.Keyed.{later_stands, put_all-append}
+use Rattle.ebpf_base.proofs.Maps.{key_exact}
+use Rattle.ebpf_base.specs.Faults.{or_else}
+use Rattle.ebpf_base.specs.Keyed.{put_all, last_at}
+use Rattle.ebpf_elf.specs.Relocations.{table_entry, table_entries}
+use Rattle.ebpf_elf.specs.Sections.{SectionOf}
+use Rattle.ebpf_elf.specs.declared.entries.ElfRelocation.{ElfRelocation}
+use Rattle.ebpf_parsing.proofs.FromFile.{some_same}
+use Rattle.ebpf_parsing.proofs.LastEntries.{equal, last_at-append}
+use Rattle.ebpf_parsing.proofs.Lasts.{has, false_is_not, any-append, whatever, none_last, Lasts, another, fewer_lasts}
+use Rattle.ebpf_parsing.specs.EntryRanges.{entry_range_cmp, entry_range_total, entry_range_of, entries_at, lacks_symbol, AreCached, AreOf, table_row}
+use Rattle.ebpf_parsing.specs.LastData.{is_index}
+use Rattle.ebpf_parsing.specs.Relocations.{offset_of}
+use Rattle.ebpf_parts.proofs.Tables.{tables_more, tables_none, target_append}
+use Rattle.ebpf_parts.proofs.Walks.{rest_more}
+use Rattle.ebpf_parts.specs.Sections.{target_fault}
+
+pub places_exact : IsAntisymmetric entry_range_cmp
+places_exact = exact_pairs _ nat_cmp key_exact exact_unsigned
+
+-- the entries are those at its places
+pub at_places : (s : SectionOf) → table_entries s ≡ entries_at s.file (entry_range_of s)
+unfolding table_entry
+at_places s = refl
+
+pub cached_is : (s : SectionOf) (cached : FinMap entry_range_cmp Bool) (lacks : Bool) → AreCached s.file cached → get cached (entry_range_of s) ≡ Some lacks → lacks ≡ lacks_symbol (table_entries s)
+cached_is s cached lacks so at = so (entry_range_of s) lacks at ∙ sym (ap lacks_symbol (at_places s))
+
+pub cached_more : (s : SectionOf) (cached : FinMap entry_range_cmp Bool) (lacks : Bool) → AreCached s.file cached → lacks ≡ lacks_symbol (table_entries s) → AreCached s.file (insert cached (entry_range_of s) lacks)
+cached_more s cached lacks so is p other at = step (eq_by_cmp entry_range_cmp p (entry_range_of s)) refl (sym (get-insert entry_range_total cached (entry_range_of s) lacks p) ∙ at)
+  where
+    step : (b : Bool) → eq_by_cmp entry_range_cmp p (entry_range_of s) ≡ b → cond b (Some lacks) (get cached p) ≡ Some other → other ≡ lacks_symbol (entries_at s.file p)
+    step true same found = sym (some_same lacks other found) ∙ is ∙ ap lacks_symbol (at_places s) ∙ sym (ap (λ q. lacks_symbol (entries_at s.file q)) (places_exact p (entry_range_of s) (equal _ same)))
+    step false same found = so p other found
+
+-- nothing is cached at the start
+pub none_cached : (file : List ℕ) (cached : FinMap entry_range_cmp Bool) → cached ≡ empty → AreCached file cached
+none_cached file cached none p lacks at = absurd (none-some lacks (sym (ap (λ (m : FinMap entry_range_cmp Bool). get m p) none ∙ get-empty entry_range_cmp p) ∙ at))
+
+-- ---- faults
+
+pub targets_more : (xs : List SectionOf) (i : ℕ) (x : SectionOf) → i < length xs → x ≡ slice_index_or xs i x
+    → target_fault (flat_map table_entries (drop i xs)) ≡ or_else (target_fault (table_entries x)) (target_fault (flat_map table_entries (drop (i + 1) xs)))
+targets_more xs i x below here = ap target_fault (tables_more xs i x below here) ∙ target_append (table_entries x) (flat_map table_entries (drop (i + 1) xs))
+
+pub targets_none : (xs : List SectionOf) (i : ℕ) → length xs ≤ i → target_fault (flat_map table_entries (drop i xs)) ≡ None
+targets_none xs i past = ap target_fault (tables_none xs i past)
+
+-- ---- the last at each of the places
+
+pub row_more : (xs : List SectionOf) (i : ℕ) (x : SectionOf) → i < length xs → x ≡ slice_index_or xs i x
+    → flat_map table_row (drop i xs) ≡ (entry_range_of x, x.index) ∷ flat_map table_row (drop (i + 1) xs)
+row_more xs i x below here = ap (flat_map table_row) (rest_more xs i x below here)
+
+abbrev pub TableLasts : FinMap entry_range_cmp ℕ → List SectionOf → Type 0
+TableLasts last rest = Lasts entry_range_total table_row last rest
+
+-- entries whose keys all come again need not be put
+pub put_all_again : {K X : Type 0} {R : K → K → Ordering} → IsTotalOrder R → IsAntisymmetric R → (m : FinMap R X) (es fs : List (K × X))
+    → ((q : K) → has R q es ≡ true → has R q fs ≡ true) → put_all m fs ≡ put_all m (es ++ fs)
+put_all_again {K = K} {R = R} o exact m es fs come = same_map o exact _ _ (λ q.
+    later_stands o m fs q ∙ step q (has R q es) refl ∙ sym (last_at-append R q (get m q) es fs) ∙ sym (later_stands o m (es ++ fs) q))
+  where
+    step : (q : K) (b : Bool) → has R q es ≡ b → last_at R q (get m q) fs ≡ last_at R q (last_at R q (get m q) es) fs
+    step q true at = whatever R q fs (come q at) _ _
+    step q false at = sym (ap (λ v. last_at R q v fs) (none_last R q es at (get m q)))
+
+abbrev offsets : List ElfRelocation → List (ℕ × ElfRelocation)
+offsets = map offset_of
+
+either : (a b : Bool) → a ≡ true → (a || b) ≡ true
+either true b e = refl
+either false b e = cc
+
+second : (a b : Bool) → b ≡ true → (a || b) ≡ true
+second true b e = refl
+second false b e = e
+
+module _ (file : List ℕ) (t : SectionOf) (own : t.file ≡ file) where
+  same_entries : (x : SectionOf) → x.file ≡ file → entry_range_of t ≡ entry_range_of x → table_entries t ≡ table_entries x
+  same_entries x of_file same =
+      at_places t ∙ ap (λ f. entries_at f (entry_range_of t)) (own ∙ sym of_file) ∙ ap (entries_at x.file) same ∙ sym (at_places x)
+
+  -- where a later section's entries stand at its places, all its offsets come again
+  come_again : (q : ℕ) (rest : List SectionOf) → AreOf file rest → has entry_range_cmp (entry_range_of t) (flat_map table_row rest) ≡ true
+      → has nat_cmp q (offsets (table_entries t)) ≡ true → has nat_cmp q (offsets (flat_map table_entries rest)) ≡ true
+  come_again q [] of_file there h = false_is_not there
+  come_again q (x ∷ rest) of_file there h = ap (has nat_cmp q) (map-append offset_of (table_entries x) (flat_map table_entries rest)) ∙ any-append _ (offsets (table_entries x)) (offsets (flat_map table_entries rest)) ∙ step (λ behind. come_again q rest of_file.1 behind h) (eq_by_cmp entry_range_cmp (entry_range_of t) (entry_range_of x)) refl
+    where
+      step : (has entry_range_cmp (entry_range_of t) (flat_map table_row rest) ≡ true → has nat_cmp q (offsets (flat_map table_entries rest)) ≡ true) → (b : Bool) → eq_by_cmp entry_range_cmp (entry_range_of t) (entry_range_of x) ≡ b → (has nat_cmp q (offsets (table_entries x)) || has nat_cmp q (offsets (flat_map table_entries rest))) ≡ true
+      step again true same = either _ _ (sym (ap (λ es. has nat_cmp q (offsets es)) (same_entries x of_file.0 (places_exact _ _ (equal _ same)))) ∙ h)
+      step again false differ = second _ _ (again (sym (ap (λ b. b || has entry_range_cmp (entry_range_of t) (flat_map table_row rest)) differ) ∙ there))
+
+-- one more section whose entries are put
+pub put_more : (m n : FinMap nat_cmp ElfRelocation) (xs : List SectionOf) (i : ℕ) (x : SectionOf) → i < length xs → x ≡ slice_index_or xs i x
+    → n ≡ put_all m (offsets (table_entries x)) → put_all n (offsets (flat_map table_entries (drop (i + 1) xs))) ≡ put_all m (offsets (flat_map table_entries (drop i xs)))
+put_more m n xs i x below here put =
+    ap (λ k. put_all k (offsets (flat_map table_entries (drop (i + 1) xs)))) put
+    ∙ sym (put_all-append m (offsets (table_entries x)) (offsets (flat_map table_entries (drop (i + 1) xs))))
+    ∙ sym (ap (put_all m) (ap offsets (tables_more xs i x below here) ∙ map-append offset_of (table_entries x) (flat_map table_entries (drop (i + 1) xs))))
+
+module _ (file : List ℕ) (last : FinMap entry_range_cmp ℕ) (xs : List SectionOf) (i : ℕ) (x : SectionOf) (below : i < length xs) (here : x ≡ slice_index_or xs i x) where
+  more : drop i xs ≡ x ∷ drop (i + 1) xs
+  more = rest_more xs i x below here
+
+  pub rest_of : AreOf file (drop i xs) → (x.file ≡ file) × AreOf file (drop (i + 1) xs)
+  rest_of h = subst (λ (l : List SectionOf). AreOf file l) more h
+
+  pub fewer : TableLasts last (drop i xs) → TableLasts last (drop (i + 1) xs)
+  fewer lasts = fewer_lasts entry_range_total table_row last x (drop (i + 1) xs) (subst (λ (l : List SectionOf). TableLasts last l) more lasts)
+
+  -- one whose entries are those of a later section
+  pub put_passed : (m : FinMap nat_cmp ElfRelocation) → AreOf file (drop i xs) → TableLasts last (drop i xs) → is_index x.index (get last (entry_range_of x)) ≡ false
+      → put_all m (offsets (flat_map table_entries (drop (i + 1) xs))) ≡ put_all m (offsets (flat_map table_entries (drop i xs)))
+  put_passed m of_file lasts differs =
+      let again = another entry_range_total table_row last x (drop (i + 1) xs) (subst (λ (l : List SectionOf). TableLasts last l) more lasts) (entry_range_of x) x.index refl differs in
+      put_all_again nat_cmp_total nat_cmp-IsAntisymmetric m (offsets (table_entries x)) (offsets (flat_map table_entries (drop (i + 1) xs)))
+      (λ q h. come_again file x (rest_of of_file).0 q (drop (i + 1) xs) (rest_of of_file).1 again h)
+      ∙ sym (ap (put_all m) (ap offsets (tables_more xs i x below here) ∙ map-append offset_of (table_entries x) (flat_map table_entries (drop (i + 1) xs))))

@@ -1,0 +1,19 @@
+use Rattle.std.proofs.Common.{◌≡◌, map}
+use Rattle.ebpf_base.specs.Faults.{first_some}
+use Rattle.ebpf_parsing.specs.FileContents.{read_fault, sections_fault}
+use Rattle.ebpf_parsing.specs.FileSymbols.{file_symbols}
+use Rattle.ebpf_parsing.specs.ObjectTables.{all_added, object_tables_of}
+use Rattle.ebpf_parsing.proofs.AddedLemmas.{others}
+use Rattle.ebpf_parsing.specs.EntryRanges.{AreOf}
+use Rattle.ebpf_parsing.proofs.LastData.{DataLasts}
+use Rattle.ebpf_parsing.proofs.object_tables.read_by_last.Given as goal
+use Rattle.ebpf_parts.specs.Sections.{section_of}
+
+-- what is left to do from here is what was to do from the start
+abbrev pub invariant-loop-section : goal.invariant-loop-section
+invariant-loop-section l = record {
+  from : AreOf l.file l.section-iterator;
+  lasts : DataLasts l.last (map section_of (others l.section-iterator));
+  object_tables : all_added l.metadata l.object_tables (file_symbols l.file) (map section_of (others l.section-iterator)) ≡ object_tables_of l.metadata l.fn.section_infos l.file;
+  fault : first_some (read_fault l.metadata.reading l.metadata.btf l.file) (others l.section-iterator) ≡ sections_fault l.metadata.reading l.metadata.btf l.file;
+}

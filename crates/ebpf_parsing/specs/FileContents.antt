@@ -1,0 +1,151 @@
+-- What a file has: its tables, each put together from the sections in order, so that the later of two entries with one
+-- key stands, and its first fault.
+use Rattle.std.specs.Prelude.{ℕ, Bool, not, ◌||◌, List, map, filter, Option, option_map, codes}
+use Rattle.std.specs.FinMap.{FinMap, empty}
+use Rattle.std.specs.List.{flat_map}
+use Rattle.std.specs.Ordering.{nat_cmp}
+use Rattle.ebpf_base.specs.Faults.{or_else, first_in, first_some}
+use Rattle.ebpf_base.specs.Keyed.{put_all}
+use Rattle.ebpf_base.specs.Keys.{text_cmp, key_cmp}
+use Rattle.ebpf_ext.specs.ExtReading.{ExtInfo}
+use Rattle.ebpf_btf.specs.TypeInfo.{TypeInfo}
+use Rattle.ebpf_elf.specs.Faults.{faults}
+use Rattle.ebpf_elf.specs.File.{ei_data}
+use Rattle.ebpf_elf.specs.Names.{is_name}
+use Rattle.ebpf_elf.specs.Sections.{SectionOf, sections, section_name}
+use Rattle.ebpf_elf.specs.declared.entries.ElfRelocation.{ElfRelocation}
+use Rattle.ebpf_elf.specs.declared.entries.SectionIndex.{SectionIndex}
+use Rattle.ebpf_parsing.specs.FileExterns.{types_of, externs_of, file_externs_fault}
+use Rattle.ebpf_parsing.specs.FileSymbols.{file_symbols, symbol_table, symbols_fault}
+use Rattle.ebpf_parsing.specs.FileTypes.{ext_of, type_info_names, file_types_fault}
+use Rattle.ebpf_parsing.specs.OfSection.{maps_in, programs_in, functions_in, relocations_in, name_in, fault_in}
+use Rattle.ebpf_parsing.specs.Symbols.{SymbolValue, section_symbols}
+use Rattle.ebpf_parsing.specs.CodeOrder.{order_fault_as}
+use Rattle.ebpf_parsing.specs.LicenseAndVersion.{license_as, license_fault_as, kernel_version_of, version_fault}
+use Rattle.ebpf_parsing.specs.declared.file_contents.FileContents.{FileContents}
+use Rattle.ebpf_parsing.specs.declared.object_tables.ObjectTables.{ObjectTables}
+use Rattle.ebpf_parsing.specs.declared.program.Program.{Program}
+use Rattle.ebpf_parsing.specs.declared.metadata.FileMetadata.{FileMetadata}
+use Rattle.ebpf_parts.specs.Sections.{SectionValue, section_of, section_fault}
+use Rattle.ebpf_parts.specs.declared.error.ParseError.{ParseError}
+use Rattle.ebpf_parts.specs.declared.error.ParseError.TheVariants.{ElfError}
+use Rattle.ebpf_parts.specs.declared.maps.either.Map.{Map}
+use Rattle.ebpf_reloc.specs.declared.function.Function.{Function}
+use Rattle.ebpf_parts.specs.declared.reading.Reading.{Reading}
+use Rattle.ebpf_parts.specs.declared.reading.Reading.TheVariants.{Stated}
+
+-- ---- the sections of an object: all but those of type information
+
+abbrev pub is_type_information : SectionOf → Bool
+is_type_information s = is_name (codes ".BTF") (section_name s) || is_name (codes ".BTF.ext") (section_name s)
+
+abbrev pub other_sections : List ℕ → List SectionOf
+other_sections bytes = filter (λ s. not (is_type_information s)) (sections bytes)
+
+abbrev pub object_sections : List ℕ → List SectionValue
+object_sections bytes = map section_of (other_sections bytes)
+
+-- the symbols that a section has
+abbrev pub symbols_at : List SymbolValue → SectionValue → List SymbolValue
+symbols_at symbols s = section_symbols symbols s.index.0
+
+abbrev pub own_symbols : List ℕ → SectionValue → List SymbolValue
+own_symbols bytes s = symbols_at (file_symbols bytes) s
+
+-- ---- the entries of each table, in order
+
+unfoldable pub map_entries : Reading → Option TypeInfo → List ℕ → List (List ℕ × Map)
+map_entries reading types bytes = flat_map (λ s. maps_in reading types s (own_symbols bytes s)) (object_sections bytes)
+
+unfoldable pub program_entries : Reading → List ℕ → Option ℕ → List ℕ → List (List ℕ × Program)
+program_entries reading license version bytes = flat_map (λ s. programs_in reading license version s (own_symbols bytes s)) (object_sections bytes)
+
+unfoldable pub function_entries : Option ExtInfo → List ℕ → List ((ℕ × ℕ) × Function)
+function_entries ext bytes = flat_map (λ s. functions_in ext s (own_symbols bytes s)) (object_sections bytes)
+
+unfoldable pub relocation_entries : List ℕ → List (ℕ × FinMap nat_cmp ElfRelocation)
+relocation_entries bytes = flat_map relocations_in (object_sections bytes)
+
+unfoldable pub name_entries : List ℕ → List (List ℕ × SectionIndex)
+name_entries bytes = flat_map name_in (object_sections bytes)
+
+-- ---- the tables
+
+unfoldable pub maps_as : Reading → List ℕ → FinMap text_cmp Map
+maps_as reading bytes = put_all empty (map_entries reading (types_of bytes) bytes)
+
+unfoldable pub programs_as : Reading → List ℕ → FinMap text_cmp Program
+programs_as reading bytes = put_all empty (program_entries reading (license_as reading bytes) (kernel_version_of bytes) bytes)
+
+unfoldable pub functions : List ℕ → FinMap key_cmp Function
+functions bytes = put_all empty (function_entries (ext_of bytes) bytes)
+
+-- the relocations of Text and Program sections, by section and offset
+unfoldable pub relocation_tables : List ℕ → FinMap nat_cmp (FinMap nat_cmp ElfRelocation)
+relocation_tables bytes = put_all empty (relocation_entries bytes)
+
+-- the sections' numbers by name; those of type information come first
+unfoldable pub section_infos : List ℕ → FinMap text_cmp SectionIndex
+section_infos bytes = put_all (type_info_names bytes) (name_entries bytes)
+
+abbrev pub maps : List ℕ → FinMap text_cmp Map
+maps bytes = maps_as Stated bytes
+
+abbrev pub programs : List ℕ → FinMap text_cmp Program
+programs bytes = programs_as Stated bytes
+
+-- ---- the whole
+
+-- what programs and functions carry of it
+abbrev pub metadata_as : Reading → List ℕ → FileMetadata
+metadata_as reading bytes = record {
+  reading = reading;
+  license = license_as reading bytes;
+  kernel_version = kernel_version_of bytes;
+  btf = types_of bytes;
+  btf_ext = ext_of bytes;
+}
+
+-- what its sections give
+abbrev pub tables_as : Reading → List ℕ → ObjectTables
+tables_as reading bytes = record {
+  maps = maps_as reading bytes;
+  programs = programs_as reading bytes;
+  functions = functions bytes;
+  relocations = relocation_tables bytes;
+  section_infos = section_infos bytes;
+}
+
+abbrev pub contents_as : Reading → List ℕ → FileContents
+contents_as reading bytes = record {
+  endianness = ei_data bytes;
+  metadata = metadata_as reading bytes;
+  externs = externs_of bytes;
+  symbol_table = symbol_table (file_symbols bytes);
+  object_tables = tables_as reading bytes;
+}
+
+-- ---- the first fault
+
+-- of one section, beside the file's types
+abbrev pub read_fault : Reading → Option TypeInfo → List ℕ → SectionOf → Option ParseError
+read_fault reading types bytes s = or_else (section_fault s) (fault_in reading types (section_of s) (section_symbols (file_symbols bytes) s.index))
+
+unfoldable pub sections_fault : Reading → Option TypeInfo → List ℕ → Option ParseError
+sections_fault reading types bytes = first_some (read_fault reading types bytes) (other_sections bytes)
+
+-- of a file, in the order of the steps: the file, code in the big-endian order, the license and the version, the
+-- symbols, the type information, the externs, the sections
+abbrev pub parse_fault_as : Reading → List ℕ → Option ParseError
+parse_fault_as reading bytes =
+    or_else (option_map ElfError (first_in (faults bytes)))
+    (or_else (order_fault_as reading bytes)
+    (or_else (license_fault_as reading bytes)
+    (or_else (version_fault bytes)
+    (or_else (symbols_fault bytes)
+    (or_else (file_types_fault bytes)
+    (or_else (file_externs_fault bytes)
+    (sections_fault reading (types_of bytes) bytes)))))))
+
+abbrev pub parse_fault : List ℕ → Option ParseError
+parse_fault bytes = parse_fault_as Stated bytes

@@ -1,0 +1,291 @@
+//! What the sections of a file give to an object.
+
+ghost use Rattle.std.specs.Prelude.{◌≡◌, ◌==◌, ◌∷◌, [], ℕ, filter, map, length, IfOk, OnOk, IfErr, Some, None, true};
+ghost use Rattle.std.specs.FinMap as finite;
+ghost use Rattle.std.specs.List.{flat_map};
+ghost use Rattle.ebpf_base.specs.Faults.{Refuses, or_else};
+ghost use Rattle.ebpf_base.specs.Keyed.{put_all};
+ghost use Rattle.ebpf_elf.specs.Relocations.{relocation_sections, relocated_section, relocations, table_entries};
+ghost use Rattle.ebpf_parsing.specs.DataMaps.{data_maps, data_map_fault};
+ghost use Rattle.ebpf_parsing.specs.FileSymbols.{file_symbols};
+ghost use Rattle.ebpf_parsing.specs.Groups.{group_at, AreTablesOf};
+ghost use Rattle.ebpf_parsing.specs.LastData.{added_last, last_data, last_maps};
+ghost use Rattle.ebpf_parsing.specs.LegacyMaps.{legacy_maps, legacy_maps_fault};
+ghost use Rattle.ebpf_parsing.specs.FileContents.{object_sections, read_fault, sections_fault};
+ghost use Rattle.ebpf_parsing.specs.OfSection.{fault_in, program_section_faults, relocations_in};
+ghost use Rattle.ebpf_parsing.specs.ObjectTables.{added, object_tables_of, object_tables_from};
+ghost use Rattle.ebpf_parsing.specs.Programs.{programs_of, with_key, program_functions, programs_fault};
+ghost use Rattle.ebpf_parsing.specs.Records.{func_and_line_info_of};
+ghost use Rattle.ebpf_parsing.specs.EntryRanges.{AreOfOneFile};
+ghost use Rattle.ebpf_parsing.specs.Relocations.{relocation_table_at, with_relocations};
+ghost use Rattle.ebpf_parsing.specs.Symbols.{section_symbols};
+ghost use Rattle.ebpf_parsing.specs.Texts.{text_functions, text_fault};
+ghost use Rattle.ebpf_parts.specs.Memory.{is_memory};
+ghost use Rattle.ebpf_parts.specs.Readings.{section_as};
+ghost use Rattle.ebpf_parts.specs.Sections.{section_of, section_fault};
+
+use crate::data_maps::put_data_map;
+use crate::btf_defined_maps::{find_btf_defined_maps, put_btf_defined_maps};
+use crate::file_types::{is_type_information, remember};
+use crate::groups::Groups;
+use crate::last_data::last_data_sections;
+use crate::legacy_maps::put_legacy_maps;
+use crate::program::Program;
+use crate::program_functions::{put_functions, put_programs};
+use crate::records_by_name::{SectionInputs, RecordsByName};
+use crate::relocations::{RelocationTable, by_offset};
+use crate::section_names::names_of_kinds;
+use crate::sections::read_section;
+use crate::metadata::FileMetadata;
+use crate::symbols::NamedSymbol;
+use crate::text::put_text_functions;
+use ebpf_base::{ByKey, ByName, ByOffset, BySection, Text};
+use ebpf_elf::{ElfFile, ElfSection, SectionIndex};
+use ebpf_parts::maps::Map;
+use ebpf_parts::{EbpfSectionKind, ParseError, ProgramSection, Relocation, Section};
+use ebpf_reloc::Function;
+use std::alloc::Global;
+
+/// What the sections of a file give to an object.
+#[derive(Drop)]
+pub struct ObjectTables {
+    pub maps: ByName<Map>,
+    pub programs: ByName<Program>,
+    pub functions: ByKey<Function>,
+    pub relocations: BySection<ByOffset<Relocation>>,
+    pub section_infos: ByName<SectionIndex>,
+}
+
+/// Puts the relocations of a section that has some.
+#[tactic(auto, using(crate::proofs::Kept::none_kept, crate::proofs::Kept::some_kept))]
+fn put_table(
+    alloc: Global,
+    relocations: &mut BySection<ByOffset<Relocation>>,
+    section: usize,
+    tables: &[RelocationTable<'_>],
+) -> Result<(), ParseError>
+    requires { AreOfOneFile tables.now }
+    ensures put { OnOk result (relocations.new ≡ put_all relocations.old (relocation_table_at section (flat_map table_entries tables.now))) }
+    ensures memory { IfErr result (λ e. is_memory e ≡ true) }
+{
+    let kept = by_offset(alloc, tables)?;
+    if kept.is_empty() {
+        return Ok(());
+    }
+    relocations.insert(section, kept)?;
+    Ok(())
+}
+
+/// Puts the relocations of a section of code.
+#[tactic(auto, unfolding(crate::specs::OfSection::relocations_in))]
+fn put_relocations(
+    alloc: Global,
+    relocations: &mut BySection<ByOffset<Relocation>>,
+    section: &Section<'_>,
+    tables: &[RelocationTable<'_>],
+) -> Result<(), ParseError>
+    requires { AreOfOneFile tables.now }
+    ensures put { OnOk result (relocations.new ≡ put_all relocations.old (relocations_in (with_relocations (flat_map table_entries tables.now) section.now))) }
+    ensures memory { IfErr result (λ e. is_memory e ≡ true) }
+{
+    match section.kind {
+        EbpfSectionKind::Program | EbpfSectionKind::Text => {
+            put_table(alloc, relocations, section.index.0, tables)
+        }
+        _ => Ok(()),
+    }
+}
+
+impl ObjectTables {
+    /// None but the names that were met before.
+    fn new(alloc: Global, section_infos: ByName<SectionIndex>) -> ObjectTables
+        ensures { result ≡ object_tables_from section_infos }
+    {
+        ObjectTables {
+            maps: ByName::new(alloc),
+            programs: ByName::new(alloc),
+            functions: ByKey::new(alloc),
+            relocations: BySection::new(alloc),
+            section_infos,
+        }
+    }
+
+    /// Adds the functions of a Program section.
+    fn add_functions(
+        &mut self,
+        alloc: Global,
+        inputs: &SectionInputs<'_>,
+        section: &Section<'_>,
+        symbols: &[NamedSymbol<'_>],
+    ) -> Result<(), ParseError>
+        ensures put { OnOk result (self.new ≡ record self.old { functions = put_all self.old.functions (map with_key (program_functions (func_and_line_info_of inputs.now.btf_ext section.now.name) section.now symbols.now)) }) }
+        ensures fault { Refuses is_memory result (programs_fault section.now symbols.now) }
+    {
+        if let Some(records) = inputs.records.of(section.name) {
+            return put_functions(alloc, &mut self.functions, &records, section, symbols);
+        }
+        let read = inputs.records.read(alloc, section.name)?;
+        put_functions(alloc, &mut self.functions, &read.lent(), section, symbols)
+    }
+
+    /// Adds the programs of a Program section.
+    #[tactic(auto, unfolding(crate::specs::OfSection::program_section_faults))]
+    fn add_programs(
+        &mut self,
+        alloc: Global,
+        inputs: &SectionInputs<'_>,
+        section: &Section<'_>,
+        symbols: &[NamedSymbol<'_>],
+    ) -> Result<(), ParseError>
+        ensures put { OnOk result (self.new ≡ record self.old { programs = put_all self.old.programs (programs_of inputs.now.license inputs.now.kernel_version section.now symbols.now (section_as inputs.now.reading section.now.name)); functions = put_all self.old.functions (map with_key (program_functions (func_and_line_info_of inputs.now.btf_ext section.now.name) section.now symbols.now)) }) }
+        ensures fault { Refuses is_memory result (program_section_faults inputs.now.reading section.now symbols.now) }
+    {
+        let kind = ProgramSection::read(alloc, section.name, inputs.metadata.reading)?;
+        if symbols.len() == 0 {
+            return Err(ParseError::NoSymbolsForSection {
+                section_name: Text::from_str(alloc, section.name)?,
+            });
+        }
+        self.add_functions(alloc, inputs, section, symbols)?;
+        put_programs(
+            alloc,
+            &mut self.programs,
+            inputs.metadata,
+            kind,
+            section,
+            symbols,
+        )
+    }
+
+    /// Adds the functions of a Text section.
+    fn add_texts(
+        &mut self,
+        alloc: Global,
+        inputs: &SectionInputs<'_>,
+        section: &Section<'_>,
+        symbols: &[NamedSymbol<'_>],
+    ) -> Result<(), ParseError>
+        ensures put { OnOk result (self.new ≡ record self.old { functions = put_all self.old.functions (map with_key (text_functions (func_and_line_info_of inputs.now.btf_ext section.now.name) section.now symbols.now)) }) }
+        ensures fault { Refuses is_memory result (text_fault section.now symbols.now) }
+    {
+        if let Some(records) = inputs.records.of(section.name) {
+            return put_text_functions(alloc, &mut self.functions, &records, section, symbols);
+        }
+        let read = inputs.records.read(alloc, section.name)?;
+        put_text_functions(alloc, &mut self.functions, &read.lent(), section, symbols)
+    }
+
+    /// Adds a section by its kind, but for its relocations and its name.
+    #[tactic(auto, unfolding(crate::specs::ObjectTables::added, crate::specs::OfSection::fault_in, crate::specs::OfSection::maps_in, crate::specs::OfSection::programs_in, crate::specs::OfSection::functions_in))]
+    fn add_kind(
+        &mut self,
+        alloc: Global,
+        inputs: &SectionInputs<'_>,
+        last: &ByName<usize>,
+        section: &Section<'_>,
+        symbols: &[NamedSymbol<'_>],
+    ) -> Result<(), ParseError>
+        ensures others { OnOk result (self.new.relocations ≡ self.old.relocations) }
+        ensures put { OnOk result (record self.new { relocations = put_all self.old.relocations (relocations_in section.now); section_infos = put_all self.new.section_infos ((section.now.name, section.now.index) ∷ []) } ≡ added_last last.now inputs.now self.old section.now symbols.now) }
+        ensures fault { Refuses is_memory result (fault_in inputs.now.reading inputs.now.btf section.now symbols.now) }
+    {
+        match section.kind {
+            EbpfSectionKind::Program => self.add_programs(alloc, inputs, section, symbols),
+            EbpfSectionKind::Data | EbpfSectionKind::Rodata | EbpfSectionKind::Bss => {
+                put_data_map(alloc, &mut self.maps, last, section)
+            }
+            EbpfSectionKind::Maps => put_legacy_maps(alloc, &mut self.maps, section, symbols),
+            EbpfSectionKind::BtfMaps => {
+                put_btf_defined_maps(alloc, &mut self.maps, &inputs.declared, section, symbols)
+            }
+            EbpfSectionKind::Text => self.add_texts(alloc, inputs, section, symbols),
+            _ => Ok(()),
+        }
+    }
+
+    /// Adds a section of a file.
+    #[tactic(auto, using(crate::proofs::Bare::same_added, crate::proofs::Bare::same_fault, crate::proofs::Bare::section_patched, crate::proofs::FromFile::of_one_file))]
+    fn add_section(
+        &mut self,
+        alloc: Global,
+        inputs: &SectionInputs<'_>,
+        last: &ByName<usize>,
+        section: &ElfSection<'_>,
+        tables: &[RelocationTable<'_>],
+        symbols: &[NamedSymbol<'_>],
+    ) -> Result<(), ParseError>
+        requires { tables.now ≡ filter (λ r. relocated_section r == section.now.index) (relocation_sections section.now.file) }
+        ensures put { OnOk result (self.new ≡ added_last last.now inputs.now self.old (section_of section.now) symbols.now) }
+        ensures fault { Refuses is_memory result (or_else (section_fault section.now) (fault_in inputs.now.reading inputs.now.btf (section_of section.now) symbols.now)) }
+    {
+        let section = read_section(alloc, section, tables)?;
+        self.add_kind(alloc, inputs, last, &section, symbols)?;
+        put_relocations(alloc, &mut self.relocations, &section, tables)?;
+        remember(alloc, &mut self.section_infos, &section)
+    }
+}
+
+/// What the sections of a file give, each with its relocations and its symbols, by the last section of data of each
+/// name.
+fn read_by_last(
+    alloc: Global,
+    metadata: &FileMetadata,
+    section_infos: ByName<SectionIndex>,
+    file: &ElfFile<'_>,
+    tables: &Groups<RelocationTable<'_>>,
+    symbols: &Groups<NamedSymbol<'_>>,
+    last: &ByName<usize>,
+) -> Result<ObjectTables, ParseError>
+    requires tables { AreTablesOf file.now tables.now.groups }
+    requires grouped { (q : ℕ) → group_at symbols.now.groups q ≡ section_symbols (file_symbols file.now) q }
+    requires last { last.now ≡ last_data (object_sections file.now) }
+    ensures object_tables { IfOk result (λ p. p ≡ object_tables_of metadata.now section_infos file.now) }
+    ensures fault { Refuses is_memory result (sections_fault metadata.now.reading metadata.now.btf file.now) }
+{
+    let code = names_of_kinds(
+        alloc,
+        file,
+        &[EbpfSectionKind::Program, EbpfSectionKind::Text],
+    )?;
+    let records = RecordsByName::gather(alloc, &metadata.btf_ext, code.as_slice())?;
+    let declared = find_btf_defined_maps(alloc, &metadata.btf, metadata.reading, file, symbols)?;
+    let inputs = SectionInputs {
+        metadata,
+        records,
+        declared,
+    };
+    let mut object_tables = ObjectTables::new(alloc, section_infos);
+    for section in file.sections() {
+        if is_type_information(&section) {
+            continue;
+        }
+        let index = section.index().0;
+        object_tables.add_section(
+            alloc,
+            &inputs,
+            last,
+            &section,
+            tables.of(index),
+            symbols.of(index),
+        )?;
+    }
+    Ok(object_tables)
+}
+
+/// What the sections of a file give, each with its relocations and its symbols.
+pub fn read_sections(
+    alloc: Global,
+    metadata: &FileMetadata,
+    section_infos: ByName<SectionIndex>,
+    file: &ElfFile<'_>,
+    tables: &Groups<RelocationTable<'_>>,
+    symbols: &Groups<NamedSymbol<'_>>,
+) -> Result<ObjectTables, ParseError>
+    requires tables { AreTablesOf file.now tables.now.groups }
+    requires grouped { (q : ℕ) → group_at symbols.now.groups q ≡ section_symbols (file_symbols file.now) q }
+    ensures object_tables { IfOk result (λ p. p ≡ object_tables_of metadata.now section_infos file.now) }
+    ensures fault { Refuses is_memory result (sections_fault metadata.now.reading metadata.now.btf file.now) }
+{
+    let last = last_data_sections(alloc, file)?;
+    read_by_last(alloc, metadata, section_infos, file, tables, symbols, &last)
+}

@@ -1,0 +1,135 @@
+//! Records by the slots that they name.
+//!
+//! The indices of all records of a section stand in one list, sorted once by their slots. The records need not be in
+//! order in the file.
+
+ghost use Rattle.std.specs.Prelude.{◌≡◌, ℕ, IfOk, IfErr, true, filter, map, length};
+ghost use Rattle.std.specs.List.Sorted.{IsNonDecreasingBy, IsPermutation, IsSorted};
+ghost use Rattle.std.specs.Ordering.{nat_cmp};
+ghost use Rattle.ebpf_parsing.specs.Records.{func_slot, line_slot};
+ghost use Rattle.ebpf_parsing.specs.RecordsBySlot.{is_at_slot, is_slot_among, indices_with};
+ghost use Rattle.ebpf_parts.specs.Memory.{is_memory};
+
+use crate::by_slot::{NamesSlot, rows_among};
+use ebpf_ext::{bpf_func_info, bpf_line_info};
+use ebpf_parts::ParseError;
+use std::alloc::Global;
+use std::cell::Cell;
+use std::marker::Model;
+
+/// Where a record stands in its list, and the slot that it names.
+#[derive(Clone, Copy)]
+pub struct RecordIndex {
+    pub slot: u32,
+    pub place: usize,
+}
+
+impl NamesSlot for RecordIndex {
+    ghost slot_of = { λ p. p.slot };
+
+    fn slot(&self) -> u32 {
+        self.slot
+    }
+}
+
+/// The indices of records in the order of their slots, those of one slot in the order of the list.
+#[derive(Drop)]
+pub struct RecordsBySlot {
+    places: Vec<RecordIndex>,
+    next: Cell<usize>,
+    ghost rising: { IsNonDecreasingBy (λ p. p.slot) places.items },
+}
+
+impl Model for RecordsBySlot {
+    ghost use Rattle.std.specs.Prelude.{List};
+    ghost use Rattle.ebpf_parsing.specs.declared.records_by_slot.RecordIndex.{RecordIndex};
+
+    ghost Value = { List RecordIndex };
+
+    ghost view = { λ s. s.places.items };
+}
+
+impl RecordsBySlot {
+    /// No records, without memory.
+    pub fn none(alloc: Global) -> RecordsBySlot {
+        RecordsBySlot {
+            places: Vec::new(alloc),
+            next: Cell::new(0),
+        }
+    }
+
+    /// Indices, sorted by their slots.
+    pub fn sorted(mut places: Vec<RecordIndex>) -> Result<RecordsBySlot, ParseError>
+        ensures grouped { IfOk result (λ s. (q : ℕ) → filter (is_at_slot q) s ≡ filter (is_at_slot q) places.items) }
+        ensures memory { IfErr result (λ e. is_memory e ≡ true) }
+    {
+        places.sort_by_key(|place| place.slot)?;
+        let next = Cell::new(0);
+        Ok(RecordsBySlot { places, next })
+    }
+
+    /// The indices of the records at a slot.
+    #[tactic(auto, using(crate::proofs::EntryRange::at_one_slot))]
+    pub fn at(&self, slot: usize) -> &[RecordIndex]
+        ensures { result.now ≡ filter (is_at_slot slot) self.now }
+    {
+        rows_among(self.places.as_slice(), &self.next, slot, 1)
+    }
+
+    /// The indices of the records at so many slots from a slot on, in the order of the list.
+    pub fn within(
+        &self,
+        alloc: Global,
+        first: usize,
+        count: usize,
+    ) -> Result<Vec<usize>, ParseError>
+        ensures moved { IfOk result (λ places. IsPermutation (map (λ p. p.place) (filter (is_slot_among first count) self.now)) places.items) }
+        ensures sorted { IfOk result (λ places. IsSorted nat_cmp places.items) }
+        ensures memory { IfErr result (λ e. is_memory e ≡ true) }
+    {
+        let among = rows_among(self.places.as_slice(), &self.next, first, count);
+        let mut places = indices_of(alloc, among)?;
+        places.sort_unstable();
+        Ok(places)
+    }
+}
+
+/// The indices of some records.
+fn indices_of(alloc: Global, places: &[RecordIndex]) -> Result<Vec<usize>, ParseError>
+    ensures numbers { IfOk result (λ numbers. numbers.items ≡ map (λ p. p.place) places.now) }
+    ensures memory { IfErr result (λ e. is_memory e ≡ true) }
+{
+    let mut numbers = Vec::with_capacity(alloc, places.len())?;
+    for place in places {
+        numbers.push(place.place)?;
+    }
+    Ok(numbers)
+}
+
+/// The indices of records on functions.
+#[tactic(auto, using(crate::proofs::EntryRange::places_start, crate::proofs::EntryRange::places_none))]
+pub fn func_indices(alloc: Global, records: &[bpf_func_info]) -> Result<Vec<RecordIndex>, ParseError>
+    ensures places { IfOk result (λ places. places.items ≡ indices_with (func_slot records.now) (length records.now)) }
+    ensures memory { IfErr result (λ e. is_memory e ≡ true) }
+{
+    let mut places = Vec::with_capacity(alloc, records.len())?;
+    for (place, row) in records.iter().enumerate() {
+        let slot = row.insn_off;
+        places.push(RecordIndex { slot, place })?;
+    }
+    Ok(places)
+}
+
+/// The indices of records on lines.
+#[tactic(auto, using(crate::proofs::EntryRange::places_start, crate::proofs::EntryRange::places_none))]
+pub fn line_indices(alloc: Global, records: &[bpf_line_info]) -> Result<Vec<RecordIndex>, ParseError>
+    ensures places { IfOk result (λ places. places.items ≡ indices_with (line_slot records.now) (length records.now)) }
+    ensures memory { IfErr result (λ e. is_memory e ≡ true) }
+{
+    let mut places = Vec::with_capacity(alloc, records.len())?;
+    for (place, row) in records.iter().enumerate() {
+        let slot = row.insn_off;
+        places.push(RecordIndex { slot, place })?;
+    }
+    Ok(places)
+}

@@ -1,0 +1,85 @@
+-- What a program is made of, from the numbers of functions to their keys.
+use Rattle.std.proofs.Common.{◌≡◌, ◌<◌, ◌+◌, ℕ, List, [], ◌∷◌, length, map, Some, Ok, Err, refl, sym, ap, subst, ◌∙◌, ⊎_elim, arith}
+use Rattle.std.specs.Prelude.{Vec, Result, IfOk}
+use Rattle.std.specs.declared.alloc.AllocError.{AllocError}
+use Rattle.std.specs.declared.alloc.Global.{Global}
+use Rattle.std.specs.FinMap.{get, entries}
+use Rattle.std.proofs.lemmas.List.{length-map}
+use Rattle.std.proofs.lemmas.Option.{slice_get_cases}
+use Rattle.ebpf_linker.specs.declared.body.Body.{Body}
+use Rattle.ebpf_linker.specs.declared.link_map.NumberedLinkMap.{NumberedLinkMap}
+use Rattle.ebpf_linker.specs.declared.reference.Call.{Call}
+use Rattle.ebpf_linker.specs.declared.reference.Fault.{Fault}
+use Rattle.ebpf_linker.specs.Functions.{body}
+use Rattle.ebpf_linker.specs.LinkMap.{CopyOf, copies_from, key_copy, numbered_copy, IsLinkMap, IsLinkMapAnswer}
+use Rattle.ebpf_linker.specs.Numbered.{body_content, functions}
+use Rattle.ebpf_linker.proofs.Carry.{carried, references_same}
+use Rattle.ebpf_linker.proofs.CarryLinkMap.{map_to}
+use Rattle.ebpf_linker.proofs.Renamed.{AllNumbers, all_numbers, reached_number}
+use Rattle.ebpf_reloc.proofs.Keys.{count_keys, function_at}
+use Rattle.ebpf_reloc.proofs.NumberedKeys.{name_here, numbered}
+use Rattle.ebpf_reloc.specs.declared.function.Function.{Function}
+use Rattle.ebpf_reloc.specs.LinkMaps.{code_copy, named_copy, IsKeyedLinkMap, IsKeyedLinkMapAnswer, IsLinkMapAt}
+use Rattle.ebpf_reloc.specs.declared.link_map.LinkMap.{LinkMap}
+use Rattle.ebpf_reloc.specs.Numbers.{function_keys, function_list, calls_from, key_in, with_function_names}
+use Rattle.ebpf_reloc.specs.SlotTargets.{LinkableValue}
+use Rattle.ebpf_reloc.specs.References.{content_of, functions_of}
+
+module _ (parts : LinkableValue) where
+  abbrev keys : List (ℕ × ℕ)
+  keys = function_keys parts.functions
+
+  abbrev fs : List Function
+  fs = function_list parts.functions
+
+  -- a function stands at the key of a number
+  pub stands_at : (number : ℕ) → number < length keys → (f : Function) × (get parts.functions (key_in keys number) ≡ Some f)
+  stands_at number lt = ⊎_elim
+      (λ s. (s.0, function_at parts.functions number lt ∙ s.2))
+      (λ past. absurd (omega (arith, past.0, lt, length-map (entries parts.functions) (λ e. e.1), count_keys parts.functions)))
+      (slice_get_cases fs number).1
+
+  pub is_mapped : (number : ℕ) (m : NumberedLinkMap) (n : LinkMap) → number < length keys → IsKeyedLinkMap parts number m → n.copies ≡ map (named_copy keys fs) m.copies → n.references ≡ m.references → IsLinkMapAt parts (key_in keys number) n
+  is_mapped number m n lt h copies references =
+      let (f, stands) = stands_at number lt in
+      record {
+        function = f;
+        stands = stands;
+        order = h.order;
+        copies = h.copies;
+        program = subst (λ rs. IsLinkMap (functions_of parts) (key_in keys number) h.order h.copies rs) (sym references) h.program;
+        named = copies ∙ h.named;
+      }
+
+  module _ (B : List Body) (C : List (Vec Call Global)) (bodies : map body_content B ≡ map content_of fs) (calls : map (λ v. v.items) C ≡ calls_from parts keys 0 fs) where
+    abbrev IsNumber : ℕ → Type 0
+    IsNumber m = m < length keys
+
+    -- the copies of functions with numbers have their names
+    names_same : (base : ℕ) (ms : List ℕ) → AllNumbers IsNumber ms → map (named_copy keys fs) (map numbered_copy (copies_from (functions B C) base ms)) ≡ map (code_copy parts.functions) (map (key_copy (key_in keys)) (copies_from (functions B C) base ms))
+    names_same base [] all = refl
+    names_same base (m ∷ ms) all =
+        let name = name_here parts B C bodies calls m all.0 in
+        let rest = names_same (base + length (body (functions B C) m)) ms all.1 in
+        λ i. record { key = key_in keys m; name = sym name i; base = base; slots = length (body (functions B C) m) } ∷ rest i
+
+    keyed_link_map : (number : ℕ) (m : NumberedLinkMap) → number < length keys → IsLinkMapAnswer {E = Fault} (functions B C) number (Ok m) → IsKeyedLinkMap parts number m
+    keyed_link_map number m lt (ks, cs, h, are) =
+        let num = numbered parts B C bodies calls in
+        let same = references_same (functions B C) (functions_of parts) IsNumber (key_in keys) (with_function_names fs) num in
+        let all = all_numbers IsNumber (key_in keys) ks (λ k a. reached_number (functions B C).reference (functions_of parts).reference IsNumber (key_in keys) (with_function_names fs) same number k lt (h.order.reached k a)) in
+        record {
+          order = map (key_in keys) ks;
+          copies = map (key_copy (key_in keys)) cs;
+          program = map_to (functions B C) (functions_of parts) IsNumber (key_in keys) (with_function_names fs) num number ks cs m.references lt h;
+          named = ap (map (named_copy keys fs)) are
+              ∙ ap (λ (u : List (CopyOf ℕ)). map (named_copy keys fs) (map numbered_copy u)) h.copies
+              ∙ names_same 0 (number ∷ ks) (lt, all)
+              ∙ ap (λ (u : List (CopyOf ℕ)). map (code_copy parts.functions) (map (key_copy (key_in keys)) u)) (sym h.copies);
+        }
+
+    -- what is found by number, is found by key
+    pub mapped_by_key : (number : ℕ) → number < length keys → (r : Result (Result NumberedLinkMap Fault) AllocError) → IfOk r (λ answer. IsLinkMapAnswer (functions B C) number answer) → IfOk r (λ answer. IsKeyedLinkMapAnswer parts number answer)
+    mapped_by_key number lt (Ok (Ok m)) h = keyed_link_map number m lt h
+    mapped_by_key number lt (Ok (Err e)) h = carried (functions B C) (functions_of parts) IsNumber (key_in keys) (with_function_names fs) (numbered parts B C bodies calls) number lt (Err e) h
+    mapped_by_key number lt (Err e) h = tt

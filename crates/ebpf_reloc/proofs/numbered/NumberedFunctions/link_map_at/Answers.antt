@@ -1,0 +1,48 @@
+use Rattle.std.proofs.Common.{List, ℕ, subst, sym, ap, ◌∙◌, IfOk, IfErr, MatchBool}
+use Rattle.std.specs.Prelude.{⊤}
+use Rattle.std.specs.List.Sorted.{IsStrictlySortedBy}
+use Rattle.ebpf_base.proofs.Sorted.{entries_rise}
+use Rattle.ebpf_base.specs.Keys.{key_cmp}
+use Rattle.ebpf_reloc.proofs.Finished.{no_program}
+use Rattle.ebpf_reloc.proofs.Keys.{number_names}
+use Rattle.ebpf_reloc.specs.Linking.{IsProgramFault}
+use Rattle.ebpf_reloc.specs.LinkMaps.{IsLinkMapAt}
+use Rattle.ebpf_reloc.specs.Memory.{is_memory}
+use Rattle.ebpf_reloc.specs.Numbers.{function_keys, number_of_key}
+use Rattle.ebpf_reloc.specs.SlotTargets.{read}
+use Rattle.ebpf_reloc.proofs.numbered.NumberedFunctions.link_map_at.Goals as goal
+
+pub number_of_key-requires : goal.number_of_key-requires
+number_of_key-requires c = subst (λ (keys : List (ℕ × ℕ)). IsStrictlySortedBy key_cmp keys) (sym (c.as_slice.ensures.value ∙ c.args.self.now.are_keys)) (entries_rise c.args.self.now.parts.functions.now)
+
+pub link_map_by_number-requires : goal.link_map_by_number-requires
+link_map_by_number-requires c =
+    let key : ℕ × ℕ = (c.args.section, c.args.address) in
+    let keys = c.as_slice.ensures.value ∙ c.args.self.now.are_keys in
+    (number_names (function_keys c.args.self.now.parts.functions.now) key c.in-Some.number (sym (c.in-Some.ensures ∙ ap (λ (ks : List (ℕ × ℕ)). number_of_key ks key) keys))).0
+
+pub keyed_link_map-requires-clause-number : goal.keyed_link_map-requires-clause-number
+keyed_link_map-requires-clause-number c =
+    let key : ℕ × ℕ = (c.args.section, c.args.address) in
+    let keys = c.as_slice.ensures.value ∙ c.args.self.now.are_keys in
+    (number_names (function_keys c.args.self.now.parts.functions.now) key c.in-Some.number (sym (c.in-Some.ensures ∙ ap (λ (ks : List (ℕ × ℕ)). number_of_key ks key) keys))).0
+
+pub returns-in_ok-answer-in-Some-clause-mapped : goal.returns-in_ok-answer-in-Some-clause-mapped
+returns-in_ok-answer-in-Some-clause-mapped c =
+    let key : ℕ × ℕ = (c.args.section, c.args.address) in
+    let keys = c.as_slice.ensures.value ∙ c.args.self.now.are_keys in
+    let named = (number_names (function_keys c.args.self.now.parts.functions.now) key c.in-Some.number (sym (c.in-Some.ensures ∙ ap (λ (ks : List (ℕ × ℕ)). number_of_key ks key) keys))).1 in
+    subst (λ (k : ℕ × ℕ). IfOk c.keyed_link_map.result (λ m. IsLinkMapAt (read c.args.self.now.parts) k m)) named c.keyed_link_map.ensures.mapped
+
+pub returns-in_ok-answer-in-Some-clause-fault : goal.returns-in_ok-answer-in-Some-clause-fault
+returns-in_ok-answer-in-Some-clause-fault c =
+    let key : ℕ × ℕ = (c.args.section, c.args.address) in
+    let keys = c.as_slice.ensures.value ∙ c.args.self.now.are_keys in
+    let named = (number_names (function_keys c.args.self.now.parts.functions.now) key c.in-Some.number (sym (c.in-Some.ensures ∙ ap (λ (ks : List (ℕ × ℕ)). number_of_key ks key) keys))).1 in
+    subst (λ (k : ℕ × ℕ). IfErr c.keyed_link_map.result (λ e. MatchBool (is_memory e) ⊤ (IsProgramFault (read c.args.self.now.parts) k e))) named c.keyed_link_map.ensures.fault
+
+pub returns-in-None-clause-fault : goal.returns-in-None-clause-fault
+returns-in-None-clause-fault c =
+    let key : ℕ × ℕ = (c.args.section, c.args.address) in
+    let keys = c.as_slice.ensures.value ∙ c.args.self.now.are_keys in
+    no_program (read c.args.self.now.parts) key (sym (c.in-None.ensures ∙ ap (λ (ks : List (ℕ × ℕ)). number_of_key ks key) keys))

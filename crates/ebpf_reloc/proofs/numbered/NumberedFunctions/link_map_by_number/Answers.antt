@@ -1,0 +1,22 @@
+use Rattle.std.proofs.Common.{ℕ, map, subst, sym, ap, ◌∙◌}
+use Rattle.ebpf_linker.specs.Numbered.{body_content, Sound}
+use Rattle.ebpf_reloc.proofs.KeyedLinkMaps.{mapped_by_key}
+use Rattle.ebpf_reloc.proofs.NumberedKeys.{calls_sound, count_bodies, count_calls}
+use Rattle.ebpf_reloc.specs.SlotTargets.{read}
+use Rattle.ebpf_reloc.proofs.numbered.NumberedFunctions.link_map_by_number.Goals as goal
+
+pub link_map-requires-clause-calls : goal.link_map-requires-clause-calls
+link_map-requires-clause-calls c = count_calls (read c.args.self.now.parts) c.as_slice.result.now c.as_slice-2.result.now (ap (map body_content) c.as_slice.ensures.value ∙ c.args.self.now.are_bodies) (ap (map (λ v. v.items)) c.as_slice-2.ensures.value ∙ c.args.self.now.are_calls)
+
+pub link_map-requires-clause-sound : goal.link_map-requires-clause-sound
+link_map-requires-clause-sound c =
+    let bodies = ap (map body_content) c.as_slice.ensures.value ∙ c.args.self.now.are_bodies in
+    let calls = ap (map (λ v. v.items)) c.as_slice-2.ensures.value ∙ c.args.self.now.are_calls in
+    subst (λ (n : ℕ). Sound n c.as_slice-2.result.now) (sym (count_bodies (read c.args.self.now.parts) c.as_slice.result.now c.as_slice-2.result.now bodies calls))
+    (calls_sound (read c.args.self.now.parts) c.as_slice.result.now c.as_slice-2.result.now bodies calls)
+
+pub returns : goal.returns
+returns c =
+    let bodies = ap (map body_content) c.as_slice.ensures.value ∙ c.args.self.now.are_bodies in
+    let calls = ap (map (λ v. v.items)) c.as_slice-2.ensures.value ∙ c.args.self.now.are_calls in
+    mapped_by_key (read c.args.self.now.parts) c.as_slice.result.now c.as_slice-2.result.now bodies calls c.args.number c.requires c.link_map.result c.link_map.ensures
