@@ -11,3 +11,4 @@ pub mod Pointwise
 pub mod Ranges
 pub mod Sorted
 pub mod TextMaps
+pub mod Walks

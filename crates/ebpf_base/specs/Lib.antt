@@ -4,4 +4,5 @@ pub mod FirstFault
 pub mod Keyed
 pub mod Keys
 pub mod Mapped
+pub mod Numbers
 pub mod EntriesFrom

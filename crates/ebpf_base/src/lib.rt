@@ -7,7 +7,9 @@ mod by_name;
 mod by_offset;
 mod by_section;
 mod duplicates;
+mod endianness;
 mod items;
+pub mod numbers;
 mod text;
 
 pub use by_index::ByIndex;
@@ -15,6 +17,7 @@ pub use by_key::ByKey;
 pub use by_name::ByName;
 pub use by_offset::ByOffset;
 pub use by_section::BySection;
+pub use endianness::Endianness;
 pub use items::Items;
 pub use text::Text;
 

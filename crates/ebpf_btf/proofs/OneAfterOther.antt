@@ -4,7 +4,7 @@ use Rattle.std.specs.Prelude.{⊤, slice_get}
 use Rattle.std.specs.Option.{ok_or}
 use Rattle.std.proofs.lemmas.Bool.Decides.{nat_tests}
 use Rattle.ebpf_btf.specs.Memory.{is_memory}
-use Rattle.ebpf_btf.specs.declared.endianness.Endianness.{Endianness}
+use Rattle.ebpf_base.specs.declared.endianness.Endianness.{Endianness}
 use Rattle.ebpf_btf.specs.declared.error.BtfError.{BtfError}
 use Rattle.ebpf_btf.specs.declared.error.BtfError.TheVariants.{InvalidTypeInfo}
 use Rattle.ebpf_btf.specs.declared.kind.BtfKind.{BtfKind}

@@ -3,7 +3,7 @@
 -- type. Then the words of its kind follow.
 use Rattle.std.specs.Prelude.{◌≡◌, ℕ, ◌+◌, ◌*◌, ◌/◌, ◌%◌, ◌^◌, ◌≤◌, Bool, true, false, List, [], ◌∷◌, map, Option, Some, None, ◌==◌, if◌then◌else◌}
 use Rattle.std.specs.List.{range_with_len}
-use Rattle.ebpf_btf.specs.declared.endianness.Endianness.{Endianness}
+use Rattle.ebpf_base.specs.declared.endianness.Endianness.{Endianness}
 use Rattle.ebpf_btf.specs.declared.kind.BtfKind.{BtfKind}
 use Rattle.ebpf_btf.specs.declared.kind.BtfKind.TheVariants as kinds
 use Rattle.ebpf_btf.specs.declared.members.BtfMember.{BtfMember}
@@ -13,7 +13,7 @@ use Rattle.ebpf_btf.specs.declared.members.BtfParam.{BtfParam}
 use Rattle.ebpf_btf.specs.declared.members.DataSecEntry.{DataSecEntry}
 use Rattle.ebpf_btf.specs.declared.types.BtfType.{BtfType}
 use Rattle.ebpf_btf.specs.declared.types.BtfType.TheVariants.{Unknown, Fwd, Const, Volatile, Restrict, Ptr, Typedef, Func, Int, Float, Enum, Array, Struct, Union, FuncProto, Var, DataSec, DeclTag, TypeTag, Enum64}
-use Rattle.ebpf_btf.specs.Numbers.{number_at}
+use Rattle.ebpf_base.specs.Numbers.{number_at}
 use Rattle.ebpf_btf.specs.Types.{kind_of}
 
 abbrev pub word : Endianness → List ℕ → ℕ → ℕ

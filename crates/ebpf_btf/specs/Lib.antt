@@ -4,7 +4,6 @@ pub mod Format
 pub mod KindTables
 pub mod Memory
 pub mod Next
-pub mod Numbers
 pub mod Reading
 pub mod Steps
 pub mod Strings

@@ -2,14 +2,14 @@
 -- Documentation/bpf/btf.rst, 2. "BTF Type and String Encoding"; struct btf_header).
 use Rattle.std.specs.Prelude.{◌≡◌, ℕ, zero, suc, ◌+◌, ◌∷◌, ◌++◌, [], List, length, Option, Some, None, Result, Ok, Err, option_map, nat_lt, not, ◌==◌, if◌then◌else◌, slice_range}
 use Rattle.ebpf_base.specs.Faults.{first_of}
-use Rattle.ebpf_btf.specs.declared.endianness.Endianness.{Endianness}
+use Rattle.ebpf_base.specs.declared.endianness.Endianness.{Endianness}
 use Rattle.ebpf_btf.specs.declared.error.BtfError.{BtfError}
 use Rattle.ebpf_btf.specs.declared.error.BtfError.TheVariants.{InvalidHeader, InvalidTypeInfo}
 use Rattle.ebpf_btf.specs.declared.kind.BtfKind.{BtfKind}
 use Rattle.ebpf_btf.specs.declared.types.BtfType.{BtfType}
 use Rattle.ebpf_btf.specs.declared.types.BtfType.TheVariants.{Unknown}
 use Rattle.ebpf_btf.specs.Format.{AreTypesAt, word, info_at, info_kind, spelled, end_of}
-use Rattle.ebpf_btf.specs.Numbers.{number_at}
+use Rattle.ebpf_base.specs.Numbers.{number_at}
 use Rattle.ebpf_btf.specs.Next.{if_some}
 use Rattle.ebpf_btf.specs.TypeInfo.{TypeInfo}
 

@@ -4,7 +4,6 @@
 mod array;
 mod btf;
 mod clones;
-mod endianness;
 mod error;
 mod fallback;
 mod flavors;
@@ -14,7 +13,6 @@ mod lists;
 mod lossy;
 mod members;
 mod names;
-pub mod numbers;
 mod parse;
 mod read_type;
 mod readable;
@@ -27,7 +25,7 @@ mod variants;
 
 pub use array::BtfArray;
 pub use btf::Btf;
-pub use endianness::Endianness;
+pub use ebpf_base::Endianness;
 pub use error::BtfError;
 pub use fallback::{Enum64Fallback, UnionFallback};
 pub use flavors::essential_name;

@@ -2,9 +2,9 @@
 
 ghost use Rattle.ebpf_btf.specs.Format.{member_at, enum_at, enum64_at, param_at, entry_at};
 
-use crate::endianness::Endianness;
+use ebpf_base::Endianness;
 use crate::members::{BtfEnum, BtfEnum64, BtfMember, BtfParam, DataSecEntry};
-use crate::numbers::read_u32;
+use ebpf_base::numbers::read_u32;
 use crate::rows::Row;
 
 impl Row for BtfMember {

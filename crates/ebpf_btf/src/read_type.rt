@@ -9,11 +9,11 @@ ghost use Rattle.ebpf_btf.specs.Format.{info_kind, info_kind_flag, info_vlen, fu
 ghost use Rattle.ebpf_btf.specs.Reading.{type_before};
 ghost use Rattle.ebpf_btf.specs.declared.error.BtfError.TheVariants.{InvalidTypeInfo};
 
-use crate::endianness::Endianness;
+use ebpf_base::Endianness;
 use crate::error::BtfError;
 use crate::fallback::UnionFallback;
 use crate::kind::BtfKind;
-use crate::numbers::read_u32;
+use ebpf_base::numbers::read_u32;
 use crate::rows::read_rows;
 use crate::types::BtfType;
 use crate::union_members::UnionMembers;

@@ -2,9 +2,9 @@
 
 ghost use Rattle.std.specs.Prelude.{◌≡◌, ◌+◌, ◌*◌, ◌<◌, ◌≤◌, ℕ, List, length, IfOk};
 ghost use Rattle.ebpf_btf.specs.Format.{items_at};
-ghost use Rattle.ebpf_btf.specs.declared.endianness.Endianness.{Endianness};
+ghost use Rattle.ebpf_base.specs.declared.endianness.Endianness.{Endianness};
 
-use crate::endianness::Endianness;
+use ebpf_base::Endianness;
 use ebpf_base::Items;
 use std::alloc::{AllocError, Global};
 

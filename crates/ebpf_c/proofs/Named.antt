@@ -11,7 +11,7 @@ use Rattle.std.proofs.lemmas.Map.Keys.{IsDistinct-from_sorted}
 use Rattle.ebpf_base.proofs.Lists.{flat_map-same}
 use Rattle.ebpf_base.proofs.Sorted.{entries_rise}
 use Rattle.ebpf_base.specs.Keys.{lent_bytes, text_cmp, text_total}
-use Rattle.ebpf_parts.proofs.Walks.{rest_more}
+use Rattle.ebpf_base.proofs.Walks.{rest_more}
 use Rattle.ebpf_c.specs.Entries.{entry_if}
 
 module _ {V : Type 0} where

@@ -6,7 +6,7 @@ use Rattle.std.specs.Prelude.{ℤ, slice_index_or, option_map, if◌then◌else�
 use Rattle.std.specs.List.{cons_option}
 use Rattle.std.specs.Str.{is_utf8, IsUtf8}
 use Rattle.ebpf_object.specs.Steps.{descriptor_of}
-use Rattle.ebpf_parts.proofs.Walks.{rest_more}
+use Rattle.ebpf_base.proofs.Walks.{rest_more}
 use Rattle.ebpf_c.specs.Descriptors.{text_of, name_in, descriptors_in}
 use Rattle.ebpf_c.specs.declared.descriptors.ebpf_descriptor.{ebpf_descriptor}
 

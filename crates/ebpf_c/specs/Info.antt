@@ -1,7 +1,7 @@
 -- What an object is, in numbers.
 use Rattle.std.specs.Prelude.{Bool, true, false, is_some}
-use Rattle.ebpf_btf.specs.declared.endianness.Endianness.{Endianness}
-use Rattle.ebpf_btf.specs.declared.endianness.Endianness.TheVariants.{Little, Big}
+use Rattle.ebpf_base.specs.declared.endianness.Endianness.{Endianness}
+use Rattle.ebpf_base.specs.declared.endianness.Endianness.TheVariants.{Little, Big}
 use Rattle.ebpf_object.specs.TypedExterns.{has_typed}
 use Rattle.ebpf_object.specs.declared.object.Object.{Object}
 use Rattle.ebpf_parsing.specs.FileTypes.{has_relocations}

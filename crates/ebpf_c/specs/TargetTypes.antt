@@ -3,8 +3,8 @@ use Rattle.std.specs.Prelude.{◌≡◌, ⊤, ℕ, List, [], ◌∷◌, Option, 
 use Rattle.ebpf_btf.specs.Memory.{is_memory}
 use Rattle.ebpf_btf.specs.Reading.{type_info_of}
 use Rattle.ebpf_btf.specs.TypeInfo.{TypeInfo}
-use Rattle.ebpf_btf.specs.declared.endianness.Endianness.{Endianness}
-use Rattle.ebpf_btf.specs.declared.endianness.Endianness.TheVariants.{Little, Big}
+use Rattle.ebpf_base.specs.declared.endianness.Endianness.{Endianness}
+use Rattle.ebpf_base.specs.declared.endianness.Endianness.TheVariants.{Little, Big}
 use Rattle.ebpf_btf.specs.declared.error.BtfError.{BtfError}
 use Rattle.ebpf_c.specs.Handles.{IsRefusal}
 use Rattle.ebpf_c.specs.Numbers.{type_refusal}

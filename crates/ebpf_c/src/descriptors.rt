@@ -51,7 +51,7 @@ pub fn have_names(rows: &[ebpf_descriptor], text: &[u8]) -> bool
 }
 
 /// The names of maps with their descriptors. A row that names none is passed over.
-#[tactic(auto, using(crate::proofs::Rows::one_read, crate::proofs::Rows::none_read, ebpf_parts::proofs::Walks::rest_none))]
+#[tactic(auto, using(crate::proofs::Rows::one_read, crate::proofs::Rows::none_read, ebpf_base::proofs::Walks::rest_none))]
 pub fn descriptors_in<'a>(
     alloc: Global,
     rows: &[ebpf_descriptor],

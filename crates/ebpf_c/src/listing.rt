@@ -43,7 +43,7 @@ fn add_entry<V, C, R: Row<V, C>>(
 }
 
 /// The rows and the names of things.
-#[tactic(auto, using(crate::proofs::OneMore::one_row, crate::proofs::OneMore::one_text, ebpf_parts::proofs::Walks::rest_none))]
+#[tactic(auto, using(crate::proofs::OneMore::one_row, crate::proofs::OneMore::one_text, ebpf_base::proofs::Walks::rest_none))]
 fn list_entries<V, C, R: Row<V, C>>(
     alloc: Global,
     context: &C,

@@ -5,7 +5,7 @@ use Rattle.std.specs.Io.KnownBytes.{Appends, Keeps}
 use Rattle.std.specs.List.{flat_map}
 use Rattle.std.specs.Prelude.{slice_index_or}
 use Rattle.ebpf_base.specs.Keys.{lent_bytes}
-use Rattle.ebpf_parts.proofs.Walks.{lists_more, rest_more}
+use Rattle.ebpf_base.proofs.Walks.{lists_more, rest_more}
 
 pub nothing_more : (a : Option (List ℕ)) → Appends a a []
 nothing_more None = tt

@@ -8,7 +8,7 @@ use Rattle.ebpf_base.specs.Keys.{lent_bytes, text_cmp}
 use Rattle.ebpf_btf.specs.TypeInfo.{TypeInfo}
 use Rattle.ebpf_commands.specs.Linked.{default_passes, following, with_descriptors}
 use Rattle.ebpf_object.specs.Steps.{Chosen, Descriptor, descriptor_of}
-use Rattle.ebpf_parts.proofs.Walks.{rest_more}
+use Rattle.ebpf_base.proofs.Walks.{rest_more}
 use Rattle.ebpf_parts.specs.declared.maps.either.Map.{Map}
 
 pub one_with_descriptor : (before : List (Bor (List ℕ) × ℤ)) (lent : Bor (List ℕ)) (d e : ℤ) (names : List (List ℕ)) (i : ℕ) (name : List ℕ)

@@ -6,7 +6,7 @@ use Rattle.std.specs.Map.{keys_of}
 use Rattle.ebpf_base.specs.Keys.{text_cmp}
 use Rattle.ebpf_btf.specs.Reading.{type_info_of}
 use Rattle.ebpf_btf.specs.TypeInfo.{TypeInfo}
-use Rattle.ebpf_btf.specs.declared.endianness.Endianness.TheVariants.{Little}
+use Rattle.ebpf_base.specs.declared.endianness.Endianness.TheVariants.{Little}
 use Rattle.ebpf_btf.specs.declared.error.BtfError.{BtfError}
 use Rattle.ebpf_ksyms.specs.Sources.{Source}
 use Rattle.ebpf_object.specs.Objects.{object_of}

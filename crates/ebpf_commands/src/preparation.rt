@@ -17,7 +17,7 @@ use ebpf_object::prepare::Steps;
 use std::alloc::{AllocError, Global};
 
 /// The names of maps with descriptors, 1 and on.
-#[tactic(auto, using(crate::proofs::Numbered::one_with_descriptor, ebpf_parts::proofs::Walks::rest_none))]
+#[tactic(auto, using(crate::proofs::Numbered::one_with_descriptor, ebpf_base::proofs::Walks::rest_none))]
 pub fn with_descriptors(alloc: Global, names: &[Text]) -> Result<Vec<(&str, i32)>, AllocError>
     ensures { IfOk result (λ named. map descriptor_of named.items ≡ with_descriptors (pos 0) names.now) }
 {
@@ -44,7 +44,7 @@ pub fn read_types(alloc: Global, bytes: Option<&[u8]>) -> Result<Option<Btf>, Bt
 }
 
 /// Copies of names.
-#[tactic(auto, using(crate::proofs::Numbered::one_copied, ebpf_parts::proofs::Walks::rest_none))]
+#[tactic(auto, using(crate::proofs::Numbered::one_copied, ebpf_base::proofs::Walks::rest_none))]
 fn copied(alloc: Global, names: &[&str]) -> Result<Items<Text>, AllocError>
     ensures { IfOk result (λ copies. copies ≡ lent_bytes names.now) }
 {

@@ -2,7 +2,7 @@
 use Rattle.std.proofs.Common.{◌≡◌, ℕ, ◌+◌, ◌<◌, List, ◌++◌, length, drop, sym, ap, ◌∙◌, append_assoc}
 use Rattle.std.specs.Prelude.{slice_index_or}
 use Rattle.std.specs.List.{flat_map}
-use Rattle.ebpf_parts.proofs.Walks.{lists_more}
+use Rattle.ebpf_base.proofs.Walks.{lists_more}
 
 pub more_added : {A X : Type 0} (f : A → List X) (found : List X) (xs : List A) (i : ℕ) (x : A)
     → i < length xs → x ≡ slice_index_or xs i x

@@ -11,7 +11,7 @@ use Rattle.ebpf_declarations.specs.Maps.{with_members}
 use Rattle.ebpf_declarations.specs.MemberValues.{with_all}
 use Rattle.ebpf_declarations.specs.declared.definitions.MapDefinitions.{MapDefinitions}
 use Rattle.ebpf_declarations.specs.declared.member_value.MemberValue.{MemberValue}
-use Rattle.ebpf_parts.proofs.Walks.{rest_more, rest_none}
+use Rattle.ebpf_base.proofs.Walks.{rest_more, rest_none}
 
 over : {X : Type 0} (a b : Option X) (x : X) → unwrap_or a (unwrap_or b x) ≡ unwrap_or (or_else a b) x
 over None b x = refl

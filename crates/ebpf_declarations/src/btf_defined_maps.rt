@@ -25,7 +25,7 @@ use std::alloc::Global;
 use std::marker::Model;
 
 /// Adds the maps of the DATASECs with these ids.
-#[tactic(auto, using(crate::proofs::Added::more_added, ebpf_parts::proofs::Walks::rest_more, ebpf_parts::proofs::Walks::rest_none))]
+#[tactic(auto, using(crate::proofs::Added::more_added, ebpf_base::proofs::Walks::rest_more, ebpf_base::proofs::Walks::rest_none))]
 fn add_sections(
     alloc: Global,
     found: &mut Items<(Text, Map)>,

@@ -38,7 +38,7 @@ pub fn section_entries<'a>(
 }
 
 /// The entries of the first DATASEC with this name.
-#[tactic(auto, using(ebpf_parts::proofs::Walks::rest_more, ebpf_parts::proofs::Walks::rest_none))]
+#[tactic(auto, using(ebpf_base::proofs::Walks::rest_more, ebpf_base::proofs::Walks::rest_none))]
 pub fn first_entries<'a>(btf: &'a Btf, wanted: &str) -> Result<Option<&'a [DataSecEntry]>, BtfError>
     ensures found { IfOk result (λ found. first_some (datasec_match btf.now wanted.now) btf.now.types ≡ option_map Named (option_copied found)) }
     ensures fault { IfErr result (λ e. first_some (datasec_match btf.now wanted.now) btf.now.types ≡ Some (UnreadableName e)) }

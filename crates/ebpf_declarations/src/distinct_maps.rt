@@ -117,7 +117,7 @@ impl DistinctMaps {
 
     /// Puts the maps by their names, as those of a section with these numbers of symbols. `SymbolNotFound` of the
     /// first name that has no symbol. `OutOfMemory` only where memory was refused.
-    #[tactic(auto, using(ebpf_parts::proofs::Walks::rest_more, ebpf_parts::proofs::Walks::rest_none))]
+    #[tactic(auto, using(ebpf_base::proofs::Walks::rest_more, ebpf_base::proofs::Walks::rest_none))]
     pub fn put(
         &self,
         alloc: Global,

@@ -63,7 +63,7 @@ fn function_or_fault(btf: &Btf, entry: &DataSecEntry) -> Option<FunctionOrFault>
 }
 
 /// What it meets first.
-#[tactic(auto, using(ebpf_parts::proofs::Walks::rest_more, ebpf_parts::proofs::Walks::rest_none))]
+#[tactic(auto, using(ebpf_base::proofs::Walks::rest_more, ebpf_base::proofs::Walks::rest_none))]
 fn first_function_or_fault(btf: &Btf, entries: &[DataSecEntry]) -> Option<FunctionOrFault>
     ensures { result ≡ first_function_or_fault btf.now entries.now }
 {

@@ -97,7 +97,7 @@ fn entry_map(
 }
 
 /// Adds the maps of entries.
-#[tactic(auto, using(crate::proofs::Added::more_added, ebpf_parts::proofs::Walks::rest_more, ebpf_parts::proofs::Walks::rest_none))]
+#[tactic(auto, using(crate::proofs::Added::more_added, ebpf_base::proofs::Walks::rest_more, ebpf_base::proofs::Walks::rest_none))]
 pub fn add_entries(
     alloc: Global,
     found: &mut Items<(Text, Map)>,

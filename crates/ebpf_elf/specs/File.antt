@@ -1,9 +1,9 @@
 -- The header of a file and its sections, by index (ELF-64 gABI, 'ELF Header' and 'Sections').
 use Rattle.std.specs.Prelude.{ℕ, ◌+◌, ◌-◌, ◌*◌, Bool, ◌||◌, List, length, nat_le, ◌==◌, if◌then◌else◌, slice_index, slice_range}
 use Rattle.std.specs.List.{range_with_len}
-use Rattle.ebpf_btf.specs.declared.endianness.Endianness.{Endianness}
-use Rattle.ebpf_btf.specs.declared.endianness.Endianness.TheVariants.{Little, Big}
-use Rattle.ebpf_btf.specs.Numbers.{number_at}
+use Rattle.ebpf_base.specs.declared.endianness.Endianness.{Endianness}
+use Rattle.ebpf_base.specs.declared.endianness.Endianness.TheVariants.{Little, Big}
+use Rattle.ebpf_base.specs.Numbers.{number_at}
 use Rattle.ebpf_elf.specs.declared.constants.TheConstants.{ELFDATA2MSB}
 use Rattle.ebpf_elf.specs.declared.header.SectionHeader.{SectionHeader}
 use Rattle.ebpf_elf.specs.Headers.{header_at}

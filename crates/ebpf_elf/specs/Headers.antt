@@ -1,7 +1,7 @@
 -- A section header of 64 bytes (ELF-64 gABI, 'Sections': Elf64_Shdr).
 use Rattle.std.specs.Prelude.{ℕ, ◌+◌, List}
-use Rattle.ebpf_btf.specs.declared.endianness.Endianness.{Endianness}
-use Rattle.ebpf_btf.specs.Numbers.{number_at}
+use Rattle.ebpf_base.specs.declared.endianness.Endianness.{Endianness}
+use Rattle.ebpf_base.specs.Numbers.{number_at}
 use Rattle.ebpf_elf.specs.declared.header.SectionHeader.{SectionHeader}
 
 -- sh_addralign and sh_entsize, the last 16 bytes, are not read

@@ -1,7 +1,7 @@
 -- The symbol table of a file (ELF-64 gABI, 'Symbol Table').
 use Rattle.std.specs.Prelude.{ℕ, ◌+◌, ◌-◌, ◌*◌, ◌/◌, List, Option, ◌==◌}
 use Rattle.std.specs.List.{find, range_with_len}
-use Rattle.ebpf_btf.specs.Numbers.{number_at}
+use Rattle.ebpf_base.specs.Numbers.{number_at}
 use Rattle.ebpf_elf.specs.declared.constants.TheConstants.{SHT_SYMTAB}
 use Rattle.ebpf_elf.specs.File.{ei_data, section, section_indices}
 

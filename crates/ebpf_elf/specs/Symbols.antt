@@ -1,7 +1,7 @@
 -- The symbols of a file (ELF-64 gABI, 'Symbol Table').
 use Rattle.std.specs.Prelude.{ℕ, ◌+◌, ◌/◌, ◌%◌, Bool, not, ◌&&◌, ◌||◌, List, [], map, Option, Some, None, nat_le, ◌==◌, if◌then◌else◌}
-use Rattle.ebpf_btf.specs.declared.endianness.Endianness.{Endianness}
-use Rattle.ebpf_btf.specs.Numbers.{number_at}
+use Rattle.ebpf_base.specs.declared.endianness.Endianness.{Endianness}
+use Rattle.ebpf_base.specs.Numbers.{number_at}
 use Rattle.ebpf_elf.specs.declared.constants.TheConstants.{SHN_LORESERVE, STT_NOTYPE, STT_OBJECT, STT_FUNC, STT_SECTION, STT_FILE, STT_COMMON, STT_TLS, STT_GNU_IFUNC, STB_WEAK}
 use Rattle.ebpf_elf.specs.declared.entries.SymbolKind.{SymbolKind}
 use Rattle.ebpf_elf.specs.declared.entries.SymbolKind.TheVariants.{Unknown, Text, Data, Section, File, Tls}

@@ -12,8 +12,8 @@ use crate::entries::ElfRelocation;
 use crate::relocation_tables::relocation_size;
 use crate::symbol_table::SymbolTable;
 use crate::table::SectionTable;
-use ebpf_btf::Endianness;
-use ebpf_btf::numbers::read_u64;
+use ebpf_base::Endianness;
+use ebpf_base::numbers::read_u64;
 
 /// The relocation in the 16 bytes from `offset` on. An addend behind them is not read.
 #[tactic(auto, unfolding(crate::specs::Relocations::relocation_at))]

@@ -17,7 +17,7 @@ use crate::relocation_sections::RelocationSections;
 use crate::section::ElfSection;
 use crate::sections::Sections;
 use crate::symbols::Symbols;
-use ebpf_btf::Endianness;
+use ebpf_base::Endianness;
 use std::marker::Model;
 
 /// An ELF64 file, with what `parse` has found sound. Contracts see its bytes.

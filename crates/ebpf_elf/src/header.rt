@@ -3,8 +3,8 @@
 ghost use Rattle.std.specs.Prelude.{◌≡◌, ◌+◌, ◌≤◌, length};
 ghost use Rattle.ebpf_elf.specs.Headers.{header_at};
 
-use ebpf_btf::Endianness;
-use ebpf_btf::numbers::{read_u32, read_u64};
+use ebpf_base::Endianness;
+use ebpf_base::numbers::{read_u32, read_u64};
 
 /// A section header (Elf64_Shdr), without its alignment and entry size.
 #[derive(Clone, Copy)]

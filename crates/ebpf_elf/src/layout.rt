@@ -11,7 +11,7 @@ ghost use Rattle.ebpf_elf.specs.SymbolTable.{symbol_table};
 use crate::error::ElfReadError;
 use crate::symbol_table::{SymbolTable, find_symbol_table, open_symbol_table};
 use crate::table::{SectionTable, identify, section_table};
-use ebpf_btf::numbers::read_u16;
+use ebpf_base::numbers::read_u16;
 
 /// The string table of the section names.
 #[tactic(auto, unfolding(crate::specs::Faults::names_faults, crate::specs::Strings::section_names, crate::specs::File::e_shstrndx))]

@@ -3,8 +3,8 @@
 ghost use Rattle.std.specs.Prelude.{◌≡◌, ◌+◌, ◌≤◌, length};
 ghost use Rattle.ebpf_elf.specs.Symbols.{symbol_at};
 
-use ebpf_btf::Endianness;
-use ebpf_btf::numbers::{read_u16, read_u32, read_u64};
+use ebpf_base::Endianness;
+use ebpf_base::numbers::{read_u16, read_u32, read_u64};
 
 /// An entry of a symbol table (Elf64_Sym), without its visibility.
 #[derive(Clone, Copy)]
@@ -17,7 +17,7 @@ pub struct SymbolEntry {
 }
 
 /// The entry in the 24 bytes from `offset` on.
-#[tactic(auto, unfolding(crate::specs::Symbols::symbol_at, ebpf_btf::specs::Numbers::number_at))]
+#[tactic(auto, unfolding(crate::specs::Symbols::symbol_at, ebpf_base::specs::Numbers::number_at))]
 pub fn read_symbol(order: Endianness, bytes: &[u8], offset: usize) -> SymbolEntry
     requires { offset + 24 ≤ length bytes.now }
     ensures { result ≡ symbol_at order bytes.now offset }

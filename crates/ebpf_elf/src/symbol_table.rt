@@ -10,7 +10,7 @@ ghost use Rattle.ebpf_elf.specs.SymbolTable.{symbol_table, symbol_count, symbol_
 use crate::constants::{SHN_XINDEX, SHT_SYMTAB};
 use crate::error::ElfReadError;
 use crate::table::SectionTable;
-use ebpf_btf::numbers::read_u16;
+use ebpf_base::numbers::read_u16;
 
 /// The index of the first section of kind SYMTAB.
 #[tactic(auto, unfolding(crate::specs::SymbolTable::symbol_table))]

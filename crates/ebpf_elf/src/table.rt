@@ -9,8 +9,8 @@ ghost use Rattle.ebpf_elf.specs.Strings.{is_string_table};
 use crate::constants::{ELFCLASS64, ELFDATA2LSB, ELFDATA2MSB, MAGIC, SHN_XINDEX, SHT_STRTAB};
 use crate::error::ElfReadError;
 use crate::header::{SectionHeader, read_header};
-use ebpf_btf::Endianness;
-use ebpf_btf::numbers::{read_u16, read_u64};
+use ebpf_base::Endianness;
+use ebpf_base::numbers::{read_u16, read_u64};
 
 /// The byte order of an ELF64 file.
 #[tactic(auto, unfolding(crate::specs::File::ei_data, crate::specs::Faults::identity_faults))]

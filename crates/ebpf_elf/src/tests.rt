@@ -1,5 +1,5 @@
 use super::*;
-use ebpf_btf::Endianness;
+use ebpf_base::Endianness;
 use std::alloc::{AllocError, Global};
 use std::test::*;
 

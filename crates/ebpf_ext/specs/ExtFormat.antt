@@ -3,8 +3,8 @@
 use Rattle.std.specs.Prelude.{ℕ, ◌+◌, ◌*◌, ◌/◌, List, [], ◌∷◌, ◌++◌, map, length, Option, None, Result, Ok, Err, nat_lt, not, ◌&&◌, ◌==◌, if◌then◌else◌}
 use Rattle.std.specs.List.{range_with_len}
 use Rattle.ebpf_base.specs.Faults.{first_of}
-use Rattle.ebpf_btf.specs.declared.endianness.Endianness.{Endianness}
-use Rattle.ebpf_btf.specs.declared.endianness.Endianness.TheVariants.{Little}
+use Rattle.ebpf_base.specs.declared.endianness.Endianness.{Endianness}
+use Rattle.ebpf_base.specs.declared.endianness.Endianness.TheVariants.{Little}
 use Rattle.ebpf_btf.specs.declared.error.BtfError.{BtfError}
 use Rattle.ebpf_btf.specs.declared.error.BtfError.TheVariants.{InvalidHeader, InvalidInfo, InvalidRelocationKind}
 use Rattle.ebpf_ext.specs.declared.ext_infos.bpf_func_info.{bpf_func_info}

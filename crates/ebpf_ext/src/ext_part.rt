@@ -5,7 +5,7 @@ ghost use Rattle.ebpf_base.specs.Faults.{fault_of};
 ghost use Rattle.ebpf_ext.specs.ExtFormat.{ext_header_fault, part_fault, record_size, sections_start, sections_end, num_info_at, section_end, info_sec_fault, sec_name_off_at};
 ghost use Rattle.ebpf_btf.specs.Reading.{header_length};
 
-use ebpf_btf::numbers::{read_u16, read_u32};
+use ebpf_base::numbers::{read_u16, read_u32};
 use ebpf_btf::{BtfError, Endianness};
 
 /// What `.BTF.ext` begins with.

@@ -8,7 +8,7 @@ ghost use Rattle.ebpf_btf.specs.Memory.{is_memory};
 use crate::ext_infos::{bpf_func_info, bpf_line_info};
 use crate::relocation::{Relocation, RelocationKind};
 use ebpf_base::Items;
-use ebpf_btf::numbers::read_u32;
+use ebpf_base::numbers::read_u32;
 use ebpf_btf::rows::Row;
 use ebpf_btf::{BtfError, Endianness};
 use std::alloc::Global;

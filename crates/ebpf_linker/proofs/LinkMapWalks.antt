@@ -3,7 +3,7 @@ use Rattle.std.proofs.Common.{◌≡◌, ℕ, ◌+◌, ◌<◌, List, [], ◌∷
 use Rattle.std.specs.Prelude.{Vec}
 use Rattle.std.specs.declared.alloc.Global.{Global}
 use Rattle.ebpf_parts.specs.declared.insn.bpf_insn.{bpf_insn}
-use Rattle.ebpf_parts.proofs.Walks.{rest_more}
+use Rattle.ebpf_base.proofs.Walks.{rest_more}
 use Rattle.ebpf_linker.specs.declared.body.Body.{Body}
 use Rattle.ebpf_linker.specs.declared.link_map.NumberedCopy.{NumberedCopy}
 use Rattle.ebpf_linker.specs.declared.link_map.Reference.{Reference}

@@ -7,7 +7,7 @@ use Rattle.std.specs.List.{cons_option}
 use Rattle.ebpf_base.specs.Keys.{text_cmp}
 use Rattle.ebpf_object.specs.Stages.{own_maps}
 use Rattle.ebpf_object.specs.Steps.{descriptor_of}
-use Rattle.ebpf_parts.proofs.Walks.{rest_more}
+use Rattle.ebpf_base.proofs.Walks.{rest_more}
 use Rattle.ebpf_parts.specs.declared.maps.either.Map.{Map}
 use Rattle.ebpf_passes.specs.Maps.{GivenMap, LentMap, given_map}
 

@@ -14,7 +14,7 @@ use Rattle.ebpf_object.specs.LinkedPrograms.{program_value, program_if, program_
 use Rattle.ebpf_parsing.specs.declared.program.Program.{Program}
 use Rattle.std.proofs.lemmas.List.{append_assoc}
 use Rattle.ebpf_base.specs.Keys.{lent_bytes}
-use Rattle.ebpf_parts.proofs.Walks.{rest_more}
+use Rattle.ebpf_base.proofs.Walks.{rest_more}
 use Rattle.ebpf_reloc.specs.Linking.{ProgramValue}
 
 -- those so far, with that of the first name that is left, and those of the others

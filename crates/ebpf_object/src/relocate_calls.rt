@@ -37,7 +37,7 @@ fn add_named<'a>(
 }
 
 /// The programs with these names, with the keys of their functions.
-#[tactic(auto, using(crate::proofs::ProgramNames::one_name, ebpf_parts::proofs::Walks::rest_none))]
+#[tactic(auto, using(crate::proofs::ProgramNames::one_name, ebpf_base::proofs::Walks::rest_none))]
 fn programs_named<'a>(
     alloc: Global,
     programs: &'a ByName<Program>,

@@ -11,7 +11,7 @@ use Rattle.ebpf_base.specs.Keyed.{put_all}
 use Rattle.ebpf_base.specs.Keys.{text_cmp}
 use Rattle.std.specs.FinMap.{empty}
 use Rattle.ebpf_btf.specs.TypeInfo.{TypeInfo}
-use Rattle.ebpf_btf.specs.declared.endianness.Endianness.TheVariants.{Little}
+use Rattle.ebpf_base.specs.declared.endianness.Endianness.TheVariants.{Little}
 use Rattle.ebpf_declarations.proofs.BothReadings.{broad_declares_as_stated}
 use Rattle.ebpf_declarations.specs.TypesInReading.{types_in_reading}
 use Rattle.ebpf_declarations.specs.Maps.{btf_maps_fault}

@@ -15,7 +15,7 @@ use Rattle.ebpf_parsing.specs.LastData.{is_index}
 use Rattle.ebpf_parsing.specs.Programs.{is_program_symbol, program_function, program_fault, program_functions, programs_fault, with_key, program_symbol_row}
 use Rattle.ebpf_parsing.specs.Records.{FuncAndLineInfo}
 use Rattle.ebpf_parsing.specs.Symbols.{SymbolValue}
-use Rattle.ebpf_parts.proofs.Walks.{rest_more, kept_more, passed_more, fault_here}
+use Rattle.ebpf_base.proofs.Walks.{rest_more, kept_more, passed_more, fault_here}
 use Rattle.ebpf_parts.specs.Sections.{SectionValue}
 use Rattle.ebpf_reloc.specs.declared.function.Function.{Function}
 

@@ -5,7 +5,7 @@ use Rattle.std.specs.List.{list_any, AllByRecursion}
 use Rattle.ebpf_base.specs.Faults.{or_else, first_of, first_in, first_some, fault_of}
 use Rattle.ebpf_btf.specs.Next.{if_some}
 use Rattle.ebpf_btf.specs.TypeInfo.{TypeInfo}
-use Rattle.ebpf_btf.specs.declared.endianness.Endianness.{Endianness}
+use Rattle.ebpf_base.specs.declared.endianness.Endianness.{Endianness}
 use Rattle.ebpf_btf.specs.declared.error.BtfError.{BtfError as TypeError}
 use Rattle.ebpf_btf.specs.declared.error.BtfError.TheVariants.{InvalidSymbolName}
 use Rattle.ebpf_declarations.specs.DataSections.{DatasecMatch, Named, UnreadableName, datasec_match}

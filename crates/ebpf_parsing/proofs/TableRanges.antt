@@ -23,7 +23,7 @@ use Rattle.ebpf_parsing.specs.EntryRanges.{entry_range_cmp, entry_range_total, e
 use Rattle.ebpf_parsing.specs.LastData.{is_index}
 use Rattle.ebpf_parsing.specs.Relocations.{offset_of}
 use Rattle.ebpf_parts.proofs.Tables.{tables_more, tables_none, target_append}
-use Rattle.ebpf_parts.proofs.Walks.{rest_more}
+use Rattle.ebpf_base.proofs.Walks.{rest_more}
 use Rattle.ebpf_parts.specs.Sections.{target_fault}
 
 pub places_exact : IsAntisymmetric entry_range_cmp

@@ -2,7 +2,7 @@
 use Rattle.std.proofs.Common.{◌≡◌, ℕ, ◌+◌, ◌*◌, List, drop, ap, ◌∙◌, arith}
 use Rattle.std.specs.Prelude.{slice_index}
 use Rattle.std.proofs.lemmas.List.{get_or-drop}
-use Rattle.ebpf_btf.specs.Numbers.{number_at}
+use Rattle.ebpf_base.specs.Numbers.{number_at}
 use Rattle.ebpf_parsing.specs.LegacyMaps.{word_at}
 
 byte_behind : (bytes : List ℕ) (place i : ℕ) → slice_index (drop place bytes) i ≡ slice_index bytes (place + i)

@@ -1,8 +1,8 @@
 -- Code in the big-endian order, which the broad reading refuses as libbpf does: its slots would come out wrong.
 use Rattle.std.specs.Prelude.{ℕ, Bool, true, false, not, ◌&&◌, List, Option, Some, None, ◌==◌, if◌then◌else◌}
 use Rattle.std.specs.List.{list_any}
-use Rattle.ebpf_btf.specs.declared.endianness.Endianness.{Endianness}
-use Rattle.ebpf_btf.specs.declared.endianness.Endianness.TheVariants.{Little, Big}
+use Rattle.ebpf_base.specs.declared.endianness.Endianness.{Endianness}
+use Rattle.ebpf_base.specs.declared.endianness.Endianness.TheVariants.{Little, Big}
 use Rattle.ebpf_elf.specs.File.{ei_data}
 use Rattle.ebpf_elf.specs.Sections.{SectionOf, sections, header}
 use Rattle.ebpf_parts.specs.SectionKinds.{kind_of_section}

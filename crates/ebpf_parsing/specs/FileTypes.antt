@@ -8,7 +8,7 @@ use Rattle.ebpf_base.specs.Keys.{text_cmp}
 use Rattle.ebpf_ext.specs.ExtReading.{ExtInfo, read_ext}
 use Rattle.ebpf_btf.specs.Reading.{type_info_of}
 use Rattle.ebpf_btf.specs.TypeInfo.{TypeInfo}
-use Rattle.ebpf_btf.specs.declared.endianness.Endianness.{Endianness}
+use Rattle.ebpf_base.specs.declared.endianness.Endianness.{Endianness}
 use Rattle.ebpf_btf.specs.declared.error.BtfError.{BtfError as TypeError}
 use Rattle.ebpf_elf.specs.File.{ei_data}
 use Rattle.ebpf_elf.specs.Sections.{SectionOf}

@@ -2,8 +2,8 @@
 -- with the id and the pinning that loaders before it knew).
 use Rattle.std.specs.Prelude.{ℕ, ◌+◌, List, [], ◌∷◌, length, map, Option, Some, None, ◌==◌, nat_lt, if◌then◌else◌, slice_range}
 use Rattle.ebpf_base.specs.Faults.{or_else, first_of, first_some}
-use Rattle.ebpf_btf.specs.Numbers.{number_at}
-use Rattle.ebpf_btf.specs.declared.endianness.Endianness.TheVariants.{Little}
+use Rattle.ebpf_base.specs.Numbers.{number_at}
+use Rattle.ebpf_base.specs.declared.endianness.Endianness.TheVariants.{Little}
 use Rattle.ebpf_parsing.specs.Symbols.{SymbolValue}
 use Rattle.ebpf_parts.specs.Sections.{SectionValue}
 use Rattle.ebpf_parts.specs.declared.error.ParseError.{ParseError}

@@ -2,8 +2,8 @@
 use Rattle.std.specs.Prelude.{ℕ, ◌-◌, Bool, not, ◌||◌, List, [], ◌∷◌, length, take, Option, Some, None, ◌==◌, nat_lt, if◌then◌else◌, codes}
 use Rattle.std.specs.List.{before_first, find, list_any}
 use Rattle.ebpf_base.specs.Faults.{or_else, first_of}
-use Rattle.ebpf_btf.specs.Numbers.{number_at}
-use Rattle.ebpf_btf.specs.declared.endianness.Endianness.{Endianness}
+use Rattle.ebpf_base.specs.Numbers.{number_at}
+use Rattle.ebpf_base.specs.declared.endianness.Endianness.{Endianness}
 use Rattle.ebpf_elf.specs.File.{ei_data}
 use Rattle.ebpf_elf.specs.Names.{is_name}
 use Rattle.ebpf_elf.specs.Sections.{SectionOf, sections, section_name}

@@ -1,7 +1,7 @@
 -- What the two readings of a file have in common, and what each of them alone answers.
 use Rattle.std.specs.Prelude.{◌≡◌, ◌≢◌, ℕ, List, Some, None}
 use Rattle.std.specs.FinMap.{get}
-use Rattle.ebpf_btf.specs.declared.endianness.Endianness.TheVariants.{Little}
+use Rattle.ebpf_base.specs.declared.endianness.Endianness.TheVariants.{Little}
 use Rattle.ebpf_elf.specs.File.{ei_data}
 use Rattle.ebpf_parsing.specs.FileContents.{maps, maps_as, programs, programs_as, parse_fault, parse_fault_as}
 use Rattle.ebpf_parsing.specs.LicenseAndVersion.{license_of, license_as}

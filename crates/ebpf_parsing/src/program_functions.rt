@@ -96,7 +96,7 @@ fn check_program(
 }
 
 /// The number of the last program's symbol at each address.
-#[tactic(auto, using(crate::proofs::LastPrograms::row_more, crate::proofs::LastPrograms::row_passed, ebpf_parts::proofs::Walks::rest_none))]
+#[tactic(auto, using(crate::proofs::LastPrograms::row_more, crate::proofs::LastPrograms::row_passed, ebpf_base::proofs::Walks::rest_none))]
 fn last_programs(alloc: Global, symbols: &[NamedSymbol<'_>]) -> Result<ByOffset<usize>, ParseError>
     ensures last { IfOk result (λ last. last ≡ last_programs symbols.now) }
     ensures memory { IfErr result (λ e. is_memory e ≡ true) }
@@ -112,7 +112,7 @@ fn last_programs(alloc: Global, symbols: &[NamedSymbol<'_>]) -> Result<ByOffset<
 }
 
 /// Puts the functions of a section's programs by section and address, of symbols at one address the last one's alone.
-#[tactic(auto, using(ebpf_parts::proofs::Walks::kept_more, ebpf_parts::proofs::Walks::passed_more, ebpf_parts::proofs::Walks::fault_here, ebpf_parts::proofs::Walks::rest_none))]
+#[tactic(auto, using(ebpf_base::proofs::Walks::kept_more, ebpf_base::proofs::Walks::passed_more, ebpf_base::proofs::Walks::fault_here, ebpf_base::proofs::Walks::rest_none))]
 fn put_last_functions(
     alloc: Global,
     functions: &mut ByKey<Function>,
@@ -155,7 +155,7 @@ pub fn put_functions(
 }
 
 /// Puts the programs of a section by name.
-#[tactic(auto, using(ebpf_parts::proofs::Walks::kept_more, ebpf_parts::proofs::Walks::passed_more, ebpf_parts::proofs::Walks::rest_none))]
+#[tactic(auto, using(ebpf_base::proofs::Walks::kept_more, ebpf_base::proofs::Walks::passed_more, ebpf_base::proofs::Walks::rest_none))]
 pub fn put_programs(
     alloc: Global,
     programs: &mut ByName<Program>,

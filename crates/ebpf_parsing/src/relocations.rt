@@ -110,7 +110,7 @@ pub fn check_targets(tables: &[RelocationTable<'_>]) -> Result<(), ParseError>
 }
 
 /// The number of the last section of relocations whose entries stand at the same places.
-#[tactic(auto, using(crate::proofs::TableRanges::row_more, ebpf_parts::proofs::Walks::rest_none))]
+#[tactic(auto, using(crate::proofs::TableRanges::row_more, ebpf_base::proofs::Walks::rest_none))]
 fn last_tables(alloc: Global, tables: &[RelocationTable<'_>]) -> Result<ByEntryRange<usize>, ParseError>
     ensures last { IfOk result (λ last. last ≡ last_tables tables.now) }
     ensures memory { IfErr result (λ e. is_memory e ≡ true) }
@@ -147,7 +147,7 @@ fn table_of(
 }
 
 /// Of sections whose entries stand at the same places, those of the last one alone.
-#[tactic(auto, using(ebpf_parts::proofs::Walks::rest_none))]
+#[tactic(auto, using(ebpf_base::proofs::Walks::rest_none))]
 fn put_last_tables(
     alloc: Global,
     tables: &[RelocationTable<'_>],

@@ -11,7 +11,7 @@ use crate::relocations::RelocationTable;
 use crate::sections::read_section_of;
 use ebpf_base::Items;
 use ebpf_btf::Endianness;
-use ebpf_btf::numbers::read_u32;
+use ebpf_base::numbers::read_u32;
 use ebpf_elf::ElfFile;
 use ebpf_parts::ParseError;
 use std::alloc::Global;

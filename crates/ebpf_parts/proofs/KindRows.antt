@@ -2,7 +2,7 @@
 use Rattle.std.proofs.Common.{◌≡◌, ℕ, ◌+◌, ◌<◌, ◌≤◌, Bool, true, false, List, [], ◌∷◌, length, drop, filter, refl, ap, ◌∙◌}
 use Rattle.std.specs.Prelude.{Option, Some, None, IfSome, if◌then◌else◌, nat_le, slice_index_or}
 use Rattle.std.specs.List.{fold, AllByRecursion}
-use Rattle.ebpf_parts.proofs.Walks.{rest_more, rest_none}
+use Rattle.ebpf_base.proofs.Walks.{rest_more, rest_none}
 use Rattle.ebpf_parts.specs.ProgramKinds.{name_fits, longer, longest_fit, row_name}
 use Rattle.ebpf_parts.specs.declared.programs.kind.NamedKind.{NamedKind}
 

@@ -1,6 +1,5 @@
 pub mod SlotLists
 pub mod Tables
-pub mod Walks
 pub mod SlotWords
 pub mod KindRows
 pub mod KindTypes

@@ -6,8 +6,8 @@ use Rattle.std.specs.List.{All, flat_map, range_with_len}
 use Rattle.std.proofs.lemmas.Int.{of_z-to_z}
 use Rattle.std.proofs.lemmas.List.{get_or-drop, length-drop}
 use Rattle.byteorder.specs.Endian.{little_bytes}
-use Rattle.ebpf_btf.specs.Numbers.{number_at}
-use Rattle.ebpf_btf.specs.declared.endianness.Endianness.TheVariants.{Little}
+use Rattle.ebpf_base.specs.Numbers.{number_at}
+use Rattle.ebpf_base.specs.declared.endianness.Endianness.TheVariants.{Little}
 use Rattle.ebpf_parts.specs.SlotBytes.{SlotIsBytes, SlotsAreBytes}
 use Rattle.ebpf_parts.specs.Slots.{slot_at, slots_of, slot_bytes}
 

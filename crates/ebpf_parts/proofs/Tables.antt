@@ -2,7 +2,7 @@
 use Rattle.std.proofs.Common.{◌≡◌, ℕ, ◌+◌, ◌<◌, ◌≤◌, Bool, true, false, List, [], ◌∷◌, ◌++◌, length, drop, refl, ap}
 use Rattle.std.specs.Prelude.{◌==◌, slice_index_or}
 use Rattle.std.specs.List.{flat_map}
-use Rattle.ebpf_parts.proofs.Walks.{lists_more, rest_none}
+use Rattle.ebpf_base.proofs.Walks.{lists_more, rest_none}
 use Rattle.ebpf_base.specs.Faults.{or_else}
 use Rattle.ebpf_elf.specs.Relocations.{table_entries}
 use Rattle.ebpf_elf.specs.Sections.{SectionOf}

@@ -3,8 +3,8 @@ use Rattle.std.specs.Prelude.{ℕ, ◌+◌, ◌*◌, ◌/◌, ◌%◌, not, ◌=
 use Rattle.std.specs.List.{range_with_len}
 use Rattle.std.specs.Int.{w16, w32, cast_signed, cast_unsigned}
 use Rattle.byteorder.specs.Endian.{little_bytes}
-use Rattle.ebpf_btf.specs.declared.endianness.Endianness.TheVariants.{Little}
-use Rattle.ebpf_btf.specs.Numbers.{number_at}
+use Rattle.ebpf_base.specs.declared.endianness.Endianness.TheVariants.{Little}
+use Rattle.ebpf_base.specs.Numbers.{number_at}
 use Rattle.ebpf_base.specs.Faults.{Row}
 use Rattle.ebpf_parts.specs.declared.error.ParseError.{ParseError}
 use Rattle.ebpf_parts.specs.declared.error.ParseError.TheVariants.{InvalidProgramCode}

@@ -7,7 +7,7 @@ ghost use Rattle.ebpf_parts.specs.Slots.{slot_at, slots_of, slot_bytes, code_fau
 
 use crate::error::ParseError;
 use ebpf_btf::Endianness;
-use ebpf_btf::numbers::{read_u16, read_u32};
+use ebpf_base::numbers::{read_u16, read_u32};
 use std::alloc::Global;
 
 /// A slot of eight bytes: an instruction, or the second half of a 16-byte load (RFC 9669, section 3). It lies in memory

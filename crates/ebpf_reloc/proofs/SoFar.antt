@@ -8,7 +8,7 @@ use Rattle.std.proofs.lemmas.Bool.{cases_lt}
 use Rattle.std.proofs.lemmas.Option.{slice_get-get_or, get_or_from_slice_get}
 use Rattle.ebpf_base.proofs.Maps.{key_exact}
 use Rattle.ebpf_base.specs.Keys.{key_cmp, key_total}
-use Rattle.ebpf_parts.proofs.Walks.{rest_more, rest_none}
+use Rattle.ebpf_base.proofs.Walks.{rest_more, rest_none}
 use Rattle.ebpf_reloc.proofs.Keys.{is_equal}
 use Rattle.ebpf_reloc.specs.declared.error.EbpfRelocationError.{EbpfRelocationError}
 use Rattle.ebpf_reloc.specs.declared.function.Function.{Function}

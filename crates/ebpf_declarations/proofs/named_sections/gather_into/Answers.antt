@@ -5,7 +5,7 @@ use Rattle.ebpf_btf.specs.declared.error.BtfError.TheVariants.{InvalidStringOffs
 use Rattle.ebpf_declarations.specs.NamedSections.{IsScanned, datasec_name_fault}
 use Rattle.ebpf_declarations.proofs.NamedSections.{AreGathered, all_left, none_left, one_less, stopped}
 use Rattle.ebpf_declarations.proofs.named_sections.gather_into.Goals as goal
-use Rattle.ebpf_parts.proofs.Walks.{rest_more, rest_none}
+use Rattle.ebpf_base.proofs.Walks.{rest_more, rest_none}
 
 pub loop-id-init : goal.loop-id-init
 loop-id-init c = all_left c.args.btf.now c.args.longest c.args.by_name c.requires

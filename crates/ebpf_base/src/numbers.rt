@@ -1,7 +1,7 @@
 //! Numbers at offsets of a file, in either byte order.
 
 ghost use Rattle.std.specs.Prelude.{◌≡◌, ◌+◌, ◌≤◌, length};
-ghost use Rattle.ebpf_btf.specs.Numbers.{number_at};
+ghost use Rattle.ebpf_base.specs.Numbers.{number_at};
 
 use crate::endianness::Endianness;
 use byteorder::{BigEndian, ByteOrder, LittleEndian};

@@ -1,8 +1,8 @@
 -- Numbers at offsets of a list of bytes.
 use Rattle.std.specs.Prelude.{ℕ, List, drop}
 use Rattle.byteorder.specs.Endian.{little_number, big_number}
-use Rattle.ebpf_btf.specs.declared.endianness.Endianness.{Endianness}
-use Rattle.ebpf_btf.specs.declared.endianness.Endianness.TheVariants.{Little, Big}
+use Rattle.ebpf_base.specs.declared.endianness.Endianness.{Endianness}
+use Rattle.ebpf_base.specs.declared.endianness.Endianness.TheVariants.{Little, Big}
 
 -- the number in the n bytes from an offset on
 unfoldable pub number_at : Endianness → ℕ → List ℕ → ℕ → ℕ
