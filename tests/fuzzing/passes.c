@@ -288,7 +288,7 @@ static uint32_t judged(const char *call, uint32_t number, uint32_t first, uint32
 }
 
 /* Gives descriptors 1, 2, .. to the maps, in the order of their list. */
-static uint32_t describe(struct ebpf_handle *object)
+static uint32_t write_map_fds(struct ebpf_handle *object)
 {
 	struct ebpf_counts counts = { 0, 0 };
 	struct ebpf_map *maps;
@@ -372,7 +372,7 @@ static const char *passes(struct ebpf_handle *object)
 		number = ebpf_relocate_types(object, types.at, types.len, ABOUT);
 	if (refused(object, "ebpf_relocate_types", number, 200, 299))
 		return number < 220 ? "btf" : "types";
-	if (refused(object, "ebpf_relocate_maps", describe(object), 300, 399))
+	if (refused(object, "ebpf_relocate_maps", write_map_fds(object), 300, 399))
 		return "maps";
 	number = ebpf_resolve_externs(object, types.at, types.len, symbols.at, symbols.len, ABOUT);
 	if (refused(object, "ebpf_resolve_externs", number, 400, 499))

@@ -55,7 +55,7 @@ def sections():
     bare_types = File().code("kprobe/p", MOVE).symbol("p", FUNCTION, 3, 0, 8).data(".BTF", btf(*LOCAL))
     return [
         # Without types nothing is done; what lies in the section for instructions is not even read.
-        place("no types to relocate to", bare.data(".BTF.ext", b"\0").bytes(), adapted(MOVE)),
+        place("no types to relocate to", bare.data(".BTF.ext", b"\0").bytes(), types_relocated(MOVE)),
         place("types and no relocations", bare_types.bytes(), types_relocated(MOVE)),
         # A section's name that can't be read: the section is named by where it stands.
         place(

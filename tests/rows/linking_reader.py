@@ -122,4 +122,4 @@ def linked(data):
 def each_byte(data, value):
     """How many of the files with this byte at any one place give what, as the program counts them."""
     counts = Counter(linked(changed(data, place, bytes([value]))) for place in range(len(data)))
-    return "\n".link(f"{count}: {given}" for given, count in counts.items())
+    return "\n".join(f"{count}: {given}" for given, count in counts.items())

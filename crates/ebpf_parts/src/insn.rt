@@ -6,7 +6,7 @@ ghost use Rattle.ebpf_parts.specs.Memory.{is_memory};
 ghost use Rattle.ebpf_parts.specs.Slots.{slot_at, slots_of, slot_bytes, code_faults, dst_of, src_of, registers};
 
 use crate::error::ParseError;
-use ebpf_btf::Endianness;
+use ebpf_base::Endianness;
 use ebpf_base::numbers::{read_u16, read_u32};
 use std::alloc::Global;
 

@@ -200,7 +200,7 @@ fn add_settings(names: &[Text], written: &mut ByName<ExternDesc>) -> Result<(), 
     Ok(())
 }
 
-/// What is known of an object's externs over a kernel: those with a type are sought in its types.
+/// What is known of an object's externs over a kernel: those with a type are looked up in its types.
 pub fn kernel_externs(
     alloc: Global,
     loaded: &Loaded,

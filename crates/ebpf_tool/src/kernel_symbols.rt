@@ -5,7 +5,7 @@ use ebpf_btf::{Btf, BtfType};
 use ebpf_reloc::ExternDesc;
 use std::alloc::{AllocError, Global};
 
-/// Whether a function or a variable is sought.
+/// Whether a function or a variable is looked up.
 #[derive(Clone, Copy, Debug, PartialEq, Eq)]
 pub enum Sort {
     /// A function.
@@ -35,8 +35,8 @@ fn without_flavor(name: &str) -> &str {
     }
 }
 
-/// The names that externs are sought by: of a variable its own, of a function what stands before three underscores.
-fn sought_names(alloc: Global, externs: &ByName<ExternDesc>) -> Result<ByName<Ids>, AllocError> {
+/// The names that externs are looked up by: of a variable its own, of a function what stands before three underscores.
+fn looked_up_names(alloc: Global, externs: &ByName<ExternDesc>) -> Result<ByName<Ids>, AllocError> {
     let mut names = ByName::new(alloc);
     let nothing = Ids {
         function: None,
@@ -80,7 +80,7 @@ impl KernelSymbols {
         kernel: &Btf,
         externs: &ByName<ExternDesc>,
     ) -> Result<KernelSymbols, AllocError> {
-        let mut by_name = sought_names(alloc, externs)?;
+        let mut by_name = looked_up_names(alloc, externs)?;
         if by_name.is_empty() {
             return Ok(KernelSymbols { by_name });
         }

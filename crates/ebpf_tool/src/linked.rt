@@ -32,13 +32,13 @@ pub type Refusal = String;
 
 /// Descriptors of an object's own maps: 1 and on, in byte order of their names.
 fn own_descriptors(alloc: Global, object: &Object) -> Result<Vec<(&str, i32)>, AllocError> {
-    let mut described = Vec::with_capacity(alloc, object.maps.len())?;
+    let mut descriptors = Vec::with_capacity(alloc, object.maps.len())?;
     let mut descriptor: i32 = 0;
     for (name, _) in object.maps.iter() {
         descriptor = descriptor.saturating_add(1);
-        described.push((name.as_str(), descriptor))?;
+        descriptors.push((name.as_str(), descriptor))?;
     }
-    Ok(described)
+    Ok(descriptors)
 }
 
 /// Whether memory was refused.

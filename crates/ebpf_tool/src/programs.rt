@@ -75,8 +75,8 @@ pub fn section_names(
 }
 
 /// Whether a text is among others.
-fn is_among(texts: &[Text], sought: &str) -> bool {
-    texts.iter().any(|text| text.is(sought))
+fn is_among(texts: &[Text], wanted: &str) -> bool {
+    texts.iter().any(|text| text.is(wanted))
 }
 
 /// The first name that no program has.

@@ -5,7 +5,7 @@ mod answers;
 mod file;
 mod given;
 
-use self::answers::{Question, Sought};
+use self::answers::{Question, TypedExterns};
 use self::file::File;
 use self::given::externs_by;
 use ebpf_base::ByName;
@@ -66,7 +66,7 @@ fn of_externs(
     action: &str,
 ) -> Result<String, AllocError> {
     match Btf::new(alloc) {
-        Ok(types) => of_question(alloc, &Sought { externs, types }, bytes, action),
+        Ok(types) => of_question(alloc, &TypedExterns { externs, types }, bytes, action),
         Err(error) => shown(alloc, error),
     }
 }

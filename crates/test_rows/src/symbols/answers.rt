@@ -1,4 +1,4 @@
-//! What is asked of the lines that a reader or a text gives, and what seeking the addresses of externs answers.
+//! What is asked of the lines that a reader or a text gives, and what looking up the addresses of externs answers.
 
 use ebpf_base::ByName;
 use ebpf_btf::Btf;
@@ -18,7 +18,7 @@ pub trait Question {
 
 /// The externs of an object, and its types.
 #[derive(Drop)]
-pub struct Sought {
+pub struct TypedExterns {
     pub externs: ByName<ExternDesc>,
     pub types: Btf,
 }
@@ -58,7 +58,7 @@ pub fn found(alloc: Global, externs: &ByName<ExternDesc>) -> Result<String, Allo
     with_externs(alloc, String::from_str(alloc, "Ok")?, externs)
 }
 
-impl Sought {
+impl TypedExterns {
     /// The answer, and the externs then: those before, where it is a refusal.
     fn answer_of(
         &self,
@@ -72,7 +72,7 @@ impl Sought {
     }
 }
 
-impl Question for Sought {
+impl Question for TypedExterns {
     fn answer(&self, alloc: Global, reader: &mut FailingReader<'_>) -> Result<String, AllocError> {
         let answer = resolve_externs(alloc, Some(&self.types), &self.externs, None, reader);
         self.answer_of(alloc, answer)

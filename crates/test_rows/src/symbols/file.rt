@@ -1,4 +1,4 @@
-//! What preparing a whole file answers, whose externs are sought in the lines that a reader or a text gives.
+//! What preparing a whole file answers, whose externs are looked up in the lines that a reader or a text gives.
 
 use super::answers::{Question, found};
 use ebpf_object::Object;

@@ -1,4 +1,4 @@
-//! What is known of externs before their addresses are sought, as words say it.
+//! What is known of externs before their addresses are looked up, as words say it.
 
 use ebpf_base::ByName;
 use ebpf_reloc::ExternDesc;
