@@ -51,7 +51,7 @@ fn essential_before_zero(bytes: &[u8]) -> Option<&[u8]>
     None
 }
 
-/// The same from an offset of the strings on.
+/// The essential part of the name at an offset of the strings.
 pub fn essential_at(strings: &[u8], offset: u32) -> Option<&[u8]>
     ensures { option_copied result ≡ option_map essential_name (before_zero (drop offset strings.now)) }
 {

@@ -177,7 +177,8 @@ impl<'a> TypeIndex<'a> {
         }
     }
 
-    /// The same of the types of either of two kinds, as an enumeration of 64 bits may stand for an ENUM64 or a UNION.
+    /// The ids of the types of either of two kinds with a name's essential part, lowest first: an enumeration of 64 bits
+    /// may stand for an ENUM64 or a UNION.
     ///
     /// `InvalidStringOffset` where the name of a type of either kind can't be read, with the offset of the name that
     /// has the lowest id; `OutOfMemory` where memory for the list is refused.

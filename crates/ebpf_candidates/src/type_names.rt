@@ -58,7 +58,7 @@ fn gather_odd_names(alloc: Global, btf: &Btf) -> Result<ByOffset<Text>, AllocErr
     Ok(odd)
 }
 
-/// The same. Where all strings are ASCII no name is looked at.
+/// The texts of the names that are not UTF-8, by the types' ids. Where all strings are ASCII no name is looked at.
 #[tactic(auto, using(crate::proofs::OddTexts::odd_ascii))]
 fn odd_names(alloc: Global, btf: &Btf) -> Result<ByOffset<Text>, AllocError>
     ensures { IfOk result (λ odd. (id : ℕ) → get odd id ≡ odd_at btf.now id) }

@@ -21,7 +21,7 @@ fn read_weak(btf: &Btf, weak: &ByName<bool>, name: u32) -> Result<bool, BtfError
     }
 }
 
-/// The same, read at the first extern of the name.
+/// Whether the symbol of the name at an offset is weak, read at the first extern of the name.
 pub fn weak_at(
     btf: &Btf,
     weak: &ByName<bool>,

@@ -32,7 +32,7 @@ fn put_named(
     Ok(())
 }
 
-/// The same, by the offset of its name, which is read unless it was before.
+/// Puts an extern by the name at an offset, where none of the name is there; the name is read unless it was before.
 fn put_at(
     alloc: Global,
     btf: &Btf,

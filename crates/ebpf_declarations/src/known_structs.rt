@@ -55,7 +55,7 @@ fn read_struct(
     definitions(alloc, btf, reading, inner_maps, name, members)
 }
 
-/// The same, read at the first map that the struct declares.
+/// What the struct with an id says of the map with a name, read at the first map that the struct declares.
 pub fn struct_definitions(
     alloc: Global,
     btf: &Btf,

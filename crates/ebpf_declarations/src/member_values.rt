@@ -111,7 +111,7 @@ fn inner_member_value_of(
     }
 }
 
-/// The same, by the member's name.
+/// What the member with a name says of an inner map of the map with a name.
 #[tactic(auto, unfolding(crate::specs::Maps::inner_member_value))]
 fn inner_member_value(
     alloc: Global,
@@ -158,7 +158,8 @@ fn read_inner_struct(
     inner_definition(alloc, btf, reading, name, members)
 }
 
-/// The same, read at the first map that holds such maps.
+/// What the struct with an id says of the maps that the map with a name holds, read at the first map that holds such
+/// maps.
 fn inner_struct_definition(
     alloc: Global,
     btf: &Btf,

@@ -76,7 +76,7 @@ impl<S> SectionsByName<S> {
         last_named(self.strings.as_slice(), self.sections.as_slice(), name)
     }
 
-    /// The same, where the sections of these names are found in one pass.
+    /// A table that answers each name as this one does, and in which the sections of these names are found in one pass.
     pub fn found(&self, alloc: Global, names: &[&str]) -> Result<FoundSections<'_, S>, AllocError>
         ensures { IfOk result (λ f. f ≡ self.now) }
     {

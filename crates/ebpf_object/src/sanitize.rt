@@ -52,14 +52,14 @@ fn write_older(slots: &mut [bpf_insn])
     }
 }
 
-/// The same in a function.
+/// Writes the helper functions that every kernel has into a function's slots.
 fn write_function(function: &mut Function)
     ensures { function.new ≡ sanitized false function.old }
 {
     write_older(function.instructions.as_vec_mut().as_mut_slice());
 }
 
-/// The same in each function, without memory.
+/// Writes the helper functions that every kernel has into each function, without memory.
 #[tactic(auto, using(crate::proofs::Sanitizing::older_functions))]
 fn write_each(functions: &mut ByKey<Function>)
     ensures { (key : ℕ × ℕ) → finite.get functions.new key ≡ option_map (sanitized false) (finite.get functions.old key) }

@@ -43,7 +43,7 @@ impl Registers {
         }
     }
 
-    /// The same but for one register.
+    /// These registers, of which one holds a number that is given, or none that is known.
     pub fn learned(self, register: u8, number: Option<u64>) -> Registers
         ensures { result ≡ learned self register number }
     {
@@ -55,14 +55,14 @@ impl Registers {
         Registers { numbers }
     }
 
-    /// The same, but nothing known of one register.
+    /// These registers, with nothing known of one.
     pub fn forgotten(self, register: u8) -> Registers
         ensures { result ≡ forgotten self register }
     {
         self.learned(register, None)
     }
 
-    /// The same behind a call, which may write r0 to r5.
+    /// These registers behind a call, which may write r0 to r5: nothing is known of those.
     pub fn called(self) -> Registers
         ensures { result ≡ called self }
     {

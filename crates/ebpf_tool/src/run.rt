@@ -218,7 +218,7 @@ fn check_paths(
     Ok(session.status())
 }
 
-/// The same over the kernels that the words name.
+/// Judges the programs over the kernels that the words name, tells what was found, and gives the status.
 fn check_kernels(rt: &HostRuntime, words: &CheckWords, session: &mut Session) -> Result<u8, Stop> {
     match kernel_paths(rt, words.kernels.as_slice()) {
         Ok(paths) => check_paths(rt, words, session, paths.as_slice()),

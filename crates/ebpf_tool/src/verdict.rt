@@ -178,7 +178,7 @@ fn judge_program(
     }
 }
 
-/// The same answer for each program.
+/// One answer for each of so many programs.
 fn all_alike(alloc: Global, count: usize, breaks: bool) -> Result<Vec<bool>, AllocError> {
     let mut all = Vec::with_capacity(alloc, count)?;
     for _ in 0..count {
