@@ -28,7 +28,7 @@ pub struct Outcome {
     pub value: Option<u64>,
     /// What is loaded of the local field, where its place is asked for and it is no bit field.
     pub local: Option<LoadedField>,
-    /// The same of the field that was found.
+    /// What is loaded of the field that was found, where its place is asked for and it is no bit field.
     pub target: Option<LoadedField>,
 }
 

@@ -104,7 +104,7 @@ fn resized_to(code: u8, local: LoadedField, target: LoadedField) -> Option<u8>
     resized(code, target.size)
 }
 
-/// The same, where there may be no field with a size on either side.
+/// The code that moves the field that was found in place of the local one; none where either has no size.
 #[tactic(auto, unfolding(crate::specs::Carried::moved_code))]
 fn moved_code(code: u8, local: Option<LoadedField>, target: Option<LoadedField>) -> Option<u8>
     ensures { result ≡ moved_code code local target }

@@ -80,7 +80,7 @@ fn set_slots(function: &mut Function, slots: Items<bpf_insn>)
     function.instructions = slots;
 }
 
-/// The same of the function at a key, if there is one.
+/// Puts slots in the place of those of the function at a key, if there is one.
 fn set_slots_at(functions: &mut ByKey<Function>, key: (usize, u64), slots: Items<bpf_insn>)
     ensures { functions.new ≡ with_slots_at functions.old key slots (map.get functions.old key) }
 {

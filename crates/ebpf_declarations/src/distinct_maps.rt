@@ -30,7 +30,7 @@ pub struct DistinctMaps {
     pub last: Items<MapDefinitions>,
     /// The numbers of the names.
     pub numbers: ByName<usize>,
-    /// The same, by the offsets of names in the strings of types.
+    /// The numbers of the names, by the offsets of the names in the strings of types.
     pub offsets: BTreeMap<u32, usize>,
 }
 

@@ -206,7 +206,7 @@ fn member_value_of(
     Ok(MemberValue::Values(inner))
 }
 
-/// The same, by the member's name.
+/// What the member with a name says of the map with a name.
 #[tactic(auto, unfolding(crate::specs::Maps::member_value))]
 fn member_value(
     alloc: Global,

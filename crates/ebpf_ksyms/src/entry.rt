@@ -45,7 +45,7 @@ impl<'a> NamedExtern<'a> {
         !self.desc.is_resolved && !self.desc.is_typed
     }
 
-    /// The same name with another extern.
+    /// The entry of this name with another extern.
     pub fn with(&self, desc: ExternDesc) -> NamedExtern<'a>
         ensures { result ≡ (self.now.0, desc) }
     {

@@ -24,7 +24,7 @@ pub struct FileExterns {
 }
 
 impl FileExterns {
-    /// Those of a file, whose symbols have names, beside its types.
+    /// The externs of a file, whose symbols have names, beside its types.
     #[tactic(auto, using(crate::proofs::TypeErrors::infos), unfolding(ebpf_declarations::specs::Externs::types_with, ebpf_declarations::specs::Externs::types_fault))]
     pub fn read(
         alloc: Global,

@@ -122,7 +122,7 @@ fn read_ext_section(
     Ok(Some(infos))
 }
 
-/// The same, only beside types.
+/// What a file's section `.BTF.ext` says of instructions, where the file has types.
 fn read_ext_beside(
     alloc: Global,
     file: &ElfFile<'_>,

@@ -120,7 +120,7 @@ impl<'e> FuncRecords<'e> {
         FuncRecords::new(alloc, 0, 0, &[])
     }
 
-    /// Those of a section, none where nothing is infos of it.
+    /// The func info of a section, none where nothing is infos of it.
     pub fn of(alloc: Global, infos: Option<&'e FuncSecInfo>) -> Result<FuncRecords<'e>, ParseError>
         ensures info { IfOk result (λ r. r ≡ unwrap_or (option_copied infos.entry) no_func_info) }
         ensures memory { IfErr result (λ e. is_memory e ≡ true) }
@@ -154,7 +154,7 @@ impl<'e> FuncRecords<'e> {
         Ok(kept)
     }
 
-    /// The same with the section's counts.
+    /// The records on the function that begins at a slot, their slots counted from another one, with the section's counts.
     #[tactic(auto, unfolding(crate::specs::Records::funcs_at))]
     pub fn at(&self, alloc: Global, first: usize, base: usize) -> Result<FuncSecInfo, ParseError>
         ensures info { IfOk result (λ info. info ≡ funcs_at self.now first base) }
@@ -305,7 +305,7 @@ impl<'e> LineRecords<'e> {
         LineRecords::new(alloc, 0, 0, &[])
     }
 
-    /// Those of a section, none where nothing is infos of it.
+    /// The line info of a section, none where nothing is infos of it.
     pub fn of(alloc: Global, infos: Option<&'e LineSecInfo>) -> Result<LineRecords<'e>, ParseError>
         ensures info { IfOk result (λ r. r ≡ unwrap_or (option_copied infos.entry) no_line_info) }
         ensures memory { IfErr result (λ e. is_memory e ≡ true) }
@@ -342,7 +342,8 @@ impl<'e> LineRecords<'e> {
         Ok(kept)
     }
 
-    /// The same with the section's counts.
+    /// The records on the lines of so many slots from a slot on, their slots counted from another one, with the section's
+    /// counts.
     #[tactic(auto, unfolding(crate::specs::Records::lines_in))]
     pub fn within(
         &self,

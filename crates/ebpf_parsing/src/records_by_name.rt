@@ -72,7 +72,7 @@ impl<'e> Model for OneSection<'e> {
 }
 
 impl<'e> OneSection<'e> {
-    /// The same, lent.
+    /// The func info and line info of the section, lent.
     pub fn lent(&self) -> SectionRecords<'_, 'e>
         ensures { result ≡ self.now }
     {

@@ -29,7 +29,7 @@ pub fn read_section<'a>(
     Ok(read)
 }
 
-/// The same, of which the sections of relocations are among those of the file.
+/// A section of a file, with the sections of relocations that apply to it among those of the file.
 #[tactic(auto, using(crate::proofs::Grouped::tables_of_section))]
 pub fn read_section_of<'a>(
     alloc: Global,

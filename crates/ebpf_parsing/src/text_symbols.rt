@@ -169,7 +169,7 @@ pub struct TextSymbols<'s, 'a> {
 }
 
 impl<'s, 'a> TextSymbols<'s, 'a> {
-    /// Those among a section's symbols.
+    /// The symbols of functions among a section's symbols.
     pub fn new(
         alloc: Global,
         section_index: usize,

@@ -50,7 +50,7 @@ fn number_beside(
 }
 
 impl<'k> KeyNumbers<'k> {
-    /// Those of keys.
+    /// The numbers of keys that rise.
     pub fn new(keys: &'k [(usize, u64)]) -> KeyNumbers<'k>
         requires { IsStrictlySortedBy key_cmp keys.now }
         ensures { result.keys.now ≡ keys.now }
