@@ -18,7 +18,7 @@ pub fn find_symbol_table(table: &SectionTable<'_>) -> Option<usize>
     ensures first { result ≡ symbol_table table.now.bytes.now }
     ensures below { IfSome result (λ i. i < table.now.count) }
 {
-    (1..table.count).find(|i| table.header(*i).kind == SHT_SYMTAB)
+    (1..table.count).find(|i| table.header(*i).sh_type == SHT_SYMTAB)
 }
 
 /// Where a symbol table and its names stand.
