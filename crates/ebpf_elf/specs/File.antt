@@ -45,4 +45,4 @@ is_inside bytes offset size = size == 0 || nat_le (offset + size) (length bytes)
 
 -- the bytes from a section's offset on, as many as its size
 abbrev pub range_of : List ℕ → SectionHeader → List ℕ
-range_of bytes s = slice_range bytes s.offset (s.offset + s.size)
+range_of bytes s = slice_range bytes s.sh_offset (s.sh_offset + s.sh_size)
