@@ -1,0 +1,5 @@
+pub mod Keys
+pub mod Memory
+pub mod Shapes
+pub mod Symbols
+pub mod TextSections

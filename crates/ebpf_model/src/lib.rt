@@ -1,0 +1,15 @@
+//! The types that an object's parts are: functions, symbols, externs, programs, and what relocation of slots refuses.
+#![tactic(auto)]
+
+mod error;
+mod extern_desc;
+mod function;
+mod program;
+mod symbol;
+
+pub use ebpf_parts::Relocation;
+pub use error::{EbpfRelocationError, RelocationError};
+pub use extern_desc::ExternDesc;
+pub use function::Function;
+pub use program::Program;
+pub use symbol::Symbol;
