@@ -1,8 +1,7 @@
 -- Maps are equal where they agree at each key, as maps that hash are compared.
 use Rattle.std.proofs.Common.{◌≡◌, ℕ, Bool, true, false, ◌&&◌, nat_eq, cond, List, [], ◌∷◌, Option, Some, None, refl, sym, ap, subst, ◌∙◌}
 use Rattle.std.specs.declared.cmp.Ordering.{Ordering}
-use Rattle.std.specs.declared.cmp.Ordering.TheVariants.{Less, Equal, Greater}
-use Rattle.std.specs.Ordering.{is_eq, eq_by_cmp, nat_cmp}
+use Rattle.std.specs.Ordering.{eq_by_cmp, nat_cmp}
 use Rattle.std.specs.Option.{option_eq, is_some}
 use Rattle.std.specs.Cmp.{IsTotalOrder, eq_by_cmp_equiv, nat_cmp_total, nat_eq_equiv, both_ways}
 use Rattle.std.specs.Cmp.Lexicographic.{pointwise}
@@ -14,6 +13,7 @@ use Rattle.std.specs.FinMap.{FinMap, IsAntisymmetric, from_entries, get, entries
 use Rattle.std.proofs.lemmas.Map.Keys.{IsDistinct-from_sorted}
 use Rattle.ebpf_base.specs.Copies.{maps_eq}
 use Rattle.ebpf_base.proofs.Maps.{get-number}
+use Rattle.ebpf_base.proofs.Orderings.{is_equal}
 use Rattle.ebpf_base.proofs.Sorted.{entries_rise, same_keys}
 
 both_true : (a b : Bool) → (a && b) ≡ true → (a ≡ true) × (b ≡ true)
@@ -25,11 +25,6 @@ both_true false b h = absurd_path h
 
 and_true : (a b : Bool) → a ≡ true → b ≡ true → (a && b) ≡ true
 and_true a b g h = rw (g, h) refl
-
-is_equal : (r : Ordering) → is_eq r ≡ true → r ≡ Equal
-is_equal Less h = cc
-is_equal Equal h = refl
-is_equal Greater h = cc
 
 same_variant : {X : Type 0} (eq : X → X → Bool) (a b : Option X) → option_eq eq a b ≡ true → is_some a ≡ is_some b
 same_variant eq None None h = refl

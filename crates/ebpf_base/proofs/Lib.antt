@@ -6,6 +6,7 @@ pub mod Keyed
 pub mod Lists
 pub mod Mapped
 pub mod Maps
+pub mod Orderings
 pub mod EntriesFrom
 pub mod Pointwise
 pub mod Ranges

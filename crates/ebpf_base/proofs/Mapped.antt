@@ -1,10 +1,9 @@
 -- Maps of which each value is made anew: their entries, what they answer, and the laws of `map`.
 use Rattle.std.proofs.Common.{◌≡◌, ◌&&◌, T, Bool, cond, true, false, suc, List, [], ◌∷◌, map, length, Option, Some, None, refl, sym, ap, subst, ◌∙◌}
 use Rattle.std.specs.declared.cmp.Ordering.{Ordering}
-use Rattle.std.specs.declared.cmp.Ordering.TheVariants.{Less, Equal, Greater}
 use Rattle.std.specs.List.{IsDistinct, AllByRecursion}
 use Rattle.std.specs.Option.{option_map, option_or, is_some}
-use Rattle.std.specs.Ordering.{is_lt, is_eq, eq_by_cmp}
+use Rattle.std.specs.Ordering.{is_lt, eq_by_cmp}
 use Rattle.std.specs.Cmp.{IsTotalOrder}
 use Rattle.std.specs.Map.{keys_of}
 use Rattle.std.specs.FinMap.{FinMap, IsAntisymmetric, from_entries, from_sorted, empty, entries, entries_sorted, entries-from_sorted, get, get-entries, find, len, len-entries, is_sorted, same_map, same_entries_map, get-from_entries, insert, get-insert, get-empty}
@@ -13,6 +12,7 @@ use Rattle.std.proofs.lemmas.Map.Keys.{IsDistinct-from_sorted}
 use Rattle.ebpf_base.specs.Keyed.{put_all, last_at}
 use Rattle.ebpf_base.specs.Mapped.{mapped_entries, map_values}
 use Rattle.ebpf_base.proofs.Keyed.{later_stands}
+use Rattle.ebpf_base.proofs.Orderings.{is_equal}
 use Rattle.ebpf_base.proofs.Sorted.{entries_rise}
 
 module _ {K V W : Type 0} (R : K → K → Ordering) (f : V → W) where
@@ -127,11 +127,6 @@ module _ {K V : Type 0} {R : K → K → Ordering} where
 
   pub map_values-stay : (f : V → V) → ((v : V) → f v ≡ v) → (m : FinMap R V) → map_values f m ≡ m
   map_values-stay f h m = map_values-same f (λ v. v) h m ∙ map_values-identity m
-
-is_equal : (r : Ordering) → is_eq r ≡ true → r ≡ Equal
-is_equal Less h = cc
-is_equal Equal h = refl
-is_equal Greater h = cc
 
 -- entries of which no two have one key, put into a map
 module _ {K X : Type 0} {R : K → K → Ordering} (o : IsTotalOrder R) (exact : IsAntisymmetric R) where

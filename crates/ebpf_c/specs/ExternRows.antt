@@ -1,6 +1,6 @@
 -- What C reads of externs.
 use Rattle.std.specs.Prelude.{ℕ, is_some}
-use Rattle.ebpf_reloc.specs.declared.extern_desc.ExternDesc.{ExternDesc}
+use Rattle.ebpf_model.specs.declared.extern_desc.ExternDesc.{ExternDesc}
 use Rattle.ebpf_c.specs.Flags.{flag, or_zero}
 use Rattle.ebpf_c.specs.declared.externs.ebpf_extern.{ebpf_extern}
 

@@ -10,7 +10,7 @@ use Rattle.ebpf_object.specs.TextSections.{has_function_in}
 use Rattle.ebpf_object.specs.WrittenSlots.{with_externs, externs_fault}
 use Rattle.ebpf_object.specs.declared.object.Object.{Object}
 use Rattle.ebpf_reloc.specs.Linking.{IsFirstRefusal}
-use Rattle.ebpf_reloc.specs.Memory as relocating
+use Rattle.ebpf_model.specs.Memory as relocating
 use Rattle.ebpf_c.specs.Handles.{IsRefusal}
 use Rattle.ebpf_c.specs.Numbers.{ksyms_refusal, slot_refusal, types_refusal}
 use Rattle.ebpf_c.specs.TargetTypes.{types_in, types_if, CannotRead, CannotReadIf}

@@ -4,9 +4,9 @@ use Rattle.std.specs.List.{find}
 use Rattle.std.specs.FinMap.{FinMap, get}
 use Rattle.ebpf_base.specs.Keys.{key_cmp}
 use Rattle.ebpf_elf.specs.declared.entries.SectionIndex.{SectionIndex}
-use Rattle.ebpf_parsing.specs.declared.program.Program.{Program}
+use Rattle.ebpf_model.specs.declared.program.Program.{Program}
 use Rattle.ebpf_parts.specs.ProgramKinds.{program_kind}
-use Rattle.ebpf_reloc.specs.declared.function.Function.{Function}
+use Rattle.ebpf_model.specs.declared.function.Function.{Function}
 use Rattle.ebpf_c.specs.Loading.{loaded_as}
 use Rattle.ebpf_c.specs.ProgramKinds.{kind_number}
 use Rattle.ebpf_c.specs.declared.loading.Loading.{Loading}

@@ -5,7 +5,7 @@ ghost use Rattle.ebpf_c.specs.ExternRows.{extern_row};
 
 use crate::flags::{flag, known_address, known_number};
 use crate::listing::Row;
-use ebpf_reloc::ExternDesc;
+use ebpf_model::ExternDesc;
 
 /// An extern. Flags are 1 or 0.
 #[repr(C)]

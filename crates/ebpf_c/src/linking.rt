@@ -8,8 +8,8 @@ use crate::codes::{CLOSED, DONE};
 use crate::handle::ebpf_handle;
 use crate::refusal::{Refusal, answered, tell};
 use crate::slot_refusal::slot_refusal;
+use ebpf_model::EbpfRelocationError;
 use ebpf_object::Object;
-use ebpf_reloc::EbpfRelocationError;
 use std::alloc::Global;
 
 /// The number of the first fault of linking.

@@ -10,9 +10,8 @@ use crate::loading::{Loading, loaded_as};
 use crate::program_kind::kind_number;
 use ebpf_base::ByKey;
 use ebpf_elf::SectionIndex;
-use ebpf_parsing::Program;
+use ebpf_model::{Function, Program};
 use ebpf_parts::programs::program_kind;
-use ebpf_reloc::Function;
 
 /// A program.
 #[repr(C)]

@@ -13,10 +13,9 @@ use crate::programs::section_name;
 use ebpf_base::ByName;
 use ebpf_elf::SectionIndex;
 use ebpf_ext::{bpf_func_info, bpf_line_info};
+use ebpf_model::{Function, Program};
 use ebpf_object::Object;
-use ebpf_parsing::Program;
 use ebpf_parts::insn::bpf_insn;
-use ebpf_reloc::Function;
 
 /// The function of the program that some bytes name.
 fn function_named<'a>(object: &'a Object, name: &[u8]) -> Option<&'a Function>

@@ -5,7 +5,7 @@ ghost use Rattle.ebpf_c.specs.Numbers.{slot_number, slot_refusal};
 
 use crate::codes::MEMORY;
 use crate::refusal::Refusal;
-use ebpf_reloc::{EbpfRelocationError, RelocationError};
+use ebpf_model::{EbpfRelocationError, RelocationError};
 
 /// The number of a fault of slots, the first of which has the number `first`.
 fn slot_number(first: u32, error: &RelocationError) -> u32

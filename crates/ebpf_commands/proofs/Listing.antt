@@ -20,7 +20,7 @@ use Rattle.ebpf_ksyms.specs.Sources.{Source}
 use Rattle.ebpf_object.specs.LinkedPrograms.{program_value, programs_in_order}
 use Rattle.ebpf_object.specs.declared.object.Object.{Object}
 use Rattle.ebpf_parsing.proofs.LastEntries.{equal}
-use Rattle.ebpf_parsing.specs.declared.program.Program.{Program}
+use Rattle.ebpf_model.specs.declared.program.Program.{Program}
 use Rattle.ebpf_reloc.specs.Linking.{ProgramValue}
 
 -- ---- a program has a report

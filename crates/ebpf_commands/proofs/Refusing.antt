@@ -12,7 +12,7 @@ use Rattle.ebpf_commands.specs.declared.failure.Failure.TheVariants.{CannotRead,
 use Rattle.ebpf_ksyms.specs.Sources.{Source}
 use Rattle.ebpf_object.specs.Headline.{ProgramsAreWhole}
 use Rattle.ebpf_object.specs.declared.object.Object.{Object}
-use Rattle.ebpf_parsing.specs.declared.program.Program.{Program}
+use Rattle.ebpf_model.specs.declared.program.Program.{Program}
 use Rattle.ebpf_reloc.specs.SlotTargets.{LinkableValue}
 
 -- nothing is refused by what can't be

@@ -18,9 +18,9 @@ use crate::failure::{Failure, report};
 use crate::preparation::{all_passes, map_names, with_descriptors, read_types};
 use crate::program_text::write_program;
 use ebpf_btf::Btf;
+use ebpf_model::Function;
 use ebpf_object::Object;
 use ebpf_object::prepare::{PrepareError, SymbolSource, prepare_object};
-use ebpf_reloc::Function;
 use std::alloc::Global;
 use std::io::Write;
 

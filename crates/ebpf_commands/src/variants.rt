@@ -3,8 +3,8 @@
 use ebpf_btf::BtfError;
 use ebpf_core_relo::RelocationError as CoreError;
 use ebpf_ksyms::KsymsError;
+use ebpf_model::RelocationError;
 use ebpf_parts::ParseError;
-use ebpf_reloc::RelocationError;
 
 /// The name of an error of parsing.
 pub fn variant_of_parsing(error: &ParseError) -> &'static str {

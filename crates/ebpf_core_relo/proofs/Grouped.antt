@@ -10,7 +10,7 @@ use Rattle.ebpf_base.specs.Keys.{key_cmp}
 use Rattle.std.specs.Prelude.{if◌then◌else◌, nat_eq}
 use Rattle.ebpf_core_relo.specs.declared.spans.Span.{Span}
 use Rattle.ebpf_core_relo.specs.RecordFunctions.{with_span, entries_of_section, spans_or_none, span_of, spans_among, spans_of}
-use Rattle.ebpf_reloc.specs.declared.function.Function.{Function}
+use Rattle.ebpf_model.specs.declared.function.Function.{Function}
 
 by_case : (b : Bool) (group own : List Span) (e : (ℕ × ℕ) × Function) (rest : List ((ℕ × ℕ) × Function)) → (b ≡ true → own ≡ group)
     → spans_or_none (cond b (Some (own ++ span_of e ∷ [])) (Some group)) ++ map span_of rest ≡ group ++ map span_of (if b then e ∷ rest else rest)

@@ -23,8 +23,8 @@ use Rattle.ebpf_core_relo.specs.SlotOutcomes.{CarriesAt, behind, carrying}
 use Rattle.ebpf_core_relo.specs.Spans.{span_at}
 use Rattle.ebpf_core_relo.specs.declared.spans.Span.{Span}
 use Rattle.ebpf_parts.specs.declared.insn.bpf_insn.{bpf_insn}
-use Rattle.ebpf_reloc.proofs.Keys.{is_equal}
-use Rattle.ebpf_reloc.specs.declared.function.Function.{Function}
+use Rattle.ebpf_base.proofs.Orderings.{is_equal}
+use Rattle.ebpf_model.specs.declared.function.Function.{Function}
 
 -- the slots of a function as records have left them, and its own
 abbrev pub slots_now : RelocationInputs → Written → ℕ × ℕ → List bpf_insn

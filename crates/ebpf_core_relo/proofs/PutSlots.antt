@@ -11,8 +11,8 @@ use Rattle.ebpf_base.proofs.Maps.{key_exact}
 use Rattle.ebpf_base.specs.Keys.{key_cmp, key_total}
 use Rattle.ebpf_core_relo.specs.Records.{Written, with_slots, with_slots_at}
 use Rattle.ebpf_parts.specs.declared.insn.bpf_insn.{bpf_insn}
-use Rattle.ebpf_reloc.proofs.Keys.{is_equal}
-use Rattle.ebpf_reloc.specs.declared.function.Function.{Function}
+use Rattle.ebpf_base.proofs.Orderings.{is_equal}
+use Rattle.ebpf_model.specs.declared.function.Function.{Function}
 
 -- slots take the place of those of one function
 at_key : (before : FinMap key_cmp Function) (key : ℕ × ℕ) (slots : List bpf_insn) (o : Option Function) → get before key ≡ o

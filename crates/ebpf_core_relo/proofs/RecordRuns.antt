@@ -18,8 +18,8 @@ use Rattle.ebpf_core_relo.specs.Records.{RelocationInputs, Written, all_applied,
 use Rattle.ebpf_core_relo.specs.declared.error.BtfRelocationError.{BtfRelocationError}
 use Rattle.ebpf_elf.specs.declared.entries.SectionIndex.{SectionIndex}
 use Rattle.ebpf_parts.specs.declared.insn.bpf_insn.{bpf_insn}
-use Rattle.ebpf_reloc.specs.Shapes.{KeepsShape}
-use Rattle.ebpf_reloc.specs.declared.function.Function.{Function}
+use Rattle.ebpf_model.specs.Shapes.{KeepsShape}
+use Rattle.ebpf_model.specs.declared.function.Function.{Function}
 
 -- records of an object, applied one after the other
 abbrev Runs : RelocationInputs → List (ℕ × Relocation) → Written → Written → Type 0

@@ -12,8 +12,8 @@ use Rattle.ebpf_core_relo.specs.RecordFunctions.{spans_of}
 use Rattle.ebpf_core_relo.specs.Records.{RelocationInputs, Written, own_slots, slots_so_far, slots_written, with_slots}
 use Rattle.ebpf_core_relo.specs.Spans.{span_at}
 use Rattle.ebpf_parts.specs.declared.insn.bpf_insn.{bpf_insn}
-use Rattle.ebpf_reloc.specs.Shapes.{KeepShapes}
-use Rattle.ebpf_reloc.specs.declared.function.Function.{Function}
+use Rattle.ebpf_model.specs.Shapes.{KeepShapes}
+use Rattle.ebpf_model.specs.declared.function.Function.{Function}
 
 -- ---- the records of an object
 

@@ -4,7 +4,7 @@ use Rattle.std.specs.FinMap.{FinMap, entries, insert}
 use Rattle.std.specs.Ordering.{nat_cmp}
 use Rattle.ebpf_base.specs.Keys.{key_cmp}
 use Rattle.ebpf_core_relo.specs.declared.spans.Span.{Span}
-use Rattle.ebpf_reloc.specs.declared.function.Function.{Function}
+use Rattle.ebpf_model.specs.declared.function.Function.{Function}
 
 -- what a function takes of its section's data
 abbrev pub span_of : (ℕ × ℕ) × Function → Span

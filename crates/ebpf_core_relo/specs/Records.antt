@@ -21,7 +21,7 @@ use Rattle.ebpf_core_relo.specs.declared.error.BtfRelocationError.{BtfRelocation
 use Rattle.ebpf_core_relo.specs.declared.spans.Span.{Span}
 use Rattle.ebpf_elf.specs.declared.entries.SectionIndex.{SectionIndex}
 use Rattle.ebpf_parts.specs.declared.insn.bpf_insn.{bpf_insn}
-use Rattle.ebpf_reloc.specs.declared.function.Function.{Function}
+use Rattle.ebpf_model.specs.declared.function.Function.{Function}
 
 -- the slots that records have written so far, by the functions' keys
 abbrev pub Written : Type 0

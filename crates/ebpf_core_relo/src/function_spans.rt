@@ -8,7 +8,7 @@ use crate::section_spans::section_spans;
 use crate::spans::Spans;
 use ebpf_base::{ByKey, ByName, BySection};
 use ebpf_elf::SectionIndex;
-use ebpf_reloc::Function;
+use ebpf_model::Function;
 use std::alloc::{AllocError, Global};
 
 /// The functions as they stand, with their spans, and the sections' indexes by name.

@@ -19,8 +19,8 @@ use ebpf_btf::{Btf, BtfError};
 use ebpf_core::{CoreSearch, Outcome, RelocationError};
 use ebpf_elf::SectionIndex;
 use ebpf_ext::{BtfExt, Relocation};
+use ebpf_model::Function;
 use ebpf_parts::insn::bpf_insn;
-use ebpf_reloc::Function;
 use std::alloc::{AllocError, Global};
 
 /// What is found of a section by the offset of its name.

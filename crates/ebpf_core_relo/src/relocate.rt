@@ -15,8 +15,8 @@ use ebpf_btf::Btf;
 use ebpf_core::CoreSearch;
 use ebpf_elf::SectionIndex;
 use ebpf_ext::BtfExt;
+use ebpf_model::Function;
 use ebpf_parts::insn::bpf_insn;
-use ebpf_reloc::Function;
 use std::alloc::Global;
 
 /// The slots that all relocations write, or the first fault.

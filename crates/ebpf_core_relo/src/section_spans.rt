@@ -7,7 +7,7 @@ ghost use Rattle.ebpf_core_relo.specs.Spans.{span_at};
 
 use crate::spans::{SLOT, Span, Spans};
 use ebpf_base::{ByKey, BySection};
-use ebpf_reloc::Function;
+use ebpf_model::Function;
 use std::alloc::{AllocError, Global};
 
 /// What a function takes of its section's data.

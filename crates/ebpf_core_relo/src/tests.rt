@@ -3,8 +3,8 @@ use ebpf_base::{ByKey, ByName, Items, Text};
 use ebpf_btf::{Btf, BtfEnum, BtfError, BtfMember, BtfType, Endianness};
 use ebpf_elf::SectionIndex;
 use ebpf_ext::{BtfExt, FuncSecInfo, LineSecInfo};
+use ebpf_model::Function;
 use ebpf_parts::insn::bpf_insn;
-use ebpf_reloc::Function;
 use std::alloc::{AllocError, Global};
 use std::test::Fail;
 

@@ -26,7 +26,7 @@ use Rattle.ebpf_declarations.specs.ExternNames.{weak_at, named, all_named, IsNam
 use Rattle.ebpf_declarations.specs.Externs.{extern_of, func_or_var_type, new_extern}
 use Rattle.ebpf_declarations.proofs.KnownStructs.{equal_numbers}
 use Rattle.ebpf_declarations.proofs.NamedSections.{equal, flat_map-append, or_none, or_other, first_some-append}
-use Rattle.ebpf_reloc.specs.declared.extern_desc.ExternDesc.{ExternDesc}
+use Rattle.ebpf_model.specs.declared.extern_desc.ExternDesc.{ExternDesc}
 
 -- ---- one extern
 

@@ -19,7 +19,7 @@ use Rattle.ebpf_declarations.specs.DataSections.{DatasecMatch, datasec_match, ma
 use Rattle.ebpf_declarations.specs.Placeholders.{with_placeholder, placeholder_fault}
 use Rattle.ebpf_declarations.specs.declared.externs.FunctionOrFault.{FunctionOrFault}
 use Rattle.ebpf_declarations.specs.declared.externs.FunctionOrFault.TheVariants.{Function, UnreadableType}
-use Rattle.ebpf_reloc.specs.declared.extern_desc.ExternDesc.{ExternDesc}
+use Rattle.ebpf_model.specs.declared.extern_desc.ExternDesc.{ExternDesc}
 
 -- ---- one extern
 

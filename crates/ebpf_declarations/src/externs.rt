@@ -16,7 +16,7 @@ use crate::externs_by_name::by_name;
 use crate::placeholders::add_placeholder;
 use ebpf_base::{ByName, Items};
 use ebpf_btf::{Btf, BtfError, BtfType, DataSecEntry};
-use ebpf_reloc::ExternDesc;
+use ebpf_model::ExternDesc;
 use std::alloc::Global;
 use std::collections::BTreeMap;
 

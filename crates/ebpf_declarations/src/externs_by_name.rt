@@ -10,7 +10,7 @@ ghost use Rattle.ebpf_declarations.specs.ExternNames.{named, all_named, put_befo
 
 use ebpf_base::ByName;
 use ebpf_btf::{Btf, BtfError};
-use ebpf_reloc::ExternDesc;
+use ebpf_model::ExternDesc;
 use std::alloc::Global;
 use std::collections::BTreeMap;
 

@@ -13,7 +13,7 @@ use Rattle.ebpf_object.specs.declared.prepare_error.PrepareError.{PrepareError}
 use Rattle.ebpf_object.specs.declared.prepare_error.PrepareError.TheVariants.{Calls}
 use Rattle.ebpf_base.proofs.Walks.{rest_more}
 use Rattle.ebpf_reloc.specs.Linking.{ProgramValue}
-use Rattle.ebpf_reloc.specs.declared.error.EbpfRelocationError.{EbpfRelocationError}
+use Rattle.ebpf_model.specs.declared.error.EbpfRelocationError.{EbpfRelocationError}
 
 -- a refusal by one account is one by another that follows from it
 other_account : (b : Bool) (N F G : Type 0) → (F → G) → MatchBool b N F → MatchBool b N G

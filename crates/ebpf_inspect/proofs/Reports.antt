@@ -19,11 +19,12 @@ use Rattle.ebpf_reloc.proofs.OneLinkMap.{link_maps_match}
 use Rattle.ebpf_reloc.specs.LinkMaps.{IsLinkMapAt}
 use Rattle.ebpf_reloc.specs.Linking.{ProgramValue, key_of, IsLinked, IsProgramRefusal, IsProgramFault}
 use Rattle.ebpf_reloc.specs.SlotTargets.{LinkableValue}
-use Rattle.ebpf_reloc.specs.References.{Key, functions_of}
-use Rattle.ebpf_reloc.specs.declared.error.EbpfRelocationError.{EbpfRelocationError}
-use Rattle.ebpf_reloc.specs.declared.error.RelocationError.{RelocationError}
-use Rattle.ebpf_reloc.specs.declared.error.RelocationError.TheVariants.{UnknownProgram}
-use Rattle.ebpf_reloc.specs.declared.function.Function.{Function}
+use Rattle.ebpf_model.specs.Keys.{FunctionKey}
+use Rattle.ebpf_reloc.specs.References.{functions_of}
+use Rattle.ebpf_model.specs.declared.error.EbpfRelocationError.{EbpfRelocationError}
+use Rattle.ebpf_model.specs.declared.error.RelocationError.{RelocationError}
+use Rattle.ebpf_model.specs.declared.error.RelocationError.TheVariants.{UnknownProgram}
+use Rattle.ebpf_model.specs.declared.function.Function.{Function}
 
 -- ---- each program is linked
 
@@ -67,7 +68,7 @@ module _ (o linked : Object) where
         named = is.named;
         function = g;
         stands = stands;
-        slots = ap (λ (k : Key). function_slots (get linked.functions k)) is.key ∙ ap function_slots stands;
+        slots = ap (λ (k : FunctionKey). function_slots (get linked.functions k)) is.key ∙ ap function_slots stands;
         is_linked = is_linked;
         mapped = is.mapped;
         tells = link_maps_match (linkable o) (key_of p) m.map g is.mapped is_linked;
@@ -81,7 +82,7 @@ module _ (o linked : Object) where
 
 -- ---- no refusal where all are linked
 
-no_fault : (parts : LinkableValue) (key : Key) (g : Function) → IsLinked parts key g → (e : RelocationError) → IsProgramFault parts key e → ⊥
+no_fault : (parts : LinkableValue) (key : FunctionKey) (g : Function) → IsLinked parts key g → (e : RelocationError) → IsProgramFault parts key e → ⊥
 no_fault parts key g is_linked e fault =
     let least : LeastFault (functions_of parts) (checked_references (functions_of parts) key) key e =
     subst (λ f. MatchOption f (e ≡ UnknownProgram key.0 key.1) (λ _. LeastFault (functions_of parts) (checked_references (functions_of parts) key) key e)) is_linked.stands fault

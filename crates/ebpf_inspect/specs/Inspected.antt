@@ -11,7 +11,7 @@ use Rattle.ebpf_object.specs.declared.object.Object.{Object}
 use Rattle.ebpf_reloc.specs.LinkMaps.{IsLinkMapAt}
 use Rattle.ebpf_reloc.specs.Linking.{ProgramValue, key_of, IsLinked}
 use Rattle.ebpf_reloc.specs.LinkMapLaws.{MatchesLinked}
-use Rattle.ebpf_reloc.specs.declared.function.Function.{Function}
+use Rattle.ebpf_model.specs.declared.function.Function.{Function}
 use Rattle.ebpf_reloc.specs.declared.link_map.LinkMap.{LinkMap}
 use Rattle.ebpf_parts.specs.declared.reading.Reading.{Reading}
 

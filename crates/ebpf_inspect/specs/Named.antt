@@ -8,9 +8,9 @@ use Rattle.ebpf_object.specs.declared.object.Object.{Object}
 use Rattle.ebpf_parts.specs.declared.insn.bpf_insn.{bpf_insn}
 use Rattle.ebpf_reloc.specs.LinkMaps.{IsLinkMapAt}
 use Rattle.ebpf_reloc.specs.Linking.{ProgramValue, key_of, IsProgramRefusal}
-use Rattle.ebpf_reloc.specs.References.{Key}
-use Rattle.ebpf_reloc.specs.declared.error.EbpfRelocationError.{EbpfRelocationError}
-use Rattle.ebpf_reloc.specs.declared.function.Function.{Function}
+use Rattle.ebpf_model.specs.Keys.{FunctionKey}
+use Rattle.ebpf_model.specs.declared.error.EbpfRelocationError.{EbpfRelocationError}
+use Rattle.ebpf_model.specs.declared.function.Function.{Function}
 
 -- the map of a program, with its name and its key
 pub record IsNamedMap (o : Object) (program : ProgramValue) (m : NamedMap) : Type 0 where
@@ -34,7 +34,7 @@ function_slots None = []
 function_slots (Some f) = f.instructions
 
 -- the slots of the function at a key, none where there is none
-abbrev pub function_slots_at : Object → Key → List bpf_insn
+abbrev pub function_slots_at : Object → FunctionKey → List bpf_insn
 function_slots_at o key = function_slots (get o.functions key)
 
 -- the report of a program of the linked object, by its map

@@ -10,7 +10,8 @@ ghost use Rattle.ebpf_object.specs.Prepared.{RefusesPreparing};
 ghost use Rattle.ebpf_object.specs.StageFaults.{Wrapped};
 ghost use Rattle.ebpf_object.specs.TextSections.{has_function_in};
 ghost use Rattle.ebpf_object.specs.declared.prepare_error.PrepareError.TheVariants.{Calls};
-ghost use Rattle.ebpf_reloc.specs.SlotTargets.{text_sections_in, read};
+ghost use Rattle.ebpf_model.specs.TextSections.{text_sections_in};
+ghost use Rattle.ebpf_reloc.specs.SlotTargets.{read};
 
 use ebpf_base::Text;
 use ebpf_object::Object;

@@ -14,7 +14,7 @@ use Rattle.ebpf_base.specs.Keys.{text_cmp, text_total}
 use Rattle.ebpf_base.proofs.Keyed.{later_text_stands}
 use Rattle.ebpf_base.proofs.Sorted.{entries_rise}
 use Rattle.ebpf_base.proofs.TextMaps.{text_exact}
-use Rattle.ebpf_reloc.specs.declared.extern_desc.ExternDesc.{ExternDesc}
+use Rattle.ebpf_model.specs.declared.extern_desc.ExternDesc.{ExternDesc}
 use Rattle.ebpf_ksyms.specs.Entries.{entry_named, externs_from}
 use Rattle.ebpf_ksyms.specs.Externs.{NamedExtern, Externs, renew, renewed}
 

@@ -2,7 +2,7 @@
 use Rattle.std.specs.Prelude.{ℕ, List, [], ◌∷◌, Option, Some, None}
 use Rattle.std.specs.FinMap.{empty}
 use Rattle.ebpf_base.specs.Keyed.{put_all}
-use Rattle.ebpf_reloc.specs.declared.extern_desc.ExternDesc.{ExternDesc}
+use Rattle.ebpf_model.specs.declared.extern_desc.ExternDesc.{ExternDesc}
 use Rattle.ebpf_ksyms.specs.Externs.{NamedExtern, Externs}
 
 -- the entry of a name, where it has an extern

@@ -7,7 +7,7 @@ use Rattle.ebpf_base.specs.Faults.{fault_of, first_some}
 use Rattle.ebpf_base.specs.Keys.{text_cmp}
 use Rattle.ebpf_btf.specs.Steps.{type_at}
 use Rattle.ebpf_btf.specs.TypeInfo.{TypeInfo}
-use Rattle.ebpf_reloc.specs.declared.extern_desc.ExternDesc.{ExternDesc}
+use Rattle.ebpf_model.specs.declared.extern_desc.ExternDesc.{ExternDesc}
 use Rattle.ebpf_ksyms.specs.declared.error.KsymsError.{KsymsError}
 use Rattle.ebpf_ksyms.specs.declared.error.KsymsError.TheVariants.{TypedKsymRequiresKernelBtf, VariableNotFound}
 use Rattle.ebpf_ksyms.specs.Addresses.{Item, Line, line_of_item, lines_fault, address_of}

@@ -1,6 +1,6 @@
 -- Externs without a type, where addresses are given by a table.
 use Rattle.std.specs.Prelude.{ℕ, List, Option, Some, None, if◌then◌else◌}
-use Rattle.ebpf_reloc.specs.declared.extern_desc.ExternDesc.{ExternDesc}
+use Rattle.ebpf_model.specs.declared.extern_desc.ExternDesc.{ExternDesc}
 use Rattle.ebpf_ksyms.specs.declared.error.KsymsError.{KsymsError}
 use Rattle.ebpf_ksyms.specs.Externs.{NamedExtern, is_typeless, left_without, with_address}
 use Rattle.ebpf_ksyms.specs.AddressesByLine.{KnownAddresses}

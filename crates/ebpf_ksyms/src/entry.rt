@@ -8,7 +8,7 @@ ghost use Rattle.ebpf_ksyms.specs.Entries.{entry_named, externs_from};
 ghost use Rattle.ebpf_ksyms.specs.Externs.{is_typed, is_typeless, wanted_names};
 
 use ebpf_base::ByName;
-use ebpf_reloc::ExternDesc;
+use ebpf_model::ExternDesc;
 use std::alloc::{AllocError, Global};
 use std::marker::Model;
 
@@ -23,7 +23,7 @@ pub struct NamedExtern<'a> {
 
 impl<'a> Model for NamedExtern<'a> {
     ghost use Rattle.std.specs.Prelude.{ℕ, List};
-    ghost use Rattle.ebpf_reloc.specs.declared.extern_desc.ExternDesc.{ExternDesc};
+    ghost use Rattle.ebpf_model.specs.declared.extern_desc.ExternDesc.{ExternDesc};
 
     ghost Value = { List ℕ × ExternDesc };
 

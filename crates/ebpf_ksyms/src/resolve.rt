@@ -16,7 +16,7 @@ use crate::text_lines::TextLines;
 use crate::typed::with_types;
 use ebpf_base::ByName;
 use ebpf_btf::Btf;
-use ebpf_reloc::ExternDesc;
+use ebpf_model::ExternDesc;
 use std::alloc::Global;
 use std::io::{self, BufRead};
 

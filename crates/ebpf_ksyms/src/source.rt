@@ -9,7 +9,7 @@ use crate::error::KsymsError;
 use crate::resolve::{resolve_externs, resolve_text};
 use ebpf_base::ByName;
 use ebpf_btf::Btf;
-use ebpf_reloc::ExternDesc;
+use ebpf_model::ExternDesc;
 use std::alloc::Global;
 use std::io::BufRead;
 

@@ -20,7 +20,7 @@ use crate::lookup_key::{Sort, LookupKey, lookup_key_of};
 use ebpf_base::Text;
 use ebpf_btf::{Btf, BtfError, BtfType};
 use ebpf_candidates::types_are_compatible;
-use ebpf_reloc::ExternDesc;
+use ebpf_model::ExternDesc;
 use std::alloc::{AllocError, Global};
 
 /// The type id of a FUNC or a VAR.

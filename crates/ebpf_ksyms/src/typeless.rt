@@ -11,7 +11,7 @@ use crate::entry::NamedExtern;
 use crate::error::KsymsError;
 use crate::named::Named;
 use ebpf_base::Text;
-use ebpf_reloc::ExternDesc;
+use ebpf_model::ExternDesc;
 use std::alloc::Global;
 
 /// The address of a name, where there is one.

@@ -5,7 +5,8 @@ use Rattle.std.proofs.lemmas.Int.{ints}
 use Rattle.std.proofs.lemmas.Bool.{lt-ltb, le-ltb}
 use Rattle.std.proofs.lemmas.Option.{slice_get_within}
 use Rattle.ebpf_parts.specs.declared.insn.bpf_insn.{bpf_insn}
-use Rattle.ebpf_linker.specs.Slots.{Flow, Return, PseudoCall, WideLoad, Jump, Branch, Next, flow, slot_at_integer, is_pseudo_call, is_branch, relinked}
+use Rattle.ebpf_parts.specs.Slots.{is_pseudo_call}
+use Rattle.ebpf_linker.specs.Slots.{Flow, Return, PseudoCall, WideLoad, Jump, Branch, Next, flow, slot_at_integer, is_branch, relinked}
 use Rattle.ebpf_linker.specs.Functions.{SlotReference, Nothing, Faulty, Names, Functions, body, Among, BeginsAt, Becomes, Linked}
 use Rattle.ebpf_linker.specs.Machine.{State, StepResult, Goes, Ends, Waits, Leaves, Left, Run, pops, enters, decides, follow, step_at, after_step, run_steps, begin, referred_key, reference_at, start_of, separate, flat_code, name_from, name, SameVisits, OnCallsOrLoads}
 

@@ -1,7 +1,7 @@
 -- What a linked program is made of: the copies of functions, and the references between them.
 use Rattle.std.specs.Prelude.{◌≡◌, ℕ, ◌+◌, ◌≤◌, List, [], ◌∷◌, length, map, Some, slice_get, Result, Ok, Err}
 use Rattle.ebpf_parts.specs.declared.insn.bpf_insn.{bpf_insn}
-use Rattle.ebpf_linker.specs.Slots.{is_pseudo_call}
+use Rattle.ebpf_parts.specs.Slots.{is_pseudo_call}
 use Rattle.ebpf_linker.specs.Functions.{Names, FunctionContent, Functions, body, Among, BeginsAt}
 use Rattle.ebpf_linker.specs.Faults.{checked_references, Faultless, LeastFault}
 use Rattle.ebpf_linker.specs.Answer.{IsOrder}

@@ -9,7 +9,7 @@ use Rattle.ebpf_linker.specs.declared.reference.Target.TheVariants.{Function, No
 use Rattle.ebpf_linker.specs.declared.reference.Call.{Call}
 use Rattle.ebpf_linker.specs.LinkedSlots.{body_at}
 use Rattle.ebpf_linker.specs.Numbered.{calls_at}
-use Rattle.ebpf_linker.specs.Slots.{is_pseudo_call}
+use Rattle.ebpf_parts.specs.Slots.{is_pseudo_call}
 
 -- the reference of a slot at this place, by where it leads and by where functions begin
 abbrev pub linked_reference_by : List ℕ → ℕ → bpf_insn → Target → Option Reference

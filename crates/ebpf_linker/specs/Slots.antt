@@ -1,16 +1,7 @@
 -- What a slot does to the flow of control (RFC 9669, sections 4.3 and 5.4).
-use Rattle.std.specs.Prelude.{ℕ, ◌/◌, ◌%◌, ℤ, pos, negsuc, Bool, false, ◌&&◌, ◌||◌, not, ◌==◌, if◌then◌else◌, List, Option, None, slice_get}
+use Rattle.std.specs.Prelude.{ℕ, ◌/◌, ◌%◌, ℤ, pos, negsuc, Bool, ◌&&◌, ◌||◌, not, ◌==◌, if◌then◌else◌, List, Option, None, slice_get}
 use Rattle.ebpf_parts.specs.declared.insn.bpf_insn.{bpf_insn}
-use Rattle.ebpf_parts.specs.Slots.{dst_of, src_of, registers}
-
-abbrev pub is_zero : ℤ → Bool
-is_zero (pos n) = n == 0
-is_zero (negsuc n) = false
-
--- A call of a function of the same object, relative to this place: class 5 in the low three bits of the code and
--- 0x80 in the others, source 1, destination 0, offset 0.
-abbrev pub is_pseudo_call : bpf_insn → Bool
-is_pseudo_call slot = (slot.code == 0x85) && ((src_of slot == 1) && ((dst_of slot == 0) && is_zero slot.off))
+use Rattle.ebpf_parts.specs.Slots.{dst_of, registers, is_pseudo_call}
 
 -- where control goes after a slot
 pub data Flow : Type 0 where

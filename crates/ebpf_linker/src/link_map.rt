@@ -11,7 +11,6 @@ use crate::body::Body;
 use crate::bases::copy_bases;
 use crate::reference::{Call, Fault, Target};
 use crate::search::search;
-use crate::slot::is_pseudo_call;
 use crate::tables::Tables;
 use ebpf_base::Items;
 use ebpf_parts::insn::bpf_insn;
@@ -91,7 +90,7 @@ fn reference_at(body: &[bpf_insn], call: Call, bases: &[usize], base: usize) -> 
         Target::Function(callee) => Some(Reference {
             place: base + call.slot,
             base: bases[callee],
-            is_call: is_pseudo_call(*slot),
+            is_call: slot.is_pseudo_call(),
         }),
     }
 }

@@ -1,23 +1,16 @@
 //! Slots that refer to functions.
 
 ghost use Rattle.std.specs.Prelude.{◌≡◌, ◌+◌, ◌<◌, ◌^◌, pos, ◌-ℤ◌};
-ghost use Rattle.ebpf_linker.specs.Slots.{is_pseudo_call, relinked};
+ghost use Rattle.ebpf_linker.specs.Slots.{relinked};
 
 use ebpf_parts::insn::bpf_insn;
-
-/// Whether a slot calls a function of the same object.
-pub fn is_pseudo_call(slot: bpf_insn) -> bool
-    ensures { result ≡ is_pseudo_call slot }
-{
-    slot.code == 0x85 && slot.src_reg() == 1 && slot.dst_reg() == 0 && slot.off == 0
-}
 
 /// The slot with the distance to the function that it refers to. Where it is no such call its source register
 /// becomes 4, which marks the address of a function.
 pub fn relinked(slot: bpf_insn, distance: i32) -> bpf_insn
     ensures { result ≡ relinked slot distance }
 {
-    let regs = if is_pseudo_call(slot) {
+    let regs = if slot.is_pseudo_call() {
         slot.regs
     } else {
         4 * 16 + slot.dst_reg()

@@ -5,8 +5,8 @@ use Rattle.std.specs.FinMap.{FinMap, get}
 use Rattle.ebpf_base.proofs.Mapped.{get-map_values}
 use Rattle.ebpf_base.specs.Keys.{key_cmp}
 use Rattle.ebpf_base.specs.Mapped.{map_values}
-use Rattle.ebpf_reloc.specs.declared.function.Function.{Function}
-use Rattle.ebpf_reloc.specs.Shapes.{KeepsShape, KeepShapes}
+use Rattle.ebpf_model.specs.declared.function.Function.{Function}
+use Rattle.ebpf_model.specs.Shapes.{KeepsShape, KeepShapes}
 
 -- a function that stays
 pub shape_stays : (f : Function) → KeepsShape f f

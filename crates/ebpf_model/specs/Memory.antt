@@ -1,8 +1,8 @@
 -- The one answer of relocation that no definition states: want of memory.
 use Rattle.std.specs.Prelude.{◌≡◌, Bool, true, false, [], IsTrue}
-use Rattle.ebpf_reloc.specs.declared.error.EbpfRelocationError.{EbpfRelocationError}
-use Rattle.ebpf_reloc.specs.declared.error.RelocationError.{RelocationError}
-use Rattle.ebpf_reloc.specs.declared.error.RelocationError.TheVariants.{OutOfMemory}
+use Rattle.ebpf_model.specs.declared.error.EbpfRelocationError.{EbpfRelocationError}
+use Rattle.ebpf_model.specs.declared.error.RelocationError.{RelocationError}
+use Rattle.ebpf_model.specs.declared.error.RelocationError.TheVariants.{OutOfMemory}
 
 abbrev pub is_memory : RelocationError → Bool
 is_memory OutOfMemory = true

@@ -2,7 +2,7 @@
 use Rattle.std.specs.Prelude.{◌≡◌, ℕ, length, Option, Some, None, IsSomeAnd, MatchOption}
 use Rattle.std.specs.FinMap.{FinMap, get}
 use Rattle.ebpf_base.specs.Keys.{key_cmp}
-use Rattle.ebpf_reloc.specs.declared.function.Function.{Function}
+use Rattle.ebpf_model.specs.declared.function.Function.{Function}
 
 -- name, address, section, place in it, records and sizes of records stay, and there are as many slots
 pub record KeepsShape (before after : Function) : Type 0 where

@@ -2,7 +2,7 @@
 use Rattle.std.specs.Prelude.{Bool, true, false, not, ◌&&◌, is_none}
 use Rattle.ebpf_elf.specs.declared.entries.SymbolKind.{SymbolKind}
 use Rattle.ebpf_elf.specs.declared.entries.SymbolKind.TheVariants.{Unknown}
-use Rattle.ebpf_reloc.specs.declared.symbol.Symbol.{Symbol}
+use Rattle.ebpf_model.specs.declared.symbol.Symbol.{Symbol}
 
 -- a symbol without a type (ELF-64 gABI, 'Symbol Table': STT_NOTYPE)
 abbrev pub is_unknown : SymbolKind → Bool

@@ -1,8 +1,8 @@
 //! Why an object's slots could not be relocated.
 
 ghost use Rattle.std.specs.Prelude.{◌≡◌, [], ⊤, MatchBool};
-ghost use Rattle.ebpf_reloc.specs.Memory.{is_memory, is_memory_at, NamesNoneForMemory};
-ghost use Rattle.ebpf_reloc.specs.declared.error.RelocationError.TheVariants.{OutOfMemory};
+ghost use Rattle.ebpf_model.specs.Memory.{is_memory, is_memory_at, NamesNoneForMemory};
+ghost use Rattle.ebpf_model.specs.declared.error.RelocationError.TheVariants.{OutOfMemory};
 
 use ebpf_base::Text;
 use ebpf_parts::{SymbolWords, Within};

@@ -1,7 +1,7 @@
 //! The symbols of an object.
 
 ghost use Rattle.std.specs.Prelude.{◌≡◌, IfOk};
-ghost use Rattle.ebpf_reloc.specs.Symbols.{is_extern};
+ghost use Rattle.ebpf_model.specs.Symbols.{is_extern};
 
 use ebpf_base::Text;
 use ebpf_elf::SymbolKind;

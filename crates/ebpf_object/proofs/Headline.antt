@@ -25,14 +25,15 @@ use Rattle.ebpf_object.specs.Steps.{Chosen, Descriptor}
 use Rattle.ebpf_object.specs.TextSections.{has_function_in}
 use Rattle.ebpf_object.specs.WrittenSlots.{with_externs}
 use Rattle.ebpf_object.specs.declared.object.Object.{Object}
-use Rattle.ebpf_parsing.specs.declared.program.Program.{Program}
+use Rattle.ebpf_model.specs.declared.program.Program.{Program}
 use Rattle.ebpf_parts.specs.declared.insn.bpf_insn.{bpf_insn}
 use Rattle.ebpf_reloc.proofs.OneResult.{copied_slots_stay}
 use Rattle.ebpf_reloc.specs.Linking as linking
 use Rattle.ebpf_reloc.specs.Linking.{ProgramValue}
-use Rattle.ebpf_reloc.specs.VariableLookup.{TextSections}
-use Rattle.ebpf_reloc.specs.References.{Key, content_of}
-use Rattle.ebpf_reloc.specs.declared.function.Function.{Function}
+use Rattle.ebpf_model.specs.TextSections.{TextSections}
+use Rattle.ebpf_model.specs.Keys.{FunctionKey}
+use Rattle.ebpf_reloc.specs.References.{content_of}
+use Rattle.ebpf_model.specs.declared.function.Function.{Function}
 use Rattle.ebpf_parts.specs.declared.reading.Reading.{Reading}
 
 -- ---- programs
@@ -101,11 +102,11 @@ own_body None = refl
 own_body (Some f) = refl
 
 -- a slot that linking leaves as it is stands in the finished object as it was
-module _ (unlinked o : Object) (key : Key) (i : ℕ) (carrying : bpf_insn) (is : slot_in unlinked key i ≡ Some carrying) (at : Key) (place : ℕ) where
+module _ (unlinked o : Object) (key : FunctionKey) (i : ℕ) (carrying : bpf_insn) (is : slot_in unlinked key i ≡ Some carrying) (at : FunctionKey) (place : ℕ) where
   in_place : get o.functions at ≡ get unlinked.functions at → (at ≡ key) × (place ≡ i) → slot_in o at place ≡ Some carrying
   in_place stays own =
       ap (λ (f : Option Function). slice_get (own_slots f) place) stays
-      ∙ ap (λ (k : Key). slot_in unlinked k place) own.0
+      ∙ ap (λ (k : FunctionKey). slot_in unlinked k place) own.0
       ∙ ap (λ (p : ℕ). slot_in unlinked key p) own.1
       ∙ is
 
@@ -129,7 +130,7 @@ module _ (unlinked o : Object) (key : Key) (i : ℕ) (carrying : bpf_insn) (is :
 
 carried : (parsed relocated unlinked o : Object) (target local : TypeInfo) (ext : ExtInfo) (calls : Option TextSections) (left : Written)
     → slots_written (record_inputs_of parsed local target) ext.relocations ≡ Ok left
-    → ((key : Key) → get relocated.functions key ≡ with_slots (get left key) (get parsed.functions key))
+    → ((key : FunctionKey) → get relocated.functions key ≡ with_slots (get left key) (get parsed.functions key))
     → Links calls unlinked o
     → RecordsAreCarried (record_inputs_of parsed local target) ext.relocations calls relocated unlinked o
 carried parsed relocated unlinked o target local ext calls left are puts links = record {

@@ -9,7 +9,7 @@ use Rattle.ebpf_object.specs.LinkedPrograms.{is_program_key}
 use Rattle.ebpf_object.specs.LinkedProgramMaps.{MapsTellOfLinked}
 use Rattle.ebpf_reloc.proofs.OneLinkMap.{link_maps_match}
 use Rattle.ebpf_reloc.proofs.OneResult.{any_at}
-use Rattle.ebpf_reloc.specs.declared.function.Function.{Function}
+use Rattle.ebpf_model.specs.declared.function.Function.{Function}
 use Rattle.ebpf_reloc.specs.Linking.{key_of, IsLinked}
 
 pub maps_tell_of_linked : MapsTellOfLinked

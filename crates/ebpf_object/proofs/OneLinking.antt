@@ -7,11 +7,11 @@ use Rattle.ebpf_base.specs.Keys.{key_cmp, key_total}
 use Rattle.ebpf_object.specs.LinkedPrograms.{is_program_key, OneLinking}
 use Rattle.ebpf_reloc.proofs.OneResult.{one_way}
 use Rattle.ebpf_reloc.specs.Linking.{IsLinked}
-use Rattle.ebpf_reloc.specs.VariableLookup.{LinkableValue}
-use Rattle.ebpf_reloc.specs.References.{Key}
-use Rattle.ebpf_reloc.specs.declared.function.Function.{Function}
+use Rattle.ebpf_reloc.specs.SlotTargets.{LinkableValue}
+use Rattle.ebpf_model.specs.Keys.{FunctionKey}
+use Rattle.ebpf_model.specs.declared.function.Function.{Function}
 
-at_key : (parts : LinkableValue) (key : Key) (after other : FinMap key_cmp Function) (b : Bool)
+at_key : (parts : LinkableValue) (key : FunctionKey) (after other : FinMap key_cmp Function) (b : Bool)
     → MatchBool b ((g : Function) × (get after key ≡ Some g) × IsLinked parts key g) (get after key ≡ get parts.functions key)
     → MatchBool b ((g : Function) × (get other key ≡ Some g) × IsLinked parts key g) (get other key ≡ get parts.functions key)
     → get after key ≡ get other key

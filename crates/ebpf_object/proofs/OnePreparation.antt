@@ -30,9 +30,9 @@ use Rattle.ebpf_parts.specs.declared.error.ParseError.{ParseError}
 use Rattle.ebpf_parts.specs.declared.reading.Reading.{Reading}
 use Rattle.ebpf_reloc.proofs.OneResult.{any_at, not_refused, one_result}
 use Rattle.ebpf_reloc.specs.Linking.{IsFirstRefusal as IsFirstProgram, ProgramValue, key_of}
-use Rattle.ebpf_reloc.specs.VariableLookup.{LinkableValue}
-use Rattle.ebpf_reloc.specs.declared.error.EbpfRelocationError.{EbpfRelocationError}
-use Rattle.ebpf_reloc.specs.declared.function.Function.{Function}
+use Rattle.ebpf_reloc.specs.SlotTargets.{LinkableValue}
+use Rattle.ebpf_model.specs.declared.error.EbpfRelocationError.{EbpfRelocationError}
+use Rattle.ebpf_model.specs.declared.function.Function.{Function}
 
 -- ---- answers
 

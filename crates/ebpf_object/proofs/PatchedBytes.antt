@@ -12,7 +12,7 @@ use Rattle.ebpf_base.specs.Keys.{text_cmp}
 use Rattle.ebpf_base.proofs.Sorted.{entries_rise}
 use Rattle.ebpf_parts.specs.declared.maps.either.Map.{Map}
 use Rattle.ebpf_parts.specs.declared.error.ParseError.TheVariants.{InvalidGlobalData, SymbolNotFound}
-use Rattle.ebpf_reloc.specs.declared.symbol.Symbol.{Symbol}
+use Rattle.ebpf_model.specs.declared.symbol.Symbol.{Symbol}
 use Rattle.ebpf_object.specs.Patches.{PatchValue, Global, with_patch, all_patched, map_data_of, patches_in, patches_at, patch_of, by_symbol, of_symbol, in_map, map_in_section, symbol_named, patches_of}
 use Rattle.ebpf_object.specs.PatchedBytes.{byte_at, Covers, GreatestNameStands, OtherBytesStay, LengthsStay, MapsStay}
 use Rattle.ebpf_object.proofs.PatchedPlaces.{one_or_other, patched_beside, patched_within, patched_long, all_long, all_but}

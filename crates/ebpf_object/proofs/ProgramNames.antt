@@ -11,7 +11,7 @@ use Rattle.ebpf_base.proofs.Lists.{flat_map-same}
 use Rattle.ebpf_base.proofs.Sorted.{entries_rise}
 use Rattle.ebpf_base.specs.Keys.{text_cmp, text_total}
 use Rattle.ebpf_object.specs.LinkedPrograms.{program_value, program_if, program_with, programs_in_order}
-use Rattle.ebpf_parsing.specs.declared.program.Program.{Program}
+use Rattle.ebpf_model.specs.declared.program.Program.{Program}
 use Rattle.std.proofs.lemmas.List.{append_assoc}
 use Rattle.ebpf_base.specs.Keys.{lent_bytes}
 use Rattle.ebpf_base.proofs.Walks.{rest_more}

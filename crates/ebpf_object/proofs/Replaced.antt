@@ -10,16 +10,16 @@ use Rattle.std.specs.declared.cmp.Ordering.TheVariants.{Less}
 use Rattle.ebpf_base.proofs.Maps.{key_exact}
 use Rattle.ebpf_base.specs.Keys.{key_cmp, key_total}
 use Rattle.ebpf_object.specs.LinkedPrograms.{replaced, is_program_key, ProgramsAreLinked}
-use Rattle.ebpf_reloc.proofs.Keys.{is_equal}
+use Rattle.ebpf_base.proofs.Orderings.{is_equal}
 use Rattle.ebpf_reloc.specs.Linking.{ProgramValue, IsLinked, AreLinked}
-use Rattle.ebpf_reloc.specs.VariableLookup.{LinkableValue}
-use Rattle.ebpf_reloc.specs.References.{Key}
-use Rattle.ebpf_reloc.specs.declared.function.Function.{Function}
+use Rattle.ebpf_reloc.specs.SlotTargets.{LinkableValue}
+use Rattle.ebpf_model.specs.Keys.{FunctionKey}
+use Rattle.ebpf_model.specs.declared.function.Function.{Function}
 
 -- one function takes its place
-pub at_key : (before after : FinMap key_cmp Function) (key : Key) (f : Function) (result : Result Function Function)
+pub at_key : (before after : FinMap key_cmp Function) (key : FunctionKey) (f : Function) (result : Result Function Function)
     → MatchOption (get before key) ((result ≡ Err f) × (after ≡ before)) (λ old. (result ≡ Ok old) × (after ≡ insert before key f))
-    → (q : Key) → get after q ≡ (if eq_by_cmp key_cmp q key then replaced (get before q) (Some f) else get before q)
+    → (q : FunctionKey) → get after q ≡ (if eq_by_cmp key_cmp q key then replaced (get before q) (Some f) else get before q)
 at_key before after key f result h q = by_place (get before key) refl h
   where
     stays : (b : Bool) → eq_by_cmp key_cmp q key ≡ b → get before key ≡ None → get before q ≡ (if b then replaced (get before q) (Some f) else get before q)
@@ -41,14 +41,14 @@ at_key before after key f result h q = by_place (get before key) refl h
     by_place (Some old) some g = ap (λ m. get m q) g.1 ∙ get-insert key_total before key f q ∙ moves old some (eq_by_cmp key_cmp q key) refl
 
 -- a key below all keys of some entries has none of them
-not_found : (k : Key) (es : List (Key × Function)) → AllByRecursion (λ y. key_cmp k y ≡ Less) (keys_of es) → find key_cmp k es ≡ None
+not_found : (k : FunctionKey) (es : List (FunctionKey × Function)) → AllByRecursion (λ y. key_cmp k y ≡ Less) (keys_of es) → find key_cmp k es ≡ None
 not_found k [] h = refl
 not_found k (e ∷ es) h = ap (λ o. cond (is_eq o) (Some e.1) (find key_cmp k es)) h.0 ∙ not_found k es h.1
 
 -- the first of some entries takes its place, then the others
-pub one_more : (before after : FinMap key_cmp Function) (key : Key) (f : Function) (rest : List (Key × Function)) → IsStrictlySortedBy key_cmp (keys_of ((key, f) ∷ rest))
-    → ((q : Key) → get after q ≡ (if eq_by_cmp key_cmp q key then replaced (get before q) (Some f) else get before q))
-    → (q : Key) → replaced (get after q) (find key_cmp q rest) ≡ replaced (get before q) (find key_cmp q ((key, f) ∷ rest))
+pub one_more : (before after : FinMap key_cmp Function) (key : FunctionKey) (f : Function) (rest : List (FunctionKey × Function)) → IsStrictlySortedBy key_cmp (keys_of ((key, f) ∷ rest))
+    → ((q : FunctionKey) → get after q ≡ (if eq_by_cmp key_cmp q key then replaced (get before q) (Some f) else get before q))
+    → (q : FunctionKey) → replaced (get after q) (find key_cmp q rest) ≡ replaced (get before q) (find key_cmp q ((key, f) ∷ rest))
 unfolding IsStrictlySortedBy
 one_more before after key f rest sorted h q = ap (λ o. replaced o (find key_cmp q rest)) (h q) ∙ by_key (eq_by_cmp key_cmp q key) refl
   where
@@ -66,7 +66,7 @@ one_more before after key f rest sorted h q = ap (λ o. replaced o (find key_cmp
 
 -- the functions of linked programs take their places
 pub are_linked : (parts : LinkableValue) (programs : List ProgramValue) (linked after : FinMap key_cmp Function) → AreLinked parts programs linked
-    → ((q : Key) → get after q ≡ replaced (get parts.functions q) (get linked q)) → ProgramsAreLinked parts programs after
+    → ((q : FunctionKey) → get after q ≡ replaced (get parts.functions q) (get linked q)) → ProgramsAreLinked parts programs after
 are_linked parts programs linked after are h key = by_place (get linked key) refl
   where
     at_program : (b : Bool) (g : Function) → b ≡ true → get linked key ≡ Some g → MatchBool b ((x : Function) × (get after key ≡ Some x) × IsLinked parts key x) (get after key ≡ get parts.functions key)
@@ -88,7 +88,7 @@ are_linked parts programs linked after are h key = by_place (get linked key) ref
     by_place (Some g) some = at_program (is_program_key programs key) g (sym (are.keys key) ∙ ap is_some some) some
 
 -- the entries of a map are what is there
-pub all_found : (m : FinMap key_cmp Function) (es : List (Key × Function)) → from_entries {R = key_cmp} es ≡ m → (q : Key) → find key_cmp q es ≡ get m q
+pub all_found : (m : FinMap key_cmp Function) (es : List (FunctionKey × Function)) → from_entries {R = key_cmp} es ≡ m → (q : FunctionKey) → find key_cmp q es ≡ get m q
 all_found m es is q = sym (get-from_entries key_total es q) ∙ ap (λ x. get x q) is
 
 -- what stands where nothing takes its place

@@ -5,7 +5,7 @@ use Rattle.std.specs.FinMap.{FinMap, get, same_map}
 use Rattle.ebpf_base.specs.Keys.{key_cmp, key_total}
 use Rattle.ebpf_base.proofs.Maps.{key_exact}
 use Rattle.ebpf_parts.specs.declared.insn.bpf_insn.{bpf_insn}
-use Rattle.ebpf_reloc.specs.declared.function.Function.{Function}
+use Rattle.ebpf_model.specs.declared.function.Function.{Function}
 use Rattle.ebpf_object.specs.OlderHelpers.{reads_bytes, reads_text, is_helper_call, older, sanitized, have_newer, TwiceIsOnce}
 
 slot_twice : (s : bpf_insn) → older (older s) ≡ older s

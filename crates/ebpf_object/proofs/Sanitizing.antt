@@ -5,7 +5,7 @@ use Rattle.std.specs.FinMap.{FinMap, get}
 use Rattle.ebpf_base.specs.Keys.{key_cmp}
 use Rattle.ebpf_base.specs.Mapped.{map_values}
 use Rattle.ebpf_base.proofs.Mapped.{get-map_values}
-use Rattle.ebpf_reloc.specs.declared.function.Function.{Function}
+use Rattle.ebpf_model.specs.declared.function.Function.{Function}
 use Rattle.ebpf_object.specs.OlderHelpers.{sanitized}
 
 -- at each key stands the function that is written

@@ -10,7 +10,7 @@ use Rattle.ebpf_base.specs.Keys.{text_cmp}
 use Rattle.ebpf_base.proofs.Faults.{both_None}
 use Rattle.ebpf_parts.specs.declared.error.ParseError.TheVariants.{InvalidGlobalData, SymbolNotFound}
 use Rattle.ebpf_parts.specs.declared.maps.either.Map.{Map}
-use Rattle.ebpf_reloc.specs.declared.symbol.Symbol.{Symbol}
+use Rattle.ebpf_model.specs.declared.symbol.Symbol.{Symbol}
 use Rattle.ebpf_object.specs.Patches.{PatchValue, Global, map_data_of, patch_fault_at, patches_in, patches_at, patch_of, by_symbol, of_symbol, in_map, map_in_section, symbol_named}
 use Rattle.ebpf_object.specs.PatchedBytes.{PatchesAreValues, ValuesArePatches}
 use Rattle.ebpf_object.proofs.PatchedPlaces.{one_or_other}

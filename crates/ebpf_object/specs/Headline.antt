@@ -24,14 +24,16 @@ use Rattle.ebpf_object.specs.Stages.{own_maps}
 use Rattle.ebpf_object.specs.Steps.{Chosen}
 use Rattle.ebpf_object.specs.TextSections.{has_function_in}
 use Rattle.ebpf_object.specs.declared.object.Object.{Object}
-use Rattle.ebpf_parsing.specs.declared.program.Program.{Program}
+use Rattle.ebpf_model.specs.declared.program.Program.{Program}
 use Rattle.ebpf_parts.specs.declared.insn.bpf_insn.{bpf_insn}
 use Rattle.ebpf_parts.specs.declared.reading.Reading.{Reading}
 use Rattle.ebpf_reloc.specs.Linking.{IsLinked}
-use Rattle.ebpf_reloc.specs.VariableLookup.{LinkableValue, TextSections}
-use Rattle.ebpf_reloc.specs.References.{Key, functions_of}
-use Rattle.ebpf_reloc.specs.declared.error.RelocationError.{RelocationError}
-use Rattle.ebpf_reloc.specs.declared.function.Function.{Function}
+use Rattle.ebpf_model.specs.TextSections.{TextSections}
+use Rattle.ebpf_reloc.specs.SlotTargets.{LinkableValue}
+use Rattle.ebpf_model.specs.Keys.{FunctionKey}
+use Rattle.ebpf_reloc.specs.References.{functions_of}
+use Rattle.ebpf_model.specs.declared.error.RelocationError.{RelocationError}
+use Rattle.ebpf_model.specs.declared.function.Function.{Function}
 
 -- ---- programs
 
@@ -40,10 +42,10 @@ abbrev pub linkable : Object → LinkableValue
 linkable o = linkable_of o (has_function_in o.functions)
 
 -- the separate functions, as they stand when linking begins, and what their slots refer to
-abbrev pub separate_functions : LinkableValue → Functions Key RelocationError
+abbrev pub separate_functions : LinkableValue → Functions FunctionKey RelocationError
 separate_functions parts = functions_of parts
 
-abbrev pub key_of_program : Program → Key
+abbrev pub key_of_program : Program → FunctionKey
 key_of_program program = (program.section_index, program.address)
 
 -- Each program has become its linked function: its own function followed by every function that its references reach,
@@ -57,7 +59,7 @@ ProgramsAreWhole parts o =
 -- ---- types
 
 -- slot i of the function at a key
-abbrev pub slot_in : Object → Key → ℕ → Option bpf_insn
+abbrev pub slot_in : Object → FunctionKey → ℕ → Option bpf_insn
 slot_in o key i = slice_get (own_slots (get o.functions key)) i
 
 -- what records read of a parsed object
@@ -67,16 +69,16 @@ record_inputs_of parsed local target = relocation_inputs_between local target pa
 -- The slots that a record touches: no other record touches them, and neither descriptors nor externs change them.
 pub record IsAlone (scene : RelocationInputs) (records : List (ℕ × Relocation)) (relocated unlinked : Object) (n : ℕ) (record_at : ℕ × Relocation) : Type 0 where
   pub among_records : WritesAlone scene records n record_at
-  pub unwritten : (key : Key) (i : ℕ) → Touches scene record_at key i → slot_in unlinked key i ≡ slot_in relocated key i
+  pub unwritten : (key : FunctionKey) (i : ℕ) → Touches scene record_at key i → slot_in unlinked key i ≡ slot_in relocated key i
 
 -- Linking leaves a slot as it is: it refers to no function, or where it stands is what it was.
-abbrev pub LinkingKeeps : TextSections → Object → Object → Key → ℕ → Key → ℕ → Type 0
+abbrev pub LinkingKeeps : TextSections → Object → Object → FunctionKey → ℕ → FunctionKey → ℕ → Type 0
 LinkingKeeps text_sections unlinked o key i at place =
     ((separate_functions (linkable_of unlinked text_sections)).reference key i ≡ Nothing) ⊎ (slot_in o at place ≡ slot_in unlinked key i)
 
 -- Slot i of the function at a key stands, once its program is linked, in the linked function at another key: that is the
 -- program's own function or has a copy of it, which begins at a base.
-pub record IsCopiedTo (text_sections : TextSections) (unlinked o : Object) (key : Key) (i : ℕ) (at : Key) (place : ℕ) : Type 0 where
+pub record IsCopiedTo (text_sections : TextSections) (unlinked o : Object) (key : FunctionKey) (i : ℕ) (at : FunctionKey) (place : ℕ) : Type 0 where
   pub linked : Function
   pub there : get o.functions at ≡ Some linked
   pub is : IsLinked (linkable_of unlinked text_sections) at linked
@@ -87,7 +89,7 @@ pub record IsCopiedTo (text_sections : TextSections) (unlinked o : Object) (key 
 
 -- Where slot i of the function at a key stands in the finished object, unchanged by linking: in each program's function,
 -- once programs are linked, and in its own function where that is no program's or no program is linked.
-abbrev pub StandsAt : Option TextSections → Object → Object → Key → ℕ → Key → ℕ → Type 0
+abbrev pub StandsAt : Option TextSections → Object → Object → FunctionKey → ℕ → FunctionKey → ℕ → Type 0
 StandsAt None unlinked o key i at place = (at ≡ key) × (place ≡ i)
 StandsAt (Some text_sections) unlinked o key i at place =
     MatchBool (is_program_key (programs_in_order unlinked.programs) at)
@@ -98,7 +100,7 @@ StandsAt (Some text_sections) unlinked o key i at place =
 pub record IsCarried (scene : RelocationInputs) (left : Written) (calls : Option TextSections) (unlinked o : Object) (record_at : ℕ × Relocation) : Type 0 where
   pub carries : Carries scene left record_at
   pub finished : (i : ℕ) (carrying : bpf_insn) → Touches scene record_at carries.key i → slice_get carries.slots i ≡ Some carrying
-      → (at : Key) (place : ℕ) → StandsAt calls unlinked o carries.key i at place → slot_in o at place ≡ Some carrying
+      → (at : FunctionKey) (place : ℕ) → StandsAt calls unlinked o carries.key i at place → slot_in o at place ≡ Some carrying
 
 -- each record that writes alone is carried
 pub record RecordsAreCarried (scene : RelocationInputs) (parts : List (ℕ × List Relocation)) (calls : Option TextSections) (relocated unlinked o : Object) : Type 0 where

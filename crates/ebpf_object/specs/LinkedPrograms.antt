@@ -5,11 +5,12 @@ use Rattle.std.specs.List.{list_any}
 use Rattle.std.specs.Ordering.{eq_by_cmp}
 use Rattle.ebpf_base.specs.Keys.{text_cmp, key_cmp}
 use Rattle.ebpf_object.specs.declared.object.Object.{Object}
-use Rattle.ebpf_parsing.specs.declared.program.Program.{Program}
+use Rattle.ebpf_model.specs.declared.program.Program.{Program}
 use Rattle.ebpf_reloc.specs.Linking.{ProgramValue, key_of, IsLinked}
-use Rattle.ebpf_reloc.specs.VariableLookup.{LinkableValue, TextSections}
-use Rattle.ebpf_reloc.specs.References.{Key}
-use Rattle.ebpf_reloc.specs.declared.function.Function.{Function}
+use Rattle.ebpf_model.specs.TextSections.{TextSections}
+use Rattle.ebpf_reloc.specs.SlotTargets.{LinkableValue}
+use Rattle.ebpf_model.specs.Keys.{FunctionKey}
+use Rattle.ebpf_model.specs.declared.function.Function.{Function}
 
 -- what linking reads of an object
 abbrev pub linkable_of : Object → TextSections → LinkableValue
@@ -43,13 +44,13 @@ replaced (Some f) None = Some f
 replaced (Some f) (Some g) = Some g
 
 -- whether this is the key of a program
-abbrev pub is_program_key : List ProgramValue → Key → Bool
+abbrev pub is_program_key : List ProgramValue → FunctionKey → Bool
 is_program_key programs key = list_any (λ p. eq_by_cmp key_cmp key (key_of p)) programs
 
 -- each program's function has become its linked program, and the others stay
 abbrev pub ProgramsAreLinked : LinkableValue → List ProgramValue → FinMap key_cmp Function → Type 0
 ProgramsAreLinked parts programs after =
-    (key : Key) → MatchBool (is_program_key programs key)
+    (key : FunctionKey) → MatchBool (is_program_key programs key)
     ((g : Function) × (get after key ≡ Some g) × IsLinked parts key g)
     (get after key ≡ get parts.functions key)
 

@@ -8,7 +8,7 @@ use Rattle.ebpf_base.specs.Keys.{text_cmp}
 use Rattle.ebpf_object.specs.Patches.{PatchValue, Global, all_patched, map_data_of, map_in_section, patches_at, patches_of, patches_fault, symbol_named}
 use Rattle.ebpf_parts.specs.Maps.{with_bytes}
 use Rattle.ebpf_parts.specs.declared.maps.either.Map.{Map}
-use Rattle.ebpf_reloc.specs.declared.symbol.Symbol.{Symbol}
+use Rattle.ebpf_model.specs.declared.symbol.Symbol.{Symbol}
 
 -- the maps once the variables' values are written
 abbrev pub with_values : FinMap nat_cmp Symbol → FinMap text_cmp Map → FinMap text_cmp Global → FinMap text_cmp Map

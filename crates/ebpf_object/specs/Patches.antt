@@ -12,7 +12,7 @@ use Rattle.ebpf_parts.specs.Maps.{bytes_of, with_bytes, section_index_of}
 use Rattle.ebpf_parts.specs.declared.error.ParseError.{ParseError}
 use Rattle.ebpf_parts.specs.declared.error.ParseError.TheVariants.{SymbolNotFound, InvalidGlobalData, MapNotFound}
 use Rattle.ebpf_parts.specs.declared.maps.either.Map.{Map}
-use Rattle.ebpf_reloc.specs.declared.symbol.Symbol.{Symbol}
+use Rattle.ebpf_model.specs.declared.symbol.Symbol.{Symbol}
 
 -- bytes for the data of a map from an offset on
 pub record PatchValue : Type 0 where

@@ -12,7 +12,7 @@ use Rattle.ebpf_object.specs.declared.prepare_error.PrepareError.{PrepareError}
 use Rattle.ebpf_object.specs.declared.prepare_error.PrepareError.TheVariants.{Parse, Types, Maps, Ksyms, Externs, Calls, OutOfMemory}
 use Rattle.ebpf_parts.specs.Memory as parsing
 use Rattle.ebpf_parts.specs.declared.reading.Reading.{Reading}
-use Rattle.ebpf_reloc.specs.Memory as relocating
+use Rattle.ebpf_model.specs.Memory as relocating
 
 -- ---- the stages in order, for what is chosen and the lines of the kernel's symbols
 

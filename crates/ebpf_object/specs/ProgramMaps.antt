@@ -1,11 +1,11 @@
 -- What the linked programs of an object are made of.
 use Rattle.std.specs.Prelude.{Option, Some, None, Result, Ok, Err, ⊤, MatchBool}
-use Rattle.ebpf_reloc.specs.declared.error.EbpfRelocationError.{EbpfRelocationError}
+use Rattle.ebpf_model.specs.declared.error.EbpfRelocationError.{EbpfRelocationError}
 use Rattle.ebpf_reloc.specs.declared.link_map.LinkMap.{LinkMap}
 use Rattle.ebpf_reloc.specs.LinkMaps.{IsLinkMapAt}
 use Rattle.ebpf_reloc.specs.Linking.{ProgramValue, key_of, IsProgramRefusal}
-use Rattle.ebpf_reloc.specs.Memory.{is_memory_at}
-use Rattle.ebpf_reloc.specs.VariableLookup.{LinkableValue}
+use Rattle.ebpf_model.specs.Memory.{is_memory_at}
+use Rattle.ebpf_reloc.specs.SlotTargets.{LinkableValue}
 
 -- the map of a program, or its refusal; want of memory fits beside both
 abbrev pub MapsProgram : LinkableValue → ProgramValue → Result (Option LinkMap) EbpfRelocationError → Type 0

@@ -7,7 +7,7 @@ use Rattle.ebpf_btf.specs.TypeInfo.{TypeInfo}
 use Rattle.ebpf_core_relo.specs.declared.error.BtfRelocationError.{BtfRelocationError}
 use Rattle.ebpf_core_relo.specs.Records.{Written, relocation_inputs_between, slots_written, with_slots}
 use Rattle.ebpf_object.specs.declared.object.Object.{Object}
-use Rattle.ebpf_reloc.specs.declared.function.Function.{Function}
+use Rattle.ebpf_model.specs.declared.function.Function.{Function}
 
 -- the slots that CO-RE relocations write, where there are types and relocations
 abbrev pub relocated_slots_by : Object → TypeInfo → Option TypeInfo → Option ExtInfo → Result Written BtfRelocationError

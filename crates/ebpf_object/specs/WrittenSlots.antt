@@ -3,8 +3,8 @@ use Rattle.std.specs.Prelude.{List, Option, None, is_some, if◌then◌else◌}
 use Rattle.ebpf_base.specs.Mapped.{map_values}
 use Rattle.ebpf_passes.specs.Maps.{GivenMap}
 use Rattle.ebpf_passes.specs.Passes.{with_map_fds, map_fault, externs_written, extern_fault}
-use Rattle.ebpf_reloc.specs.VariableLookup.{TextSections}
-use Rattle.ebpf_reloc.specs.declared.error.EbpfRelocationError.{EbpfRelocationError}
+use Rattle.ebpf_model.specs.TextSections.{TextSections}
+use Rattle.ebpf_model.specs.declared.error.EbpfRelocationError.{EbpfRelocationError}
 use Rattle.ebpf_object.specs.declared.object.Object.{Object}
 
 -- the object with the descriptors of some maps

@@ -7,8 +7,8 @@ use crate::prepare_error::PrepareError;
 use crate::section_words::SectionWords;
 use ebpf_base::Text;
 use ebpf_ksyms::KsymsError;
+use ebpf_model::{EbpfRelocationError, RelocationError};
 use ebpf_parts::{ParseError, SymbolWords, Within};
-use ebpf_reloc::{EbpfRelocationError, RelocationError};
 use std::fmt;
 
 /// An error and the object that it is about. It prints the error's sentence with the names that the object has for its

@@ -1,4 +1,4 @@
 //! Externs: the kernel's functions and variables that an object names.
 
 pub use ebpf_ksyms::KsymsError;
-pub use ebpf_reloc::ExternDesc;
+pub use ebpf_model::ExternDesc;

@@ -36,6 +36,6 @@ mod stated;
 mod steps;
 mod text_sections;
 
-pub use ebpf_parsing::Program;
+pub use ebpf_model::Program;
 pub use ebpf_parts::{insn, maps, programs};
 pub use object::Object;

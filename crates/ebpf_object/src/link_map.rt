@@ -6,14 +6,13 @@ ghost use Rattle.ebpf_object.specs.LinkedPrograms.{linkable_of, program_value};
 ghost use Rattle.ebpf_object.specs.ProgramMaps.{MapsProgram};
 ghost use Rattle.ebpf_reloc.specs.LinkMaps.{IsLinkMapAt};
 ghost use Rattle.ebpf_reloc.specs.Linking.{key_of, IsProgramRefusal};
-ghost use Rattle.ebpf_reloc.specs.Memory.{is_memory_at, NamesNoneForMemory};
-ghost use Rattle.ebpf_reloc.specs.VariableLookup.{text_sections_in, read};
+ghost use Rattle.ebpf_model.specs.Memory.{is_memory_at, NamesNoneForMemory};
+ghost use Rattle.ebpf_model.specs.TextSections.{text_sections_in};
+ghost use Rattle.ebpf_reloc.specs.SlotTargets.{read};
 
 use crate::object::Object;
-use ebpf_parsing::Program;
-use ebpf_reloc::{
-    EbpfRelocationError, LinkMap, Linkable, NumberedFunctions, ProgramKey, number_functions,
-};
+use ebpf_model::{EbpfRelocationError, Program};
+use ebpf_reloc::{LinkMap, Linkable, NumberedFunctions, ProgramKey, number_functions};
 use std::collections::HashSet;
 
 /// An object whose functions have numbers, for what each of its linked programs is made of.

@@ -5,8 +5,8 @@ ghost use Rattle.std.specs.Option.{option_copied};
 ghost use Rattle.ebpf_object.specs.NamedPrograms.{program_function, program_slots};
 
 use crate::object::Object;
+use ebpf_model::Function;
 use ebpf_parts::insn::bpf_insn;
-use ebpf_reloc::Function;
 
 impl Object {
     /// The function of the program with this name: its own slots as parsed, and after `relocate_calls` those of every

@@ -10,10 +10,10 @@ use ebpf_base::{ByIndex, ByKey, ByName, ByOffset, BySection, Items};
 use ebpf_btf::{Btf, Endianness};
 use ebpf_elf::SectionIndex;
 use ebpf_ext::BtfExt;
-use ebpf_parsing::{FileContents, Program};
+use ebpf_model::{ExternDesc, Function, Program, Symbol};
+use ebpf_parsing::FileContents;
 use ebpf_parts::maps::Map;
 use ebpf_parts::{ParseError, Reading, Relocation};
-use ebpf_reloc::{ExternDesc, Function, Symbol};
 use std::alloc::Global;
 
 /// What an ELF file with eBPF programs holds.

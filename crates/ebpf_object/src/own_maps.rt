@@ -10,14 +10,14 @@ ghost use Rattle.ebpf_object.specs.WrittenSlots.{with_maps, maps_fault};
 ghost use Rattle.ebpf_object.specs.declared.prepare_error.PrepareError.TheVariants.{Maps};
 ghost use Rattle.ebpf_passes.specs.Maps.{given_map};
 ghost use Rattle.ebpf_passes.specs.Relocated.{out_of_memory};
-ghost use Rattle.ebpf_reloc.specs.Memory.{is_memory_at};
-ghost use Rattle.ebpf_reloc.specs.VariableLookup.{text_sections_in};
+ghost use Rattle.ebpf_model.specs.Memory.{is_memory_at};
+ghost use Rattle.ebpf_model.specs.TextSections.{text_sections_in};
 
 use crate::object::Object;
 use crate::prepare_error::PrepareError;
 use ebpf_base::ByName;
+use ebpf_model::EbpfRelocationError;
 use ebpf_parts::maps::Map;
-use ebpf_reloc::EbpfRelocationError;
 use std::alloc::{AllocError, Global};
 use std::collections::HashSet;
 use std::mem;

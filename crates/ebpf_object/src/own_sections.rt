@@ -6,10 +6,11 @@ ghost use Rattle.ebpf_object.specs.LinkedPrograms.{linkable_of, program_value, p
 ghost use Rattle.ebpf_object.specs.ProgramMaps.{MapsProgram};
 ghost use Rattle.ebpf_object.specs.TextSections.{has_function_in};
 ghost use Rattle.ebpf_reloc.specs.Linking.{IsFirstRefusal};
-ghost use Rattle.ebpf_reloc.specs.Memory.{is_memory_at, NamesNoneForMemory};
+ghost use Rattle.ebpf_model.specs.Memory.{is_memory_at, NamesNoneForMemory};
 
 use crate::object::Object;
-use ebpf_reloc::{EbpfRelocationError, LinkMap};
+use ebpf_model::EbpfRelocationError;
+use ebpf_reloc::LinkMap;
 
 impl Object {
     /// Links each program with every function that its references reach, as `relocate_calls` does with the sections that

@@ -12,8 +12,8 @@ ghost use Rattle.ebpf_object.specs.Patches.{PatchValue, overwritten, with_patch,
 ghost use Rattle.ebpf_object.specs.PatchValues.{value_of};
 
 use ebpf_base::{ByIndex, ByName, Text};
+use ebpf_model::Symbol;
 use ebpf_parts::maps::Map;
-use ebpf_reloc::Symbol;
 use std::alloc::{AllocError, Global};
 
 /// Bytes for the data of a map from an offset on.

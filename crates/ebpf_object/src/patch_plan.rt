@@ -10,9 +10,9 @@ ghost use Rattle.ebpf_parts.specs.declared.error.ParseError.TheVariants.{Invalid
 
 use crate::patch::Patch;
 use ebpf_base::{ByIndex, ByName, Text};
+use ebpf_model::Symbol;
 use ebpf_parts::ParseError;
 use ebpf_parts::maps::Map;
-use ebpf_reloc::Symbol;
 use std::alloc::Global;
 
 /// What a variable's map and offset are found by.

@@ -5,8 +5,8 @@ ghost use Rattle.ebpf_object.specs.declared.prepare_error.PrepareError.TheVarian
 
 use ebpf_core_relo::BtfRelocationError;
 use ebpf_ksyms::KsymsError;
+use ebpf_model::EbpfRelocationError;
 use ebpf_parts::ParseError;
-use ebpf_reloc::EbpfRelocationError;
 use std::alloc::AllocError;
 use thiserror::Error;
 

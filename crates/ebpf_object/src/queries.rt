@@ -9,7 +9,7 @@ ghost use Rattle.ebpf_object.specs.TypedExterns.{has_extern, has_typed, has_stro
 
 use crate::object::Object;
 use ebpf_base::ByName;
-use ebpf_reloc::ExternDesc;
+use ebpf_model::ExternDesc;
 use std::collections::BTreeMap;
 
 // The externs in the order of their names.

@@ -7,13 +7,13 @@ ghost use Rattle.std.specs.Ordering.{eq_by_cmp};
 ghost use Rattle.ebpf_base.specs.Keys.{key_cmp, lent_bytes};
 ghost use Rattle.ebpf_object.specs.LinkedPrograms.{linkable_of, program_with, programs_in_order, replaced, ProgramsAreLinked};
 ghost use Rattle.ebpf_reloc.specs.Linking.{AreLinked, IsFirstRefusal};
-ghost use Rattle.ebpf_reloc.specs.VariableLookup.{text_sections_in};
-ghost use Rattle.ebpf_reloc.specs.Memory.{is_memory_at, NamesNoneForMemory};
+ghost use Rattle.ebpf_model.specs.TextSections.{text_sections_in};
+ghost use Rattle.ebpf_model.specs.Memory.{is_memory_at, NamesNoneForMemory};
 
 use crate::object::Object;
 use ebpf_base::{ByKey, ByName};
-use ebpf_parsing::Program;
-use ebpf_reloc::{EbpfRelocationError, Function, Linkable, ProgramKey, relocate_calls};
+use ebpf_model::{EbpfRelocationError, Function, Program};
+use ebpf_reloc::{Linkable, ProgramKey, relocate_calls};
 use std::alloc::{AllocError, Global};
 use std::collections::HashSet;
 

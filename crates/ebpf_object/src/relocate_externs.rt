@@ -3,11 +3,11 @@
 ghost use Rattle.std.specs.Prelude.{◌≡◌, true, OnOk, OnErr, IfErr};
 ghost use Rattle.ebpf_base.specs.Faults.{Refuses};
 ghost use Rattle.ebpf_passes.specs.Relocated.{out_of_memory};
-ghost use Rattle.ebpf_reloc.specs.Memory.{is_memory_at};
+ghost use Rattle.ebpf_model.specs.Memory.{is_memory_at};
 ghost use Rattle.ebpf_object.specs.WrittenSlots.{with_externs, externs_fault};
 
 use crate::object::Object;
-use ebpf_reloc::EbpfRelocationError;
+use ebpf_model::EbpfRelocationError;
 
 impl Object {
     /// Writes the externs into the slots that refer to them. An object without type information

@@ -4,13 +4,13 @@ ghost use Rattle.std.specs.Prelude.{◌≡◌, None, Some, OnOk, OnErr, IfErr, M
 ghost use Rattle.std.specs.Iterator.{IsFinite};
 ghost use Rattle.ebpf_passes.specs.Passes.{Given};
 ghost use Rattle.ebpf_passes.specs.Relocated.{out_of_memory};
-ghost use Rattle.ebpf_reloc.specs.VariableLookup.{text_sections_in};
-ghost use Rattle.ebpf_reloc.specs.Memory.{is_memory_at};
+ghost use Rattle.ebpf_model.specs.TextSections.{text_sections_in};
+ghost use Rattle.ebpf_model.specs.Memory.{is_memory_at};
 ghost use Rattle.ebpf_object.specs.WrittenSlots.{with_maps, maps_fault};
 
 use crate::object::Object;
+use ebpf_model::EbpfRelocationError;
 use ebpf_parts::maps::Map;
-use ebpf_reloc::EbpfRelocationError;
 use std::collections::HashSet;
 
 impl Object {

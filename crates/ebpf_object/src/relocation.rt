@@ -1,6 +1,5 @@
 //! Relocation, and why it can refuse; what linked programs are made of.
 
 pub use crate::link_map::ProgramMaps;
-pub use ebpf_reloc::{
-    CodeCopy, EbpfRelocationError, LinkMap, NumberedFunctions, Reference, RelocationError,
-};
+pub use ebpf_model::{EbpfRelocationError, RelocationError};
+pub use ebpf_reloc::{CodeCopy, LinkMap, NumberedFunctions, Reference};

@@ -7,8 +7,8 @@ ghost use Rattle.ebpf_object.specs.OlderHelpers.{older_helper, calls_newer, olde
 
 use crate::object::Object;
 use ebpf_base::ByKey;
+use ebpf_model::Function;
 use ebpf_parts::insn::bpf_insn;
-use ebpf_reloc::Function;
 
 /// The helper function that every kernel has, in the place of one by its number.
 fn older_helper(helper: i32) -> i32

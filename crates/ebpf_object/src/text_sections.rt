@@ -2,7 +2,7 @@
 
 ghost use Rattle.std.specs.Prelude.{◌≡◌, IfOk};
 ghost use Rattle.ebpf_object.specs.TextSections.{has_function_in};
-ghost use Rattle.ebpf_reloc.specs.VariableLookup.{text_sections_in};
+ghost use Rattle.ebpf_model.specs.TextSections.{text_sections_in};
 
 use crate::object::Object;
 use std::alloc::{AllocError, Global};

@@ -31,7 +31,7 @@ use Rattle.ebpf_parsing.specs.Readings.{ReadingsAgree, StatedKindsAreNamed}
 use Rattle.ebpf_parsing.specs.SymbolNames.{symbol_indices_by_name}
 use Rattle.ebpf_parsing.specs.Symbols.{SymbolValue, section_symbols}
 use Rattle.ebpf_parsing.specs.LicenseAndVersion.{has_zero, front_of, stated_text_fault, license_text, license_text_fault, license_in, license_fault_in, license_as, license_fault_as, kernel_version_of, version_fault}
-use Rattle.ebpf_parsing.specs.declared.program.Program.{Program}
+use Rattle.ebpf_model.specs.declared.program.Program.{Program}
 use Rattle.ebpf_parts.proofs.NamesRead.{broad_keeps_kinds, no_name_says_other}
 use Rattle.ebpf_parts.specs.ProgramSections.{no_section}
 use Rattle.ebpf_parts.specs.Readings.{section_as, section_fault_as}

@@ -17,7 +17,7 @@ use Rattle.ebpf_parsing.specs.Records.{FuncAndLineInfo}
 use Rattle.ebpf_parsing.specs.Symbols.{SymbolValue}
 use Rattle.ebpf_base.proofs.Walks.{rest_more, kept_more, passed_more, fault_here}
 use Rattle.ebpf_parts.specs.Sections.{SectionValue}
-use Rattle.ebpf_reloc.specs.declared.function.Function.{Function}
+use Rattle.ebpf_model.specs.declared.function.Function.{Function}
 
 abbrev pub ProgramLasts : FinMap nat_cmp ℕ → List SymbolValue → Type 0
 ProgramLasts last rest = Lasts nat_cmp_total program_symbol_row last rest

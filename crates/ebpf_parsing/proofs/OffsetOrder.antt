@@ -1,7 +1,7 @@
 -- Functions in order of their offset: there is one such order.
 use Rattle.std.proofs.Common.{◌≡◌, ℕ, suc, zero, ◌<◌, List, [], ◌∷◌, Some, refl, sym, ap, subst, ◌∙◌, arith, slice_get}
 use Rattle.ebpf_parsing.specs.TiledSections.{OffsetsRise}
-use Rattle.ebpf_reloc.specs.declared.function.Function.{Function}
+use Rattle.ebpf_model.specs.declared.function.Function.{Function}
 
 -- the functions of one list are functions of another
 abbrev pub Within : List Function → List Function → Type 0

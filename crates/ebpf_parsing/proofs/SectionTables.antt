@@ -29,7 +29,7 @@ use Rattle.ebpf_parsing.proofs.TextKeys.{Key, Entry, flipped, entries_apart, sec
 use Rattle.ebpf_parsing.proofs.OffsetOrder.{one_order}
 use Rattle.ebpf_parsing.proofs.Tiles as tiles
 use Rattle.ebpf_parts.specs.Sections.{SectionValue, section_of, section_with}
-use Rattle.ebpf_reloc.specs.declared.function.Function.{Function}
+use Rattle.ebpf_model.specs.declared.function.Function.{Function}
 use Rattle.ebpf_parts.specs.declared.reading.Reading.{Reading}
 
 first_or_later : {A : Type 0} (x : A) (xs : List A) (j : ℕ) (y : A) → slice_get (x ∷ xs) j ≡ Some y → (x ≡ y) ⊎ ((k : ℕ) × (slice_get xs k ≡ Some y))

@@ -32,7 +32,7 @@ use Rattle.ebpf_parsing.specs.TableKeys.{FunctionsAtTheirKeys, IsFileSymbol, Sym
 use Rattle.ebpf_parsing.specs.SymbolNames.{weak_named}
 use Rattle.ebpf_parsing.specs.Symbols.{SymbolValue}
 use Rattle.ebpf_parsing.specs.LicenseAndVersion.{license_as, kernel_version_of}
-use Rattle.ebpf_parsing.specs.declared.program.Program.{Program}
+use Rattle.ebpf_model.specs.declared.program.Program.{Program}
 use Rattle.ebpf_parsing.proofs.EntriesStand.{stands, all_flat_map, Among, in_flat_map, known}
 use Rattle.ebpf_parsing.proofs.TextKeys.{key_exact}
 use Rattle.ebpf_parts.specs.Readings.{section_as}
@@ -40,8 +40,8 @@ use Rattle.ebpf_parts.specs.Sections.{SectionValue}
 use Rattle.ebpf_parts.specs.declared.program_section.ProgramSection.{ProgramSection}
 use Rattle.ebpf_parts.specs.declared.section_kind.EbpfSectionKind.{EbpfSectionKind}
 use Rattle.ebpf_parts.specs.declared.section_kind.EbpfSectionKind.TheVariants.{Text, Program as Programs}
-use Rattle.ebpf_reloc.specs.declared.extern_desc.ExternDesc.{ExternDesc}
-use Rattle.ebpf_reloc.specs.declared.function.Function.{Function}
+use Rattle.ebpf_model.specs.declared.extern_desc.ExternDesc.{ExternDesc}
+use Rattle.ebpf_model.specs.declared.function.Function.{Function}
 use Rattle.ebpf_parts.specs.declared.reading.Reading.{Reading}
 
 -- ---- functions

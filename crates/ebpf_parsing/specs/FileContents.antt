@@ -24,13 +24,13 @@ use Rattle.ebpf_parsing.specs.CodeOrder.{order_fault_as}
 use Rattle.ebpf_parsing.specs.LicenseAndVersion.{license_as, license_fault_as, kernel_version_of, version_fault}
 use Rattle.ebpf_parsing.specs.declared.file_contents.FileContents.{FileContents}
 use Rattle.ebpf_parsing.specs.declared.object_tables.ObjectTables.{ObjectTables}
-use Rattle.ebpf_parsing.specs.declared.program.Program.{Program}
+use Rattle.ebpf_model.specs.declared.program.Program.{Program}
 use Rattle.ebpf_parsing.specs.declared.metadata.FileMetadata.{FileMetadata}
 use Rattle.ebpf_parts.specs.Sections.{SectionValue, section_of, section_fault}
 use Rattle.ebpf_parts.specs.declared.error.ParseError.{ParseError}
 use Rattle.ebpf_parts.specs.declared.error.ParseError.TheVariants.{ElfError}
 use Rattle.ebpf_parts.specs.declared.maps.either.Map.{Map}
-use Rattle.ebpf_reloc.specs.declared.function.Function.{Function}
+use Rattle.ebpf_model.specs.declared.function.Function.{Function}
 use Rattle.ebpf_parts.specs.declared.reading.Reading.{Reading}
 use Rattle.ebpf_parts.specs.declared.reading.Reading.TheVariants.{Stated}
 

@@ -10,7 +10,7 @@ use Rattle.ebpf_parsing.specs.Symbols.{SymbolValue}
 use Rattle.ebpf_parsing.specs.SymbolNames.{weak_named}
 use Rattle.ebpf_parts.specs.declared.error.ParseError.{ParseError}
 use Rattle.ebpf_parts.specs.declared.error.ParseError.TheVariants.{BtfError}
-use Rattle.ebpf_reloc.specs.declared.extern_desc.ExternDesc.{ExternDesc}
+use Rattle.ebpf_model.specs.declared.extern_desc.ExternDesc.{ExternDesc}
 
 -- beside types, where symbols say which names are weak
 abbrev pub externs_beside : List SymbolValue → Option TypeInfo → FinMap text_cmp ExternDesc

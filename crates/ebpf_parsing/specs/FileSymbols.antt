@@ -9,7 +9,7 @@ use Rattle.ebpf_elf.specs.Symbols.{SymbolOf, entry, symbol_name, symbol_kind, sy
 use Rattle.ebpf_parsing.specs.Symbols.{SymbolValue}
 use Rattle.ebpf_parts.specs.declared.error.ParseError.{ParseError}
 use Rattle.ebpf_parts.specs.declared.error.ParseError.TheVariants.{BtfError}
-use Rattle.ebpf_reloc.specs.declared.symbol.Symbol.{Symbol}
+use Rattle.ebpf_model.specs.declared.symbol.Symbol.{Symbol}
 
 -- a symbol of a file; its name is empty where it can't be read
 unfoldable pub symbol_of : SymbolOf → SymbolValue

@@ -16,7 +16,7 @@ use Rattle.ebpf_parsing.specs.Records.{FuncAndLineInfo, func_and_line_info_of}
 use Rattle.ebpf_parsing.specs.Relocations.{relocation_table_at}
 use Rattle.ebpf_parsing.specs.Symbols.{SymbolValue}
 use Rattle.ebpf_parsing.specs.Texts.{text_functions, text_fault}
-use Rattle.ebpf_parsing.specs.declared.program.Program.{Program}
+use Rattle.ebpf_model.specs.declared.program.Program.{Program}
 use Rattle.ebpf_parts.specs.Readings.{section_as, section_fault_as}
 use Rattle.ebpf_parts.specs.Sections.{SectionValue}
 use Rattle.ebpf_parts.specs.declared.error.ParseError.{ParseError}
@@ -24,7 +24,7 @@ use Rattle.ebpf_parts.specs.declared.error.ParseError.TheVariants.{NoSymbolsForS
 use Rattle.ebpf_parts.specs.declared.maps.either.Map.{Map}
 use Rattle.ebpf_parts.specs.declared.section_kind.EbpfSectionKind.{EbpfSectionKind}
 use Rattle.ebpf_parts.specs.declared.section_kind.EbpfSectionKind.TheVariants.{Maps, BtfMaps, Data, Rodata, Bss, Text, Program as Programs}
-use Rattle.ebpf_reloc.specs.declared.function.Function.{Function}
+use Rattle.ebpf_model.specs.declared.function.Function.{Function}
 use Rattle.ebpf_parts.specs.declared.reading.Reading.{Reading}
 
 -- the maps, by name

@@ -7,13 +7,13 @@ use Rattle.ebpf_base.specs.Keyed.{put_all}
 use Rattle.ebpf_base.specs.Faults.{Row, first_in, first_some}
 use Rattle.ebpf_parsing.specs.Records.{FuncAndLineInfo, slot_of, funcs_at, lines_in}
 use Rattle.ebpf_parsing.specs.Symbols.{SymbolValue, is_text_symbol}
-use Rattle.ebpf_parsing.specs.declared.program.Program.{Program}
+use Rattle.ebpf_model.specs.declared.program.Program.{Program}
 use Rattle.ebpf_parts.specs.declared.error.ParseError.{ParseError}
 use Rattle.ebpf_parts.specs.declared.error.ParseError.TheVariants.{InvalidSymbol}
 use Rattle.ebpf_parts.specs.declared.program_section.ProgramSection.{ProgramSection}
 use Rattle.ebpf_parts.specs.Sections.{SectionValue}
 use Rattle.ebpf_parts.specs.Slots.{slots_of, code_faults}
-use Rattle.ebpf_reloc.specs.declared.function.Function.{Function}
+use Rattle.ebpf_model.specs.declared.function.Function.{Function}
 
 -- a symbol that names a program: Text, and with a name
 abbrev pub is_program_symbol : SymbolValue → Bool

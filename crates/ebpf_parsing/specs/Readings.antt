@@ -5,7 +5,7 @@ use Rattle.ebpf_base.specs.declared.endianness.Endianness.TheVariants.{Little}
 use Rattle.ebpf_elf.specs.File.{ei_data}
 use Rattle.ebpf_parsing.specs.FileContents.{maps, maps_as, programs, programs_as, parse_fault, parse_fault_as}
 use Rattle.ebpf_parsing.specs.LicenseAndVersion.{license_of, license_as}
-use Rattle.ebpf_parsing.specs.declared.program.Program.{Program}
+use Rattle.ebpf_model.specs.declared.program.Program.{Program}
 use Rattle.ebpf_parts.specs.declared.error.ParseError.TheVariants.{InvalidProgramSection, BigEndianCode}
 use Rattle.ebpf_parts.specs.declared.program_section.ProgramSection.TheVariants.{Other}
 use Rattle.ebpf_parts.specs.declared.reading.Reading.TheVariants.{Broad}

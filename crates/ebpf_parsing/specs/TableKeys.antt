@@ -9,14 +9,14 @@ use Rattle.ebpf_parsing.specs.DataMaps.{data_map}
 use Rattle.ebpf_parsing.specs.FileExterns.{externs_of}
 use Rattle.ebpf_parsing.specs.FileSymbols.{file_symbols, symbol_table, symbol_of, symbol_entry}
 use Rattle.ebpf_parsing.specs.Relocations.{relocations_by_offset}
-use Rattle.ebpf_parsing.specs.declared.program.Program.{Program}
+use Rattle.ebpf_model.specs.declared.program.Program.{Program}
 use Rattle.ebpf_parts.specs.Maps.{section_index_of, symbol_index_of}
 use Rattle.ebpf_parts.specs.Sections.{SectionValue}
 use Rattle.ebpf_parts.specs.declared.maps.either.Map.{Map}
 use Rattle.ebpf_parts.specs.declared.section_kind.EbpfSectionKind.TheVariants.{Data, Rodata, Bss, Text, Program as Programs}
-use Rattle.ebpf_reloc.specs.declared.extern_desc.ExternDesc.{ExternDesc}
-use Rattle.ebpf_reloc.specs.declared.function.Function.{Function}
-use Rattle.ebpf_reloc.specs.declared.symbol.Symbol.{Symbol}
+use Rattle.ebpf_model.specs.declared.extern_desc.ExternDesc.{ExternDesc}
+use Rattle.ebpf_model.specs.declared.function.Function.{Function}
+use Rattle.ebpf_model.specs.declared.symbol.Symbol.{Symbol}
 use Rattle.ebpf_parts.specs.declared.reading.Reading.{Reading}
 
 -- at the key (section, address) stands a function of this section, at this address

@@ -8,7 +8,7 @@ use Rattle.ebpf_parts.specs.Sections.{SectionValue}
 use Rattle.ebpf_parts.specs.Slots.{slots_of, code_faults}
 use Rattle.ebpf_parts.specs.declared.error.ParseError.{ParseError}
 use Rattle.ebpf_parts.specs.declared.error.ParseError.TheVariants.{SymbolTableConflict, UnknownSymbol, InvalidSymbol}
-use Rattle.ebpf_reloc.specs.declared.function.Function.{Function}
+use Rattle.ebpf_model.specs.declared.function.Function.{Function}
 
 -- a symbol that names a function: Text, and defined
 abbrev pub is_defined_text : SymbolValue → Bool

@@ -10,7 +10,7 @@ use Rattle.ebpf_parsing.specs.Texts.{text_functions}
 use Rattle.ebpf_parts.specs.Sections.{SectionValue}
 use Rattle.ebpf_parts.specs.Slots.{slots_of}
 use Rattle.ebpf_parts.specs.declared.section_kind.EbpfSectionKind.TheVariants.{Text}
-use Rattle.ebpf_reloc.specs.declared.function.Function.{Function}
+use Rattle.ebpf_model.specs.declared.function.Function.{Function}
 use Rattle.ebpf_parts.specs.declared.reading.Reading.{Reading}
 
 -- a Text section of a file without a fault, by its place among the sections that are read; as each slice,

@@ -12,8 +12,8 @@ use ebpf_base::ByName;
 use ebpf_btf::Btf;
 use ebpf_declarations::{collect_externs, may_declare_externs, parse_error};
 use ebpf_elf::ElfFile;
+use ebpf_model::ExternDesc;
 use ebpf_parts::ParseError;
-use ebpf_reloc::ExternDesc;
 use std::alloc::Global;
 
 /// Types with those that externs add, and the externs by name.

@@ -17,8 +17,8 @@ use crate::version::read_version;
 use ebpf_base::{ByIndex, ByName};
 use ebpf_btf::Endianness;
 use ebpf_elf::ElfFile;
+use ebpf_model::{ExternDesc, Symbol};
 use ebpf_parts::{ParseError, Reading};
-use ebpf_reloc::{ExternDesc, Symbol};
 use std::alloc::Global;
 
 /// What an ELF file with eBPF programs holds.

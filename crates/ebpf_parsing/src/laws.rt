@@ -9,11 +9,11 @@ ghost use Rattle.ebpf_parsing.specs.Readings.{BroadRefusesNoName, ReadingsAgree,
 ghost use Rattle.ebpf_parsing.specs.TableKeys.{FunctionsAtTheirKeys, SymbolsAtTheirIndices, RelocationsAtTheirOffsets, TablesOfCode, RelocationsNameSymbols, ProgramsHaveFunctions, MapsHaveTheirSymbols, OtherMapsAreOfData, ExternsAreUnresolved};
 ghost use Rattle.ebpf_parsing.specs.TiledSections.{AtEachAddress, InOrder, SectionsTile};
 ghost use Rattle.ebpf_parsing.specs.Tiling.{FunctionsTile};
-ghost use Rattle.ebpf_parsing.specs.declared.program.Program.{Program};
+ghost use Rattle.ebpf_model.specs.declared.program.Program.{Program};
 ghost use Rattle.ebpf_parts.specs.declared.maps.either.Map.{Map};
-ghost use Rattle.ebpf_reloc.specs.declared.extern_desc.ExternDesc.{ExternDesc};
-ghost use Rattle.ebpf_reloc.specs.declared.function.Function.{Function};
-ghost use Rattle.ebpf_reloc.specs.declared.symbol.Symbol.{Symbol};
+ghost use Rattle.ebpf_model.specs.declared.extern_desc.ExternDesc.{ExternDesc};
+ghost use Rattle.ebpf_model.specs.declared.function.Function.{Function};
+ghost use Rattle.ebpf_model.specs.declared.symbol.Symbol.{Symbol};
 
 /// In each table of an object the last of the entries with one key stands.
 pub fn later_entries_stand()

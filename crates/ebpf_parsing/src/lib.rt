@@ -15,7 +15,6 @@ pub mod laws;
 mod legacy_maps;
 mod license;
 mod object_tables;
-mod program;
 mod program_functions;
 mod records;
 mod records_by_name;
@@ -30,7 +29,7 @@ mod text;
 mod text_symbols;
 mod version;
 
+pub use ebpf_model::Program;
 pub use file_contents::FileContents;
 pub use object_tables::ObjectTables;
-pub use program::Program;
 pub use metadata::FileMetadata;

@@ -30,7 +30,6 @@ use crate::file_types::{is_type_information, remember};
 use crate::groups::Groups;
 use crate::last_data::last_data_sections;
 use crate::legacy_maps::put_legacy_maps;
-use crate::program::Program;
 use crate::program_functions::{put_functions, put_programs};
 use crate::records_by_name::{SectionInputs, RecordsByName};
 use crate::relocations::{RelocationTable, by_offset};
@@ -41,9 +40,9 @@ use crate::symbols::NamedSymbol;
 use crate::text::put_text_functions;
 use ebpf_base::{ByKey, ByName, ByOffset, BySection, Text};
 use ebpf_elf::{ElfFile, ElfSection, SectionIndex};
+use ebpf_model::{Function, Program};
 use ebpf_parts::maps::Map;
 use ebpf_parts::{EbpfSectionKind, ParseError, ProgramSection, Relocation, Section};
-use ebpf_reloc::Function;
 use std::alloc::Global;
 
 /// What the sections of a file give to an object.

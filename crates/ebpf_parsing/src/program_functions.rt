@@ -7,15 +7,14 @@ ghost use Rattle.ebpf_parsing.specs.Programs.{is_program_symbol, program_bytes, 
 ghost use Rattle.ebpf_parts.specs.Memory.{is_memory};
 
 use crate::last_data::is_index;
-use crate::program::Program;
 use crate::records::{SLOT, SectionRecords};
 use crate::metadata::FileMetadata;
 use crate::symbols::NamedSymbol;
 use ebpf_base::{ByKey, ByName, ByOffset, Items, Text};
 use ebpf_elf::SymbolKind;
+use ebpf_model::{Function, Program};
 use ebpf_parts::insn::copy_instructions;
 use ebpf_parts::{ParseError, ProgramSection, Section};
-use ebpf_reloc::Function;
 use std::alloc::Global;
 
 impl NamedSymbol<'_> {

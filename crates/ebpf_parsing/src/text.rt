@@ -12,9 +12,9 @@ use crate::records::{SLOT, SectionRecords};
 use crate::symbols::NamedSymbol;
 use crate::text_symbols::TextSymbols;
 use ebpf_base::{ByKey, Items, Text};
+use ebpf_model::Function;
 use ebpf_parts::insn::copy_instructions;
 use ebpf_parts::{ParseError, Section};
-use ebpf_reloc::Function;
 use std::alloc::{AllocError, Global};
 
 /// The function that a symbol begins at an offset, and where it ends.

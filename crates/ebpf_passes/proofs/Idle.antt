@@ -7,7 +7,7 @@ use Rattle.ebpf_base.specs.EntriesFrom.{entries_from}
 use Rattle.ebpf_base.proofs.Mapped.{map_values-identity, map_values-same_at}
 use Rattle.ebpf_elf.specs.declared.entries.ElfRelocation.{ElfRelocation}
 use Rattle.ebpf_parts.specs.declared.insn.bpf_insn.{bpf_insn}
-use Rattle.ebpf_reloc.specs.declared.function.Function.{Function}
+use Rattle.ebpf_model.specs.declared.function.Function.{Function}
 use Rattle.ebpf_passes.specs.Edits.{slots_after}
 use Rattle.ebpf_passes.specs.Relocated.{EditRule, SectionRelocations, edit_at}
 use Rattle.ebpf_passes.specs.InPlaceEdits.{slots_after_relocation, slots_after_relocations}

@@ -7,8 +7,8 @@ use Rattle.ebpf_base.specs.Faults.{first_some}
 use Rattle.ebpf_base.specs.EntriesFrom.{entries_from}
 use Rattle.ebpf_base.proofs.Maps.{entries-empty}
 use Rattle.ebpf_elf.specs.declared.entries.ElfRelocation.{ElfRelocation}
-use Rattle.ebpf_reloc.specs.declared.function.Function.{Function}
-use Rattle.ebpf_reloc.specs.declared.symbol.Symbol.{Symbol}
+use Rattle.ebpf_model.specs.declared.function.Function.{Function}
+use Rattle.ebpf_model.specs.declared.symbol.Symbol.{Symbol}
 use Rattle.ebpf_passes.specs.Edits.{slots_after}
 use Rattle.ebpf_passes.specs.Relocated.{EditRule, Relocations, relocations_of_section, edit_at, refusal_at, first_refusal, function_fault, error_of, relocated}
 use Rattle.ebpf_passes.specs.InPlaceEdits.{slots_after_relocations}

@@ -3,10 +3,10 @@ use Rattle.std.specs.Prelude.{◌≡◌, ◌≤◌, ◌<◌, ℕ, pos, ◌+◌, 
 use Rattle.std.specs.FinMap.{get}
 use Rattle.std.specs.List.{range_with_len}
 use Rattle.ebpf_elf.specs.declared.entries.ElfRelocation.{ElfRelocation}
-use Rattle.ebpf_linker.specs.Slots.{is_pseudo_call}
+use Rattle.ebpf_parts.specs.Slots.{is_pseudo_call}
 use Rattle.ebpf_parts.specs.declared.insn.bpf_insn.{bpf_insn}
-use Rattle.ebpf_reloc.specs.declared.function.Function.{Function}
-use Rattle.ebpf_reloc.specs.declared.symbol.Symbol.{Symbol}
+use Rattle.ebpf_model.specs.declared.function.Function.{Function}
+use Rattle.ebpf_model.specs.declared.symbol.Symbol.{Symbol}
 use Rattle.ebpf_passes.specs.declared.map_tables.MapTarget.{MapTarget}
 use Rattle.ebpf_passes.specs.Edits.{slot_or_zeros, found_slot}
 use Rattle.ebpf_passes.specs.Maps.{MapInputs, map_target_at, map_edit}

@@ -6,13 +6,12 @@ use Rattle.std.specs.Ordering.{nat_cmp}
 use Rattle.ebpf_base.specs.Faults.{or_else}
 use Rattle.ebpf_base.specs.Keyed.{put_all}
 use Rattle.ebpf_elf.specs.declared.entries.ElfRelocation.{ElfRelocation}
-use Rattle.ebpf_linker.specs.Slots.{is_pseudo_call}
+use Rattle.ebpf_parts.specs.Slots.{is_pseudo_call, dst_of, registers}
 use Rattle.ebpf_parts.specs.declared.insn.bpf_insn.{bpf_insn}
 use Rattle.ebpf_parts.specs.declared.maps.either.Map.{Map}
 use Rattle.ebpf_parts.specs.Maps.{bytes_of, section_index_of, symbol_index_of}
-use Rattle.ebpf_parts.specs.Slots.{dst_of, registers}
-use Rattle.ebpf_reloc.specs.SlotTargets.{TextSections}
-use Rattle.ebpf_reloc.specs.declared.symbol.Symbol.{Symbol}
+use Rattle.ebpf_model.specs.TextSections.{TextSections}
+use Rattle.ebpf_model.specs.declared.symbol.Symbol.{Symbol}
 use Rattle.ebpf_passes.specs.declared.edit.Edit.{Edit}
 use Rattle.ebpf_passes.specs.declared.edit.Edit.TheVariants.{Stay, Slot, Pair}
 use Rattle.ebpf_passes.specs.declared.map_tables.MapTables.{MapTables}

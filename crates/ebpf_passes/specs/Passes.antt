@@ -4,11 +4,11 @@ use Rattle.std.specs.FinMap.{FinMap}
 use Rattle.std.specs.Iterator.{Drains}
 use Rattle.std.specs.Ordering.{nat_cmp}
 use Rattle.ebpf_base.specs.Keys.{key_cmp, text_cmp}
-use Rattle.ebpf_reloc.specs.SlotTargets.{TextSections}
-use Rattle.ebpf_reloc.specs.declared.error.EbpfRelocationError.{EbpfRelocationError}
-use Rattle.ebpf_reloc.specs.declared.extern_desc.ExternDesc.{ExternDesc}
-use Rattle.ebpf_reloc.specs.declared.function.Function.{Function}
-use Rattle.ebpf_reloc.specs.declared.symbol.Symbol.{Symbol}
+use Rattle.ebpf_model.specs.TextSections.{TextSections}
+use Rattle.ebpf_model.specs.declared.error.EbpfRelocationError.{EbpfRelocationError}
+use Rattle.ebpf_model.specs.declared.extern_desc.ExternDesc.{ExternDesc}
+use Rattle.ebpf_model.specs.declared.function.Function.{Function}
+use Rattle.ebpf_model.specs.declared.symbol.Symbol.{Symbol}
 use Rattle.ebpf_passes.specs.Externs.{extern_edit}
 use Rattle.ebpf_passes.specs.Maps.{GivenMap, LentMap, given_map, MapInputs, tables_of, map_edit}
 use Rattle.ebpf_passes.specs.Relocated.{Relocations, relocated, first_fault}

@@ -6,11 +6,11 @@ use Rattle.ebpf_base.specs.Faults.{first_some}
 use Rattle.ebpf_base.specs.Keys.{key_cmp}
 use Rattle.ebpf_elf.specs.declared.entries.ElfRelocation.{ElfRelocation}
 use Rattle.ebpf_parts.specs.declared.insn.bpf_insn.{bpf_insn}
-use Rattle.ebpf_reloc.specs.declared.error.EbpfRelocationError.{EbpfRelocationError}
-use Rattle.ebpf_reloc.specs.declared.error.RelocationError.{RelocationError}
-use Rattle.ebpf_reloc.specs.declared.error.RelocationError.TheVariants as error
-use Rattle.ebpf_reloc.specs.declared.function.Function.{Function}
-use Rattle.ebpf_reloc.specs.declared.symbol.Symbol.{Symbol}
+use Rattle.ebpf_model.specs.declared.error.EbpfRelocationError.{EbpfRelocationError}
+use Rattle.ebpf_model.specs.declared.error.RelocationError.{RelocationError}
+use Rattle.ebpf_model.specs.declared.error.RelocationError.TheVariants as error
+use Rattle.ebpf_model.specs.declared.function.Function.{Function}
+use Rattle.ebpf_model.specs.declared.symbol.Symbol.{Symbol}
 use Rattle.ebpf_passes.specs.declared.edit.Edit.{Edit}
 use Rattle.ebpf_passes.specs.declared.edit.Edit.TheVariants.{Stay}
 use Rattle.ebpf_passes.specs.declared.refusal.Fault.{Fault}

@@ -1,8 +1,8 @@
 -- What the passes make of relocations.
 use Rattle.std.specs.FinMap.{FinMap}
 use Rattle.std.specs.Ordering.{nat_cmp}
-use Rattle.ebpf_reloc.specs.SlotTargets.{text_sections_in}
-use Rattle.ebpf_reloc.specs.declared.symbol.Symbol.{Symbol}
+use Rattle.ebpf_model.specs.TextSections.{text_sections_in}
+use Rattle.ebpf_model.specs.declared.symbol.Symbol.{Symbol}
 use Rattle.ebpf_passes.specs.declared.extern_rule.ExternRule.{ExternRule}
 use Rattle.ebpf_passes.specs.declared.map_rule.MapRule.{MapRule}
 use Rattle.ebpf_passes.specs.declared.rule.Rule.{Rule}

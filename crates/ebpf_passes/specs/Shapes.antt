@@ -1,6 +1,6 @@
 -- What the passes leave of functions: all but their slots, and how many these are.
-use Rattle.ebpf_reloc.specs.Shapes.{KeepsShape}
-use Rattle.ebpf_reloc.specs.declared.function.Function.{Function}
+use Rattle.ebpf_model.specs.Shapes.{KeepsShape}
+use Rattle.ebpf_model.specs.declared.function.Function.{Function}
 use Rattle.ebpf_passes.specs.Relocated.{EditRule, Relocations, relocated}
 
 -- whatever a pass makes of relocations

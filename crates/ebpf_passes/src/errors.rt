@@ -2,13 +2,13 @@
 
 ghost use Rattle.std.specs.Prelude.{◌≡◌, true, ⊤, IfOk, MatchBool, unwrap_or, []};
 ghost use Rattle.std.specs.FinMap as map;
-ghost use Rattle.ebpf_reloc.specs.Memory.{is_memory_at};
+ghost use Rattle.ebpf_model.specs.Memory.{is_memory_at};
 ghost use Rattle.ebpf_passes.specs.Relocated.{number_of, symbol_name_of, error_of, out_of_memory};
 
 use crate::refusal::{Fault, Refusal};
 use ebpf_base::{ByIndex, ByOffset, Text};
+use ebpf_model::{EbpfRelocationError, Function, RelocationError, Symbol};
 use ebpf_parts::Relocation;
-use ebpf_reloc::{EbpfRelocationError, Function, RelocationError, Symbol};
 use std::alloc::{AllocError, Global};
 
 /// The number of a relocation among those of its section, by its offset.

@@ -8,9 +8,9 @@ use crate::edit::Edit;
 use crate::map_rule::with_source;
 use crate::refusal::Fault;
 use ebpf_base::{ByIndex, ByName};
+use ebpf_model::{ExternDesc, Symbol};
 use ebpf_parts::Relocation;
 use ebpf_parts::insn::bpf_insn;
-use ebpf_reloc::{ExternDesc, Symbol};
 
 /// What is read to write the kernel's ids and addresses.
 #[derive(Clone, Copy)]

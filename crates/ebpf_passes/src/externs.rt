@@ -3,7 +3,7 @@
 ghost use Rattle.std.specs.Prelude.{◌≡◌, true, OnOk, OnErr, IfErr};
 ghost use Rattle.ebpf_base.specs.Faults.{Refuses};
 ghost use Rattle.ebpf_base.specs.Mapped.{map_values};
-ghost use Rattle.ebpf_reloc.specs.Memory.{is_memory_at};
+ghost use Rattle.ebpf_model.specs.Memory.{is_memory_at};
 ghost use Rattle.ebpf_passes.specs.Passes.{externs_written, extern_fault};
 ghost use Rattle.ebpf_passes.specs.Relocated.{out_of_memory};
 
@@ -11,8 +11,8 @@ use crate::extern_rule::ExternRule;
 use crate::functions::relocate;
 use crate::rule::Rule;
 use ebpf_base::{ByIndex, ByKey, ByName, ByOffset, BySection};
+use ebpf_model::{EbpfRelocationError, ExternDesc, Function, Symbol};
 use ebpf_parts::Relocation;
-use ebpf_reloc::{EbpfRelocationError, ExternDesc, Function, Symbol};
 use std::alloc::Global;
 
 /// Writes the ids and addresses of resolved externs into the slots that refer to them. `externs` has them by the names of their

@@ -3,7 +3,7 @@
 ghost use Rattle.std.specs.Prelude.{◌≡◌, true, false, IfOk, OnOk, OnErr, IfErr, MatchBool};
 ghost use Rattle.ebpf_base.specs.Faults.{Refuses};
 ghost use Rattle.ebpf_base.specs.Mapped.{map_values};
-ghost use Rattle.ebpf_reloc.specs.Memory.{is_memory_at};
+ghost use Rattle.ebpf_model.specs.Memory.{is_memory_at};
 ghost use Rattle.ebpf_passes.specs.Relocated.{relocated, function_fault, first_fault, out_of_memory};
 ghost use Rattle.ebpf_passes.specs.Rules.{rule_edit_of, rule_symbols};
 
@@ -12,8 +12,8 @@ use crate::rule::Rule;
 use crate::search::edits_or_refusal;
 use crate::slots::write_slots;
 use ebpf_base::{ByKey, ByOffset, BySection};
+use ebpf_model::{EbpfRelocationError, Function};
 use ebpf_parts::Relocation;
-use ebpf_reloc::{EbpfRelocationError, Function};
 use std::alloc::Global;
 
 /// Refuses for the first relocation of a function that can't be applied; else tells whether one of them edits a slot.

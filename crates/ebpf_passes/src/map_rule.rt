@@ -8,10 +8,9 @@ use crate::edit::Edit;
 use crate::map_tables::{MapTables, MapTarget};
 use crate::refusal::Fault;
 use ebpf_base::ByIndex;
-use ebpf_linker::slot::is_pseudo_call;
+use ebpf_model::Symbol;
 use ebpf_parts::Relocation;
 use ebpf_parts::insn::bpf_insn;
-use ebpf_reloc::Symbol;
 use std::collections::HashSet;
 
 /// What is read to write maps' descriptors.
@@ -88,7 +87,7 @@ fn section_edit(
 ) -> Result<Edit, Fault>
     ensures { result ≡ section_edit (map_inputs rule.now) section relocation symbol.now slot has_next }
 {
-    if is_pseudo_call(slot) || rule.text_sections.contains(&section) {
+    if slot.is_pseudo_call() || rule.text_sections.contains(&section) {
         return Ok(Edit::Stay);
     }
     match map_target_at(rule.tables, relocation.symbol_index, section) {

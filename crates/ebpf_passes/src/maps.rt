@@ -3,8 +3,8 @@
 ghost use Rattle.std.specs.Prelude.{◌≡◌, None, Some, OnOk, OnErr, IfErr, MatchBool};
 ghost use Rattle.std.specs.Iterator.{IsFinite};
 ghost use Rattle.ebpf_base.specs.Mapped.{map_values};
-ghost use Rattle.ebpf_reloc.specs.SlotTargets.{text_sections_in};
-ghost use Rattle.ebpf_reloc.specs.Memory.{is_memory_at};
+ghost use Rattle.ebpf_model.specs.TextSections.{text_sections_in};
+ghost use Rattle.ebpf_model.specs.Memory.{is_memory_at};
 ghost use Rattle.ebpf_passes.specs.Passes.{Given, with_map_fds, map_fault};
 ghost use Rattle.ebpf_passes.specs.Relocated.{out_of_memory};
 
@@ -13,9 +13,9 @@ use crate::map_rule::MapRule;
 use crate::map_tables::MapTables;
 use crate::rule::Rule;
 use ebpf_base::{ByIndex, ByKey, ByOffset, BySection};
+use ebpf_model::{EbpfRelocationError, Function, Symbol};
 use ebpf_parts::Relocation;
 use ebpf_parts::maps::Map;
-use ebpf_reloc::{EbpfRelocationError, Function, Symbol};
 use std::alloc::Global;
 use std::collections::HashSet;
 

@@ -8,9 +8,9 @@ use crate::extern_rule::{ExternRule, extern_edit};
 use crate::map_rule::{MapRule, map_edit};
 use crate::refusal::Fault;
 use ebpf_base::ByIndex;
+use ebpf_model::Symbol;
 use ebpf_parts::Relocation;
 use ebpf_parts::insn::bpf_insn;
-use ebpf_reloc::Symbol;
 
 /// What a pass makes of relocations.
 #[derive(Clone, Copy)]

@@ -12,9 +12,9 @@ use crate::edit::Edit;
 use crate::refusal::{Fault, Refusal};
 use crate::rule::Rule;
 use ebpf_base::ByOffset;
+use ebpf_model::Function;
 use ebpf_parts::Relocation;
 use ebpf_parts::insn::bpf_insn;
-use ebpf_reloc::Function;
 
 /// A slot's place, and the immediate that the edit of the slot before it leaves there.
 type Pending = Option<(usize, i32)>;

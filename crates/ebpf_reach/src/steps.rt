@@ -8,7 +8,6 @@ ghost use Rattle.ebpf_reach.specs.Steps.{AreWithin, behind, callback, follow, fu
 
 use crate::effects::{after, decided, loaded};
 use crate::registers::Registers;
-use ebpf_linker::slot::is_pseudo_call;
 use ebpf_parts::insn::bpf_insn;
 
 /// A slot that is reached, and what is known of the registers there.
@@ -95,7 +94,7 @@ fn steps_of(
     if slot.code == 0x95 {
         return (None, None);
     }
-    if is_pseudo_call(slot) {
+    if slot.is_pseudo_call() {
         return (
             step_to(slots, place + 1, registers.called()),
             step_further(slots, place, slot.imm, Registers::unknown()),

@@ -5,16 +5,17 @@ use Rattle.std.specs.FinMap.{get, contains_key}
 use Rattle.ebpf_elf.specs.declared.entries.ElfRelocation.{ElfRelocation}
 use Rattle.ebpf_linker.specs.Functions.{SlotReference, Nothing, Faulty, Names, or_empty}
 use Rattle.ebpf_linker.proofs.Visits.{CallsRefer}
-use Rattle.ebpf_linker.specs.Slots.{is_pseudo_call}
+use Rattle.ebpf_parts.specs.Slots.{is_pseudo_call}
 use Rattle.ebpf_parts.specs.declared.insn.bpf_insn.{bpf_insn}
-use Rattle.ebpf_reloc.specs.declared.error.RelocationError.{RelocationError}
-use Rattle.ebpf_reloc.specs.declared.error.RelocationError.TheVariants.{UnknownFunction}
-use Rattle.ebpf_reloc.specs.declared.function.Function.{Function}
+use Rattle.ebpf_model.specs.declared.error.RelocationError.{RelocationError}
+use Rattle.ebpf_model.specs.declared.error.RelocationError.TheVariants.{UnknownFunction}
+use Rattle.ebpf_model.specs.declared.function.Function.{Function}
 use Rattle.ebpf_reloc.specs.declared.slot_target.SlotTarget.{SlotTarget}
 use Rattle.ebpf_reloc.specs.declared.slot_target.SlotTarget.TheVariants.{Absent, Unsupported, At}
-use Rattle.ebpf_reloc.specs.declared.symbol.Symbol.{Symbol}
+use Rattle.ebpf_model.specs.declared.symbol.Symbol.{Symbol}
 use Rattle.ebpf_reloc.specs.SlotTargets.{LinkableValue, slot_target_of, relocated_target, relocation_of, own_target, target_in_section, usable_target, relocation_target, is_usable, symbol_target, reference_address}
-use Rattle.ebpf_reloc.specs.References.{Key, content_of, looked_up, reference_of, functions_of}
+use Rattle.ebpf_model.specs.Keys.{FunctionKey}
+use Rattle.ebpf_reloc.specs.References.{content_of, looked_up, reference_of, functions_of}
 
 abbrev IsThere : SlotTarget → Type 0
 IsThere Absent = ⊥
@@ -55,7 +56,7 @@ module _ (parts : LinkableValue) where
   refers name (Unsupported index) h = λ e. cc
   refers name (At section address) h = step (contains_key parts.functions (section, address))
     where
-      step : (b : Bool) → ◌≢◌ {A = SlotReference Key RelocationError} (if b then Names (section, address) else Faulty (UnknownFunction address name)) Nothing
+      step : (b : Bool) → ◌≢◌ {A = SlotReference FunctionKey RelocationError} (if b then Names (section, address) else Faulty (UnknownFunction address name)) Nothing
       step true = λ e. cc
       step false = λ e. cc
 

@@ -10,15 +10,16 @@ use Rattle.ebpf_linker.specs.Result.{IsLinking}
 use Rattle.ebpf_linker.proofs.Visits.{same_visits}
 use Rattle.ebpf_reloc.proofs.CallsRefer.{calls_refer}
 use Rattle.ebpf_reloc.proofs.Keys.{count_keys, function_at, has_number}
-use Rattle.ebpf_reloc.specs.declared.error.EbpfRelocationError.{EbpfRelocationError}
-use Rattle.ebpf_reloc.specs.declared.error.RelocationError.{RelocationError}
-use Rattle.ebpf_reloc.specs.declared.error.RelocationError.TheVariants.{UnknownProgram}
-use Rattle.ebpf_reloc.specs.declared.function.Function.{Function}
+use Rattle.ebpf_model.specs.declared.error.EbpfRelocationError.{EbpfRelocationError}
+use Rattle.ebpf_model.specs.declared.error.RelocationError.{RelocationError}
+use Rattle.ebpf_model.specs.declared.error.RelocationError.TheVariants.{UnknownProgram}
+use Rattle.ebpf_model.specs.declared.function.Function.{Function}
 use Rattle.ebpf_reloc.specs.Linking.{ProgramValue, key_of, with_linked, IsLinked, IsProgramFault, IsProgramRefusal}
-use Rattle.ebpf_reloc.specs.Memory.{is_memory, is_memory_at}
+use Rattle.ebpf_model.specs.Memory.{is_memory, is_memory_at}
 use Rattle.ebpf_reloc.specs.Numbers.{function_keys, function_list, number_of_key, key_in}
 use Rattle.ebpf_reloc.specs.SlotTargets.{LinkableValue}
-use Rattle.ebpf_reloc.specs.References.{Key, functions_of}
+use Rattle.ebpf_model.specs.Keys.{FunctionKey}
+use Rattle.ebpf_reloc.specs.References.{functions_of}
 
 -- what holds holds also where memory was refused
 pub unless_memory : {P : Type 0} (b : Bool) → P → MatchBool b ⊤ P
@@ -44,7 +45,7 @@ module _ (parts : LinkableValue) where
     visits = λ on. same_visits (functions_of parts) (key_in keys number) h.0 l.slots h.1.linked (calls_refer parts) on;
   }
 
-  fault_where : (key : Key) (e : RelocationError) (o : Option Function) → (o ≡ None → ⊥) → LeastFault (functions_of parts) (checked_references (functions_of parts) key) key e
+  fault_where : (key : FunctionKey) (e : RelocationError) (o : Option Function) → (o ≡ None → ⊥) → LeastFault (functions_of parts) (checked_references (functions_of parts) key) key e
       → MatchOption o (e ≡ UnknownProgram key.0 key.1) (λ _. LeastFault (functions_of parts) (checked_references (functions_of parts) key) key e)
   fault_where key e None there h = absurd (there refl)
   fault_where key e (Some f) there h = h
@@ -61,7 +62,7 @@ module _ (parts : LinkableValue) where
           clash x e = cc
 
   -- no function stands at a key without a number
-  pub no_program : (key : Key) → number_of_key keys key ≡ None → IsProgramFault parts key (UnknownProgram key.0 key.1)
+  pub no_program : (key : FunctionKey) → number_of_key keys key ≡ None → IsProgramFault parts key (UnknownProgram key.0 key.1)
   no_program key none = step (get parts.functions key) (has_number parts.functions key ∙ ap is_some none)
     where
       step : (o : Option Function) → is_some o ≡ false → MatchOption o (UnknownProgram key.0 key.1 ≡ UnknownProgram key.0 key.1) (λ _. LeastFault (functions_of parts) (checked_references (functions_of parts) key) key (UnknownProgram key.0 key.1))

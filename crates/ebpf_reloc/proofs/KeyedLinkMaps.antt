@@ -18,7 +18,7 @@ use Rattle.ebpf_linker.proofs.CarryLinkMap.{map_to}
 use Rattle.ebpf_linker.proofs.Renamed.{AllNumbers, all_numbers, reached_number}
 use Rattle.ebpf_reloc.proofs.Keys.{count_keys, function_at}
 use Rattle.ebpf_reloc.proofs.NumberedKeys.{name_here, numbered}
-use Rattle.ebpf_reloc.specs.declared.function.Function.{Function}
+use Rattle.ebpf_model.specs.declared.function.Function.{Function}
 use Rattle.ebpf_reloc.specs.LinkMaps.{code_copy, named_copy, IsKeyedLinkMap, IsKeyedLinkMapAnswer, IsLinkMapAt}
 use Rattle.ebpf_reloc.specs.declared.link_map.LinkMap.{LinkMap}
 use Rattle.ebpf_reloc.specs.Numbers.{function_keys, function_list, calls_from, key_in, with_function_names}

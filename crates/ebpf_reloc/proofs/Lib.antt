@@ -8,7 +8,6 @@ pub mod NumberedKeys
 pub mod CallsRefer
 pub mod Finished
 pub mod SoFar
-pub mod Shapes
 pub mod OneResult
 pub mod KeyedLinkMaps
 pub mod OneLinkMap

@@ -23,8 +23,8 @@ use Rattle.ebpf_parts.specs.declared.insn.bpf_insn.{bpf_insn}
 use Rattle.ebpf_linker.proofs.Carry.{carried}
 use Rattle.ebpf_reloc.proofs.ByNumber.{of_option, led, referred_at, calls_rise}
 use Rattle.ebpf_reloc.proofs.Keys.{count_keys, function_at, has_number, number_names, one_number}
-use Rattle.ebpf_reloc.specs.declared.error.RelocationError.TheVariants.{FunctionInfoMismatch, ProgramTooLong, InvalidLineInfo}
-use Rattle.ebpf_reloc.specs.declared.function.Function.{Function}
+use Rattle.ebpf_model.specs.declared.error.RelocationError.TheVariants.{FunctionInfoMismatch, ProgramTooLong, InvalidLineInfo}
+use Rattle.ebpf_model.specs.declared.function.Function.{Function}
 use Rattle.ebpf_reloc.specs.declared.slot_target.SlotTarget.{SlotTarget}
 use Rattle.ebpf_reloc.specs.declared.slot_target.SlotTarget.TheVariants.{Absent, Unsupported, At}
 use Rattle.ebpf_reloc.specs.Numbers.{function_keys, function_list, number_of_key, numbered_target_by, numbered_target, numbered_target_at, with_call, calls_by, calls_of, calls_from, key_in, function_name, with_function_names}

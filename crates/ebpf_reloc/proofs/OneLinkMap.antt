@@ -13,16 +13,17 @@ use Rattle.ebpf_linker.proofs.Written.{can_be_linked}
 use Rattle.ebpf_parts.specs.declared.insn.bpf_insn.{bpf_insn}
 use Rattle.ebpf_reloc.proofs.CallsRefer.{calls_refer}
 use Rattle.ebpf_reloc.proofs.OneResult.{one_refusal, not_refused}
-use Rattle.ebpf_reloc.specs.declared.error.EbpfRelocationError.{EbpfRelocationError}
-use Rattle.ebpf_reloc.specs.declared.error.RelocationError.{RelocationError}
-use Rattle.ebpf_reloc.specs.declared.error.RelocationError.TheVariants.{UnknownProgram}
-use Rattle.ebpf_reloc.specs.declared.function.Function.{Function}
+use Rattle.ebpf_model.specs.declared.error.EbpfRelocationError.{EbpfRelocationError}
+use Rattle.ebpf_model.specs.declared.error.RelocationError.{RelocationError}
+use Rattle.ebpf_model.specs.declared.error.RelocationError.TheVariants.{UnknownProgram}
+use Rattle.ebpf_model.specs.declared.function.Function.{Function}
 use Rattle.ebpf_reloc.specs.declared.link_map.LinkMap.{LinkMap}
 use Rattle.ebpf_reloc.specs.LinkMaps.{code_copy, IsLinkMapAt}
 use Rattle.ebpf_reloc.specs.Linking.{ProgramValue, key_of, with_linked, IsLinked, IsProgramFault, IsProgramRefusal, AreLinked, IsFirstRefusal}
 use Rattle.ebpf_reloc.specs.LinkMapLaws.{copy_of, OneLinkMap, OneLinkMapAnswer, RefusedAsLinking, LinkMapsMatch, WithLinkMapAreLinked, FirstWithoutLinkMap, AllWithLinkMaps}
 use Rattle.ebpf_reloc.specs.SlotTargets.{LinkableValue}
-use Rattle.ebpf_reloc.specs.References.{Key, functions_of}
+use Rattle.ebpf_model.specs.Keys.{FunctionKey}
+use Rattle.ebpf_reloc.specs.References.{functions_of}
 
 pub one : OneLinkMap
 one parts key m n a b =
@@ -31,7 +32,7 @@ one parts key m n a b =
     (λ i. record { copies = copies i; references = same.2 i }, same.0)
 
 -- a program with a map is not refused
-not_mapped : (parts : LinkableValue) (key : Key) (m : LinkMap) (e : RelocationError) → IsLinkMapAt parts key m → IsProgramFault parts key e → ⊥
+not_mapped : (parts : LinkableValue) (key : FunctionKey) (m : LinkMap) (e : RelocationError) → IsLinkMapAt parts key m → IsProgramFault parts key e → ⊥
 not_mapped parts key m e a h =
     let fault : LeastFault (functions_of parts) (checked_references (functions_of parts) key) key e = subst (λ (o : Option Function). MatchOption o (e ≡ UnknownProgram key.0 key.1) (λ _. LeastFault (functions_of parts) (checked_references (functions_of parts) key) key e)) a.stands h in
     a.program.faultless fault.path fault.slot e fault.stands
@@ -66,9 +67,9 @@ refused_as_linking parts program (Err d) (Err e) a b = one_refusal parts program
 
 -- ---- the linked program
 
-without_names : (parts : LinkableValue) (cs : List (CopyOf Key)) → map copy_of (map (code_copy parts.functions) cs) ≡ cs
+without_names : (parts : LinkableValue) (cs : List (CopyOf FunctionKey)) → map copy_of (map (code_copy parts.functions) cs) ≡ cs
 without_names parts [] = refl
-without_names parts (c ∷ cs) = ap (λ (u : List (CopyOf Key)). c ∷ u) (without_names parts cs)
+without_names parts (c ∷ cs) = ap (λ (u : List (CopyOf FunctionKey)). c ∷ u) (without_names parts cs)
 
 pub link_maps_match : LinkMapsMatch
 link_maps_match parts key m linked a b =
@@ -79,7 +80,7 @@ link_maps_match parts key m linked a b =
       size = ap copied_slot_count (sym copies) ∙ same_size (functions_of parts) key a.order b.order a.copies m.references b.made a.program b.program ∙ ap length slots;
       lands = λ r listed.
           let here = lands (functions_of parts) key a.order b.order a.copies m.references b.made a.program b.program r listed in
-          subst (λ (s : List bpf_insn). Lands (functions_of parts) (map copy_of m.copies) s r) slots (subst (λ (cs : List (CopyOf Key)). Lands (functions_of parts) cs b.made.slots r) copies here);
+          subst (λ (s : List bpf_insn). Lands (functions_of parts) (map copy_of m.copies) s r) slots (subst (λ (cs : List (CopyOf FunctionKey)). Lands (functions_of parts) cs b.made.slots r) copies here);
     }
 
 -- a program that has a map can be linked

@@ -10,24 +10,25 @@ use Rattle.ebpf_base.proofs.Maps.{key_exact}
 use Rattle.ebpf_base.specs.Keys.{key_cmp, key_total}
 use Rattle.ebpf_linker.specs.Faults.{LeastFault, checked_references}
 use Rattle.ebpf_linker.proofs.OneResult.{same_order, one_program, one_fault, not_linked, plain_stays}
-use Rattle.ebpf_reloc.specs.declared.error.EbpfRelocationError.{EbpfRelocationError}
-use Rattle.ebpf_reloc.specs.declared.error.RelocationError.{RelocationError}
-use Rattle.ebpf_reloc.specs.declared.error.RelocationError.TheVariants.{UnknownProgram}
-use Rattle.ebpf_reloc.specs.declared.function.Function.{Function}
+use Rattle.ebpf_model.specs.declared.error.EbpfRelocationError.{EbpfRelocationError}
+use Rattle.ebpf_model.specs.declared.error.RelocationError.{RelocationError}
+use Rattle.ebpf_model.specs.declared.error.RelocationError.TheVariants.{UnknownProgram}
+use Rattle.ebpf_model.specs.declared.function.Function.{Function}
 use Rattle.ebpf_reloc.specs.Laws.{OneResult, OneProgram, OwnSlotsStay, CopiedSlotsStay}
 use Rattle.ebpf_reloc.specs.Linking.{ProgramValue, key_of, with_linked, IsLinked, IsProgramFault, IsProgramRefusal, AreLinked, IsFirstRefusal}
 use Rattle.ebpf_reloc.specs.SlotTargets.{LinkableValue}
-use Rattle.ebpf_reloc.specs.References.{Key, functions_of}
+use Rattle.ebpf_model.specs.Keys.{FunctionKey}
+use Rattle.ebpf_reloc.specs.References.{functions_of}
 
 same_value : {X : Type 0} (o : Option X) (x y : X) → o ≡ Some x → o ≡ Some y → x ≡ y
 same_value o x y a b = cc
 
 -- ---- programs
 
-same_function : (parts : LinkableValue) (key : Key) (f g : Function) (a : IsLinked parts key f) (b : IsLinked parts key g) → a.function ≡ b.function
+same_function : (parts : LinkableValue) (key : FunctionKey) (f g : Function) (a : IsLinked parts key f) (b : IsLinked parts key g) → a.function ≡ b.function
 same_function parts key f g a b = same_value (get parts.functions key) a.function b.function a.stands b.stands
 
-pub one_way : (parts : LinkableValue) (key : Key) (f g : Function) → IsLinked parts key f → IsLinked parts key g → f ≡ g
+pub one_way : (parts : LinkableValue) (key : FunctionKey) (f g : Function) → IsLinked parts key f → IsLinked parts key g → f ≡ g
 one_way parts key f g a b =
     let function = same_function parts key f g a b in
     let made : a.made ≡ b.made = one_program (functions_of parts) key a.order b.order a.made b.made a.program b.program in
@@ -38,7 +39,7 @@ one_program_each parts key f g a b = (one_way parts key f g a b, same_order (fun
 
 -- ---- faults
 
-one_fault_of : (parts : LinkableValue) (key : Key) (d e : RelocationError) → IsProgramFault parts key d → IsProgramFault parts key e → d ≡ e
+one_fault_of : (parts : LinkableValue) (key : FunctionKey) (d e : RelocationError) → IsProgramFault parts key d → IsProgramFault parts key e → d ≡ e
 one_fault_of parts key d e a b = step (get parts.functions key) a b
   where
     step : (o : Option Function) → MatchOption o (d ≡ UnknownProgram key.0 key.1) (λ _. LeastFault (functions_of parts) (checked_references (functions_of parts) key) key d) → MatchOption o (e ≡ UnknownProgram key.0 key.1) (λ _. LeastFault (functions_of parts) (checked_references (functions_of parts) key) key e) → d ≡ e
@@ -52,7 +53,7 @@ one_refusal parts program d e a b =
     λ i. record { function = name i; error = error i }
 
 -- a program that is linked is not refused
-pub not_refused : (parts : LinkableValue) (key : Key) (f : Function) (e : RelocationError) → IsLinked parts key f → IsProgramFault parts key e → ⊥
+pub not_refused : (parts : LinkableValue) (key : FunctionKey) (f : Function) (e : RelocationError) → IsLinked parts key f → IsProgramFault parts key e → ⊥
 not_refused parts key f e a h =
     let fault : LeastFault (functions_of parts) (checked_references (functions_of parts) key) key e = subst (λ (o : Option Function). MatchOption o (e ≡ UnknownProgram key.0 key.1) (λ _. LeastFault (functions_of parts) (checked_references (functions_of parts) key) key e)) a.stands h in
     not_linked (functions_of parts) key a.order a.made e a.program fault
@@ -62,7 +63,7 @@ not_refused parts key f e a h =
 one_link_map : (parts : LinkableValue) (programs : List ProgramValue) (m n : FinMap key_cmp Function) → AreLinked parts programs m → AreLinked parts programs n → m ≡ n
 one_link_map parts programs m n a b = same_map key_total key_exact m n (λ key. step key (get m key) (get n key) refl refl (a.keys key ∙ sym (b.keys key)))
   where
-    step : (key : Key) (o q : Option Function) → get m key ≡ o → get n key ≡ q → is_some (get m key) ≡ is_some (get n key) → get m key ≡ get n key
+    step : (key : FunctionKey) (o q : Option Function) → get m key ≡ o → get n key ≡ q → is_some (get m key) ≡ is_some (get n key) → get m key ≡ get n key
     step key None None at at' same = at ∙ sym at'
     step key None (Some g) at at' same = let clash : false ≡ true = sym (ap is_some at) ∙ same ∙ ap is_some at' in cc
     step key (Some f) None at at' same = let clash : true ≡ false = sym (ap is_some at) ∙ same ∙ ap is_some at' in cc

@@ -9,21 +9,21 @@ use Rattle.std.proofs.lemmas.Option.{slice_get-get_or, get_or_from_slice_get}
 use Rattle.ebpf_base.proofs.Maps.{key_exact}
 use Rattle.ebpf_base.specs.Keys.{key_cmp, key_total}
 use Rattle.ebpf_base.proofs.Walks.{rest_more, rest_none}
-use Rattle.ebpf_reloc.proofs.Keys.{is_equal}
-use Rattle.ebpf_reloc.specs.declared.error.EbpfRelocationError.{EbpfRelocationError}
-use Rattle.ebpf_reloc.specs.declared.function.Function.{Function}
+use Rattle.ebpf_base.proofs.Orderings.{is_equal}
+use Rattle.ebpf_model.specs.declared.error.EbpfRelocationError.{EbpfRelocationError}
+use Rattle.ebpf_model.specs.declared.function.Function.{Function}
 use Rattle.ebpf_reloc.specs.Linking.{ProgramValue, key_of, IsLinked, IsProgramRefusal, AreLinked, IsFirstRefusal}
-use Rattle.ebpf_reloc.specs.Memory.{is_memory_at}
+use Rattle.ebpf_model.specs.Memory.{is_memory_at}
 use Rattle.ebpf_reloc.specs.SlotTargets.{LinkableValue}
-use Rattle.ebpf_reloc.specs.References.{Key}
+use Rattle.ebpf_model.specs.Keys.{FunctionKey}
 
-abbrev has_key : Key → ProgramValue → Bool
+abbrev has_key : FunctionKey → ProgramValue → Bool
 has_key key program = eq_by_cmp key_cmp key (key_of program)
 
 -- the first programs are linked, and their keys are those with a function
 pub record SoFar (parts : LinkableValue) (programs : List ProgramValue) (i : ℕ) (linked : FinMap key_cmp Function) : Type 0 where
-  pub keys : (key : Key) → (contains_key linked key || list_any (λ p. eq_by_cmp key_cmp key (key_of p)) (drop i programs)) ≡ list_any (λ p. eq_by_cmp key_cmp key (key_of p)) programs
-  pub each : (key : Key) (g : Function) → get linked key ≡ Some g → IsLinked parts key g
+  pub keys : (key : FunctionKey) → (contains_key linked key || list_any (λ p. eq_by_cmp key_cmp key (key_of p)) (drop i programs)) ≡ list_any (λ p. eq_by_cmp key_cmp key (key_of p)) programs
+  pub each : (key : FunctionKey) (g : Function) → get linked key ≡ Some g → IsLinked parts key g
   pub before : (k : ℕ) (earlier : ProgramValue) → k < i → slice_get programs k ≡ Some earlier → (g : Function) × IsLinked parts (key_of earlier) g
 
 or_false : (b : Bool) → (b || false) ≡ b
@@ -61,7 +61,7 @@ module _ (parts : LinkableValue) (programs : List ProgramValue) where
         keys_same false true c d within h = let e = within refl in cc
         keys_same false false c d within h = h
 
-        within : (key : Key) → eq_by_cmp key_cmp key (key_of program) ≡ true → contains_key linked key ≡ true
+        within : (key : FunctionKey) → eq_by_cmp key_cmp key (key_of program) ≡ true → contains_key linked key ≡ true
         within key at = ap (contains_key linked) (key_exact key (key_of program) (is_equal _ at)) ∙ has
 
         value : (o : Option Function) → get linked (key_of program) ≡ o → is_some o ≡ true → (g : Function) × IsLinked parts (key_of program) g
@@ -99,11 +99,11 @@ module _ (parts : LinkableValue) (programs : List ProgramValue) where
         same_some (Some x) true = refl
         same_some (Some x) false = refl
 
-        each_more : (key : Key) (h : Function) (b : Bool) → eq_by_cmp key_cmp key (key_of program) ≡ b → cond b (Some g) (get linked key) ≡ Some h → IsLinked parts key h
+        each_more : (key : FunctionKey) (h : Function) (b : Bool) → eq_by_cmp key_cmp key (key_of program) ≡ b → cond b (Some g) (get linked key) ≡ Some h → IsLinked parts key h
         each_more key h true at e =
             let same : key ≡ key_of program = key_exact key (key_of program) (is_equal _ at) in
             let value : g ≡ h = cc in
-            subst (λ (k : Key). IsLinked parts k h) (sym same) (subst (λ (x : Function). IsLinked parts (key_of program) x) value is)
+            subst (λ (k : FunctionKey). IsLinked parts k h) (sym same) (subst (λ (x : Function). IsLinked parts (key_of program) x) value is)
         each_more key h false at e = so_far.each key h e
 
         one_more : SoFar parts programs (i + 1) (insert linked (key_of program) g)

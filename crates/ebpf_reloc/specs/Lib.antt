@@ -1,8 +1,5 @@
-pub mod Memory
-pub mod Symbols
 pub mod SlotTargets
 pub mod Walks
-pub mod Shapes
 pub mod References
 pub mod Numbers
 pub mod Linking

@@ -6,23 +6,24 @@ use Rattle.ebpf_linker.specs.declared.link_map.Reference.{Reference}
 use Rattle.ebpf_linker.specs.Functions.{Among}
 use Rattle.ebpf_linker.specs.LinkMap.{CopyOf}
 use Rattle.ebpf_linker.specs.LinkMapLaws.{Lands, copied_slot_count}
-use Rattle.ebpf_reloc.specs.declared.error.EbpfRelocationError.{EbpfRelocationError}
-use Rattle.ebpf_reloc.specs.declared.function.Function.{Function}
+use Rattle.ebpf_model.specs.declared.error.EbpfRelocationError.{EbpfRelocationError}
+use Rattle.ebpf_model.specs.declared.function.Function.{Function}
 use Rattle.ebpf_reloc.specs.declared.link_map.CodeCopy.{CodeCopy}
 use Rattle.ebpf_reloc.specs.declared.link_map.LinkMap.{LinkMap}
 use Rattle.ebpf_reloc.specs.Laws.{IsAnswer}
 use Rattle.ebpf_reloc.specs.LinkMaps.{IsLinkMapAt}
 use Rattle.ebpf_reloc.specs.Linking.{ProgramValue, key_of, IsLinked, IsProgramRefusal, IsFirstRefusal}
 use Rattle.ebpf_reloc.specs.SlotTargets.{LinkableValue}
-use Rattle.ebpf_reloc.specs.References.{Key, functions_of}
+use Rattle.ebpf_model.specs.Keys.{FunctionKey}
+use Rattle.ebpf_reloc.specs.References.{functions_of}
 
 -- a copy, without its name
-abbrev pub copy_of : CodeCopy → CopyOf Key
+abbrev pub copy_of : CodeCopy → CopyOf FunctionKey
 copy_of c = record { key = c.key; base = c.base; slots = c.slots }
 
 -- a program has one link map, with its copies in one order
 abbrev pub OneLinkMap : Type 0
-OneLinkMap = (parts : LinkableValue) (key : Key) (m n : LinkMap) (a : IsLinkMapAt parts key m) (b : IsLinkMapAt parts key n)
+OneLinkMap = (parts : LinkableValue) (key : FunctionKey) (m n : LinkMap) (a : IsLinkMapAt parts key m) (b : IsLinkMapAt parts key n)
     → (m ≡ n) × (a.order ≡ b.order)
 
 -- what may be answered where the link map of a program is wanted, want of memory aside
@@ -49,19 +50,19 @@ RefusedAsLinking = (parts : LinkableValue) (program : ProgramValue) (r : Result 
 
 -- the link map of a linked program: it has the same copies in the same order, which have all its slots, and the slot at the
 -- place of each reference holds the distance to the listed copy of the function that it refers to
-pub record MatchesLinked (parts : LinkableValue) (key : Key) (m : LinkMap) (linked : Function) (a : IsLinkMapAt parts key m) (b : IsLinked parts key linked) : Type 0 where
+pub record MatchesLinked (parts : LinkableValue) (key : FunctionKey) (m : LinkMap) (linked : Function) (a : IsLinkMapAt parts key m) (b : IsLinked parts key linked) : Type 0 where
   pub order : a.order ≡ b.order
   pub size : copied_slot_count (map copy_of m.copies) ≡ length linked.instructions
   pub lands : (r : Reference) → Among m.references r → Lands (functions_of parts) (map copy_of m.copies) linked.instructions r
 
 -- a link map of a program is that of the linked program
 abbrev pub LinkMapsMatch : Type 0
-LinkMapsMatch = (parts : LinkableValue) (key : Key) (m : LinkMap) (linked : Function) (a : IsLinkMapAt parts key m) (b : IsLinked parts key linked)
+LinkMapsMatch = (parts : LinkableValue) (key : FunctionKey) (m : LinkMap) (linked : Function) (a : IsLinkMapAt parts key m) (b : IsLinked parts key linked)
     → MatchesLinked parts key m linked a b
 
 -- a program that has a link map can be linked
 abbrev pub WithLinkMapAreLinked : Type 0
-WithLinkMapAreLinked = (parts : LinkableValue) (key : Key) (m : LinkMap) → IsLinkMapAt parts key m → (linked : Function) × IsLinked parts key linked
+WithLinkMapAreLinked = (parts : LinkableValue) (key : FunctionKey) (m : LinkMap) → IsLinkMapAt parts key m → (linked : Function) × IsLinked parts key linked
 
 -- the refusal of the first program without a link map is that of linking them all
 abbrev pub FirstWithoutLinkMap : Type 0

@@ -8,12 +8,13 @@ use Rattle.ebpf_linker.specs.declared.body.LinkedProgram.{LinkedProgram}
 use Rattle.ebpf_linker.specs.Faults.{LeastFault, checked_references}
 use Rattle.ebpf_linker.specs.Machine.{SameVisits, OnCallsOrLoads}
 use Rattle.ebpf_linker.specs.Result.{IsProgram}
-use Rattle.ebpf_reloc.specs.declared.error.EbpfRelocationError.{EbpfRelocationError}
-use Rattle.ebpf_reloc.specs.declared.error.RelocationError.{RelocationError}
-use Rattle.ebpf_reloc.specs.declared.error.RelocationError.TheVariants.{UnknownProgram}
-use Rattle.ebpf_reloc.specs.declared.function.Function.{Function}
+use Rattle.ebpf_model.specs.declared.error.EbpfRelocationError.{EbpfRelocationError}
+use Rattle.ebpf_model.specs.declared.error.RelocationError.{RelocationError}
+use Rattle.ebpf_model.specs.declared.error.RelocationError.TheVariants.{UnknownProgram}
+use Rattle.ebpf_model.specs.declared.function.Function.{Function}
 use Rattle.ebpf_reloc.specs.SlotTargets.{LinkableValue}
-use Rattle.ebpf_reloc.specs.References.{Key, functions_of}
+use Rattle.ebpf_model.specs.Keys.{FunctionKey}
+use Rattle.ebpf_reloc.specs.References.{functions_of}
 
 -- a program: its name, and the section and the address of its function
 pub record ProgramValue : Type 0 where
@@ -22,7 +23,7 @@ pub record ProgramValue : Type 0 where
   pub address : ℕ
 
 -- the key of a program's function
-abbrev pub key_of : ProgramValue → Key
+abbrev pub key_of : ProgramValue → FunctionKey
 key_of program = (program.section_index, program.address)
 
 -- a function with the slots and the records of a linked program; a count that linking does not change stays
@@ -35,17 +36,17 @@ with_linked f l = record f {
 
 -- The function at a key has become a linked program: it has the slots and the records of the function and of each
 -- function that it reaches, in the order of their key paths, and visits what the separate functions visit.
-pub record IsLinked (parts : LinkableValue) (key : Key) (linked : Function) : Type 0 where
+pub record IsLinked (parts : LinkableValue) (key : FunctionKey) (linked : Function) : Type 0 where
   pub function : Function
   pub stands : get parts.functions key ≡ Some function
   pub made : LinkedProgram
   pub is : linked ≡ with_linked function made
-  pub order : List Key
+  pub order : List FunctionKey
   pub program : IsProgram (functions_of parts) key order made
   pub visits : OnCallsOrLoads (functions_of parts) (key ∷ order) → SameVisits (functions_of parts) key order made.slots
 
 -- why the program at a key can't be linked: no function stands there, or the least fault of its references
-abbrev pub IsProgramFault : LinkableValue → Key → RelocationError → Type 0
+abbrev pub IsProgramFault : LinkableValue → FunctionKey → RelocationError → Type 0
 IsProgramFault parts key e =
     MatchOption (get parts.functions key) (e ≡ UnknownProgram key.0 key.1) (λ _. LeastFault (functions_of parts) (checked_references (functions_of parts) key) key e)
 
@@ -55,8 +56,8 @@ IsProgramRefusal parts program e = (e.function ≡ program.name) × IsProgramFau
 
 -- the programs are linked, each from the functions as they stood
 pub record AreLinked (parts : LinkableValue) (programs : List ProgramValue) (linked : FinMap key_cmp Function) : Type 0 where
-  pub keys : (key : Key) → contains_key linked key ≡ list_any (λ p. eq_by_cmp key_cmp key (key_of p)) programs
-  pub each : (key : Key) (g : Function) → get linked key ≡ Some g → IsLinked parts key g
+  pub keys : (key : FunctionKey) → contains_key linked key ≡ list_any (λ p. eq_by_cmp key_cmp key (key_of p)) programs
+  pub each : (key : FunctionKey) (g : Function) → get linked key ≡ Some g → IsLinked parts key g
 
 -- the refusal of the first program that can't be linked
 pub record IsFirstRefusal (parts : LinkableValue) (programs : List ProgramValue) (e : EbpfRelocationError) : Type 0 where

@@ -11,9 +11,9 @@ use Rattle.ebpf_linker.specs.declared.reference.Fault.TheVariants.{UnsupportedTe
 use Rattle.ebpf_linker.specs.declared.reference.Target.{Target}
 use Rattle.ebpf_linker.specs.declared.reference.Target.TheVariants.{Function as ToFunction, Nowhere}
 use Rattle.ebpf_parts.specs.declared.insn.bpf_insn.{bpf_insn}
-use Rattle.ebpf_reloc.specs.declared.error.RelocationError.{RelocationError}
-use Rattle.ebpf_reloc.specs.declared.error.RelocationError.TheVariants.{UnsupportedTextSymbol as NoTextSymbol, UnknownFunction as NoFunction, FunctionInfoMismatch as Mismatch, ProgramTooLong as TooLong, InvalidLineInfo as StrayLine}
-use Rattle.ebpf_reloc.specs.declared.function.Function.{Function}
+use Rattle.ebpf_model.specs.declared.error.RelocationError.{RelocationError}
+use Rattle.ebpf_model.specs.declared.error.RelocationError.TheVariants.{UnsupportedTextSymbol as NoTextSymbol, UnknownFunction as NoFunction, FunctionInfoMismatch as Mismatch, ProgramTooLong as TooLong, InvalidLineInfo as StrayLine}
+use Rattle.ebpf_model.specs.declared.function.Function.{Function}
 use Rattle.ebpf_reloc.specs.declared.slot_target.SlotTarget.{SlotTarget}
 use Rattle.ebpf_reloc.specs.declared.slot_target.SlotTarget.TheVariants.{Absent, Unsupported, At}
 use Rattle.ebpf_reloc.specs.SlotTargets.{LinkableValue, slot_target_of}

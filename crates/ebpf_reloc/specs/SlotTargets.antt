@@ -1,31 +1,21 @@
 -- What the slots of functions refer to.
-use Rattle.std.specs.Prelude.{ℕ, ◌+◌, ◌*◌, ◌^◌, ◌==◌, nat_eq, nat_lt, ℤ, pos, ◌+ℤ◌, ◌*ℤ◌, unsigned_abs, Bool, true, false, not, ◌&&◌, ◌||◌, if◌then◌else◌, Option, Some, None, unwrap_or}
+use Rattle.std.specs.Prelude.{ℕ, ◌+◌, ◌*◌, ◌^◌, ◌==◌, nat_lt, ℤ, pos, ◌+ℤ◌, ◌*ℤ◌, unsigned_abs, Bool, true, false, not, ◌&&◌, ◌||◌, if◌then◌else◌, Option, Some, None, unwrap_or}
 use Rattle.std.specs.FinMap.{FinMap, get}
-use Rattle.std.specs.HashSet.{HashSet, contains}
 use Rattle.std.specs.Int.{int_rem_euclid}
 use Rattle.std.specs.Ordering.{nat_cmp}
-use Rattle.std.specs.declared.hash.FoldHasher.{FoldHasher}
-use Rattle.std.specs.declared.hash.BuildHasherDefault.{BuildHasherDefault}
 use Rattle.ebpf_base.specs.Keys.{key_cmp}
 use Rattle.ebpf_elf.specs.declared.entries.ElfRelocation.{ElfRelocation}
 use Rattle.ebpf_elf.specs.declared.entries.SymbolKind.{SymbolKind}
 use Rattle.ebpf_elf.specs.declared.entries.SymbolKind.TheVariants.{Text, Section}
 use Rattle.ebpf_parts.specs.declared.insn.bpf_insn.{bpf_insn}
-use Rattle.ebpf_linker.specs.Slots.{is_pseudo_call}
-use Rattle.ebpf_reloc.specs.declared.function.Function.{Function}
+use Rattle.ebpf_parts.specs.Slots.{is_pseudo_call}
+use Rattle.ebpf_model.specs.declared.function.Function.{Function}
 use Rattle.ebpf_reloc.specs.declared.linkable.Linkable.{Linkable}
 use Rattle.ebpf_reloc.specs.declared.slot_target.SlotTarget.{SlotTarget}
 use Rattle.ebpf_reloc.specs.declared.slot_target.SlotTarget.TheVariants.{Absent, Unsupported, At}
-use Rattle.ebpf_reloc.specs.declared.symbol.Symbol.{Symbol}
-use Rattle.ebpf_reloc.specs.Symbols.{is_extern}
-
--- which sections hold functions, by their indexes
-abbrev pub TextSections : Type 0
-TextSections = ℕ → Bool
-
--- those that a set has
-abbrev pub text_sections_in : HashSet ℕ (BuildHasherDefault FoldHasher) → TextSections
-text_sections_in numbers section = contains nat_eq numbers section
+use Rattle.ebpf_model.specs.declared.symbol.Symbol.{Symbol}
+use Rattle.ebpf_model.specs.Symbols.{is_extern}
+use Rattle.ebpf_model.specs.TextSections.{TextSections, text_sections_in}
 
 -- what is read of an object to tell what its slots refer to
 pub record LinkableValue : Type 0 where

@@ -8,13 +8,12 @@ ghost use Rattle.ebpf_reloc.specs.Walks.{walked_relocations, IsBefore};
 ghost use Rattle.std.specs.List.Sorted.{IsStrictlySortedBy};
 ghost use Rattle.ebpf_base.specs.Keys.{key_cmp};
 
-use crate::function::Function;
 use crate::key_numbers::KeyNumbers;
 use crate::linkable::Linkable;
 use crate::slot_target::{SlotTarget, own_target, relocated_target};
 use crate::walk::Walk;
-use ebpf_linker::slot::is_pseudo_call;
 use ebpf_linker::{Call, Fault, Target};
+use ebpf_model::Function;
 use ebpf_parts::Relocation;
 use ebpf_parts::insn::bpf_insn;
 use std::alloc::{AllocError, Global};
@@ -55,7 +54,7 @@ fn numbered_target(numbers: &KeyNumbers<'_>, caller: usize, slot_target: SlotTar
 
 /// How many slots call a function of the program, so that a list of these calls takes its memory once.
 fn count_calls(slots: &[bpf_insn]) -> usize {
-    slots.iter().filter(|slot| is_pseudo_call(**slot)).count()
+    slots.iter().filter(|slot| slot.is_pseudo_call()).count()
 }
 
 /// The calls of the function with this number, in the order of its slots. The walk, which has not passed the function,

@@ -3,18 +3,17 @@
 ghost use Rattle.std.specs.Prelude.{◌≡◌, ◌<◌, length, map, IfOk, IfErr, ⊤, MatchBool};
 ghost use Rattle.ebpf_reloc.specs.LinkMaps.{named_copy, IsKeyedLinkMapAnswer, IsLinkMapAt};
 ghost use Rattle.ebpf_reloc.specs.Linking.{key_of, IsProgramFault, IsProgramRefusal};
-ghost use Rattle.ebpf_reloc.specs.Memory.{is_memory, is_memory_at, NamesNoneForMemory};
+ghost use Rattle.ebpf_model.specs.Memory.{is_memory, is_memory_at, NamesNoneForMemory};
 ghost use Rattle.ebpf_reloc.specs.Numbers.{function_keys, function_list, key_in};
 ghost use Rattle.ebpf_reloc.specs.SlotTargets.{read};
 
-use crate::error::{EbpfRelocationError, RelocationError};
-use crate::function::Function;
 use crate::linkable::Linkable;
 use crate::linking::{ProgramKey, numbered};
 use crate::numbered::{NumberedFunctions, function_name, with_function_names};
 use crate::numbers::number_of_key;
 use ebpf_base::{Items, Text};
 use ebpf_linker::Fault;
+use ebpf_model::{EbpfRelocationError, Function, RelocationError};
 pub use ebpf_linker::link_map::Reference;
 use ebpf_linker::link_map::{NumberedCopy, NumberedLinkMap, link_map};
 use std::alloc::{AllocError, Global};

@@ -1,8 +1,7 @@
 //! What linking reads of an object.
 
-use crate::function::Function;
-use crate::symbol::Symbol;
 use ebpf_base::{ByIndex, ByKey, ByOffset, BySection};
+use ebpf_model::{Function, Symbol};
 use ebpf_parts::Relocation;
 use std::collections::HashSet;
 

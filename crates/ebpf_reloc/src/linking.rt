@@ -5,19 +5,18 @@ ghost use Rattle.std.specs.FinMap as map;
 ghost use Rattle.ebpf_linker.specs.Renaming.{answer_named};
 ghost use Rattle.ebpf_linker.specs.Result.{IsLinking};
 ghost use Rattle.ebpf_reloc.specs.Linking.{ProgramValue, key_of, with_linked, IsLinked, IsProgramFault, IsProgramRefusal, AreLinked, IsFirstRefusal};
-ghost use Rattle.ebpf_reloc.specs.Memory.{is_memory, is_memory_at, NamesNoneForMemory};
+ghost use Rattle.ebpf_model.specs.Memory.{is_memory, is_memory_at, NamesNoneForMemory};
 ghost use Rattle.ebpf_reloc.specs.Numbers.{function_keys, function_list, key_in, with_function_names};
 ghost use Rattle.ebpf_reloc.specs.SlotTargets.{read};
 ghost use Rattle.ebpf_reloc.specs.References.{functions_of};
 
-use crate::error::{EbpfRelocationError, RelocationError};
-use crate::function::Function;
 use crate::linkable::Linkable;
 use crate::numbered::{NumberedFunctions, with_function_names};
 use crate::numbers::number_of_key;
 use ebpf_base::ByKey;
 use ebpf_ext::{FuncSecInfo, LineSecInfo};
 use ebpf_linker::{Fault, LinkedProgram};
+use ebpf_model::{EbpfRelocationError, Function, RelocationError};
 use std::alloc::{AllocError, Global};
 use std::marker::Model;
 

@@ -9,12 +9,11 @@ ghost use Rattle.ebpf_reloc.specs.SlotTargets.{read};
 ghost use Rattle.ebpf_reloc.specs.References.{content_of, functions_of};
 
 use crate::calls::all_calls;
-use crate::error::RelocationError;
-use crate::function::Function;
 use crate::linkable::Linkable;
 use crate::numbers::{function_keys, function_list};
 use ebpf_base::Text;
 use ebpf_linker::{Body, Call, Fault, LinkedProgram, Tables, link};
+use ebpf_model::{Function, RelocationError};
 use std::alloc::{AllocError, Global};
 
 /// The functions of an object, numbered in the order of their keys.

@@ -5,8 +5,8 @@ ghost use Rattle.std.specs.List.Sorted.{IsStrictlySortedBy};
 ghost use Rattle.ebpf_base.specs.Keys.{key_cmp};
 ghost use Rattle.ebpf_reloc.specs.Numbers.{function_keys, function_list, number_of_key};
 
-use crate::function::Function;
 use ebpf_base::ByKey;
+use ebpf_model::Function;
 use std::alloc::{AllocError, Global};
 
 /// The keys of functions in their order: the number of a function is the place of its key.

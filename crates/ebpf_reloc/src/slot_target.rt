@@ -2,13 +2,12 @@
 
 ghost use Rattle.std.specs.Prelude.{◌≡◌, ◌+◌, ◌*◌, ◌%◌, ◌^◌, pos, ◌+ℤ◌, ◌*ℤ◌};
 ghost use Rattle.std.specs.Option.{option_copied};
-ghost use Rattle.ebpf_reloc.specs.SlotTargets.{modulo, is_usable, text_sections_in, reference_address, symbol_target, relocated_target, own_target, read};
+ghost use Rattle.ebpf_model.specs.TextSections.{text_sections_in};
+ghost use Rattle.ebpf_reloc.specs.SlotTargets.{modulo, is_usable, reference_address, symbol_target, relocated_target, own_target, read};
 
-use crate::function::Function;
 use crate::linkable::Linkable;
-use crate::symbol::Symbol;
 use ebpf_elf::SymbolKind;
-use ebpf_linker::slot::is_pseudo_call;
+use ebpf_model::{Function, Symbol};
 use ebpf_parts::Relocation;
 use ebpf_parts::insn::bpf_insn;
 use std::collections::HashSet;
@@ -112,7 +111,7 @@ fn wrapped_offset(function: &Function, slot: usize) -> u64
 pub fn own_target(function: &Function, slot: usize, instruction: bpf_insn) -> SlotTarget
     ensures { result ≡ own_target function.now slot instruction }
 {
-    if !is_pseudo_call(instruction) {
+    if !instruction.is_pseudo_call() {
         return SlotTarget::Absent;
     }
     let address = moved(wrapped_offset(function, slot), distance(instruction.imm));

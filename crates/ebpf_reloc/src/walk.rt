@@ -6,8 +6,8 @@ ghost use Rattle.ebpf_base.specs.EntriesFrom.{entries_from};
 ghost use Rattle.ebpf_reloc.specs.SlotTargets.{found_at};
 ghost use Rattle.ebpf_reloc.specs.Walks.{at_offset, ahead_in, entries_or_none, left, walked_relocations, is_passed, IsBefore};
 
-use crate::function::Function;
 use ebpf_base::ByOffset;
+use ebpf_model::Function;
 use ebpf_parts::Relocation;
 use std::collections::btree_map;
 

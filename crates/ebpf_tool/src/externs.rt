@@ -5,7 +5,7 @@ use crate::loaded::Loaded;
 use ebpf_base::{ByName, Text};
 use ebpf_btf::{Btf, BtfError, BtfType};
 use ebpf_candidates::types_are_compatible;
-use ebpf_reloc::ExternDesc;
+use ebpf_model::ExternDesc;
 use std::alloc::{AllocError, Global};
 
 /// An extern that has to be there, and that a kernel lacks.

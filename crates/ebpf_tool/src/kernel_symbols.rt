@@ -2,7 +2,7 @@
 
 use ebpf_base::ByName;
 use ebpf_btf::{Btf, BtfType};
-use ebpf_reloc::ExternDesc;
+use ebpf_model::ExternDesc;
 use std::alloc::{AllocError, Global};
 
 /// Whether a function or a variable is looked up.

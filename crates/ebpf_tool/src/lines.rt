@@ -3,7 +3,7 @@
 use ebpf_base::Text;
 use ebpf_btf::Btf;
 use ebpf_ext::bpf_line_info;
-use ebpf_reloc::Function;
+use ebpf_model::Function;
 use std::alloc::{AllocError, Global};
 
 /// A slot in the copy of a function.

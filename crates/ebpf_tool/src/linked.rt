@@ -4,15 +4,13 @@ use crate::loaded::Loaded;
 use crate::programs::Chosen;
 use ebpf_base::{ByKey, ByName, Items};
 use ebpf_core_relo::put_slots;
+use ebpf_model::{EbpfRelocationError, ExternDesc, Function, RelocationError};
 use ebpf_object::Object;
 use ebpf_object::prepare::{PrepareError, relocate_own_maps};
 use ebpf_object::relocation::ProgramMaps;
 use ebpf_parts::insn::bpf_insn;
 use ebpf_reach::reached_slots;
-use ebpf_reloc::{
-    CodeCopy, EbpfRelocationError, ExternDesc, Function, Linkable, ProgramKey, RelocationError,
-    relocate_calls,
-};
+use ebpf_reloc::{CodeCopy, Linkable, ProgramKey, relocate_calls};
 use std::alloc::{AllocError, Global};
 use std::collections::HashSet;
 

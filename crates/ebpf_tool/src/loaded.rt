@@ -7,10 +7,10 @@ use crate::wanted::wanted_settings;
 use ebpf_base::{ByKey, ByName, Items, Text};
 use ebpf_btf::Btf;
 use ebpf_ext::Relocation;
+use ebpf_model::ExternDesc;
 use ebpf_object::Object;
 use ebpf_object::obj::ParseError;
 use ebpf_parts::Reading;
-use ebpf_reloc::ExternDesc;
 use std::alloc::{AllocError, Global};
 
 /// A CO-RE relocation.

@@ -1,9 +1,9 @@
 //! The maps that functions use.
 
 use ebpf_base::{ByIndex, ByKey, Items, Text};
+use ebpf_model::Function;
 use ebpf_object::Object;
 use ebpf_parts::Relocation;
-use ebpf_reloc::Function;
 use std::alloc::{AllocError, Global};
 use std::collections::BTreeMap;
 

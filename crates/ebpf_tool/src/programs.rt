@@ -2,8 +2,8 @@
 
 use ebpf_base::Text;
 use ebpf_elf::ElfFile;
+use ebpf_model::Program;
 use ebpf_object::Object;
-use ebpf_parsing::Program;
 use std::alloc::{AllocError, Global};
 use std::collections::BTreeMap;
 

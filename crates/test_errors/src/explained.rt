@@ -5,10 +5,10 @@ use crate::sample::{Sample, show};
 use crate::small_object::object;
 use ebpf_elf::ElfReadError;
 use ebpf_ksyms::KsymsError;
+use ebpf_model::RelocationError;
 use ebpf_object::Object;
 use ebpf_object::obj::{ExplainedParse, ParseError};
 use ebpf_object::prepare::{Explained, PrepareError};
-use ebpf_reloc::RelocationError;
 use std::io;
 
 impl Sample for Explained<'_> {

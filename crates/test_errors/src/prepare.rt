@@ -4,9 +4,9 @@ use crate::sample::{Sample, show, text};
 use ebpf_core::RelocationError as CoreError;
 use ebpf_core_relo::BtfRelocationError;
 use ebpf_ksyms::KsymsError;
+use ebpf_model::{EbpfRelocationError, RelocationError};
 use ebpf_object::obj::ParseError;
 use ebpf_object::prepare::PrepareError;
-use ebpf_reloc::{EbpfRelocationError, RelocationError};
 use std::alloc::AllocError;
 use std::io;
 

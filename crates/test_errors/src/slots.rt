@@ -1,7 +1,7 @@
 //! Why descriptors, externs and calls can't be written.
 
 use crate::sample::{Sample, show, text};
-use ebpf_reloc::{EbpfRelocationError, RelocationError};
+use ebpf_model::{EbpfRelocationError, RelocationError};
 use std::io;
 
 impl Sample for RelocationError {

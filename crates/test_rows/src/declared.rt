@@ -3,8 +3,8 @@
 use crate::lines::{Line, put_numbers};
 use ebpf_base::ByName;
 use ebpf_btf::{Btf, BtfType};
+use ebpf_model::ExternDesc;
 use ebpf_parts::maps::{BtfMap, BtfMapDef, Map};
-use ebpf_reloc::ExternDesc;
 use std::alloc::{AllocError, Global};
 
 /// What is said of a map, as words: each size beside the id of its type.

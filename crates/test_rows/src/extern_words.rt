@@ -1,7 +1,7 @@
 //! Externs, as words give them.
 
 use ebpf_base::ByName;
-use ebpf_reloc::ExternDesc;
+use ebpf_model::ExternDesc;
 use std::alloc::{AllocError, Global};
 
 /// An extern of type 1 of which nothing is known.

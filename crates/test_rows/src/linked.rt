@@ -2,8 +2,8 @@
 
 use crate::slots::slot_text;
 use crate::tables::put_table;
+use ebpf_model::Function;
 use ebpf_object::Object;
-use ebpf_reloc::Function;
 use std::alloc::{AllocError, Global};
 use std::collections::HashSet;
 use test_cases::{Action, Tally, shown_line};

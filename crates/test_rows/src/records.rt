@@ -3,8 +3,8 @@
 use ebpf_base::ByKey;
 use ebpf_btf::Btf;
 use ebpf_ext::{FuncSecInfo, LineSecInfo, Relocation};
+use ebpf_model::Function;
 use ebpf_object::Object;
-use ebpf_reloc::Function;
 use std::alloc::{AllocError, Global};
 use test_cases::shown;
 

@@ -1,8 +1,8 @@
 //! Functions that are made fit for a kernel.
 
 use ebpf_base::ByKey;
+use ebpf_model::Function;
 use ebpf_object::Object;
-use ebpf_reloc::Function;
 use std::alloc::{AllocError, Global};
 use test_cases::{Action, no_action};
 

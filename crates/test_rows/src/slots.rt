@@ -1,9 +1,9 @@
 //! The slots of functions.
 
 use ebpf_base::ByKey;
+use ebpf_model::Function;
 use ebpf_object::Object;
 use ebpf_parts::insn::bpf_insn;
-use ebpf_reloc::Function;
 use std::alloc::{AllocError, Global};
 
 /// Appends bytes, with a space before each but the text's first.

@@ -7,8 +7,8 @@ use crate::maps::put_map_ids;
 use crate::records::{put_records, put_type_relocations};
 use ebpf_base::{ByIndex, ByKey, ByOffset, BySection};
 use ebpf_elf::SectionIndex;
+use ebpf_model::{Function, Relocation, Symbol};
 use ebpf_object::{Object, Program};
-use ebpf_reloc::{Function, Relocation, Symbol};
 use std::alloc::{AllocError, Global};
 
 impl Line for Program {

@@ -3,7 +3,7 @@
 use ebpf_base::ByName;
 use ebpf_btf::Btf;
 use ebpf_ksyms::{KsymsError, resolve_externs, resolve_text};
-use ebpf_reloc::ExternDesc;
+use ebpf_model::ExternDesc;
 use std::alloc::{AllocError, Global};
 use test_cases::{FailingReader, shown};
 

@@ -1,7 +1,7 @@
 //! What is known of externs before their addresses are looked up, as words say it.
 
 use ebpf_base::ByName;
-use ebpf_reloc::ExternDesc;
+use ebpf_model::ExternDesc;
 use std::alloc::{AllocError, Global};
 
 /// An extern without a type, of which nothing is known.

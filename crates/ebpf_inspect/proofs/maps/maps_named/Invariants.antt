@@ -4,7 +4,7 @@ use Rattle.ebpf_base.specs.Keys.{lent_bytes}
 use Rattle.ebpf_inspect.specs.Named.{AreMaps, OneRefused}
 use Rattle.ebpf_inspect.specs.declared.maps.NamedMap.{NamedMap}
 use Rattle.ebpf_object.specs.LinkedPrograms.{program_with}
-use Rattle.ebpf_reloc.specs.declared.error.EbpfRelocationError.{EbpfRelocationError}
+use Rattle.ebpf_model.specs.declared.error.EbpfRelocationError.{EbpfRelocationError}
 use Rattle.ebpf_inspect.proofs.maps.maps_named.Given as goal
 
 -- with those of the names that are left, all are there; a refusal of one that is left is one of all

@@ -2,8 +2,8 @@ use Rattle.std.proofs.Common.{◌≡◌, ℕ, Bool, true, false, List, refl, sym
 use Rattle.std.specs.Prelude.{◌||◌, ◌==◌}
 use Rattle.std.specs.List.{list_any}
 use Rattle.ebpf_object.specs.TextSections.{has_function_in}
-use Rattle.ebpf_reloc.specs.VariableLookup.{text_sections_in}
-use Rattle.ebpf_reloc.specs.declared.function.Function.{Function}
+use Rattle.ebpf_model.specs.TextSections.{text_sections_in}
+use Rattle.ebpf_model.specs.declared.function.Function.{Function}
 use Rattle.ebpf_object.proofs.object.Object.text_sections.Goals as goal
 
 or_false : (b : Bool) → b ≡ (b || false)

@@ -2,8 +2,8 @@ use Rattle.std.proofs.Common.{List, map, subst, sym, ap, ◌∙◌, Err}
 use Rattle.ebpf_linker.specs.Renaming.{answer_named}
 use Rattle.ebpf_linker.specs.Result.{IsLinking}
 use Rattle.ebpf_reloc.proofs.Finished.{is_linked, is_fault, unless_memory}
-use Rattle.ebpf_reloc.specs.declared.function.Function.{Function}
-use Rattle.ebpf_reloc.specs.Memory.{is_memory}
+use Rattle.ebpf_model.specs.declared.function.Function.{Function}
+use Rattle.ebpf_model.specs.Memory.{is_memory}
 use Rattle.ebpf_reloc.specs.Numbers.{function_keys, function_list, key_in, with_function_names}
 use Rattle.ebpf_reloc.specs.SlotTargets.{read}
 use Rattle.ebpf_reloc.specs.References.{functions_of}
