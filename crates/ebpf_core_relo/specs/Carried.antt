@@ -12,6 +12,7 @@ use Rattle.ebpf_core.specs.declared.outcome.Outcome.{Outcome}
 use Rattle.ebpf_core_relo.specs.declared.carried.Carrier.{Carrier}
 use Rattle.ebpf_core_relo.specs.declared.carried.Carrier.TheVariants.{Immediate, Offset, WideLoad, Nothing}
 use Rattle.ebpf_parts.specs.declared.insn.bpf_insn.{bpf_insn}
+use Rattle.ebpf_parts.specs.Opcodes.{call, ld_imm64}
 use Rattle.ebpf_parts.specs.Slots.{src_of}
 
 -- ---- one slot
@@ -82,7 +83,7 @@ carried_by Nothing slot number outcome = None
 
 -- a slot that fails where it is reached: a call of a helper function that no kernel has
 abbrev pub poison : bpf_insn
-poison = record { code = 0x85; regs = 0; off = pos 0; imm = pos 195896080 }
+poison = record { code = call; regs = 0; off = pos 0; imm = pos 195896080 }
 
 -- ---- the slots of a function
 
@@ -96,7 +97,7 @@ both_written record_number slots i first second =
 -- a load of a number of 64 bits takes two slots
 abbrev pub poisoned : ℕ → List bpf_insn → ℕ → bpf_insn → Result (List bpf_insn) RelocationError
 poisoned record_number slots i slot =
-    if slot.code == 0x18 then both_written record_number slots i poison (λ next. poison) else Ok (slice_set slots i poison)
+    if slot.code == ld_imm64 then both_written record_number slots i poison (λ next. poison) else Ok (slice_set slots i poison)
 
 abbrev pub is_wide_load : Carrier → Bool
 is_wide_load WideLoad = true

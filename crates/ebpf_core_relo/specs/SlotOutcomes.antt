@@ -3,6 +3,7 @@ use Rattle.std.specs.Prelude.{◌≡◌, ◌≢◌, ℕ, ◌+◌, ◌==◌, List
 use Rattle.ebpf_core.specs.declared.outcome.Outcome.{Outcome}
 use Rattle.ebpf_core_relo.specs.Carried.{carried_by, carrier_of, high_half, is_wide_load, poison, written}
 use Rattle.ebpf_parts.specs.declared.insn.bpf_insn.{bpf_insn}
+use Rattle.ebpf_parts.specs.Opcodes.{ld_imm64}
 
 -- a slot that carries an outcome: its number as the slot's class has it, or without one what fails where it is reached
 abbrev pub carrying : Option ℕ → bpf_insn → Outcome → Option bpf_insn
@@ -11,7 +12,7 @@ carrying (Some number) slot outcome = carried_by (carrier_of slot) slot number o
 
 -- the slot behind it: the upper half of the number of a wide load, or the second slot of one that fails
 abbrev pub behind : Option ℕ → bpf_insn → bpf_insn → bpf_insn
-behind None slot next = if slot.code == 0x18 then poison else next
+behind None slot next = if slot.code == ld_imm64 then poison else next
 behind (Some number) slot next = if is_wide_load (carrier_of slot) then record next { imm = high_half number } else next
 
 -- the slots of a function of which slot i carries an outcome, slot by slot

@@ -10,13 +10,11 @@ ghost use Rattle.ebpf_core_relo.specs.Carried.{carrier_of, carried_by, high_half
 use ebpf_base::Text;
 use ebpf_core::{FieldClass, LoadedField, Outcome, RelocationError};
 use ebpf_parts::insn::bpf_insn;
+use ebpf_parts::insn::opcodes::{ALU, ALU64, CALL, JMP, JMP32, LD, LD_IMM64};
 use std::alloc::Global;
 
 /// The greatest offset of a load or store.
 const GREATEST_OFFSET: u64 = 32_767;
-
-/// The code of a load of 64 bits, which takes two slots.
-const WIDE_LOAD: u8 = 0x18;
 
 /// Where a slot carries a number.
 #[derive(Clone, Copy, Debug, PartialEq, Eq)]
@@ -36,9 +34,9 @@ fn carrier_of(slot: &bpf_insn) -> Carrier
     ensures { result ≡ carrier_of slot.now }
 {
     match slot.code % 8 {
-        0 => Carrier::WideLoad,
-        4 | 7 => Carrier::Immediate,
-        5 | 6 => Carrier::Nothing,
+        LD => Carrier::WideLoad,
+        ALU | ALU64 => Carrier::Immediate,
+        JMP | JMP32 => Carrier::Nothing,
         _ => Carrier::Offset,
     }
 }
@@ -152,7 +150,7 @@ fn poison() -> bpf_insn
     ensures { result ≡ poison }
 {
     bpf_insn {
-        code: 0x85,
+        code: CALL,
         regs: 0,
         off: 0,
         imm: 195_896_080,
@@ -210,7 +208,7 @@ fn poisoned(
     ensures there { IfOk result (λ carrying. HasRoom slots.now at carrying.next) }
     ensures fault { IfErr result (λ e. poisoned record_number slots.now at (slice_index_or slots.now at poison) ≡ Err (without_texts e)) }
 {
-    if slots[at].code != WIDE_LOAD {
+    if slots[at].code != LD_IMM64 {
         return Ok(CarryingSlots {
             slot: poison(),
             next: None,

@@ -1,6 +1,7 @@
 -- The flow of control of the separate functions and of the linked program.
 use Rattle.std.specs.Prelude.{◌≡◌, ◌≢◌, ℕ, zero, suc, ◌-◌, ℤ, pos, negsuc, ◌+ℤ◌, Bool, true, nat_lt, if◌then◌else◌, ◌⊎◌, List, [], ◌∷◌, map, length, Option, Some, None, slice_get}
 use Rattle.ebpf_parts.specs.declared.insn.bpf_insn.{bpf_insn}
+use Rattle.ebpf_parts.specs.Opcodes.{ld_imm64}
 use Rattle.ebpf_parts.specs.Slots.{is_pseudo_call}
 use Rattle.ebpf_linker.specs.Slots.{Flow, Return, PseudoCall, WideLoad, Jump, Branch, Next, flow, slot_at_integer}
 use Rattle.ebpf_linker.specs.Functions.{SlotReference, Nothing, Faulty, Names, Functions, body, Among}
@@ -124,4 +125,4 @@ module _ {K E : Type 0} where
 
   -- each reference of these functions stands on a pseudo call or a wide load
   abbrev pub OnCallsOrLoads : Functions K E → List K → Type 0
-  OnCallsOrLoads F ks = (k : K) (i : ℕ) (s : bpf_insn) → Among ks k → slice_get (body F k) i ≡ Some s → F.reference k i ≢ Nothing → (is_pseudo_call s ≡ true) ⊎ (s.code ≡ 0x18)
+  OnCallsOrLoads F ks = (k : K) (i : ℕ) (s : bpf_insn) → Among ks k → slice_get (body F k) i ≡ Some s → F.reference k i ≢ Nothing → (is_pseudo_call s ≡ true) ⊎ (s.code ≡ ld_imm64)

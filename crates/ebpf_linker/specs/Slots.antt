@@ -1,6 +1,7 @@
 -- What a slot does to the flow of control (RFC 9669, sections 4.3 and 5.4).
 use Rattle.std.specs.Prelude.{ℕ, ◌/◌, ◌%◌, ℤ, pos, negsuc, Bool, ◌&&◌, ◌||◌, not, ◌==◌, if◌then◌else◌, List, Option, None, slice_get}
 use Rattle.ebpf_parts.specs.declared.insn.bpf_insn.{bpf_insn}
+use Rattle.ebpf_parts.specs.Opcodes.{exit, ld_imm64, ja, ja32}
 use Rattle.ebpf_parts.specs.Slots.{dst_of, registers, is_pseudo_call}
 
 -- where control goes after a slot
@@ -19,11 +20,11 @@ is_branch code =
 
 unfoldable pub flow : bpf_insn → Flow
 flow slot =
-    if slot.code == 0x95 then Return
+    if slot.code == exit then Return
     else (if is_pseudo_call slot then PseudoCall
-    else (if slot.code == 0x18 then WideLoad
-    else (if slot.code == 0x05 then Jump slot.off
-    else (if slot.code == 0x06 then Jump slot.imm
+    else (if slot.code == ld_imm64 then WideLoad
+    else (if slot.code == ja then Jump slot.off
+    else (if slot.code == ja32 then Jump slot.imm
     else (if is_branch slot.code then Branch slot.off else Next)))))
 
 -- the slot at a whole number, which has none below 0 or past the end

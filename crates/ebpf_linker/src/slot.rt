@@ -4,16 +4,17 @@ ghost use Rattle.std.specs.Prelude.{◌≡◌, ◌+◌, ◌<◌, ◌^◌, pos, �
 ghost use Rattle.ebpf_linker.specs.Slots.{relinked};
 
 use ebpf_parts::insn::bpf_insn;
+use ebpf_parts::insn::opcodes::BPF_PSEUDO_FUNC;
 
 /// The slot with the distance to the function that it refers to. Where it is no such call its source register
-/// becomes 4, which marks the address of a function.
+/// becomes `BPF_PSEUDO_FUNC`, which marks the address of a function.
 pub fn relinked(slot: bpf_insn, distance: i32) -> bpf_insn
     ensures { result ≡ relinked slot distance }
 {
     let regs = if slot.is_pseudo_call() {
         slot.regs
     } else {
-        4 * 16 + slot.dst_reg()
+        BPF_PSEUDO_FUNC * 16 + slot.dst_reg()
     };
     bpf_insn {
         regs,

@@ -6,7 +6,8 @@ use Rattle.ebpf_base.specs.Keys.{key_cmp, key_total}
 use Rattle.ebpf_base.proofs.Maps.{key_exact}
 use Rattle.ebpf_parts.specs.declared.insn.bpf_insn.{bpf_insn}
 use Rattle.ebpf_model.specs.declared.function.Function.{Function}
-use Rattle.ebpf_object.specs.OlderHelpers.{reads_bytes, reads_text, is_helper_call, older, sanitized, have_newer, TwiceIsOnce}
+use Rattle.ebpf_parts.specs.Slots.{is_helper_call}
+use Rattle.ebpf_object.specs.OlderHelpers.{reads_bytes, reads_text, older, sanitized, have_newer, TwiceIsOnce}
 
 slot_twice : (s : bpf_insn) → older (older s) ≡ older s
 slot_twice s = by (is_helper_call s) (reads_bytes s.imm) (reads_text s.imm) refl refl refl

@@ -1,11 +1,12 @@
 -- Calls of helper functions that older kernels lack, and of the older functions in their place
 -- (helper functions by their numbers in the kernel's `bpf_func_id`).
-use Rattle.std.specs.Prelude.{◌≡◌, ℕ, ℤ, pos, Bool, true, false, ◌==◌, ◌&&◌, ◌||◌, map, MatchBool, option_map, if◌then◌else◌}
+use Rattle.std.specs.Prelude.{◌≡◌, ℕ, ℤ, pos, Bool, true, false, ◌&&◌, ◌||◌, map, MatchBool, option_map, if◌then◌else◌}
 use Rattle.std.specs.FinMap.{FinMap, get, entries}
 use Rattle.std.specs.List.{list_any}
 use Rattle.std.specs.Ordering.{int_eq}
 use Rattle.ebpf_base.specs.Keys.{key_cmp}
 use Rattle.ebpf_parts.specs.declared.insn.bpf_insn.{bpf_insn}
+use Rattle.ebpf_parts.specs.Slots.{is_helper_call}
 use Rattle.ebpf_model.specs.declared.function.Function.{Function}
 
 -- probe_read_user, probe_read_kernel
@@ -19,10 +20,6 @@ reads_text helper = int_eq helper (pos 114) || int_eq helper (pos 115)
 -- probe_read and probe_read_str, which every kernel has
 abbrev pub older_helper : ℤ → ℤ
 older_helper helper = if reads_bytes helper then pos 4 else (if reads_text helper then pos 45 else helper)
-
--- the code of a call, with no registers (RFC 9669, section 4.3.1: a helper function by its number)
-abbrev pub is_helper_call : bpf_insn → Bool
-is_helper_call slot = slot.code == 133 && slot.regs == 0
 
 abbrev pub calls_newer : bpf_insn → Bool
 calls_newer slot = is_helper_call slot && (reads_bytes slot.imm || reads_text slot.imm)

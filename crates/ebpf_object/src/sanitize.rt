@@ -25,8 +25,7 @@ fn older_helper(helper: i32) -> i32
 fn calls_newer(slot: &bpf_insn) -> bool
     ensures { result ≡ calls_newer slot.now }
 {
-    slot.code == 0x85
-        && slot.regs == 0
+    slot.is_helper_call()
         && (slot.imm == 112 || slot.imm == 113 || slot.imm == 114 || slot.imm == 115)
 }
 

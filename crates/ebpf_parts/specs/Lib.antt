@@ -3,6 +3,7 @@ pub mod Maps
 pub mod MapTypes
 pub mod Memory
 pub mod Numbers
+pub mod Opcodes
 pub mod Pinning
 pub mod ProgramKinds
 pub mod ProgramSections

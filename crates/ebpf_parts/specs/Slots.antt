@@ -1,5 +1,5 @@
 -- Slots of eBPF byte code (RFC 9669, section 3: Instruction encoding).
-use Rattle.std.specs.Prelude.{ℕ, ◌+◌, ◌*◌, ◌/◌, ◌%◌, not, ◌==◌, List, [], ◌∷◌, ◌++◌, length, map, slice_index}
+use Rattle.std.specs.Prelude.{ℕ, ℤ, pos, negsuc, Bool, false, ◌&&◌, ◌+◌, ◌*◌, ◌/◌, ◌%◌, not, ◌==◌, List, [], ◌∷◌, ◌++◌, length, map, slice_index}
 use Rattle.std.specs.List.{range_with_len}
 use Rattle.std.specs.Int.{w16, w32, cast_signed, cast_unsigned}
 use Rattle.byteorder.specs.Endian.{little_bytes}
@@ -9,6 +9,7 @@ use Rattle.ebpf_base.specs.Faults.{Row}
 use Rattle.ebpf_parts.specs.declared.error.ParseError.{ParseError}
 use Rattle.ebpf_parts.specs.declared.error.ParseError.TheVariants.{InvalidProgramCode}
 use Rattle.ebpf_parts.specs.declared.insn.bpf_insn.{bpf_insn}
+use Rattle.ebpf_parts.specs.Opcodes.{call}
 
 -- the registers' byte: the destination in the low four bits, the source in the high four
 abbrev pub dst_of : bpf_insn → ℕ
@@ -19,6 +20,19 @@ src_of slot = slot.regs / 16
 
 abbrev pub registers : ℕ → ℕ → ℕ
 registers src dst = src * 16 + dst
+
+abbrev pub is_zero : ℤ → Bool
+is_zero (pos n) = n == 0
+is_zero (negsuc n) = false
+
+-- A call of a function of the same object, relative to this place: class 5 in the low three bits of the code and
+-- 0x80 in the others, source 1, destination 0, offset 0.
+abbrev pub is_pseudo_call : bpf_insn → Bool
+is_pseudo_call slot = (slot.code == call) && ((src_of slot == 1) && ((dst_of slot == 0) && is_zero slot.off))
+
+-- the code of a call, with no registers (section 4.3.1: a helper function by its number)
+abbrev pub is_helper_call : bpf_insn → Bool
+is_helper_call slot = slot.code == call && slot.regs == 0
 
 -- The slot of the eight bytes from an offset on: code, registers, a signed offset in two bytes
 -- and a signed immediate in four, the lowest byte first.

@@ -3,11 +3,14 @@
 ghost use Rattle.std.specs.Prelude.{◌≡◌, ◌+◌, ◌*◌, ◌/◌, ◌%◌, ◌<◌, ◌≤◌, length, IfOk};
 ghost use Rattle.ebpf_base.specs.Faults.{Refuses, first_of};
 ghost use Rattle.ebpf_parts.specs.Memory.{is_memory};
-ghost use Rattle.ebpf_parts.specs.Slots.{slot_at, slots_of, slot_bytes, code_faults, dst_of, src_of, registers};
+ghost use Rattle.ebpf_parts.specs.Slots.{slot_at, slots_of, slot_bytes, code_faults, dst_of, src_of, is_pseudo_call, is_helper_call, registers};
+
+pub mod opcodes;
 
 use crate::error::ParseError;
 use ebpf_base::Endianness;
 use ebpf_base::numbers::{read_u16, read_u32};
+use opcodes::{BPF_PSEUDO_CALL, CALL};
 use std::alloc::Global;
 
 /// A slot of eight bytes: an instruction, or the second half of a 16-byte load (RFC 9669, section 3). It lies in memory
@@ -38,6 +41,23 @@ impl bpf_insn {
         ensures { result ≡ src_of self.now }
     {
         self.regs / 16
+    }
+
+    /// Whether it calls a function of the same object.
+    pub fn is_pseudo_call(&self) -> bool
+        ensures { result ≡ is_pseudo_call self.now }
+    {
+        self.code == CALL
+            && self.src_reg() == BPF_PSEUDO_CALL
+            && self.dst_reg() == 0
+            && self.off == 0
+    }
+
+    /// Whether it calls a helper function by its number.
+    pub fn is_helper_call(&self) -> bool
+        ensures { result ≡ is_helper_call self.now }
+    {
+        self.code == CALL && self.regs == 0
     }
 
     /// The eight bytes of the slot.

@@ -6,6 +6,7 @@ use Rattle.std.specs.Ordering.{nat_cmp}
 use Rattle.ebpf_base.specs.Keys.{text_cmp}
 use Rattle.ebpf_elf.specs.declared.entries.ElfRelocation.{ElfRelocation}
 use Rattle.ebpf_parts.specs.declared.insn.bpf_insn.{bpf_insn}
+use Rattle.ebpf_parts.specs.Opcodes.{call, ld_imm64}
 use Rattle.ebpf_parts.specs.Slots.{dst_of, registers}
 use Rattle.ebpf_model.specs.Symbols.{is_extern}
 use Rattle.ebpf_model.specs.declared.extern_desc.ExternDesc.{ExternDesc}
@@ -67,8 +68,8 @@ load_edit (Some load) slot has_next = if has_next then Ok (loaded load slot) els
 abbrev pub declared_extern_edit : Option ExternDesc → ℕ → bpf_insn → Bool → Result Edit Fault
 declared_extern_edit None symbol slot has_next = Err ExternNotFound
 declared_extern_edit (Some desc) symbol slot has_next =
-    if slot.code == 0x85 then call_edit desc symbol slot
-    else (if slot.code == 0x18 then load_edit (load_of desc) slot has_next else Err InvalidOffset)
+    if slot.code == call then call_edit desc symbol slot
+    else (if slot.code == ld_imm64 then load_edit (load_of desc) slot has_next else Err InvalidOffset)
 
 -- a symbol that is no extern is no matter of externs
 abbrev pub extern_edit_of_symbol : ExternInputs → Option Symbol → ElfRelocation → bpf_insn → Bool → Result Edit Fault

@@ -11,6 +11,7 @@ use ebpf_base::{ByIndex, ByName};
 use ebpf_model::{ExternDesc, Symbol};
 use ebpf_parts::Relocation;
 use ebpf_parts::insn::bpf_insn;
+use ebpf_parts::insn::opcodes::{BPF_PSEUDO_BTF_ID, BPF_PSEUDO_KFUNC_CALL, CALL, LD_IMM64};
 
 /// What is read to write the kernel's ids and addresses.
 #[derive(Clone, Copy)]
@@ -38,7 +39,7 @@ fn kernel_call(slot: bpf_insn, id: u32) -> bpf_insn
     ensures { result ≡ kernel_call slot id }
 {
     bpf_insn {
-        regs: 2 * 16 + slot.dst_reg(),
+        regs: BPF_PSEUDO_KFUNC_CALL * 16 + slot.dst_reg(),
         off: 0,
         imm: id.cast_signed(),
         ..slot
@@ -94,7 +95,7 @@ fn loaded(load: Load, slot: bpf_insn) -> Edit
     ensures { result ≡ loaded load slot }
 {
     match load {
-        Load::Id(id) => Edit::Pair(with_source(slot, 3, id.cast_signed()), 0),
+        Load::Id(id) => Edit::Pair(with_source(slot, BPF_PSEUDO_BTF_ID, id.cast_signed()), 0),
         Load::Address(address) => {
             let low = ((address % BITS) as u32).cast_signed();
             let high = ((address / BITS) as u32).cast_signed();
@@ -121,8 +122,8 @@ fn declared_extern_edit(desc: &ExternDesc, symbol: usize, slot: bpf_insn, has_ne
     ensures { result ≡ declared_extern_edit (Some desc.now) symbol slot has_next }
 {
     match slot.code {
-        0x85 => call_edit(desc, symbol, slot),
-        0x18 => load_edit(desc, slot, has_next),
+        CALL => call_edit(desc, symbol, slot),
+        LD_IMM64 => load_edit(desc, slot, has_next),
         _ => Err(Fault::InvalidOffset),
     }
 }

@@ -11,6 +11,7 @@ use ebpf_base::ByIndex;
 use ebpf_model::Symbol;
 use ebpf_parts::Relocation;
 use ebpf_parts::insn::bpf_insn;
+use ebpf_parts::insn::opcodes::{BPF_PSEUDO_MAP_FD, BPF_PSEUDO_MAP_VALUE};
 use std::collections::HashSet;
 
 /// What is read to write maps' descriptors.
@@ -55,13 +56,13 @@ fn target_edit(target: MapTarget, address: u64, slot: bpf_insn, has_next: bool) 
     ensures { result ≡ target_edit target address slot has_next }
 {
     if !target.has_data {
-        return Ok(Edit::Slot(with_source(slot, 1, target.descriptor)));
+        return Ok(Edit::Slot(with_source(slot, BPF_PSEUDO_MAP_FD, target.descriptor)));
     }
     if !has_next {
         return Err(Fault::InvalidOffset);
     }
     match value_offset(slot.imm, address) {
-        Some(next) => Ok(Edit::Pair(with_source(slot, 2, target.descriptor), next)),
+        Some(next) => Ok(Edit::Pair(with_source(slot, BPF_PSEUDO_MAP_VALUE, target.descriptor), next)),
         None => Err(Fault::MapAddressOverflow),
     }
 }

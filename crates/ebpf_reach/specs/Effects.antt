@@ -4,6 +4,7 @@ use Rattle.std.specs.Option.{option_and_then, option_map}
 use Rattle.std.specs.Int.{w32, w64, cast_unsigned}
 use Rattle.std.specs.Ordering.{int_eq}
 use Rattle.ebpf_parts.specs.declared.insn.bpf_insn.{bpf_insn}
+use Rattle.ebpf_parts.specs.Opcodes.{call}
 use Rattle.ebpf_parts.specs.Slots.{dst_of, src_of}
 use Rattle.ebpf_reach.specs.declared.registers.Registers.{Registers}
 use Rattle.ebpf_reach.specs.Registers.{known, unknown, learned, forgotten, called}
@@ -67,7 +68,7 @@ arithmetic slot a =
 
 -- Whether a slot is one that a CO-RE relocation poisoned: a call of the helper function 0x0bad2310, which no kernel has.
 abbrev pub is_poisoned : bpf_insn → Bool
-is_poisoned slot = (slot.code == 0x85) && ((slot.regs == 0) && (int_eq slot.off (pos 0) && int_eq slot.imm (pos 195896080)))
+is_poisoned slot = (slot.code == call) && ((slot.regs == 0) && (int_eq slot.off (pos 0) && int_eq slot.imm (pos 195896080)))
 
 -- an atomic operation (mode 6 of class 3)
 abbrev pub is_atomic : bpf_insn → Bool

@@ -11,6 +11,7 @@ use crate::arithmetic::{
 use crate::comparisons::{compared_32, compared_64};
 use crate::registers::Registers;
 use ebpf_parts::insn::bpf_insn;
+use ebpf_parts::insn::opcodes::{ALU, ALU64, CALL, JMP32, LD, LDX, ST, STX};
 
 /// What CO-RE relocations write in the immediate of a slot that they poison: the number of a helper function which no
 /// kernel has.
@@ -71,7 +72,7 @@ fn widened(number: Option<u32>) -> Option<u64>
 fn calculated(slot: bpf_insn, x: u64, y: u64) -> Option<u64>
     ensures { result ≡ calculated slot x y }
 {
-    if class(slot) == 4 {
+    if class(slot) == ALU {
         return widened(computed_32(operation(slot), slot.off, low_32(x), low_32(y)));
     }
     computed_64(operation(slot), slot.off, x, y)
@@ -82,12 +83,12 @@ fn moved(slot: bpf_insn, y: u64) -> Option<u64>
     ensures { result ≡ moved slot y }
 {
     if slot.off == 0 {
-        return Some(if class(slot) == 4 { y % 4294967296 } else { y });
+        return Some(if class(slot) == ALU { y % 4294967296 } else { y });
     }
     if !takes_register(slot) {
         return None;
     }
-    if class(slot) == 4 {
+    if class(slot) == ALU {
         return widened(extended_32(slot.off, y));
     }
     extended_64(slot.off, y)
@@ -100,7 +101,7 @@ fn turned(slot: bpf_insn, x: u64) -> Option<u64>
     if takes_register(slot) || slot.off != 0 {
         return None;
     }
-    if class(slot) == 4 {
+    if class(slot) == ALU {
         return Some(u64::from(negated_32(low_32(x))));
     }
     Some(negated_64(x))
@@ -110,7 +111,7 @@ fn turned(slot: bpf_insn, x: u64) -> Option<u64>
 fn ended(slot: bpf_insn, x: u64) -> Option<u64>
     ensures { result ≡ ended slot x }
 {
-    if class(slot) == 4 {
+    if class(slot) == ALU {
         if takes_register(slot) {
             return swapped(slot.imm, x);
         }
@@ -148,7 +149,7 @@ fn arithmetic(slot: bpf_insn, registers: &Registers) -> Option<u64>
 fn is_poisoned(slot: bpf_insn) -> bool
     ensures { result ≡ is_poisoned slot }
 {
-    slot.code == 0x85 && slot.regs == 0 && slot.off == 0 && slot.imm == POISON
+    slot.code == CALL && slot.regs == 0 && slot.off == 0 && slot.imm == POISON
 }
 
 // The registers behind an atomic operation or a plain store.
@@ -172,11 +173,11 @@ pub fn after(slot: bpf_insn, registers: Registers) -> Registers
         return Registers::unknown();
     }
     match class(slot) {
-        0 => registers.forgotten(slot.dst_reg()).called(),
-        1 => registers.forgotten(slot.dst_reg()),
-        2 => registers,
-        3 => stored(slot, registers),
-        4 | 7 => registers.learned(slot.dst_reg(), arithmetic(slot, &registers)),
+        LD => registers.forgotten(slot.dst_reg()).called(),
+        LDX => registers.forgotten(slot.dst_reg()),
+        ST => registers,
+        STX => stored(slot, registers),
+        ALU | ALU64 => registers.learned(slot.dst_reg(), arithmetic(slot, &registers)),
         _ => registers.called(),
     }
 }
@@ -209,7 +210,7 @@ pub fn decided(slot: bpf_insn, registers: &Registers) -> Option<bool>
     let (Some(x), Some(y)) = (destination(slot, registers), source(slot, registers)) else {
         return None;
     };
-    if class(slot) == 6 {
+    if class(slot) == JMP32 {
         return compared_32(operation(slot), low_32(x), low_32(y));
     }
     compared_64(operation(slot), x, y)

@@ -9,6 +9,7 @@ ghost use Rattle.ebpf_reach.specs.Steps.{AreWithin, behind, callback, follow, fu
 use crate::effects::{after, decided, loaded};
 use crate::registers::Registers;
 use ebpf_parts::insn::bpf_insn;
+use ebpf_parts::insn::opcodes::{BPF_PSEUDO_FUNC, EXIT, JA, JA32, JMP, JMP32, LD_IMM64};
 
 /// A slot that is reached, and what is known of the registers there.
 #[derive(Clone, Copy, Debug, PartialEq, Eq)]
@@ -67,7 +68,7 @@ fn callback(slots: &[bpf_insn], place: usize, slot: bpf_insn) -> Option<Step>
     ensures leads { option_to_list result ≡ callback slots.now place slot }
     ensures within { IfSome result (λ step. step.place < length slots.now) }
 {
-    if slot.src_reg() != 4 {
+    if slot.src_reg() != BPF_PSEUDO_FUNC {
         return None;
     }
     step_further(slots, place, slot.imm, Registers::unknown())
@@ -77,7 +78,7 @@ fn callback(slots: &[bpf_insn], place: usize, slot: bpf_insn) -> Option<Step>
 fn is_branch(code: u8) -> bool
     ensures { result ≡ is_branch code }
 {
-    (code % 8 == 5 || code % 8 == 6) && code / 16 != 0 && code / 16 != 8 && code / 16 != 9
+    (code % 8 == JMP || code % 8 == JMP32) && code / 16 != 0 && code / 16 != 8 && code / 16 != 9
 }
 
 // The steps from a slot that stands at a place.
@@ -91,7 +92,7 @@ fn steps_of(
     ensures steps { listed result ≡ follow slots.now place slot registers (flow slot) }
     ensures within { AreWithin slots.now result }
 {
-    if slot.code == 0x95 {
+    if slot.code == EXIT {
         return (None, None);
     }
     if slot.is_pseudo_call() {
@@ -100,20 +101,20 @@ fn steps_of(
             step_further(slots, place, slot.imm, Registers::unknown()),
         );
     }
-    if slot.code == 0x18 {
+    if slot.code == LD_IMM64 {
         let known = registers.learned(slot.dst_reg(), loaded(slots, place, slot));
         return (
             step_to(slots, place + 2, known),
             callback(slots, place, slot),
         );
     }
-    if slot.code == 0x05 {
+    if slot.code == JA {
         return (
             None,
             step_further(slots, place, i32::from(slot.off), registers),
         );
     }
-    if slot.code == 0x06 {
+    if slot.code == JA32 {
         return (None, step_further(slots, place, slot.imm, registers));
     }
     if is_branch(slot.code) {

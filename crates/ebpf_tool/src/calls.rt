@@ -7,11 +7,9 @@ use crate::verdict::{Answers, topic_of};
 use ebpf_loading::KernelNumbers;
 use ebpf_object::Object;
 use ebpf_parts::insn::bpf_insn;
+use ebpf_parts::insn::opcodes::CALL;
 use ebpf_reloc::CodeCopy;
 use std::alloc::{AllocError, Global};
-
-/// The code of a call.
-const CALL: u8 = 0x85;
 
 /// The number that a poisoned slot calls.
 const POISON: u32 = 195_896_080;

@@ -12,6 +12,7 @@ use crate::verdict::{Answers, topic_of};
 use ebpf_btf::Btf;
 use ebpf_core_relo::{Absence, RecordResult, RelocationError};
 use ebpf_parts::insn::bpf_insn;
+use ebpf_parts::insn::opcodes::{ALU, ALU64, LD};
 use ebpf_reloc::CodeCopy;
 use std::alloc::{AllocError, Global};
 
@@ -227,7 +228,7 @@ fn loads_number(answers: &Answers<'_>, copy: &CodeCopy, slot: usize) -> bool {
         return false;
     };
     match function.instructions.get(slot) {
-        Some(instruction) => matches!(instruction.code % 8, 0 | 4 | 7),
+        Some(instruction) => matches!(instruction.code % 8, LD | ALU | ALU64),
         None => false,
     }
 }

@@ -7,7 +7,7 @@ use std::io;
 
 /// Whether a slot was poisoned: it calls the helper function 0x0bad2310, which no kernel has.
 fn is_poisoned(slot: &bpf_insn) -> bool {
-    slot.code == 0x85 && slot.regs == 0 && slot.imm == 0x0bad_2310
+    slot.is_helper_call() && slot.imm == 0x0bad_2310
 }
 
 /// Prints the places of the slots that are poisoned.
