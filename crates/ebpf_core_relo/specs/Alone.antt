@@ -12,6 +12,7 @@ use Rattle.ebpf_core_relo.specs.RecordFunctions.{spans_of}
 use Rattle.ebpf_core_relo.specs.Records.{RelocationInputs, Written, own_slots, slots_so_far, slots_written, with_slots}
 use Rattle.ebpf_core_relo.specs.Spans.{span_at}
 use Rattle.ebpf_parts.specs.declared.insn.bpf_insn.{bpf_insn}
+use Rattle.ebpf_model.specs.Keys.{FunctionKey}
 use Rattle.ebpf_model.specs.Shapes.{KeepShapes}
 use Rattle.ebpf_model.specs.declared.function.Function.{Function}
 
@@ -37,7 +38,7 @@ records_with_sections inputs parts = flat_map (λ part. records_in_section (sect
 -- ---- the slots that a record touches
 
 -- the slot that a record is about: the key of its function, and its number there
-abbrev pub record_slot : RelocationInputs → ℕ × Relocation → Option ((ℕ × ℕ) × ℕ)
+abbrev pub record_slot : RelocationInputs → ℕ × Relocation → Option (FunctionKey × ℕ)
 record_slot inputs located = option_map (λ span. ((located.0, span.address), (located.1.insn_off - span.start) / 8)) (span_at located.1.insn_off (spans_of inputs.functions located.0))
 
 -- whether there is a slot of class 0, which goes on in the next one
@@ -47,7 +48,7 @@ goes_on (Some slot) = slot.code % 8 == 0
 
 -- A record touches the slot that it is about, and where this one is of class 0 the next one: by the slots as they
 -- stand before all records.
-pub record Touches (inputs : RelocationInputs) (located : ℕ × Relocation) (key : ℕ × ℕ) (i : ℕ) : Type 0 where
+pub record Touches (inputs : RelocationInputs) (located : ℕ × Relocation) (key : FunctionKey) (i : ℕ) : Type 0 where
   pub slot : ℕ
   pub about : record_slot inputs located ≡ Some (key, slot)
   pub touched : (i ≡ slot) ⊎ ((i ≡ slot + 1) × (goes_on (slice_get (own_slots (get inputs.functions key)) slot) ≡ true))
@@ -55,7 +56,7 @@ pub record Touches (inputs : RelocationInputs) (located : ℕ × Relocation) (ke
 -- Record number n writes alone: each record that touches a slot which it touches is number n.
 abbrev pub WritesAlone : RelocationInputs → List (ℕ × Relocation) → ℕ → ℕ × Relocation → Type 0
 WritesAlone inputs records n located =
-    (m : ℕ) (other : ℕ × Relocation) → slice_get records m ≡ Some other → (key : ℕ × ℕ) (i : ℕ) → Touches inputs located key i → Touches inputs other key i → m ≡ n
+    (m : ℕ) (other : ℕ × Relocation) → slice_get records m ≡ Some other → (key : FunctionKey) (i : ℕ) → Touches inputs located key i → Touches inputs other key i → m ≡ n
 
 -- No record is left out.
 abbrev pub RecordsHaveSections : Type 0
@@ -65,7 +66,7 @@ RecordsHaveSections =
 
 -- a record is about a slot that is there
 pub record HasSlot (inputs : RelocationInputs) (located : ℕ × Relocation) : Type 0 where
-  pub key : ℕ × ℕ
+  pub key : FunctionKey
   pub slot : ℕ
   pub about : record_slot inputs located ≡ Some (key, slot)
   pub there : slot < length (own_slots (get inputs.functions key))
@@ -81,7 +82,7 @@ RecordsHaveSlots =
 -- The slots that a record touches are what they become where its outcome is written into its function's own slots:
 -- other records make no difference.
 pub record Carries (inputs : RelocationInputs) (so_far : Written) (located : ℕ × Relocation) : Type 0 where
-  pub key : ℕ × ℕ
+  pub key : FunctionKey
   pub slot : ℕ
   pub about : record_slot inputs located ≡ Some (key, slot)
   pub function : Function
@@ -103,24 +104,24 @@ RecordsAloneAreCarried =
 abbrev pub OtherSlotsStay : Type 0
 OtherSlotsStay =
     (inputs : RelocationInputs) (parts : List (ℕ × List Relocation)) (so_far : Written) → slots_written inputs parts ≡ Ok so_far
-    → (key : ℕ × ℕ) (i : ℕ) → ((n : ℕ) (located : ℕ × Relocation) → slice_get (records_with_sections inputs parts) n ≡ Some located → ¬ (Touches inputs located key i))
+    → (key : FunctionKey) (i : ℕ) → ((n : ℕ) (located : ℕ × Relocation) → slice_get (records_with_sections inputs parts) n ≡ Some located → ¬ (Touches inputs located key i))
     → slice_get (slots_so_far inputs.functions so_far key) i ≡ slice_get (own_slots (get inputs.functions key)) i
 
 -- Each function has as many slots as before.
 abbrev pub SlotsStayAsMany : Type 0
 SlotsStayAsMany =
     (inputs : RelocationInputs) (parts : List (ℕ × List Relocation)) (so_far : Written) → slots_written inputs parts ≡ Ok so_far
-    → (key : ℕ × ℕ) → length (slots_so_far inputs.functions so_far key) ≡ length (own_slots (get inputs.functions key))
+    → (key : FunctionKey) → length (slots_so_far inputs.functions so_far key) ≡ length (own_slots (get inputs.functions key))
 
 -- functions with the slots that records have left in the places of their own
 abbrev pub HaveSlots : FinMap key_cmp Function → Written → FinMap key_cmp Function → Type 0
-HaveSlots before so_far after = (key : ℕ × ℕ) → get after key ≡ with_slots (get so_far key) (get before key)
+HaveSlots before so_far after = (key : FunctionKey) → get after key ≡ with_slots (get so_far key) (get before key)
 
 -- Put in place they are the functions' own.
 abbrev pub PutSlotsStand : Type 0
 PutSlotsStand =
     (inputs : RelocationInputs) (parts : List (ℕ × List Relocation)) (so_far : Written) → slots_written inputs parts ≡ Ok so_far
-    → (functions : FinMap key_cmp Function) → HaveSlots inputs.functions so_far functions → (key : ℕ × ℕ) → own_slots (get functions key) ≡ slots_so_far inputs.functions so_far key
+    → (functions : FinMap key_cmp Function) → HaveSlots inputs.functions so_far functions → (key : FunctionKey) → own_slots (get functions key) ≡ slots_so_far inputs.functions so_far key
 
 -- All else of the functions stays.
 abbrev pub RecordsKeepShapes : Type 0

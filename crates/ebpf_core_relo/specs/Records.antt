@@ -21,6 +21,7 @@ use Rattle.ebpf_core_relo.specs.declared.error.BtfRelocationError.{BtfRelocation
 use Rattle.ebpf_core_relo.specs.declared.spans.Span.{Span}
 use Rattle.ebpf_elf.specs.declared.entries.SectionIndex.{SectionIndex}
 use Rattle.ebpf_parts.specs.declared.insn.bpf_insn.{bpf_insn}
+use Rattle.ebpf_model.specs.Keys.{FunctionKey}
 use Rattle.ebpf_model.specs.declared.function.Function.{Function}
 
 -- the slots that records have written so far, by the functions' keys
@@ -48,7 +49,7 @@ abbrev pub slots_by : Option (List bpf_insn) → Option Function → List bpf_in
 slots_by (Some slots) f = slots
 slots_by None f = own_slots f
 
-abbrev pub slots_so_far : FinMap key_cmp Function → Written → ℕ × ℕ → List bpf_insn
+abbrev pub slots_so_far : FinMap key_cmp Function → Written → FunctionKey → List bpf_insn
 slots_so_far functions so_far key = slots_by (get so_far key) (get functions key)
 
 -- the outcome of a record in the slot of a function that begins at a place
@@ -113,6 +114,6 @@ with_slots None (Some f) = Some f
 with_slots (Some slots) (Some f) = Some (record f { instructions = slots })
 
 -- functions of which the one at a key, if it is there, has these slots
-abbrev pub with_slots_at : FinMap key_cmp Function → ℕ × ℕ → List bpf_insn → Option Function → FinMap key_cmp Function
+abbrev pub with_slots_at : FinMap key_cmp Function → FunctionKey → List bpf_insn → Option Function → FinMap key_cmp Function
 with_slots_at functions key slots None = functions
 with_slots_at functions key slots (Some f) = insert functions key (record f { instructions = slots })

@@ -1,8 +1,9 @@
 //! The CO-RE relocations of an object.
 
-ghost use Rattle.std.specs.Prelude.{◌≡◌, ℕ, Ok, Err, IfOk, IfErr, MatchBool, []};
+ghost use Rattle.std.specs.Prelude.{◌≡◌, Ok, Err, IfOk, IfErr, MatchBool, []};
 ghost use Rattle.std.specs.FinMap as map;
 ghost use Rattle.ebpf_base.specs.Keys.{key_cmp};
+ghost use Rattle.ebpf_model.specs.Keys.{FunctionKey};
 ghost use Rattle.ebpf_core_relo.specs.Answers.{is_memory_at, without_texts_at};
 ghost use Rattle.ebpf_core_relo.specs.Refused.{RecordsAreRefused};
 ghost use Rattle.ebpf_core_relo.specs.Records.{relocation_inputs_between, slots_written, with_slots, with_slots_at};
@@ -92,7 +93,7 @@ fn set_slots_at(functions: &mut ByKey<Function>, key: (usize, u64), slots: Items
 
 /// Puts slots in the places of those of the functions at their keys. No memory is taken.
 pub fn put_slots(functions: &mut ByKey<Function>, written: ByKey<Items<bpf_insn>>)
-    ensures { (q : ℕ × ℕ) → map.get functions.new q ≡ with_slots (map.get written q) (map.get functions.old q) }
+    ensures { (q : FunctionKey) → map.get functions.new q ≡ with_slots (map.get written q) (map.get functions.old q) }
 {
     for (key, slots) in written.into_map() {
         set_slots_at(functions, key, slots);

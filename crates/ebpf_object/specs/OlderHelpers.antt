@@ -7,6 +7,7 @@ use Rattle.std.specs.Ordering.{int_eq}
 use Rattle.ebpf_base.specs.Keys.{key_cmp}
 use Rattle.ebpf_parts.specs.declared.insn.bpf_insn.{bpf_insn}
 use Rattle.ebpf_parts.specs.Slots.{is_helper_call}
+use Rattle.ebpf_model.specs.Keys.{FunctionKey}
 use Rattle.ebpf_model.specs.declared.function.Function.{Function}
 
 -- probe_read_user, probe_read_kernel
@@ -41,7 +42,7 @@ have_newer functions = list_any (λ e. list_any calls_newer e.1.instructions) (e
 abbrev pub AreSanitized : (Bool → Type 0) → FinMap key_cmp Function → FinMap key_cmp Function → Type 0
 AreSanitized IsAnswer before after =
     MatchBool (have_newer before)
-    ((answer : Bool) × IsAnswer answer × ((key : ℕ × ℕ) → get after key ≡ option_map (sanitized answer) (get before key)))
+    ((answer : Bool) × IsAnswer answer × ((key : FunctionKey) → get after key ≡ option_map (sanitized answer) (get before key)))
     (after ≡ before)
 
 -- twice is once, where the answers are alike

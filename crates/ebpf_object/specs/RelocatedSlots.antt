@@ -7,6 +7,7 @@ use Rattle.ebpf_btf.specs.TypeInfo.{TypeInfo}
 use Rattle.ebpf_core_relo.specs.declared.error.BtfRelocationError.{BtfRelocationError}
 use Rattle.ebpf_core_relo.specs.Records.{Written, relocation_inputs_between, slots_written, with_slots}
 use Rattle.ebpf_object.specs.declared.object.Object.{Object}
+use Rattle.ebpf_model.specs.Keys.{FunctionKey}
 use Rattle.ebpf_model.specs.declared.function.Function.{Function}
 
 -- the slots that CO-RE relocations write, where there are types and relocations
@@ -23,4 +24,4 @@ relocated_slots o target = relocated_slots_by o target o.btf o.btf_ext
 pub record AreRelocatedToTypes (o : Object) (target : TypeInfo) (functions : FinMap key_cmp Function) : Type 0 where
   pub slots : Written
   pub written : relocated_slots o target ≡ Ok slots
-  pub each : (key : ℕ × ℕ) → get functions key ≡ with_slots (get slots key) (get o.functions key)
+  pub each : (key : FunctionKey) → get functions key ≡ with_slots (get slots key) (get o.functions key)

@@ -1,12 +1,13 @@
 //! Linking the programs of an object with the functions that they reach.
 
-ghost use Rattle.std.specs.Prelude.{◌≡◌, ◌++◌, ℕ, ⊤, IfOk, IfErr, OnOk, OnErr, MatchBool, Some, true, if◌then◌else◌};
+ghost use Rattle.std.specs.Prelude.{◌≡◌, ◌++◌, ⊤, IfOk, IfErr, OnOk, OnErr, MatchBool, Some, true, if◌then◌else◌};
 ghost use Rattle.std.specs.FinMap as map;
 ghost use Rattle.std.specs.List.{flat_map};
 ghost use Rattle.std.specs.Ordering.{eq_by_cmp};
 ghost use Rattle.ebpf_base.specs.Keys.{key_cmp, lent_bytes};
 ghost use Rattle.ebpf_object.specs.LinkedPrograms.{linkable_of, program_with, programs_in_order, replaced, ProgramsAreLinked};
 ghost use Rattle.ebpf_reloc.specs.Linking.{AreLinked, IsFirstRefusal};
+ghost use Rattle.ebpf_model.specs.Keys.{FunctionKey};
 ghost use Rattle.ebpf_model.specs.TextSections.{text_sections_in};
 ghost use Rattle.ebpf_model.specs.Memory.{is_memory_at, NamesNoneForMemory};
 
@@ -65,14 +66,14 @@ fn programs_in_order<'a>(
 
 /// Puts a function in the place of the one at a key.
 fn take_place(functions: &mut ByKey<Function>, key: (usize, u64), function: Function)
-    ensures { (q : ℕ × ℕ) → map.get functions.new q ≡ (if eq_by_cmp key_cmp q key then replaced (map.get functions.old q) (Some function) else map.get functions.old q) }
+    ensures { (q : FunctionKey) → map.get functions.new q ≡ (if eq_by_cmp key_cmp q key then replaced (map.get functions.old q) (Some function) else map.get functions.old q) }
 {
     let _before = functions.replace(key, function);
 }
 
 /// Puts functions in the places of those at their keys. No memory is taken.
 fn take_places(functions: &mut ByKey<Function>, linked: ByKey<Function>)
-    ensures { (q : ℕ × ℕ) → map.get functions.new q ≡ replaced (map.get functions.old q) (map.get linked q) }
+    ensures { (q : FunctionKey) → map.get functions.new q ≡ replaced (map.get functions.old q) (map.get linked q) }
 {
     for (key, function) in linked.into_map() {
         take_place(functions, key, function);

@@ -1,9 +1,10 @@
 //! Helper functions that older kernels lack.
 
-ghost use Rattle.std.specs.Prelude.{◌≡◌, ℕ, map, option_map, false};
+ghost use Rattle.std.specs.Prelude.{◌≡◌, map, option_map, false};
 ghost use Rattle.std.specs.FinMap as finite;
 ghost use Rattle.std.specs.List.{list_any};
 ghost use Rattle.ebpf_object.specs.OlderHelpers.{older_helper, calls_newer, older, sanitized, have_newer, AreSanitized};
+ghost use Rattle.ebpf_model.specs.Keys.{FunctionKey};
 
 use crate::object::Object;
 use ebpf_base::ByKey;
@@ -61,7 +62,7 @@ fn write_function(function: &mut Function)
 /// Writes the helper functions that every kernel has into each function, without memory.
 #[tactic(auto, using(crate::proofs::Sanitizing::older_functions))]
 fn write_each(functions: &mut ByKey<Function>)
-    ensures { (key : ℕ × ℕ) → finite.get functions.new key ≡ option_map (sanitized false) (finite.get functions.old key) }
+    ensures { (key : FunctionKey) → finite.get functions.new key ≡ option_map (sanitized false) (finite.get functions.old key) }
 {
     functions.write_values(|function| write_function(function));
 }

@@ -24,6 +24,7 @@ use Rattle.ebpf_parsing.specs.CodeOrder.{order_fault_as}
 use Rattle.ebpf_parsing.specs.LicenseAndVersion.{license_as, license_fault_as, kernel_version_of, version_fault}
 use Rattle.ebpf_parsing.specs.declared.file_contents.FileContents.{FileContents}
 use Rattle.ebpf_parsing.specs.declared.object_tables.ObjectTables.{ObjectTables}
+use Rattle.ebpf_model.specs.Keys.{FunctionKey}
 use Rattle.ebpf_model.specs.declared.program.Program.{Program}
 use Rattle.ebpf_parsing.specs.declared.metadata.FileMetadata.{FileMetadata}
 use Rattle.ebpf_parts.specs.Sections.{SectionValue, section_of, section_fault}
@@ -60,7 +61,7 @@ map_entries reading types bytes = flat_map (λ s. maps_in reading types s (own_s
 unfoldable pub program_entries : Reading → List ℕ → Option ℕ → List ℕ → List (List ℕ × Program)
 program_entries reading license version bytes = flat_map (λ s. programs_in reading license version s (own_symbols bytes s)) (object_sections bytes)
 
-unfoldable pub function_entries : Option ExtInfo → List ℕ → List ((ℕ × ℕ) × Function)
+unfoldable pub function_entries : Option ExtInfo → List ℕ → List (FunctionKey × Function)
 function_entries ext bytes = flat_map (λ s. functions_in ext s (own_symbols bytes s)) (object_sections bytes)
 
 unfoldable pub relocation_entries : List ℕ → List (ℕ × FinMap nat_cmp ElfRelocation)

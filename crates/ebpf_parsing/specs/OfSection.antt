@@ -16,6 +16,7 @@ use Rattle.ebpf_parsing.specs.Records.{FuncAndLineInfo, func_and_line_info_of}
 use Rattle.ebpf_parsing.specs.Relocations.{relocation_table_at}
 use Rattle.ebpf_parsing.specs.Symbols.{SymbolValue}
 use Rattle.ebpf_parsing.specs.Texts.{text_functions, text_fault}
+use Rattle.ebpf_model.specs.Keys.{FunctionKey}
 use Rattle.ebpf_model.specs.declared.program.Program.{Program}
 use Rattle.ebpf_parts.specs.Readings.{section_as, section_fault_as}
 use Rattle.ebpf_parts.specs.Sections.{SectionValue}
@@ -53,7 +54,7 @@ functions_by Programs infos s symbols = program_functions infos s symbols
 functions_by Text infos s symbols = text_functions infos s symbols
 functions_by _ infos s symbols = []
 
-unfoldable pub functions_in : Option ExtInfo → SectionValue → List SymbolValue → List ((ℕ × ℕ) × Function)
+unfoldable pub functions_in : Option ExtInfo → SectionValue → List SymbolValue → List (FunctionKey × Function)
 functions_in ext s symbols = map with_key (functions_by s.kind (func_and_line_info_of ext s.name) s symbols)
 
 -- the relocations, by section and offset

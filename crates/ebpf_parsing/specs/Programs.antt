@@ -7,6 +7,7 @@ use Rattle.ebpf_base.specs.Keyed.{put_all}
 use Rattle.ebpf_base.specs.Faults.{Row, first_in, first_some}
 use Rattle.ebpf_parsing.specs.Records.{FuncAndLineInfo, slot_of, funcs_at, lines_in}
 use Rattle.ebpf_parsing.specs.Symbols.{SymbolValue, is_text_symbol}
+use Rattle.ebpf_model.specs.Keys.{FunctionKey}
 use Rattle.ebpf_model.specs.declared.program.Program.{Program}
 use Rattle.ebpf_parts.specs.declared.error.ParseError.{ParseError}
 use Rattle.ebpf_parts.specs.declared.error.ParseError.TheVariants.{InvalidSymbol}
@@ -57,7 +58,7 @@ abbrev pub programs_fault : SectionValue → List SymbolValue → Option ParseEr
 programs_fault s symbols = first_some (program_fault s) (filter is_program_symbol symbols)
 
 -- a function, by section and address
-abbrev pub with_key : Function → (ℕ × ℕ) × Function
+abbrev pub with_key : Function → FunctionKey × Function
 with_key f = ((f.section_index.0, f.address), f)
 
 -- a program, by name, with the license and the kernel version of its object

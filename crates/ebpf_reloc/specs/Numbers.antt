@@ -11,6 +11,7 @@ use Rattle.ebpf_linker.specs.declared.reference.Fault.TheVariants.{UnsupportedTe
 use Rattle.ebpf_linker.specs.declared.reference.Target.{Target}
 use Rattle.ebpf_linker.specs.declared.reference.Target.TheVariants.{Function as ToFunction, Nowhere}
 use Rattle.ebpf_parts.specs.declared.insn.bpf_insn.{bpf_insn}
+use Rattle.ebpf_model.specs.Keys.{FunctionKey}
 use Rattle.ebpf_model.specs.declared.error.RelocationError.{RelocationError}
 use Rattle.ebpf_model.specs.declared.error.RelocationError.TheVariants.{UnsupportedTextSymbol as NoTextSymbol, UnknownFunction as NoFunction, FunctionInfoMismatch as Mismatch, ProgramTooLong as TooLong, InvalidLineInfo as StrayLine}
 use Rattle.ebpf_model.specs.declared.function.Function.{Function}
@@ -20,7 +21,7 @@ use Rattle.ebpf_reloc.specs.SlotTargets.{LinkableValue, slot_target_of}
 use Rattle.ebpf_reloc.specs.References.{function_name_or_empty}
 
 -- the keys of the functions in their order: the number of a function is the place of its key
-abbrev pub function_keys : FinMap key_cmp Function → List (ℕ × ℕ)
+abbrev pub function_keys : FinMap key_cmp Function → List FunctionKey
 function_keys functions = keys_of (entries functions)
 
 -- the functions in that order
@@ -28,7 +29,7 @@ abbrev pub function_list : FinMap key_cmp Function → List Function
 function_list functions = map (λ e. e.1) (entries functions)
 
 -- the number of a key
-abbrev pub number_of_key : List (ℕ × ℕ) → ℕ × ℕ → Option ℕ
+abbrev pub number_of_key : List FunctionKey → FunctionKey → Option ℕ
 number_of_key keys key = position_from (λ k. eq_by_cmp key_cmp key k) 0 keys
 
 abbrev pub numbered_target_by : Option ℕ → ℕ → ℕ → Target
@@ -36,12 +37,12 @@ numbered_target_by None caller address = Nowhere (UnknownFunction address caller
 numbered_target_by (Some number) caller address = ToFunction number
 
 -- the target of a slot of the function with this number, by what the slot refers to
-abbrev pub numbered_target : List (ℕ × ℕ) → ℕ → SlotTarget → Option Target
+abbrev pub numbered_target : List FunctionKey → ℕ → SlotTarget → Option Target
 numbered_target keys caller Absent = None
 numbered_target keys caller (Unsupported index) = Some (Nowhere (UnsupportedTextSymbol index))
 numbered_target keys caller (At section address) = Some (numbered_target_by (number_of_key keys (section, address)) caller address)
 
-abbrev pub numbered_target_at : LinkableValue → List (ℕ × ℕ) → ℕ → Function → ℕ → bpf_insn → Option Target
+abbrev pub numbered_target_at : LinkableValue → List FunctionKey → ℕ → Function → ℕ → bpf_insn → Option Target
 numbered_target_at parts keys caller f i slot = numbered_target keys caller (slot_target_of parts f i slot)
 
 abbrev pub with_call : ℕ → Option Target → List Call → List Call
@@ -54,16 +55,16 @@ calls_by leads i [] = []
 calls_by leads i (slot ∷ slots) = with_call i (leads i slot) (calls_by leads (i + 1) slots)
 
 -- the calls of the function with this number
-abbrev pub calls_of : LinkableValue → List (ℕ × ℕ) → ℕ → Function → List Call
+abbrev pub calls_of : LinkableValue → List FunctionKey → ℕ → Function → List Call
 calls_of parts keys caller f = calls_by (numbered_target_at parts keys caller f) 0 f.instructions
 
 -- the calls of functions that are numbered from n on
-abbrev pub calls_from : LinkableValue → List (ℕ × ℕ) → ℕ → List Function → List (List Call)
+abbrev pub calls_from : LinkableValue → List FunctionKey → ℕ → List Function → List (List Call)
 calls_from parts keys n [] = []
 calls_from parts keys n (f ∷ fs) = calls_of parts keys n f ∷ calls_from parts keys (n + 1) fs
 
 -- the key of a number
-abbrev pub key_in : List (ℕ × ℕ) → ℕ → ℕ × ℕ
+abbrev pub key_in : List FunctionKey → ℕ → FunctionKey
 key_in keys number = slice_index_or keys number (0, 0)
 
 -- the name of the function with a number
