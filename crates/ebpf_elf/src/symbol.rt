@@ -81,14 +81,14 @@ impl<'a> ElfSymbol<'a> {
 
     /// The symbol's value (st_value): in object files its offset in its section, in bytes.
     pub fn address(&self) -> u64
-        ensures { result ≡ (entry self.now).value }
+        ensures { result ≡ (entry self.now).st_value }
     {
         self.fields.st_value
     }
 
     /// The symbol's size in bytes (st_size); 0 where it has none or is unknown.
     pub fn size(&self) -> u64
-        ensures { result ≡ (entry self.now).size }
+        ensures { result ≡ (entry self.now).st_size }
     {
         self.fields.st_size
     }
