@@ -41,7 +41,7 @@ TYPES = {
         None,
         "What `relocate_maps`, `relocate_externs` and `relocate_calls` give (stages `maps`, `externs`, `calls`): the function or the program, and the error.",
     ),
-    "relocation::RelocationError": ("ebpf_reloc/src/error.rt", "Why slots can't be written or linked."),
+    "relocation::RelocationError": ("ebpf_model/src/error.rt", "Why slots can't be written or linked."),
     "extern_types::KsymsError": ("ebpf_ksyms/src/error.rt", "What `resolve_externs` gives (stage `ksyms`)."),
 }
 
