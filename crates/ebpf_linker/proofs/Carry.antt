@@ -14,7 +14,7 @@ use Rattle.ebpf_linker.specs.Records.{func_moved, line_moved, func_records, line
 use Rattle.ebpf_linker.specs.Result.{IsProgram, IsLinking}
 use Rattle.ebpf_linker.specs.Renaming.{answer_named}
 use Rattle.ebpf_linker.proofs.Numbering.{renamed, Numbers}
-use Rattle.ebpf_linker.proofs.Bases.{total_le}
+use Rattle.ebpf_linker.proofs.OneBase.{total_le}
 use Rattle.ebpf_linker.proofs.Renamed.{SameReferences, AllNumbers, number_at, all_numbers, among_to, among_from, last_to, last_number, numbers_of, distinct_from, faulty_from, distinct_to, walk_numbers, reached_number, walk_to, walk_from, simple_to, simple_from, end_from, key_path_to, key_path_from, key_path_number, in_order_to}
 
 some_map : {D E : Type 0} → (D → E) → Option D → Option E

@@ -3,7 +3,7 @@ pub mod Numbering
 pub mod OneResult
 pub mod Paths
 pub mod Visits
-pub mod Bases
+pub mod OneBase
 pub mod Held
 pub mod Cursor
 pub mod Searched

@@ -12,7 +12,7 @@ use Rattle.ebpf_linker.specs.Faults.{FaultStandsAt, LeastFault, append_fault, ch
 use Rattle.ebpf_linker.specs.Records.{has_lines, count_if}
 use Rattle.ebpf_linker.specs.Faults.{has_some}
 use Rattle.ebpf_linker.specs.Result.{IsProgram}
-use Rattle.ebpf_linker.proofs.Bases.{one_base}
+use Rattle.ebpf_linker.proofs.OneBase.{one_base}
 use Rattle.ebpf_linker.proofs.Paths.{before_cases, before_trans, last_same, walk_same, walk_parts}
 use Rattle.ebpf_linker.proofs.Visits.{begins_among}
 

@@ -9,7 +9,7 @@ use Rattle.ebpf_linker.specs.Faults.{CopyFault, append_fault}
 use Rattle.ebpf_linker.proofs.Following.{refs}
 use Rattle.ebpf_linker.proofs.Cursor.{Apart}
 use Rattle.ebpf_linker.proofs.Searched.{First, distinct_places, among_place, place_among, key_path, in_order}
-use Rattle.ebpf_linker.proofs.Bases.{one_base, one_key_path, base_at}
+use Rattle.ebpf_linker.proofs.OneBase.{one_base, one_key_path, base_at}
 
 module _ (F : Functions ℕ Fault) (N : ℕ) (C : ℕ → List Call) (p : ℕ) where
   -- what was found so far is in order

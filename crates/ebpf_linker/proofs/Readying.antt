@@ -21,7 +21,7 @@ use Rattle.ebpf_linker.proofs.Paths.{walk_last, last_of_last}
 use Rattle.ebpf_linker.proofs.Held.{at_index, indexed}
 use Rattle.ebpf_linker.proofs.Plain.{plain}
 use Rattle.ebpf_linker.proofs.Checked.{all_at}
-use Rattle.ebpf_linker.proofs.Bases.{total_le}
+use Rattle.ebpf_linker.proofs.OneBase.{total_le}
 use Rattle.ebpf_linker.proofs.Whole.{is_linked, size_same}
 
 target_within : (n : ℕ) (t : Target) (k : ℕ) → IsWithin n t → of_target t ≡ Names k → k < n

@@ -11,7 +11,7 @@ use Rattle.ebpf_linker.specs.Faults.{has_some}
 use Rattle.ebpf_linker.specs.LinkMap.{CopyOf, IsLinkMap}
 use Rattle.ebpf_linker.specs.Records.{linked_func_info, linked_line_info, has_lines, count_if}
 use Rattle.ebpf_linker.specs.Result.{IsProgram}
-use Rattle.ebpf_linker.proofs.Bases.{total_le}
+use Rattle.ebpf_linker.proofs.OneBase.{total_le}
 use Rattle.ebpf_linker.proofs.Whole.{get_left, get_right}
 
 module _ {K E : Type 0} (F : Functions K E) (p : K) (ks : List K) (order : IsOrder F.reference p ks) where
