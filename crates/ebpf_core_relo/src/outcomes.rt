@@ -11,7 +11,7 @@ use crate::absences::Absences;
 use crate::memory::{unless_memory, unless_memory_of_types};
 use crate::record_outcome::{RecordOutcome, RecordOutcomes, RecordResult, RecordSlot};
 use crate::records::apply_record;
-use crate::inputs::FunctionSpans;
+use crate::function_spans::FunctionSpans;
 use crate::section_spans::span_in;
 use crate::spans::SLOT;
 use ebpf_base::{ByKey, ByName, Items};

@@ -95,8 +95,8 @@ impl Object {
         ensures fault { Refuses is_memory result (parse_fault_as reading bytes.now) }
     {
         let contents = FileContents::read(alloc, bytes, reading)?;
-        let shared = contents.shared;
-        let parts = contents.parts;
+        let shared = contents.metadata;
+        let parts = contents.object_tables;
         Ok(Object {
             endianness: contents.endianness,
             license: shared.license,
