@@ -21,7 +21,7 @@ use Rattle.std.specs.contracts.impls.GlobalAllocator.TheImpl.{ghosts}
 use Rattle.std_alloc.specs.Box.Ownership.{box_owns}
 use Rattle.ebpf_object.specs.contracts.object.Object.{the_row}
 use Rattle.ebpf_object.specs.declared.object.Object.{Object}
-use Rattle.ebpf_c.specs.Held.{heap, held}
+use Rattle.ebpf_c.specs.HandleOwnership.{heap, handle_owns}
 use Rattle.ebpf_c.specs.contracts.handle.ebpf_handle as handle
 
 abbrev pub Handle : RattleType
@@ -40,13 +40,13 @@ kept_tested {𝓤 = 𝓤} 𝓛 p x = fact_use 𝓤 (Testable p) (via 𝓤 _ (snd
 
 module _ {M : Type 1} {𝓤 : Ura M} {𝓛 : Logic 𝓤} {K : Type 0} {Γ : List (Item 𝓤)} {G : Goal 𝓤 𝓛.H} where
   -- a handle is its pointer, and what is held behind that
-  pub handle_in : K → (p : Ptr) (o : Option Object) → Step K 𝓛 (‵ (Handle.own_val (record { at = p; object = o }) (word p ∷ [])) ∷ Γ) G (‵ (held p o) ∷ Γ) G
+  pub handle_in : K → (p : Ptr) (o : Option Object) → Step K 𝓛 (‵ (Handle.own_val (record { at = p; object = o }) (word p ∷ [])) ∷ Γ) G (‵ (handle_owns p o) ∷ Γ) G
   handle_in t p o = step (λ s.
       nothing t $ feq_i t (List Val) (ptr_val p ∷ []) (ptr_val p ∷ []) refl $ fjoin t $
       feq_i t (List Val) (word p ∷ []) (word p ∷ []) refl $ fjoin t $
       fpack t (Valss (RawPtr ∷ [])) (within (shape handle.the_type) (p, tt) (word p ∷ [])) (ptr_val p ∷ [], tt) $ fjoin t $ s)
 
-  pub handle_out : K → (h : Handle.Denot) (vs : List Val) → (vs ≡ word h.at ∷ [] → Seq K 𝓛 (‵ (held h.at h.object) ∷ Γ) G) → Seq K 𝓛 (‵ (Handle.own_val h vs) ∷ Γ) G
+  pub handle_out : K → (h : Handle.Denot) (vs : List Val) → (vs ≡ word h.at ∷ [] → Seq K 𝓛 (‵ (handle_owns h.at h.object) ∷ Γ) G) → Seq K 𝓛 (‵ (Handle.own_val h vs) ∷ Γ) G
   handle_out t h vs k =
       fsplit t $ fpick t (λ parts. fsplit t $ feq_l t (λ whole. fsplit t $ feq_l t (λ pointer. drop t $
       k (subst (λ (us : List Val). vs ≡ vstruct (of_list (us ++ [])) ∷ []) pointer whole))))
@@ -55,7 +55,7 @@ module _ {M : Type 1} {𝓤 : Ura M} {𝓛 : Logic 𝓤} {K : Type 0} {Γ : List
   pub held_out : K → (p : Ptr) (o : Option Object)
       → (p ≡ null_ptr → o ≡ None → Seq K 𝓛 Γ G)
       → ((b n : ℕ) (x : Object) → p ≡ block_ptr b n → o ≡ Some x → Testable (block_ptr b n) → Seq K 𝓛 (‵ (kept (block_ptr b n) x) ∷ Γ) G)
-      → Seq K 𝓛 (‵ (held p o) ∷ Γ) G
+      → Seq K 𝓛 (‵ (handle_owns p o) ∷ Γ) G
   held_out t p None nothing_there there = feq_l t (λ at_null. nothing_there at_null refl)
   held_out t p (Some x) nothing_there there =
       in_a_block t p (λ q. kept q x) (fst∗ 𝓤 (never 𝓤) (sem 𝓛 (ghosts.dealloc_token heap (bare (layout the_row)) null_ptr))) (λ b n block.

@@ -3,7 +3,7 @@ pub mod LooseWords
 pub mod Named
 pub mod NamedMaps
 pub mod Objects
-pub mod OneMore
+pub mod NextRow
 pub mod OneValue
 pub mod Refusing
 pub mod Rows

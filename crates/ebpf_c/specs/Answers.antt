@@ -26,9 +26,9 @@ abbrev pub filled : {X : Type 0} → Result (List X) ℕ → List X → List X
 filled (Err number) buffer = buffer
 filled (Ok xs) buffer = front (nat_le (length xs) (length buffer)) xs buffer
 
-abbrev pub counted : {X : Type 0} → Result (List X) ℕ → ℕ → ℕ
-counted (Err number) count = count
-counted (Ok xs) count = length xs
+abbrev pub count_after : {X : Type 0} → Result (List X) ℕ → ℕ → ℕ
+count_after (Err number) count = count
+count_after (Ok xs) count = length xs
 
 -- ---- rows and the text that they point into
 

@@ -10,5 +10,5 @@ entry_if name None = []
 entry_if name (Some v) = (name, v) ∷ []
 
 -- the thing that some bytes name; bytes that are no text name none
-unfoldable pub named : {V : Type 0} → FinMap text_cmp V → List ℕ → Option V
-named values name = if is_utf8 name then get values name else None
+unfoldable pub value_by_bytes : {V : Type 0} → FinMap text_cmp V → List ℕ → Option V
+value_by_bytes values name = if is_utf8 name then get values name else None

@@ -1,6 +1,6 @@
 -- What a call leaves of a handle, and why it refuses.
 use Rattle.std.specs.Prelude.{◌≡◌, ◌⊎◌, ℕ, List, Option, Some, None}
-use Rattle.ebpf_c.specs.Refusal.{plain, IsTold}
+use Rattle.ebpf_c.specs.Refusal.{plain, IsReported}
 use Rattle.ebpf_c.specs.declared.codes.TheConstants.{CLOSED, MEMORY}
 use Rattle.ebpf_c.specs.declared.refusal.Refusal.{Refusal}
 use Rattle.ebpf_object.specs.declared.object.Object.{Object}
@@ -25,4 +25,4 @@ pub record IsRefused (Why : Refusal → Type 0) (answer : ℕ) (before after : O
   pub stays : after ≡ before
   pub refusal : Refusal
   pub why : Why refusal
-  pub told : IsTold refusal answer about_before about_after about_count
+  pub reported : IsReported refusal answer about_before about_after about_count

@@ -3,9 +3,9 @@ pub mod Descriptors
 pub mod Entries
 pub mod ExternRows
 pub mod Flags
-pub mod Found
+pub mod LentResults
 pub mod Handles
-pub mod Held
+pub mod HandleOwnership
 pub mod Info
 pub mod Listing
 pub mod Loading

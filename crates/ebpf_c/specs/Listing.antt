@@ -6,18 +6,18 @@ use Rattle.ebpf_base.specs.Keys.{text_cmp}
 use Rattle.ebpf_c.specs.Answers.{Listed}
 
 -- the name of a thing with its zero byte
-abbrev pub ended : List ℕ → List ℕ
-ended name = name ++ 0 ∷ []
+abbrev pub zero_terminated : List ℕ → List ℕ
+zero_terminated name = name ++ 0 ∷ []
 
 -- the names of all, one after the other
-abbrev pub text_of : {V : Type 0} → List (List ℕ × V) → List ℕ
-text_of entries = flat_map (λ e. ended e.0) entries
+abbrev pub names_text : {V : Type 0} → List (List ℕ × V) → List ℕ
+names_text entries = flat_map (λ e. zero_terminated e.0) entries
 
 -- the rows of things whose names begin at a place; a row says where its name begins and how long it is
 abbrev pub rows_from : {V R : Type 0} → (V → ℕ → ℕ → R) → ℕ → List (List ℕ × V) → List R
 rows_from row at [] = []
-rows_from row at (e ∷ entries) = row e.1 at (length e.0) ∷ rows_from row (at + length (ended e.0)) entries
+rows_from row at (e ∷ entries) = row e.1 at (length e.0) ∷ rows_from row (at + length (zero_terminated e.0)) entries
 
 -- rows and text of all things of a map, in byte order of their names
-abbrev pub listed : {V R : Type 0} → (V → ℕ → ℕ → R) → FinMap text_cmp V → Listed R
-listed row values = (rows_from row 0 (entries values), text_of (entries values))
+abbrev pub listing_of : {V R : Type 0} → (V → ℕ → ℕ → R) → FinMap text_cmp V → Listed R
+listing_of row values = (rows_from row 0 (entries values), names_text (entries values))

@@ -16,7 +16,7 @@ use Rattle.ebpf_parts.specs.declared.error.ParseError.TheVariants as parse
 use Rattle.ebpf_model.specs.declared.error.EbpfRelocationError.{EbpfRelocationError}
 use Rattle.ebpf_model.specs.declared.error.RelocationError.{RelocationError}
 use Rattle.ebpf_model.specs.declared.error.RelocationError.TheVariants as slot
-use Rattle.ebpf_c.specs.Refusal.{plain, named}
+use Rattle.ebpf_c.specs.Refusal.{plain, refusal_with_name}
 use Rattle.ebpf_c.specs.declared.codes.TheConstants.{MEMORY}
 use Rattle.ebpf_c.specs.declared.refusal.Refusal.{Refusal}
 
@@ -53,15 +53,15 @@ type_number first types.TooLarge = first + 14
 type_number first types.OutOfMemory = MEMORY
 
 -- the type or the map that such a fault is about
-abbrev pub type_name : BtfError → Option (List ℕ)
-type_name (types.UnknownBtfTypeName name) = Some name
-type_name (types.InnerMapCannotBePinned name) = Some name
-type_name (types.MultiLevelMapInMapNotSupported name) = Some name
-type_name (types.InvalidValuesSpec name) = Some name
-type_name _ = None
+abbrev pub type_fault_name : BtfError → Option (List ℕ)
+type_fault_name (types.UnknownBtfTypeName name) = Some name
+type_fault_name (types.InnerMapCannotBePinned name) = Some name
+type_fault_name (types.MultiLevelMapInMapNotSupported name) = Some name
+type_fault_name (types.InvalidValuesSpec name) = Some name
+type_fault_name _ = None
 
 abbrev pub type_refusal : ℕ → BtfError → Refusal
-type_refusal first e = record { number = type_number first e; name = type_name e }
+type_refusal first e = record { number = type_number first e; name = type_fault_name e }
 
 -- ---- 100 to 199: the file, and the values of variables
 
@@ -73,17 +73,17 @@ parse_refusal (parse.MissingLicenseNullTerminator _) = plain 140
 parse_refusal (parse.InvalidLicense _) = plain 141
 parse_refusal (parse.InvalidKernelVersion _) = plain 142
 parse_refusal parse.UnsupportedRelocationTarget = plain 143
-parse_refusal (parse.InvalidProgramSection section) = named 144 section
+parse_refusal (parse.InvalidProgramSection section) = refusal_with_name 144 section
 parse_refusal parse.InvalidProgramCode = plain 145
-parse_refusal (parse.InvalidMapDefinition name) = named 146 name
+parse_refusal (parse.InvalidMapDefinition name) = refusal_with_name 146 name
 parse_refusal (parse.SymbolTableConflict _ _) = plain 147
 parse_refusal (parse.UnknownSymbol _ _) = plain 148
 parse_refusal (parse.InvalidSymbol _ name) = record { number = 149; name = name }
-parse_refusal (parse.InvalidGlobalData name _ _) = named 150 name
-parse_refusal (parse.SymbolNotFound name) = named 151 name
+parse_refusal (parse.InvalidGlobalData name _ _) = refusal_with_name 150 name
+parse_refusal (parse.SymbolNotFound name) = refusal_with_name 151 name
 parse_refusal (parse.MapNotFound _) = plain 152
 parse_refusal (parse.MapSymbolNameNotFound _) = plain 153
-parse_refusal (parse.NoSymbolsForSection section) = named 154 section
+parse_refusal (parse.NoSymbolsForSection section) = refusal_with_name 154 section
 parse_refusal parse.NoBTF = plain 155
 parse_refusal parse.OutOfMemory = plain MEMORY
 parse_refusal parse.BigEndianCode = plain 156
@@ -105,7 +105,7 @@ record_number (record_fault.MissingTargetDefinition _ _ _) = 249
 record_number record_fault.OutOfMemory = MEMORY
 
 abbrev pub types_refusal : BtfRelocationError → Refusal
-types_refusal e = named (record_number e.error) e.section
+types_refusal e = refusal_with_name (record_number e.error) e.section
 
 -- ---- 300, 500 and 600 on: slots, about the function or the program
 
@@ -125,20 +125,20 @@ slot_number first (slot.MapAddressOverflow _) = first + 11
 slot_number first slot.OutOfMemory = MEMORY
 
 abbrev pub slot_refusal : ℕ → EbpfRelocationError → Refusal
-slot_refusal first e = named (slot_number first e.error) e.function
+slot_refusal first e = refusal_with_name (slot_number first e.error) e.function
 
 -- ---- 400 to 499: finding externs, about the extern
 
 abbrev pub ksyms_refusal : KsymsError → Refusal
 ksyms_refusal ksyms.TypedKsymRequiresKernelBtf = plain 400
-ksyms_refusal (ksyms.VariableNotFound name) = named 401 name
-ksyms_refusal (ksyms.IncompatibleFunctionSignature name) = named 402 name
-ksyms_refusal (ksyms.IncompatibleVariableType name) = named 403 name
-ksyms_refusal (ksyms.InvalidExternType name) = named 404 name
-ksyms_refusal (ksyms.AmbiguousResolution name _ _) = named 405 name
+ksyms_refusal (ksyms.VariableNotFound name) = refusal_with_name 401 name
+ksyms_refusal (ksyms.IncompatibleFunctionSignature name) = refusal_with_name 402 name
+ksyms_refusal (ksyms.IncompatibleVariableType name) = refusal_with_name 403 name
+ksyms_refusal (ksyms.InvalidExternType name) = refusal_with_name 404 name
+ksyms_refusal (ksyms.AmbiguousResolution name _ _) = refusal_with_name 405 name
 ksyms_refusal (ksyms.KallsymsAccessError _) = plain 406
-ksyms_refusal (ksyms.KallsymsParseError text) = named 407 text
-ksyms_refusal (ksyms.FunctionNotFound name) = named 408 name
+ksyms_refusal (ksyms.KallsymsParseError text) = refusal_with_name 407 text
+ksyms_refusal (ksyms.FunctionNotFound name) = refusal_with_name 408 name
 ksyms_refusal (ksyms.BtfError e) = type_refusal 420 e
 ksyms_refusal ksyms.OutOfMemory = plain MEMORY
 

@@ -7,38 +7,38 @@ use Rattle.ebpf_c.specs.Flags.{flag}
 use Rattle.ebpf_c.specs.declared.program_kind.TheConstants.{NO_ATTACH_TYPE}
 
 -- the kinds in the order in which the library has them
-abbrev pub kind_number : ProgramSection → ℕ
-kind_number KRetProbe = 0
-kind_number KProbe = 1
-kind_number (UProbe _ _) = 2
-kind_number (URetProbe _ _) = 3
-kind_number TracePoint = 4
-kind_number SocketFilter = 5
-kind_number (Xdp _ _) = 6
-kind_number SkMsg = 7
-kind_number (SkSkbStream _) = 8
-kind_number SockOps = 9
-kind_number SchedClassifier = 10
-kind_number (CgroupSkb _) = 11
-kind_number (CgroupSockAddr _) = 12
-kind_number CgroupSysctl = 13
-kind_number (CgroupSockopt _) = 14
-kind_number LircMode2 = 15
-kind_number PerfEvent = 16
-kind_number RawTracePoint = 17
-kind_number (Lsm _) = 18
-kind_number LsmCgroup = 19
-kind_number BtfTracePoint = 20
-kind_number (FEntry _) = 21
-kind_number (FExit _) = 22
-kind_number FlowDissector = 23
-kind_number Extension = 24
-kind_number SkLookup = 25
-kind_number (SkReuseport _) = 26
-kind_number (CgroupSock _) = 27
-kind_number CgroupDevice = 28
-kind_number (Iter _) = 29
-kind_number Other = 30
+abbrev pub program_kind_number : ProgramSection → ℕ
+program_kind_number KRetProbe = 0
+program_kind_number KProbe = 1
+program_kind_number (UProbe _ _) = 2
+program_kind_number (URetProbe _ _) = 3
+program_kind_number TracePoint = 4
+program_kind_number SocketFilter = 5
+program_kind_number (Xdp _ _) = 6
+program_kind_number SkMsg = 7
+program_kind_number (SkSkbStream _) = 8
+program_kind_number SockOps = 9
+program_kind_number SchedClassifier = 10
+program_kind_number (CgroupSkb _) = 11
+program_kind_number (CgroupSockAddr _) = 12
+program_kind_number CgroupSysctl = 13
+program_kind_number (CgroupSockopt _) = 14
+program_kind_number LircMode2 = 15
+program_kind_number PerfEvent = 16
+program_kind_number RawTracePoint = 17
+program_kind_number (Lsm _) = 18
+program_kind_number LsmCgroup = 19
+program_kind_number BtfTracePoint = 20
+program_kind_number (FEntry _) = 21
+program_kind_number (FExit _) = 22
+program_kind_number FlowDissector = 23
+program_kind_number Extension = 24
+program_kind_number SkLookup = 25
+program_kind_number (SkReuseport _) = 26
+program_kind_number (CgroupSock _) = 27
+program_kind_number CgroupDevice = 28
+program_kind_number (Iter _) = 29
+program_kind_number Other = 30
 
 -- the type that the kernel loads such a program as (its include/uapi/linux/bpf.h, enum bpf_prog_type, by libbpf's table
 -- of section names)

@@ -8,7 +8,7 @@ use Rattle.ebpf_model.specs.declared.program.Program.{Program}
 use Rattle.ebpf_parts.specs.ProgramKinds.{program_kind}
 use Rattle.ebpf_model.specs.declared.function.Function.{Function}
 use Rattle.ebpf_c.specs.Loading.{loaded_as}
-use Rattle.ebpf_c.specs.ProgramKinds.{kind_number}
+use Rattle.ebpf_c.specs.ProgramKinds.{program_kind_number}
 use Rattle.ebpf_c.specs.declared.loading.Loading.{Loading}
 use Rattle.ebpf_c.specs.declared.programs.ebpf_program.{ebpf_program}
 
@@ -22,12 +22,12 @@ name_if None = []
 name_if (Some section) = section.0
 
 -- the name of the section with a number among named sections, empty where none of them has it
-abbrev pub section_name : List (List ℕ × SectionIndex) → ℕ → List ℕ
-section_name sections number = name_if (find (λ section. section.1.0 == number) sections)
+abbrev pub name_of_section_number : List (List ℕ × SectionIndex) → ℕ → List ℕ
+name_of_section_number sections number = name_if (find (λ section. section.1.0 == number) sections)
 
 -- how a program is loaded, by the name of its section and its kind
 abbrev pub loading_of : List (List ℕ × SectionIndex) → Program → Loading
-loading_of sections p = loaded_as (program_kind (section_name sections p.section_index)) p.section
+loading_of sections p = loaded_as (program_kind (name_of_section_number sections p.section_index)) p.section
 
 -- the row of a program whose name begins at a place of the text and has a length
 abbrev pub program_row : FinMap key_cmp Function → List (List ℕ × SectionIndex) → Program → ℕ → ℕ → ebpf_program
@@ -37,7 +37,7 @@ program_row functions sections p name_at name_len = record {
   section = p.section_index;
   address = p.address;
   slots = slot_count (get functions (p.section_index, p.address));
-  kind = kind_number p.section;
+  kind = program_kind_number p.section;
   flags = (loading_of sections p).flags;
   program_type = (loading_of sections p).program_type;
   attach_type = (loading_of sections p).attach_type;

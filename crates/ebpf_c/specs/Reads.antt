@@ -10,11 +10,11 @@ use Rattle.ebpf_parts.specs.Maps.{bytes_of}
 use Rattle.ebpf_parts.specs.declared.insn.bpf_insn.{bpf_insn}
 use Rattle.ebpf_model.specs.declared.function.Function.{Function}
 use Rattle.ebpf_c.specs.Answers.{Listed}
-use Rattle.ebpf_c.specs.Entries.{named}
+use Rattle.ebpf_c.specs.Entries.{value_by_bytes}
 use Rattle.ebpf_c.specs.ExternRows.{extern_row}
-use Rattle.ebpf_c.specs.Listing.{listed}
+use Rattle.ebpf_c.specs.Listing.{listing_of}
 use Rattle.ebpf_c.specs.MapRows.{map_row}
-use Rattle.ebpf_c.specs.ProgramRows.{program_row, section_name}
+use Rattle.ebpf_c.specs.ProgramRows.{program_row, name_of_section_number}
 use Rattle.ebpf_c.specs.SectionRows.{section_row}
 use Rattle.ebpf_c.specs.declared.codes.TheConstants.{CLOSED, NO_MAP, NO_PROGRAM}
 use Rattle.ebpf_c.specs.declared.externs.ebpf_extern.{ebpf_extern}
@@ -35,17 +35,17 @@ or_number number f (Some x) = Ok (f x)
 -- ---- lists of named things
 
 abbrev pub program_list : Object → Listed ebpf_program
-program_list o = listed (program_row o.functions (entries o.section_infos)) o.programs
+program_list o = listing_of (program_row o.functions (entries o.section_infos)) o.programs
 
 abbrev pub map_list : Object → Listed ebpf_map
-map_list o = listed map_row o.maps
+map_list o = listing_of map_row o.maps
 
 abbrev pub extern_list : Object → Listed ebpf_extern
-extern_list o = listed extern_row o.externs
+extern_list o = listing_of extern_row o.externs
 
 -- of two sections with one name the later one
 abbrev pub section_list : Object → Listed ebpf_section
-section_list o = listed section_row o.section_infos
+section_list o = listing_of section_row o.section_infos
 
 -- ---- what a program has, as it stands
 
@@ -55,31 +55,31 @@ function_of functions None = None
 function_of functions (Some p) = get functions (p.section_index, p.address)
 
 -- that of the program that some bytes name
-abbrev pub function_named : Object → List ℕ → Option Function
-function_named o name = function_of o.functions (named o.programs name)
+abbrev pub function_by_bytes : Object → List ℕ → Option Function
+function_by_bytes o name = function_of o.functions (value_by_bytes o.programs name)
 
-abbrev pub slots_of : List ℕ → Object → Result (List bpf_insn) ℕ
-slots_of name o = or_number NO_PROGRAM (λ f. f.instructions) (function_named o name)
+abbrev pub read_slots : List ℕ → Object → Result (List bpf_insn) ℕ
+read_slots name o = or_number NO_PROGRAM (λ f. f.instructions) (function_by_bytes o name)
 
-abbrev pub func_infos_of : List ℕ → Object → Result (List bpf_func_info) ℕ
-func_infos_of name o = or_number NO_PROGRAM (λ f. f.func_info.func_info) (function_named o name)
+abbrev pub read_func_infos : List ℕ → Object → Result (List bpf_func_info) ℕ
+read_func_infos name o = or_number NO_PROGRAM (λ f. f.func_info.func_info) (function_by_bytes o name)
 
-abbrev pub line_infos_of : List ℕ → Object → Result (List bpf_line_info) ℕ
-line_infos_of name o = or_number NO_PROGRAM (λ f. f.line_info.line_info) (function_named o name)
+abbrev pub read_line_infos : List ℕ → Object → Result (List bpf_line_info) ℕ
+read_line_infos name o = or_number NO_PROGRAM (λ f. f.line_info.line_info) (function_by_bytes o name)
 
 -- ---- bytes
 
 -- the name of the section of the program that some bytes name, empty where no named section has its number
-abbrev pub section_of : List ℕ → Object → Result (List ℕ) ℕ
-section_of name o =
-    or_number NO_PROGRAM (λ p. section_name (entries o.section_infos) p.section_index) (named o.programs name)
+abbrev pub read_section_name : List ℕ → Object → Result (List ℕ) ℕ
+read_section_name name o =
+    or_number NO_PROGRAM (λ p. name_of_section_number (entries o.section_infos) p.section_index) (value_by_bytes o.programs name)
 
 -- the data that the map that some bytes name begins with
-abbrev pub map_data_of : List ℕ → Object → Result (List ℕ) ℕ
-map_data_of name o = or_number NO_MAP bytes_of (named o.maps name)
+abbrev pub read_map_data : List ℕ → Object → Result (List ℕ) ℕ
+read_map_data name o = or_number NO_MAP bytes_of (value_by_bytes o.maps name)
 
-abbrev pub license_of : Object → Result (List ℕ) ℕ
-license_of o = Ok o.license
+abbrev pub read_license : Object → Result (List ℕ) ℕ
+read_license o = Ok o.license
 
 -- ---- the same of a handle, whose object may be none
 

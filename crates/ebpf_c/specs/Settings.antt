@@ -7,7 +7,7 @@ use Rattle.ebpf_object.specs.Patches.{all_patched, patches_of, patches_fault}
 use Rattle.ebpf_object.specs.declared.object.Object.{Object}
 use Rattle.ebpf_parts.specs.Memory.{is_memory}
 use Rattle.ebpf_parts.specs.declared.maps.either.Map.{Map}
-use Rattle.ebpf_c.specs.Entries.{named}
+use Rattle.ebpf_c.specs.Entries.{value_by_bytes}
 use Rattle.ebpf_c.specs.Handles.{IsRefusal}
 use Rattle.ebpf_c.specs.Numbers.{parse_refusal}
 use Rattle.ebpf_c.specs.Refusal.{plain}
@@ -20,17 +20,17 @@ use Rattle.ebpf_c.specs.declared.refusal.Refusal.{Refusal}
 -- the map of a name is another one, or no map has the name
 abbrev pub IsSet : (Map → Map) → List ℕ → FinMap text_cmp Map → ℕ → FinMap text_cmp Map → Type 0
 IsSet set name before number after =
-    MatchOption (named before name) ((number ≡ NO_MAP) × (after ≡ before)) (λ m. (number ≡ DONE) × (after ≡ insert before name (set m)))
+    MatchOption (value_by_bytes before name) ((number ≡ NO_MAP) × (after ≡ before)) (λ m. (number ≡ DONE) × (after ≡ insert before name (set m)))
 
 -- the same of an object; all else is as before
 pub record HasSet (set : Map → Map) (name : List ℕ) (old new : Object) : Type 0 where
   pub found : Map
-  pub there : named old.maps name ≡ Some found
+  pub there : value_by_bytes old.maps name ≡ Some found
   pub is : new ≡ record old { maps = insert old.maps name (set found) }
 
 abbrev pub LacksMap : List ℕ → Option Object → Type 0
 LacksMap name None = ⊥
-LacksMap name (Some o) = named o.maps name ≡ None
+LacksMap name (Some o) = value_by_bytes o.maps name ≡ None
 
 -- ---- variables
 

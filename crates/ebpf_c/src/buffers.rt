@@ -1,8 +1,8 @@
 //! The buffers of a caller.
 
 ghost use Rattle.std.specs.Prelude.{◌≡◌, ◌≤◌, ◌++◌, Ok, Err, length, drop};
-ghost use Rattle.ebpf_c.specs.Answers.{answer, answer_listed, counted, counts_of, filled, filled_rows, filled_text};
-ghost use Rattle.ebpf_c.specs.Found.{found_list, found_listing};
+ghost use Rattle.ebpf_c.specs.Answers.{answer, answer_listed, count_after, counts_of, filled, filled_rows, filled_text};
+ghost use Rattle.ebpf_c.specs.LentResults.{found_list, found_listing};
 
 use crate::codes::{DONE, ROOM};
 use crate::listing::Listing;
@@ -28,7 +28,7 @@ fn copy_front<T: Copy>(from: &[T], out: &mut [T])
 pub fn write_list<T: Copy>(found: Result<&[T], u32>, out: &mut [T], count: &mut usize) -> u32
     ensures answer { result ≡ answer (found_list found.entry) out.old }
     ensures list { out.new ≡ filled (found_list found.entry) out.old }
-    ensures count { count.new ≡ counted (found_list found.entry) count.old }
+    ensures count { count.new ≡ count_after (found_list found.entry) count.old }
 {
     let list = match found {
         Ok(list) => list,

@@ -4,7 +4,7 @@ ghost use Rattle.std.specs.Prelude.{◌≡◌, IfOk};
 ghost use Rattle.std.specs.FinMap.{entries, get};
 ghost use Rattle.std.specs.List.{flat_map};
 ghost use Rattle.ebpf_base.specs.Keys.{lent_bytes};
-ghost use Rattle.ebpf_c.specs.Entries.{entry_if, named};
+ghost use Rattle.ebpf_c.specs.Entries.{entry_if, value_by_bytes};
 ghost use Rattle.std.specs.Option.{option_copied};
 
 use ebpf_base::ByName;
@@ -61,8 +61,8 @@ pub fn entries_of<V>(alloc: Global, values: &ByName<V>) -> Result<Vec<Entry<'_, 
 
 /// The thing that some bytes name. Bytes that are no text name none.
 
-pub fn named<'a, V>(values: &'a ByName<V>, name: &[u8]) -> Option<&'a V>
-    ensures { option_copied result ≡ named values.now name.now }
+pub fn value_by_bytes<'a, V>(values: &'a ByName<V>, name: &[u8]) -> Option<&'a V>
+    ensures { option_copied result ≡ value_by_bytes values.now name.now }
 {
     match str::from_utf8(name) {
         Ok(name) => values.get(name),

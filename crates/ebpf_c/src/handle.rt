@@ -4,7 +4,7 @@ ghost use Rattle.std.specs.Prelude.{◌≡◌, Option, Some, None, option_map};
 ghost use Rattle.std.specs.Coded.{coded_option};
 ghost use Rattle.ebpf_object.specs.contracts.object.Object.{the_row as object_row};
 ghost use Rattle.ebpf_object.specs.declared.object.Object.{Object};
-ghost use Rattle.ebpf_c.specs.Held.{held};
+ghost use Rattle.ebpf_c.specs.HandleOwnership.{handle_owns};
 
 use crate::loose::Loose;
 use ebpf_object::Object;
@@ -20,7 +20,7 @@ pub struct ebpf_handle {
 }
 
 impl Model for ebpf_handle {
-    ghost also_owns = { λ h. held h.at h.object };
+    ghost also_owns = { λ h. handle_owns h.at h.object };
 }
 
 impl ebpf_handle {

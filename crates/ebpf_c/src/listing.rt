@@ -1,7 +1,7 @@
 //! Lists of named things as C reads them: a row for each, and a text with their names.
 
 ghost use Rattle.std.specs.Prelude.{◌≡◌, ◌++◌, ℕ, List, [], ◌∷◌, IfOk, IfErr, OnOk, length};
-ghost use Rattle.ebpf_c.specs.Listing.{ended, listed, rows_from, text_of};
+ghost use Rattle.ebpf_c.specs.Listing.{zero_terminated, listing_of, rows_from, names_text};
 
 use crate::codes::MEMORY;
 use crate::entries::{Entry, entries_of};
@@ -32,7 +32,7 @@ fn add_entry<V, C, R: Row<V, C>>(
     entry: &Entry<'_, V>,
 ) -> Result<(), AllocError>
     ensures rows { OnOk result (listing.new.rows.items ≡ listing.old.rows.items ++ R.row_of context.now entry.now.1 (length listing.old.text.items) (length entry.now.0) ∷ []) }
-    ensures text { OnOk result (listing.new.text.items ≡ listing.old.text.items ++ ended entry.now.0) }
+    ensures text { OnOk result (listing.new.text.items ≡ listing.old.text.items ++ zero_terminated entry.now.0) }
 {
     let name = entry.name.as_bytes();
     let row = R::row(context, entry.value, listing.text.len(), name.len());
@@ -43,14 +43,14 @@ fn add_entry<V, C, R: Row<V, C>>(
 }
 
 /// The rows and the names of things.
-#[tactic(auto, using(crate::proofs::OneMore::one_row, crate::proofs::OneMore::one_text, ebpf_base::proofs::Walks::rest_none))]
+#[tactic(auto, using(crate::proofs::NextRow::one_row, crate::proofs::NextRow::one_text, ebpf_base::proofs::Walks::rest_none))]
 fn list_entries<V, C, R: Row<V, C>>(
     alloc: Global,
     context: &C,
     entries: &[Entry<'_, V>],
 ) -> Result<Listing<R>, AllocError>
     ensures rows { IfOk result (λ l. l.rows.items ≡ rows_from (R.row_of context.now) 0 entries.now) }
-    ensures text { IfOk result (λ l. l.text.items ≡ text_of entries.now) }
+    ensures text { IfOk result (λ l. l.text.items ≡ names_text entries.now) }
 {
     let mut listing = Listing {
         rows: Vec::new(alloc),
@@ -68,7 +68,7 @@ pub fn list<V, C, R: Row<V, C>>(
     context: &C,
     values: &ByName<V>,
 ) -> Result<Listing<R>, u32>
-    ensures listed { IfOk result (λ l. (l.rows.items, l.text.items) ≡ listed (R.row_of context.now) values.now) }
+    ensures listing_of { IfOk result (λ l. (l.rows.items, l.text.items) ≡ listing_of (R.row_of context.now) values.now) }
     ensures memory { IfErr result (λ number. number ≡ MEMORY) }
 {
     let Ok(entries) = entries_of(alloc, values) else {

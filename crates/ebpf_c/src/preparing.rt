@@ -3,7 +3,7 @@
 ghost use Rattle.std.specs.Prelude.{◌≡◌, ◌<◌, map, true, Some, IfOk, IfErr};
 ghost use Rattle.std.specs.Option.{option_copied};
 ghost use Rattle.ebpf_c.specs.Handles.{IsRefused};
-ghost use Rattle.ebpf_c.specs.Preparing.{given, CannotPrepare, HasPrepared, IsPreparedIn};
+ghost use Rattle.ebpf_c.specs.Preparing.{preparation_inputs, CannotPrepare, HasPrepared, IsPreparedIn};
 ghost use Rattle.ebpf_object.specs.Steps.{chosen, descriptor_of};
 
 use crate::codes::{BAD_NAME, DONE, MEMORY};
@@ -38,8 +38,8 @@ fn prepare_object(
     text: &[u8],
     symbols: &[u8],
 ) -> Result<Object, Refusal>
-    ensures prepared { IfOk result (HasPrepared (given file.now types.now rows.now text.now symbols.now)) }
-    ensures why { IfErr result (CannotPrepare (given file.now types.now rows.now text.now symbols.now)) }
+    ensures prepared { IfOk result (HasPrepared (preparation_inputs file.now types.now rows.now text.now symbols.now)) }
+    ensures why { IfErr result (CannotPrepare (preparation_inputs file.now types.now rows.now text.now symbols.now)) }
     ensures refuses { IfErr result (λ r. 0 < r.number) }
 {
     if !have_names(rows, text) {
@@ -68,8 +68,8 @@ fn prepare_box(
     text: &[u8],
     symbols: &[u8],
 ) -> Result<Box<Object>, Refusal>
-    ensures prepared { IfOk result (λ b. HasPrepared (given file.now types.now rows.now text.now symbols.now) b.value) }
-    ensures why { IfErr result (CannotPrepare (given file.now types.now rows.now text.now symbols.now)) }
+    ensures prepared { IfOk result (λ b. HasPrepared (preparation_inputs file.now types.now rows.now text.now symbols.now) b.value) }
+    ensures why { IfErr result (CannotPrepare (preparation_inputs file.now types.now rows.now text.now symbols.now)) }
     ensures refuses { IfErr result (λ r. 0 < r.number) }
 {
     let object = match prepare_object(alloc, file, types, rows, text, symbols) {
@@ -103,9 +103,9 @@ pub extern "C" fn ebpf_prepare(
     about: &mut [u8],
     about_len: &mut usize,
 ) -> u32
-    ensures prepared { result ≡ DONE → IsPreparedIn (given file.now types.now rows.now text.now symbols.now) handle.new.object }
+    ensures prepared { result ≡ DONE → IsPreparedIn (preparation_inputs file.now types.now rows.now text.now symbols.now) handle.new.object }
     ensures quiet { result ≡ DONE → (about.new ≡ about.old) × (about_len.new ≡ about_len.old) }
-    ensures refused { ¬ (result ≡ DONE) → IsRefused (CannotPrepare (given file.now types.now rows.now text.now symbols.now)) result handle.old.object handle.new.object about.old about.new about_len.new }
+    ensures refused { ¬ (result ≡ DONE) → IsRefused (CannotPrepare (preparation_inputs file.now types.now rows.now text.now symbols.now)) result handle.old.object handle.new.object about.old about.new about_len.new }
 {
     match prepare_box(alloc, file, types, rows, text, symbols) {
         Ok(object) => {

@@ -1,7 +1,7 @@
 //! What the name of a program's section says, as numbers.
 
 ghost use Rattle.std.specs.Prelude.{◌≡◌};
-ghost use Rattle.ebpf_c.specs.ProgramKinds.{attach_type, kind_flags, kind_number, program_type};
+ghost use Rattle.ebpf_c.specs.ProgramKinds.{attach_type, kind_flags, program_kind_number, program_type};
 
 use crate::flags::flag;
 use ebpf_parts::ProgramSection;
@@ -11,8 +11,8 @@ use ebpf_parts::programs::bpf_attach_type;
 pub const NO_ATTACH_TYPE: u32 = u32::MAX;
 
 /// The number of a kind, in the order in which the library has them.
-pub fn kind_number(section: ProgramSection) -> u32
-    ensures { result ≡ kind_number section }
+pub fn program_kind_number(section: ProgramSection) -> u32
+    ensures { result ≡ program_kind_number section }
 {
     match section {
         ProgramSection::KRetProbe => 0,

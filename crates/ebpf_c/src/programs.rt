@@ -2,12 +2,12 @@
 
 ghost use Rattle.std.specs.Prelude.{◌≡◌};
 ghost use Rattle.std.specs.FinMap.{get};
-ghost use Rattle.ebpf_c.specs.ProgramRows.{loading_of, program_row, section_name, slot_count};
+ghost use Rattle.ebpf_c.specs.ProgramRows.{loading_of, program_row, name_of_section_number, slot_count};
 
 use crate::entries::Entry;
 use crate::listing::Row;
 use crate::loading::{Loading, loaded_as};
-use crate::program_kind::kind_number;
+use crate::program_kind::program_kind_number;
 use ebpf_base::ByKey;
 use ebpf_elf::SectionIndex;
 use ebpf_model::{Function, Program};
@@ -57,8 +57,8 @@ pub struct Surroundings<'a, 'b> {
 }
 
 /// The name of the section with a number, empty where no named one has it.
-pub fn section_name<'b>(sections: &[Entry<'b, SectionIndex>], number: usize) -> &'b str
-    ensures { result.now ≡ section_name sections.now number }
+pub fn name_of_section_number<'b>(sections: &[Entry<'b, SectionIndex>], number: usize) -> &'b str
+    ensures { result.now ≡ name_of_section_number sections.now number }
 {
     for section in sections {
         if section.value.0 == number {
@@ -72,7 +72,7 @@ pub fn section_name<'b>(sections: &[Entry<'b, SectionIndex>], number: usize) -> 
 fn loading_of(sections: &[Entry<'_, SectionIndex>], program: &Program) -> Loading
     ensures { result ≡ loading_of sections.now program.now }
 {
-    let name = section_name(sections, program.section_index);
+    let name = name_of_section_number(sections, program.section_index);
     loaded_as(program_kind(name), program.section)
 }
 
@@ -92,7 +92,7 @@ impl<'a, 'b> Row<Program, Surroundings<'a, 'b>> for ebpf_program {
             section: value.section_index,
             address: value.address,
             slots: slot_count(context.functions, value.function_key()),
-            kind: kind_number(value.section),
+            kind: program_kind_number(value.section),
             flags: loading.flags,
             program_type: loading.program_type,
             attach_type: loading.attach_type,

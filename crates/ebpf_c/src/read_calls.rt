@@ -1,16 +1,16 @@
 //! The calls that read what an object has.
 
 ghost use Rattle.std.specs.Prelude.{◌≡◌, MatchOption};
-ghost use Rattle.ebpf_c.specs.Answers.{answer, counted, filled, or_memory};
+ghost use Rattle.ebpf_c.specs.Answers.{answer, count_after, filled, or_memory};
 ghost use Rattle.ebpf_c.specs.Info.{info_of};
-ghost use Rattle.ebpf_c.specs.Reads.{func_infos_of, license_of, line_infos_of, map_data_of, of_open, section_of, slots_of};
+ghost use Rattle.ebpf_c.specs.Reads.{read_func_infos, read_license, read_line_infos, read_map_data, of_open, read_section_name, read_slots};
 
 use crate::buffers::write_list;
 use crate::codes::{CLOSED, DONE, MEMORY};
 use crate::entries::entries_of;
 use crate::handle::ebpf_handle;
 use crate::info::{ebpf_object_info, info_of};
-use crate::reads::{func_infos_of, line_infos_of, map_data_of, section_of, slots_of};
+use crate::reads::{read_func_infos, read_line_infos, read_map_data, read_section_name, read_slots};
 use ebpf_ext::{bpf_func_info, bpf_line_info};
 use ebpf_object::Object;
 use ebpf_parts::insn::bpf_insn;
@@ -51,9 +51,9 @@ pub extern "C" fn ebpf_license(
     len: &mut usize,
 ) -> u32
     ensures stays { handle.new.object ≡ handle.old.object }
-    ensures answer { result ≡ answer (of_open (license_of) handle.old.object) text.old }
-    ensures text { text.new ≡ filled (of_open (license_of) handle.old.object) text.old }
-    ensures len { len.new ≡ counted (of_open (license_of) handle.old.object) len.old }
+    ensures answer { result ≡ answer (of_open (read_license) handle.old.object) text.old }
+    ensures text { text.new ≡ filled (of_open (read_license) handle.old.object) text.old }
+    ensures len { len.new ≡ count_after (of_open (read_license) handle.old.object) len.old }
 {
     let Some(object) = handle.take(alloc) else {
         return CLOSED;
@@ -71,14 +71,14 @@ fn write_section(
     text: &mut [u8],
     len: &mut usize,
 ) -> u32
-    ensures answer { result ≡ answer (or_memory result (section_of name.now object.now)) text.old }
-    ensures text { text.new ≡ filled (or_memory result (section_of name.now object.now)) text.old }
-    ensures len { len.new ≡ counted (or_memory result (section_of name.now object.now)) len.old }
+    ensures answer { result ≡ answer (or_memory result (read_section_name name.now object.now)) text.old }
+    ensures text { text.new ≡ filled (or_memory result (read_section_name name.now object.now)) text.old }
+    ensures len { len.new ≡ count_after (or_memory result (read_section_name name.now object.now)) len.old }
 {
     let Ok(sections) = entries_of(alloc, &object.section_infos) else {
         return MEMORY;
     };
-    write_list(section_of(&object.programs, &sections, name), text, len)
+    write_list(read_section_name(&object.programs, &sections, name), text, len)
 }
 
 /// Writes the name of the section of the program with a name, and its length: 0 where no named section has the number of
@@ -96,9 +96,9 @@ pub extern "C" fn ebpf_program_section(
     len: &mut usize,
 ) -> u32
     ensures stays { handle.new.object ≡ handle.old.object }
-    ensures answer { result ≡ answer (or_memory result (of_open (section_of name.now) handle.old.object)) text.old }
-    ensures text { text.new ≡ filled (or_memory result (of_open (section_of name.now) handle.old.object)) text.old }
-    ensures len { len.new ≡ counted (or_memory result (of_open (section_of name.now) handle.old.object)) len.old }
+    ensures answer { result ≡ answer (or_memory result (of_open (read_section_name name.now) handle.old.object)) text.old }
+    ensures text { text.new ≡ filled (or_memory result (of_open (read_section_name name.now) handle.old.object)) text.old }
+    ensures len { len.new ≡ count_after (or_memory result (of_open (read_section_name name.now) handle.old.object)) len.old }
 {
     let Some(object) = handle.take(alloc) else {
         return CLOSED;
@@ -122,14 +122,14 @@ pub extern "C" fn ebpf_slots(
     count: &mut usize,
 ) -> u32
     ensures stays { handle.new.object ≡ handle.old.object }
-    ensures answer { result ≡ answer (of_open (slots_of name.now) handle.old.object) slots.old }
-    ensures slots { slots.new ≡ filled (of_open (slots_of name.now) handle.old.object) slots.old }
-    ensures count { count.new ≡ counted (of_open (slots_of name.now) handle.old.object) count.old }
+    ensures answer { result ≡ answer (of_open (read_slots name.now) handle.old.object) slots.old }
+    ensures slots { slots.new ≡ filled (of_open (read_slots name.now) handle.old.object) slots.old }
+    ensures count { count.new ≡ count_after (of_open (read_slots name.now) handle.old.object) count.old }
 {
     let Some(object) = handle.take(alloc) else {
         return CLOSED;
     };
-    let number = write_list(slots_of(&object, name), slots, count);
+    let number = write_list(read_slots(&object, name), slots, count);
     handle.put(alloc, object);
     number
 }
@@ -148,14 +148,14 @@ pub extern "C" fn ebpf_func_infos(
     count: &mut usize,
 ) -> u32
     ensures stays { handle.new.object ≡ handle.old.object }
-    ensures answer { result ≡ answer (of_open (func_infos_of name.now) handle.old.object) rows.old }
-    ensures rows { rows.new ≡ filled (of_open (func_infos_of name.now) handle.old.object) rows.old }
-    ensures count { count.new ≡ counted (of_open (func_infos_of name.now) handle.old.object) count.old }
+    ensures answer { result ≡ answer (of_open (read_func_infos name.now) handle.old.object) rows.old }
+    ensures rows { rows.new ≡ filled (of_open (read_func_infos name.now) handle.old.object) rows.old }
+    ensures count { count.new ≡ count_after (of_open (read_func_infos name.now) handle.old.object) count.old }
 {
     let Some(object) = handle.take(alloc) else {
         return CLOSED;
     };
-    let number = write_list(func_infos_of(&object, name), rows, count);
+    let number = write_list(read_func_infos(&object, name), rows, count);
     handle.put(alloc, object);
     number
 }
@@ -174,14 +174,14 @@ pub extern "C" fn ebpf_line_infos(
     count: &mut usize,
 ) -> u32
     ensures stays { handle.new.object ≡ handle.old.object }
-    ensures answer { result ≡ answer (of_open (line_infos_of name.now) handle.old.object) rows.old }
-    ensures rows { rows.new ≡ filled (of_open (line_infos_of name.now) handle.old.object) rows.old }
-    ensures count { count.new ≡ counted (of_open (line_infos_of name.now) handle.old.object) count.old }
+    ensures answer { result ≡ answer (of_open (read_line_infos name.now) handle.old.object) rows.old }
+    ensures rows { rows.new ≡ filled (of_open (read_line_infos name.now) handle.old.object) rows.old }
+    ensures count { count.new ≡ count_after (of_open (read_line_infos name.now) handle.old.object) count.old }
 {
     let Some(object) = handle.take(alloc) else {
         return CLOSED;
     };
-    let number = write_list(line_infos_of(&object, name), rows, count);
+    let number = write_list(read_line_infos(&object, name), rows, count);
     handle.put(alloc, object);
     number
 }
@@ -200,14 +200,14 @@ pub extern "C" fn ebpf_map_data(
     len: &mut usize,
 ) -> u32
     ensures stays { handle.new.object ≡ handle.old.object }
-    ensures answer { result ≡ answer (of_open (map_data_of name.now) handle.old.object) bytes.old }
-    ensures bytes { bytes.new ≡ filled (of_open (map_data_of name.now) handle.old.object) bytes.old }
-    ensures len { len.new ≡ counted (of_open (map_data_of name.now) handle.old.object) len.old }
+    ensures answer { result ≡ answer (of_open (read_map_data name.now) handle.old.object) bytes.old }
+    ensures bytes { bytes.new ≡ filled (of_open (read_map_data name.now) handle.old.object) bytes.old }
+    ensures len { len.new ≡ count_after (of_open (read_map_data name.now) handle.old.object) len.old }
 {
     let Some(object) = handle.take(alloc) else {
         return CLOSED;
     };
-    let number = write_list(map_data_of(&object, name), bytes, len);
+    let number = write_list(read_map_data(&object, name), bytes, len);
     handle.put(alloc, object);
     number
 }

@@ -2,14 +2,14 @@
 
 ghost use Rattle.std.specs.Prelude.{◌≡◌};
 ghost use Rattle.std.specs.Option.{option_copied};
-ghost use Rattle.ebpf_c.specs.Found.{found_list};
-ghost use Rattle.ebpf_c.specs.Entries.{named};
-ghost use Rattle.ebpf_c.specs.ProgramRows.{section_name};
-ghost use Rattle.ebpf_c.specs.Reads.{func_infos_of, function_named, line_infos_of, map_data_of, or_number, slots_of};
+ghost use Rattle.ebpf_c.specs.LentResults.{found_list};
+ghost use Rattle.ebpf_c.specs.Entries.{value_by_bytes};
+ghost use Rattle.ebpf_c.specs.ProgramRows.{name_of_section_number};
+ghost use Rattle.ebpf_c.specs.Reads.{read_func_infos, function_by_bytes, read_line_infos, read_map_data, or_number, read_slots};
 
 use crate::codes::{NO_MAP, NO_PROGRAM};
-use crate::entries::{Entry, named};
-use crate::programs::section_name;
+use crate::entries::{Entry, value_by_bytes};
+use crate::programs::name_of_section_number;
 use ebpf_base::ByName;
 use ebpf_elf::SectionIndex;
 use ebpf_ext::{bpf_func_info, bpf_line_info};
@@ -18,64 +18,64 @@ use ebpf_object::Object;
 use ebpf_parts::insn::bpf_insn;
 
 /// The function of the program that some bytes name.
-fn function_named<'a>(object: &'a Object, name: &[u8]) -> Option<&'a Function>
-    ensures { option_copied result ≡ function_named object.now name.now }
+fn function_by_bytes<'a>(object: &'a Object, name: &[u8]) -> Option<&'a Function>
+    ensures { option_copied result ≡ function_by_bytes object.now name.now }
 {
-    match named(&object.programs, name) {
+    match value_by_bytes(&object.programs, name) {
         Some(program) => object.functions.get(program.function_key()),
         None => None,
     }
 }
 
 /// The slots of the program that some bytes name, as they stand.
-pub fn slots_of<'a>(object: &'a Object, name: &[u8]) -> Result<&'a [bpf_insn], u32>
-    ensures { found_list result ≡ slots_of name.now object.now }
+pub fn read_slots<'a>(object: &'a Object, name: &[u8]) -> Result<&'a [bpf_insn], u32>
+    ensures { found_list result ≡ read_slots name.now object.now }
 {
-    match function_named(object, name) {
+    match function_by_bytes(object, name) {
         Some(function) => Ok(function.instructions.as_slice()),
         None => Err(NO_PROGRAM),
     }
 }
 
 /// That program's func info, by slot.
-pub fn func_infos_of<'a>(object: &'a Object, name: &[u8]) -> Result<&'a [bpf_func_info], u32>
-    ensures { found_list result ≡ func_infos_of name.now object.now }
+pub fn read_func_infos<'a>(object: &'a Object, name: &[u8]) -> Result<&'a [bpf_func_info], u32>
+    ensures { found_list result ≡ read_func_infos name.now object.now }
 {
-    match function_named(object, name) {
+    match function_by_bytes(object, name) {
         Some(function) => Ok(function.func_info.func_info.as_slice()),
         None => Err(NO_PROGRAM),
     }
 }
 
 /// That program's line info, by slot.
-pub fn line_infos_of<'a>(object: &'a Object, name: &[u8]) -> Result<&'a [bpf_line_info], u32>
-    ensures { found_list result ≡ line_infos_of name.now object.now }
+pub fn read_line_infos<'a>(object: &'a Object, name: &[u8]) -> Result<&'a [bpf_line_info], u32>
+    ensures { found_list result ≡ read_line_infos name.now object.now }
 {
-    match function_named(object, name) {
+    match function_by_bytes(object, name) {
         Some(function) => Ok(function.line_info.line_info.as_slice()),
         None => Err(NO_PROGRAM),
     }
 }
 
 /// The name of the section of the program that some bytes name, among the named sections.
-pub fn section_of<'b>(
+pub fn read_section_name<'b>(
     programs: &ByName<Program>,
     sections: &[Entry<'b, SectionIndex>],
     name: &[u8],
 ) -> Result<&'b [u8], u32>
-    ensures { found_list result ≡ or_number NO_PROGRAM (λ p. section_name sections.now p.section_index) (named programs.now name.now) }
+    ensures { found_list result ≡ or_number NO_PROGRAM (λ p. name_of_section_number sections.now p.section_index) (value_by_bytes programs.now name.now) }
 {
-    match named(programs, name) {
-        Some(program) => Ok(section_name(sections, program.section_index).as_bytes()),
+    match value_by_bytes(programs, name) {
+        Some(program) => Ok(name_of_section_number(sections, program.section_index).as_bytes()),
         None => Err(NO_PROGRAM),
     }
 }
 
 /// The data that the map that some bytes name begins with.
-pub fn map_data_of<'a>(object: &'a Object, name: &[u8]) -> Result<&'a [u8], u32>
-    ensures { found_list result ≡ map_data_of name.now object.now }
+pub fn read_map_data<'a>(object: &'a Object, name: &[u8]) -> Result<&'a [u8], u32>
+    ensures { found_list result ≡ read_map_data name.now object.now }
 {
-    match named(&object.maps, name) {
+    match value_by_bytes(&object.maps, name) {
         Some(map) => Ok(map.data()),
         None => Err(NO_MAP),
     }

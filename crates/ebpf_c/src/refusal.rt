@@ -1,7 +1,7 @@
 //! A refusal, as C is told of it.
 
 ghost use Rattle.std.specs.Prelude.{◌≡◌, ◌<◌, ◌++◌, min, take, drop, length, IfErr, OnOk, Some, None};
-ghost use Rattle.ebpf_c.specs.Refusal.{name_of, plain, named, IsTold};
+ghost use Rattle.ebpf_c.specs.Refusal.{name_of, plain, refusal_with_name, IsReported};
 
 use crate::codes::DONE;
 use ebpf_base::Text;
@@ -23,7 +23,7 @@ impl Refusal {
 
     /// A refusal that is about what has a name.
     pub fn named(number: u32, name: Text) -> Refusal
-        ensures { result ≡ named number name }
+        ensures { result ≡ refusal_with_name number name }
     {
         Refusal {
             number,
@@ -53,7 +53,7 @@ fn write_name(name: &[u8], about: &mut [u8], about_len: &mut usize)
 
 /// Tells C of a refusal.
 pub fn tell(refusal: &Refusal, about: &mut [u8], about_len: &mut usize) -> u32
-    ensures { IsTold refusal.now result about.old about.new about_len.new }
+    ensures { IsReported refusal.now result about.old about.new about_len.new }
 {
     write_name(refusal.name_bytes(), about, about_len);
     refusal.number
@@ -64,7 +64,7 @@ pub fn answered(answer: Result<(), Refusal>, about: &mut [u8], about_len: &mut u
     ensures about { OnOk answer (about.new ≡ about.old) }
     ensures length { OnOk answer (about_len.new ≡ about_len.old) }
     ensures number { OnOk answer (result ≡ DONE) }
-    ensures told { IfErr answer (λ refusal. IsTold refusal result about.old about.new about_len.new) }
+    ensures told { IfErr answer (λ refusal. IsReported refusal result about.old about.new about_len.new) }
 {
     match answer {
         Ok(()) => DONE,

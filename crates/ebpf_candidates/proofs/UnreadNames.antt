@@ -14,7 +14,7 @@ use Rattle.ebpf_candidates.specs.Candidates.{candidates_fault, candidates_of_bot
 use Rattle.ebpf_btf.specs.EssentialNames.{essential_name}
 use Rattle.ebpf_btf.specs.Strings.{before_zero, text_at, text_or_fault, type_name}
 use Rattle.ebpf_btf.specs.TypeInfo.{TypeInfo}
-use Rattle.ebpf_candidates.specs.TypeRows.{lower, readable_name, unread, unreadable_name_fault, unreadable_from, unreadable_name}
+use Rattle.ebpf_candidates.specs.TypeRows.{lower, readable_name, unread, unreadable_offset_fault, unreadable_from, unreadable_name}
 use Rattle.ebpf_btf.specs.Types.{is_kind, kind_number, kind_of, name_off}
 
 or_else_assoc : {E : Type 0} (a b c : Option E) → or_else (or_else a b) c ≡ or_else a (or_else b c)
@@ -75,33 +75,33 @@ unread_more info kind types i t old new all here none kept before = by_name (typ
 -- ---- their faults
 
 text_fault : (strings : List ℕ) (offset : ℕ) (id : ℕ) (t : BtfType) → name_off t ≡ offset
-    → fault_of (text_at strings offset) ≡ unreadable_name_fault (unread id t (text_at strings offset))
+    → fault_of (text_at strings offset) ≡ unreadable_offset_fault (unread id t (text_at strings offset))
 unfolding text_at
 text_fault strings offset id t name = by_bytes (before_zero (drop offset strings))
   where
-    by_bytes : (b : Option (List ℕ)) → fault_of (text_or_fault offset b) ≡ unreadable_name_fault (unread id t (text_or_fault offset b))
+    by_bytes : (b : Option (List ℕ)) → fault_of (text_or_fault offset b) ≡ unreadable_offset_fault (unread id t (text_or_fault offset b))
     by_bytes None = ap (λ n. Some (InvalidStringOffset n)) (sym name)
     by_bytes (Some bytes) = refl
 
-one_fault : (info : TypeInfo) (kind : BtfKind) (id : ℕ) (t : BtfType) → type_name_fault info kind t ≡ unreadable_name_fault (unreadable_name info kind id t)
+one_fault : (info : TypeInfo) (kind : BtfKind) (id : ℕ) (t : BtfType) → type_name_fault info kind t ≡ unreadable_offset_fault (unreadable_name info kind id t)
 one_fault info kind id t = by_kind (is_kind kind t)
   where
-    by_kind : (b : Bool) → cond b (fault_of (type_name info t)) None ≡ unreadable_name_fault (cond b (unread id t (type_name info t)) None)
+    by_kind : (b : Bool) → cond b (fault_of (type_name info t)) None ≡ unreadable_offset_fault (cond b (unread id t (type_name info t)) None)
     by_kind true = text_fault info.strings (name_off t) id t refl
     by_kind false = refl
 
-fault_or_else : (a b : Option UnreadableName) → unreadable_name_fault (or_else a b) ≡ or_else (unreadable_name_fault a) (unreadable_name_fault b)
+fault_or_else : (a b : Option UnreadableName) → unreadable_offset_fault (or_else a b) ≡ or_else (unreadable_offset_fault a) (unreadable_offset_fault b)
 fault_or_else None b = refl
 fault_or_else (Some n) b = refl
 
 -- of one kind
-faults_from : (info : TypeInfo) (kind : BtfKind) (id : ℕ) (types : List BtfType) → first_some (type_name_fault info kind) types ≡ unreadable_name_fault (unreadable_from info kind id types)
+faults_from : (info : TypeInfo) (kind : BtfKind) (id : ℕ) (types : List BtfType) → first_some (type_name_fault info kind) types ≡ unreadable_offset_fault (unreadable_from info kind id types)
 faults_from info kind id [] = refl
 faults_from info kind id (t ∷ types) =
     (λ i. or_else (one_fault info kind id t i) (faults_from info kind (id + 1) types i))
     ∙ sym (fault_or_else (unreadable_name info kind id t) (unreadable_from info kind (id + 1) types))
 
-pub fault_of_kind : (info : TypeInfo) (kind : BtfKind) → candidates_fault info kind ≡ unreadable_name_fault (unreadable_from info kind 0 info.types)
+pub fault_of_kind : (info : TypeInfo) (kind : BtfKind) → candidates_fault info kind ≡ unreadable_offset_fault (unreadable_from info kind 0 info.types)
 fault_of_kind info kind = faults_from info kind 0 info.types
 
 -- ---- of two kinds
@@ -157,16 +157,16 @@ lower_from info first second id (t ∷ types) =
 
 both_from : (info : TypeInfo) (first second : BtfKind) (id : ℕ) (types : List BtfType)
     → first_some (λ t. or_else (type_name_fault info first t) (type_name_fault info second t)) types
-    ≡ unreadable_name_fault (first_some (λ e. or_else (unreadable_name info first e.0 e.1) (unreadable_name info second e.0 e.1)) (enumerate_from id types))
+    ≡ unreadable_offset_fault (first_some (λ e. or_else (unreadable_name info first e.0 e.1) (unreadable_name info second e.0 e.1)) (enumerate_from id types))
 both_from info first second id [] = refl
 both_from info first second id (t ∷ types) =
     let a = unreadable_name info first id t in
     let b = unreadable_name info second id t in
     let later = first_some (λ e. or_else (unreadable_name info first e.0 e.1) (unreadable_name info second e.0 e.1)) (enumerate_from (id + 1) types) in
     (λ i. or_else (or_else (one_fault info first id t i) (one_fault info second id t i)) (both_from info first second (id + 1) types i))
-    ∙ ap (λ o. or_else o (unreadable_name_fault later)) (sym (fault_or_else a b))
+    ∙ ap (λ o. or_else o (unreadable_offset_fault later)) (sym (fault_or_else a b))
     ∙ sym (fault_or_else (or_else a b) later)
 
 pub fault_of_kinds : (info : TypeInfo) (first second : BtfKind)
-    → candidates_of_both_fault info first second ≡ unreadable_name_fault (lower (unreadable_from info first 0 info.types) (unreadable_from info second 0 info.types))
-fault_of_kinds info first second = both_from info first second 0 info.types ∙ ap unreadable_name_fault (sym (lower_from info first second 0 info.types))
+    → candidates_of_both_fault info first second ≡ unreadable_offset_fault (lower (unreadable_from info first 0 info.types) (unreadable_from info second 0 info.types))
+fault_of_kinds info first second = both_from info first second 0 info.types ∙ ap unreadable_offset_fault (sym (lower_from info first second 0 info.types))

@@ -9,7 +9,7 @@ use Rattle.ebpf_commands.specs.declared.failure.Failure.{Failure}
 use Rattle.ebpf_commands.specs.declared.failure.Failure.TheVariants.{CannotRead, Btf, Preparing, NoProgram, CannotWrite, Memory}
 use Rattle.ebpf_ksyms.specs.Sources.{Source}
 use Rattle.ebpf_object.specs.Objects.{object_of}
-use Rattle.ebpf_object.specs.Prepared.{IsFirstFault}
+use Rattle.ebpf_object.specs.Prepared.{IsFirstPrepareFault}
 use Rattle.ebpf_object.specs.Prepared as preparing
 use Rattle.ebpf_object.specs.Steps.{Chosen}
 use Rattle.ebpf_object.specs.declared.object.Object.{Object}
@@ -40,7 +40,7 @@ LacksNamed o (Some name) f = Lacks o name f
 
 -- preparing a file with these passes has this first fault
 abbrev pub IsPreparingFailure : Chosen → Source → List ℕ → Failure → Type 0
-IsPreparingFailure steps lines file (Preparing e) = IsFirstFault steps lines Stated file e
+IsPreparingFailure steps lines file (Preparing e) = IsFirstPrepareFault steps lines Stated file e
 IsPreparingFailure steps lines file _ = ⊥
 
 -- What a refusal says of the files is so: the kernel's types can't be read, or, where they can, preparing the file has
@@ -48,7 +48,7 @@ IsPreparingFailure steps lines file _ = ⊥
 abbrev pub IsFailureOf : List ℕ → Option (List ℕ) → Source → Option (List ℕ) → Failure → Type 0
 IsFailureOf file btf lines program (Btf e) = kernel_types btf ≡ Err e
 IsFailureOf file btf lines program (Preparing e) =
-    (kernel : Option TypeInfo) × (kernel_types btf ≡ Ok kernel) × IsFirstFault (default_passes kernel (object_of file).maps) lines Stated file e
+    (kernel : Option TypeInfo) × (kernel_types btf ≡ Ok kernel) × IsFirstPrepareFault (default_passes kernel (object_of file).maps) lines Stated file e
 IsFailureOf file btf lines program (NoProgram name) =
     (o : Object) × IsFileLinked file btf lines o × (program ≡ Some name.now) × (get o.programs name.now ≡ None)
 IsFailureOf file btf lines program (CannotRead path) = ⊥

@@ -30,15 +30,15 @@ abbrev pub following : ℤ → ℤ
 following n = saturate_signed w32 (n +ℤ pos 1)
 
 -- names with descriptors, from the number behind one on
-abbrev pub with_descriptors : ℤ → List (List ℕ) → List Descriptor
-with_descriptors n [] = []
-with_descriptors n (name ∷ names) = (name, following n) ∷ with_descriptors (following n) names
+abbrev pub numbered_descriptors : ℤ → List (List ℕ) → List Descriptor
+numbered_descriptors n [] = []
+numbered_descriptors n (name ∷ names) = (name, following n) ∷ numbered_descriptors (following n) names
 
 -- All passes, types where the kernel's are known; the maps of these names have the descriptors 1, 2, .. in order.
 abbrev pub default_passes_of : Option TypeInfo → List (List ℕ) → Chosen
 default_passes_of types names = record {
   target = types;
-  descriptors = Some (with_descriptors (pos 0) names);
+  descriptors = Some (numbered_descriptors (pos 0) names);
   kernel = Some types;
   externs = true;
   calls = true;

@@ -48,9 +48,9 @@ abbrev pub report_named : List ProgramReport → List ℕ → Option ProgramRepo
 report_named reports name = find (λ r. bytes_eq r.name name) reports
 
 -- the program of a name, or all in the order of the reports
-abbrev pub listed : List ProgramReport → Option (List ℕ) → List ℕ
-listed reports (Some name) = report_text_if (report_named reports name)
-listed reports None = flat_map report_text reports
+abbrev pub reports_text : List ProgramReport → Option (List ℕ) → List ℕ
+reports_text reports (Some name) = report_text_if (report_named reports name)
+reports_text reports None = flat_map report_text reports
 
 -- ---- a run
 
@@ -66,7 +66,7 @@ pub record HasListed (file : List ℕ) (btf : Option (List ℕ)) (lines : Source
   pub reports : List ProgramReport
   pub inspected : HasInspected file btf lines reports
   pub named : MatchOption program ⊤ (λ name. IsSome (report_named reports name))
-  pub text : Appends before now (listed reports program)
+  pub text : Appends before now (reports_text reports program)
 
 -- no report has the name that is refused
 abbrev pub LacksReport : List ProgramReport → List ℕ → Failure → Type 0

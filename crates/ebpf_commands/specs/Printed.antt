@@ -44,15 +44,15 @@ program_function_of o (Some program) = get o.functions (key_of_program program)
 abbrev pub function_named : Object → List ℕ → Option Function
 function_named o name = program_function_of o (get o.programs name)
 
-abbrev pub text_of : List ℕ → Option Function → List ℕ
-text_of name None = []
-text_of name (Some f) = program_text name f.instructions
+abbrev pub program_text_if : List ℕ → Option Function → List ℕ
+program_text_if name None = []
+program_text_if name (Some f) = program_text name f.instructions
 
 -- the lines of the program of a name, none where there is none
-abbrev pub lines_of : Object → List ℕ → List ℕ
-lines_of o name = text_of name (function_named o name)
+abbrev pub program_lines : Object → List ℕ → List ℕ
+program_lines o name = program_text_if name (function_named o name)
 
 -- the program of a name, or all in byte order of their names
 abbrev pub printed : Object → Option (List ℕ) → List ℕ
-printed o (Some name) = lines_of o name
-printed o None = flat_map (lines_of o) (keys_of (entries o.programs))
+printed o (Some name) = program_lines o name
+printed o None = flat_map (program_lines o) (keys_of (entries o.programs))

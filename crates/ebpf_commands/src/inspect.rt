@@ -5,7 +5,7 @@ ghost use Rattle.std.specs.Io.KnownBytes.{Appends};
 ghost use Rattle.std.specs.Option.{option_copied};
 ghost use Rattle.ebpf_commands.specs.Failures.{is_outside, is_writers, IsFailureOf, IsPreparingFailure};
 ghost use Rattle.ebpf_commands.specs.Linked.{default_passes};
-ghost use Rattle.ebpf_commands.specs.Listed.{report_named, listed, HasInspected, HasListed, LacksReport, LacksNamedReport};
+ghost use Rattle.ebpf_commands.specs.Listed.{report_named, reports_text, HasInspected, HasListed, LacksReport, LacksNamedReport};
 ghost use Rattle.ebpf_inspect.specs.Inspected.{IsInspected};
 ghost use Rattle.ebpf_object.specs.Prepared.{IsParsed};
 ghost use Rattle.ebpf_parts.specs.declared.reading.Reading.TheVariants.{Stated};
@@ -13,7 +13,7 @@ ghost use Rattle.ebpf_parts.specs.declared.reading.Reading.TheVariants.{Stated};
 use crate::arguments::Words;
 use crate::failure::{Failure, report};
 use crate::link::finish;
-use crate::preparation::{all_passes, map_names, with_descriptors, read_types};
+use crate::preparation::{all_passes, map_names, numbered_descriptors, read_types};
 use crate::report_text::write_report;
 use ebpf_base::Items;
 use ebpf_btf::Btf;
@@ -36,7 +36,7 @@ fn write_named<'a, W: Write>(
     name: &'a str,
     out: &mut W,
 ) -> Result<(), Failure<'a>>
-    ensures text { OnOk result (Appends (W.contents out.old) (W.contents out.new) (listed reports.now (Some name.now))) }
+    ensures text { OnOk result (Appends (W.contents out.old) (W.contents out.new) (reports_text reports.now (Some name.now))) }
     ensures there { OnOk result (IsSome (report_named reports.now name.now)) }
     ensures refused { IfErr result (λ f. MatchBool (is_outside f) ⊤ (LacksReport reports.now name.now f)) }
     ensures untouched { IfErr result (λ f. MatchBool (is_writers f) ⊤ (out.new ≡ out.old)) }
@@ -52,7 +52,7 @@ fn write_named<'a, W: Write>(
 
 /// Writes all reports.
 fn write_all<W: Write>(reports: &[ProgramReport], out: &mut W) -> Result<(), Failure<'static>>
-    ensures text { OnOk result (Appends (W.contents out.old) (W.contents out.new) (listed reports.now None)) }
+    ensures text { OnOk result (Appends (W.contents out.old) (W.contents out.new) (reports_text reports.now None)) }
     ensures refused { IfErr result (λ f. is_outside f ≡ true) }
     ensures writers { IfErr result (λ f. is_writers f ≡ true) }
 {
@@ -71,7 +71,7 @@ fn write_reports<'a, W: Write>(
     program: Option<&'a str>,
     out: &mut W,
 ) -> Result<(), Failure<'a>>
-    ensures text { OnOk result (Appends (W.contents out.old) (W.contents out.new) (listed reports.now (option_copied program.entry))) }
+    ensures text { OnOk result (Appends (W.contents out.old) (W.contents out.new) (reports_text reports.now (option_copied program.entry))) }
     ensures there { OnOk result (MatchOption (option_copied program.entry) ⊤ (λ name. IsSome (report_named reports.now name))) }
     ensures refused { IfErr result (λ f. MatchBool (is_outside f) ⊤ (LacksNamedReport reports.now (option_copied program.entry) f)) }
     ensures untouched { IfErr result (λ f. MatchBool (is_writers f) ⊤ (out.new ≡ out.old)) }
@@ -89,7 +89,7 @@ fn print_listed<'a, W: Write>(
     program: Option<&'a str>,
     out: &mut W,
 ) -> Result<(), Failure<'a>>
-    ensures text { OnOk result (Appends (W.contents out.old) (W.contents out.new) (listed reports.now (option_copied program.entry))) }
+    ensures text { OnOk result (Appends (W.contents out.old) (W.contents out.new) (reports_text reports.now (option_copied program.entry))) }
     ensures there { OnOk result (MatchOption (option_copied program.entry) ⊤ (λ name. IsSome (report_named reports.now name))) }
     ensures refused { IfErr result (λ f. MatchBool (is_outside f) ⊤ (LacksNamedReport reports.now (option_copied program.entry) f)) }
     ensures untouched { IfErr result (λ f. MatchBool (is_writers f) ⊤ (out.new ≡ out.old)) }
@@ -118,7 +118,7 @@ fn inspect_all<K: SymbolSource>(
     let Ok(names) = map_names(alloc, &object) else {
         return Err(Failure::Memory);
     };
-    let Ok(descriptors) = with_descriptors(alloc, names.as_slice()) else {
+    let Ok(descriptors) = numbered_descriptors(alloc, names.as_slice()) else {
         return Err(Failure::Memory);
     };
     match inspect_object(alloc, object, &all_passes(types, &descriptors), kallsyms) {

@@ -10,12 +10,12 @@ ghost use Rattle.ebpf_object.specs.Prepared.{IsParsed};
 ghost use Rattle.ebpf_commands.specs.Done.{HasPrinted};
 ghost use Rattle.ebpf_commands.specs.Failures.{is_outside, is_writers, IsFailureOf, Lacks, LacksNamed, IsPreparingFailure};
 ghost use Rattle.ebpf_commands.specs.Linked.{default_passes, IsFileLinked};
-ghost use Rattle.ebpf_commands.specs.Printed.{function_named, lines_of, printed};
+ghost use Rattle.ebpf_commands.specs.Printed.{function_named, program_lines, printed};
 ghost use Rattle.ebpf_parts.specs.declared.reading.Reading.TheVariants.{Stated};
 
 use crate::arguments::Words;
 use crate::failure::{Failure, report};
-use crate::preparation::{all_passes, map_names, with_descriptors, read_types};
+use crate::preparation::{all_passes, map_names, numbered_descriptors, read_types};
 use crate::program_text::write_program;
 use ebpf_btf::Btf;
 use ebpf_model::Function;
@@ -34,7 +34,7 @@ fn function_named<'a>(object: &'a Object, name: &str) -> Option<&'a Function>
 
 /// Writes the program of a name.
 fn write_named<'a, W: Write>(object: &Object, name: &'a str, out: &mut W) -> Result<(), Failure<'a>>
-    ensures text { OnOk result (Appends (W.contents out.old) (W.contents out.new) (lines_of object.now name.now)) }
+    ensures text { OnOk result (Appends (W.contents out.old) (W.contents out.new) (program_lines object.now name.now)) }
     ensures there { OnOk result (IsSome (function_named object.now name.now)) }
     ensures refused { IfErr result (λ f. MatchBool (is_outside f) ⊤ (Lacks object.now name.now f)) }
     ensures untouched { IfErr result (λ f. MatchBool (is_writers f) ⊤ (out.new ≡ out.old)) }
@@ -54,7 +54,7 @@ fn write_each<W: Write>(
     names: &[&str],
     out: &mut W,
 ) -> Result<(), Failure<'static>>
-    ensures text { OnOk result (Appends (W.contents out.old) (W.contents out.new) (flat_map (lines_of object.now) (lent_bytes names.now))) }
+    ensures text { OnOk result (Appends (W.contents out.old) (W.contents out.new) (flat_map (program_lines object.now) (lent_bytes names.now))) }
     ensures refused { IfErr result (λ f. is_outside f ≡ true) }
     ensures writers { IfErr result (λ f. is_writers f ≡ true) }
 {
@@ -145,7 +145,7 @@ pub fn prepare_all<K: SymbolSource>(
     let Ok(names) = map_names(alloc, &object) else {
         return Err(Failure::Memory);
     };
-    let Ok(descriptors) = with_descriptors(alloc, names.as_slice()) else {
+    let Ok(descriptors) = numbered_descriptors(alloc, names.as_slice()) else {
         return Err(Failure::Memory);
     };
     match prepare_object(alloc, object, &all_passes(types, &descriptors), kallsyms) {

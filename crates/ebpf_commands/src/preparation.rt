@@ -8,7 +8,7 @@ ghost use Rattle.ebpf_base.specs.Faults.{Gives};
 ghost use Rattle.ebpf_base.specs.Keys.{lent_bytes};
 ghost use Rattle.ebpf_btf.specs.Memory.{is_memory as types_memory};
 ghost use Rattle.ebpf_object.specs.Steps.{chosen, descriptor_of};
-ghost use Rattle.ebpf_commands.specs.Linked.{kernel_types, with_descriptors};
+ghost use Rattle.ebpf_commands.specs.Linked.{kernel_types, numbered_descriptors};
 
 use ebpf_base::{Items, Text};
 use ebpf_btf::{Btf, BtfError, Endianness};
@@ -18,16 +18,16 @@ use std::alloc::{AllocError, Global};
 
 /// The names of maps with descriptors, 1 and on.
 #[tactic(auto, using(crate::proofs::Numbered::one_with_descriptor, ebpf_base::proofs::Walks::rest_none))]
-pub fn with_descriptors(alloc: Global, names: &[Text]) -> Result<Vec<(&str, i32)>, AllocError>
-    ensures { IfOk result (λ named. map descriptor_of named.items ≡ with_descriptors (pos 0) names.now) }
+pub fn numbered_descriptors(alloc: Global, names: &[Text]) -> Result<Vec<(&str, i32)>, AllocError>
+    ensures { IfOk result (λ named. map descriptor_of named.items ≡ numbered_descriptors (pos 0) names.now) }
 {
-    let mut with_descriptors = Vec::with_capacity(alloc, names.len())?;
+    let mut numbered_descriptors = Vec::with_capacity(alloc, names.len())?;
     let mut descriptor: i32 = 0;
     for name in names {
         descriptor = descriptor.saturating_add(1);
-        with_descriptors.push((name.as_str(), descriptor))?;
+        numbered_descriptors.push((name.as_str(), descriptor))?;
     }
-    Ok(with_descriptors)
+    Ok(numbered_descriptors)
 }
 
 /// The kernel's types, where bytes of them are given.

@@ -21,11 +21,11 @@ use Rattle.ebpf_ext.specs.declared.relocation.Relocation.{Relocation}
 use Rattle.ebpf_ext.specs.declared.relocation.RelocationKind.{RelocationKind}
 use Rattle.ebpf_core.specs.AccessStrings.{access_parts}
 use Rattle.ebpf_core.specs.Answers.{each, if_ok, of_types}
-use Rattle.ebpf_core.specs.Questions.{AreCached, Question, question_of, question_cmp}
+use Rattle.ebpf_core.specs.Questions.{OutcomesAreCached, Question, question_of, question_cmp}
 use Rattle.ebpf_core.specs.Fields.{field_value}
 use Rattle.ebpf_core.specs.Laws.{OutcomesRestOnQuestions}
 use Rattle.ebpf_core.specs.LocalPaths.{field_path, into_array, into_members, local_path, lone, named_variant, part_step, past, path_for, spot_at_element, variant_path, spot_after, wrong_kind, wrong_string}
-use Rattle.ebpf_core.specs.Outcomes.{concluded, loaded_by, local_loaded, match_value, outcome_among}
+use Rattle.ebpf_core.specs.Outcomes.{outcome_of_matches, loaded_by, local_loaded, match_value, outcome_among}
 use Rattle.ebpf_core.specs.Matches.{matches}
 use Rattle.ebpf_core.specs.Searches.{candidates_for, is_local, itself, outcome_of}
 use Rattle.ebpf_core.specs.RelocationBases.{basis_of}
@@ -162,7 +162,7 @@ module _ (info : TypeInfo) (r : Relocation) (number insn_off : ℕ) where
 
 module _ (local target : TypeInfo) (r : Relocation) (number insn_off : ℕ) where
   abbrev with_values : LocalPath → List Match → Option LoadedField → Result Outcome RelocationError
-  with_values path found loaded = if_ok (each (match_value target r.kind) found) (λ values. concluded target path.type_name r.kind loaded values)
+  with_values path found loaded = if_ok (each (match_value target r.kind) found) (λ values. outcome_of_matches target path.type_name r.kind loaded values)
 
   among_alike : (path : LocalPath) (ids : List ℕ) → Follows (outcome_among local target r path ids) (outcome_among local target (again r number insn_off) path ids)
   unfolding outcome_among
@@ -215,20 +215,20 @@ question_exact a b e = exact_pairs _ nat_cmp (exact_pairs nat_cmp nat_cmp exact_
     equal Greater e = cc
 
 module _ (local target : TypeInfo) where
-  pub none_cached : (cached : BTreeMap Question Outcome) → cached.entries ≡ [] → AreCached local target cached
+  pub none_cached : (cached : BTreeMap Question Outcome) → cached.entries ≡ [] → OutcomesAreCached local target cached
   none_cached cached is q outcome found = absurd (nothing (get question_cmp cached q) found (ap (λ es. lookup (is_at (question_cmp q)) es) is))
     where
       nothing : (o : Option Outcome) → o ≡ Some outcome → o ≡ None → ⊥
       nothing o some none = cc
 
-  cached_by : (cached : BTreeMap Question Outcome) (r : Relocation) (k : Question) (more : Outcome) → k ≡ question_of r → outcome_of local target r ≡ Ok more → AreCached local target cached
+  cached_by : (cached : BTreeMap Question Outcome) (r : Relocation) (k : Question) (more : Outcome) → k ≡ question_of r → outcome_of local target r ≡ Ok more → OutcomesAreCached local target cached
       → (q : Question) (outcome : Outcome) (b : Bool) → is_at (question_cmp k) q ≡ b → cond b (Some more) (get question_cmp cached q) ≡ Some outcome
       → (s : Relocation) → question_of s ≡ q → outcome_of local target s ≡ Ok outcome
   cached_by cached r k more asks is are q outcome true same found s also =
       outcomes_rest_on_questions local target r s outcome (sym asks ∙ question_exact k q same ∙ sym also) (is ∙ ap Ok (same_Some _ _ found))
   cached_by cached r k more asks is are q outcome false same found s also = are q outcome found s also
 
-  pub one_more : (cached new : BTreeMap Question Outcome) (r : Relocation) (k : Question) (more : Outcome) → k ≡ question_of r → outcome_of local target r ≡ Ok more → AreCached local target cached
-      → ((q : Question) → get question_cmp new q ≡ cond (is_at (question_cmp k) q) (Some more) (get question_cmp cached q)) → AreCached local target new
+  pub one_more : (cached new : BTreeMap Question Outcome) (r : Relocation) (k : Question) (more : Outcome) → k ≡ question_of r → outcome_of local target r ≡ Ok more → OutcomesAreCached local target cached
+      → ((q : Question) → get question_cmp new q ≡ cond (is_at (question_cmp k) q) (Some more) (get question_cmp cached q)) → OutcomesAreCached local target new
   one_more cached new r k more asks is are put q outcome found =
       cached_by cached r k more asks is are q outcome (is_at (question_cmp k) q) refl (sym (put q) ∙ found)

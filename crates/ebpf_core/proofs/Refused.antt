@@ -11,7 +11,7 @@ use Rattle.ebpf_core.specs.LocalPaths.{local_path}
 use Rattle.ebpf_core.specs.LocalSides.{LocalSideIs}
 use Rattle.ebpf_core.specs.Matches.{found_at_candidate, match_in, match_of, matches, type_name_at}
 use Rattle.ebpf_core.specs.Memory.{is_memory}
-use Rattle.ebpf_core.specs.Outcomes.{values_agree, concluded, differing_names, local_loaded, match_value, outcome_among, agreed_outcome}
+use Rattle.ebpf_core.specs.Outcomes.{values_agree, outcome_of_matches, differing_names, local_loaded, match_value, outcome_among, agreed_outcome}
 use Rattle.ebpf_core.specs.Refused.{AreInConflict, Unreadable, Differing, AmongIsRefused, Matching, LocalField, Values, Conflict, OutcomeIsRefused, LocalSide, Candidates, Among}
 use Rattle.ebpf_core.specs.Searches.{candidates_for, is_local, itself, outcome_of}
 use Rattle.ebpf_core.specs.declared.error.RelocationError.{RelocationError}
@@ -119,13 +119,13 @@ module _ (target : TypeInfo) (name : List ℕ) (loaded : Option LoadedField) whe
   conflict_by first others fault (Err g) is e =
       Unreadable first others fault (each_fails named (filter (λ v. not (values_agree first v)) others) fault (is ∙ ap Err (same_err _ _ e)))
 
-  conflict : (kind : _) (values : List MatchValue) (fault : RelocationError) → concluded target name kind loaded values ≡ Err fault → AreInConflict target name values fault
-  unfolding concluded
+  conflict : (kind : _) (values : List MatchValue) (fault : RelocationError) → outcome_of_matches target name kind loaded values ≡ Err fault → AreInConflict target name values fault
+  unfolding outcome_of_matches
   conflict kind [] fault e = cc
   conflict kind (first ∷ others) fault e = conflict_by first others fault (differing_names target first others) refl e
 
-  conflict_refuses : (kind : _) {values : List MatchValue} {fault : RelocationError} → AreInConflict target name values fault → concluded target name kind loaded values ≡ Err fault
-  unfolding concluded
+  conflict_refuses : (kind : _) {values : List MatchValue} {fault : RelocationError} → AreInConflict target name values fault → outcome_of_matches target name kind loaded values ≡ Err fault
+  unfolding outcome_of_matches
   conflict_refuses kind (Unreadable first others fault h) =
       ap (λ (r : Result (List (List ℕ)) RelocationError). if_ok r (agreed_outcome name loaded first)) (fails_each named (filter (λ v. not (values_agree first v)) others) fault h)
   conflict_refuses kind (Differing first others other more is) =
@@ -138,7 +138,7 @@ module _ (local target : TypeInfo) (r : Relocation) (path : LocalPath) (ids : Li
   finds = found_at_candidate local target r.type_id path.path
 
   abbrev with_values : Option LoadedField → Result (List MatchValue) RelocationError → Result Outcome RelocationError
-  with_values loaded x = if_ok x (concluded target path.type_name r.kind loaded)
+  with_values loaded x = if_ok x (outcome_of_matches target path.type_name r.kind loaded)
 
   abbrev with_loaded : List Match → Result (Option LoadedField) RelocationError → Result Outcome RelocationError
   with_loaded found x = if_ok x (λ loaded. with_values loaded (each (match_value target r.kind) found))

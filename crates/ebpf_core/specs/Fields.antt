@@ -68,8 +68,8 @@ value_with FieldByteOffset number loaded = record { number = number; loaded = lo
 value_with _ number loaded = record { number = number; loaded = None }
 
 -- of a member of a type at a bit
-unfoldable pub member_value : TypeInfo → RelocationKind → ℕ → BtfType → BtfMember → Result FieldValue BtfError
-member_value info kind bits parent member =
+unfoldable pub member_field_value : TypeInfo → RelocationKind → ℕ → BtfType → BtfMember → Result FieldValue BtfError
+member_field_value info kind bits parent member =
     if_ok (resolved info.types member.btf_type) (λ id.
     if_ok (type_at info.types id) (λ t.
     if_ok (member_extent parent member bits t (size_of info.types id)) (λ place.
@@ -91,7 +91,7 @@ member_with_index t index = option_and_then (λ members. slice_get members index
 
 abbrev pub value_of_member : TypeInfo → RelocationKind → ℕ → ℕ → ℕ → Result FieldValue BtfError
 value_of_member info kind bits parent index =
-    if_ok (type_at info.types parent) (λ t. if_some (member_with_index t index) (member_value info kind bits t) (Err InvalidTypeInfo))
+    if_ok (type_at info.types parent) (λ t. if_some (member_with_index t index) (member_field_value info kind bits t) (Err InvalidTypeInfo))
 
 abbrev pub place_end_value : TypeInfo → RelocationKind → ℕ → PlaceEnd → Result FieldValue FieldFault
 place_end_value info kind bits (Element id) = element_value info kind bits id

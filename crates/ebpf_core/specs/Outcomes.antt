@@ -93,9 +93,9 @@ abbrev pub agreed_outcome : List ℕ → Option LoadedField → MatchValue → L
 agreed_outcome name loaded first [] = Ok (record { value = first.number; local = loaded; target = first.loaded })
 agreed_outcome name loaded first (other ∷ others) = Err (ConflictingCandidates name (other ∷ others))
 
-unfoldable pub concluded : TypeInfo → List ℕ → RelocationKind → Option LoadedField → List MatchValue → Result Outcome RelocationError
-concluded target name kind loaded [] = Ok (record { value = without_match kind; local = loaded; target = None })
-concluded target name kind loaded (first ∷ others) = if_ok (differing_names target first others) (agreed_outcome name loaded first)
+unfoldable pub outcome_of_matches : TypeInfo → List ℕ → RelocationKind → Option LoadedField → List MatchValue → Result Outcome RelocationError
+outcome_of_matches target name kind loaded [] = Ok (record { value = without_match kind; local = loaded; target = None })
+outcome_of_matches target name kind loaded (first ∷ others) = if_ok (differing_names target first others) (agreed_outcome name loaded first)
 
 -- What a record comes to over its candidates. Matching comes first, then the local field, then the values.
 unfoldable pub outcome_among : TypeInfo → TypeInfo → Relocation → LocalPath → List ℕ → Result Outcome RelocationError
@@ -103,4 +103,4 @@ outcome_among local target r path ids =
     if_ok (matches local target r.type_id path.path ids) (λ found.
     if_ok (local_loaded local r path.path) (λ loaded.
     if_ok (each (match_value target r.kind) found) (λ values.
-    concluded target path.type_name r.kind loaded values)))
+    outcome_of_matches target path.type_name r.kind loaded values)))

@@ -21,6 +21,6 @@ abbrev pub question_cmp : Question → Question → Ordering
 question_cmp a b = ordering_then (ordering_then (nat_cmp a.0.0 b.0.0) (nat_cmp a.0.1 b.0.1)) (nat_cmp a.1 b.1)
 
 -- Each record with the question that an outcome is cached for comes to this outcome.
-abbrev pub AreCached : TypeInfo → TypeInfo → BTreeMap Question Outcome → Type 0
-AreCached local target cached =
+abbrev pub OutcomesAreCached : TypeInfo → TypeInfo → BTreeMap Question Outcome → Type 0
+OutcomesAreCached local target cached =
     (q : Question) (outcome : Outcome) → get question_cmp cached q ≡ Some outcome → (r : Relocation) → question_of r ≡ q → outcome_of local target r ≡ Ok outcome

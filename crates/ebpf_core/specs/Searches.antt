@@ -20,9 +20,9 @@ use Rattle.ebpf_core.specs.LocalPaths.{local_path}
 use Rattle.ebpf_core.specs.Outcomes.{outcome_among}
 
 -- a list, where nothing keeps it from being known
-abbrev pub unless : Option BtfError → List ℕ → Result (List ℕ) BtfError
-unless None ids = Ok ids
-unless (Some e) ids = Err e
+abbrev pub ids_unless_fault : Option BtfError → List ℕ → Result (List ℕ) BtfError
+ids_unless_fault None ids = Ok ids
+ids_unless_fault (Some e) ids = Err e
 
 -- an enumeration of 64 bits that was made a UNION
 abbrev pub was_enum64 : BtfType → Bool
@@ -32,8 +32,8 @@ was_enum64 t = is_kind kinds.Union t && is_some (variants_of t)
 -- may stand for an ENUM64 too.
 unfoldable pub candidates_named : TypeInfo → BtfType → List ℕ → Result (List ℕ) BtfError
 candidates_named target t name =
-    if was_enum64 t then unless (candidates_of_both_fault target kinds.Union kinds.Enum64) (candidates_of_both target kinds.Union kinds.Enum64 name)
-    else unless (candidates_fault target (kind_of t)) (candidates target (kind_of t) name)
+    if was_enum64 t then ids_unless_fault (candidates_of_both_fault target kinds.Union kinds.Enum64) (candidates_of_both target kinds.Union kinds.Enum64 name)
+    else ids_unless_fault (candidates_fault target (kind_of t)) (candidates target (kind_of t) name)
 
 -- the candidates of the local type with an id, which is taken as it stands
 abbrev pub candidates_for : TypeInfo → TypeInfo → ℕ → Result (List ℕ) BtfError

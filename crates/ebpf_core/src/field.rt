@@ -3,7 +3,7 @@
 ghost use Rattle.std.specs.Prelude.{◌≡◌, ◌*◌, ◌<◌, ◌≤◌, ◌^◌, IfOk};
 ghost use Rattle.std.specs.Option.{option_copied};
 ghost use Rattle.ebpf_btf.specs.Steps.{size_of};
-ghost use Rattle.ebpf_core.specs.Fields.{member_number, class_of, element_value, field_value, member_extent, loaded_field, member_with_index, member_value, shift, place_end_value, value_of_member, value_with};
+ghost use Rattle.ebpf_core.specs.Fields.{member_number, class_of, element_value, field_value, member_extent, loaded_field, member_with_index, member_field_value, shift, place_end_value, value_of_member, value_with};
 
 use crate::extent::{Extent, bit_field_extent, plain_extent};
 use ebpf_btf::{Btf, BtfError, BtfMember, BtfType};
@@ -141,15 +141,15 @@ fn value_with(kind: RelocationKind, number: u64, loaded: Option<LoadedField>) ->
 }
 
 /// What a kind asks of a member of a type at a bit.
-#[tactic(auto, unfolding(crate::specs::Fields::member_value))]
-fn member_value(
+#[tactic(auto, unfolding(crate::specs::Fields::member_field_value))]
+fn member_field_value(
     btf: &Btf,
     kind: RelocationKind,
     bits: u32,
     parent: &BtfType,
     member: &BtfMember,
 ) -> Result<FieldValue, BtfError>
-    ensures { result ≡ member_value btf.now kind bits parent.now member.now }
+    ensures { result ≡ member_field_value btf.now kind bits parent.now member.now }
 {
     let type_id = btf.resolve_type(member.btf_type)?;
     let ty = btf.type_by_id(type_id)?;
@@ -200,7 +200,7 @@ fn value_of_member(
 {
     let ty = btf.type_by_id(parent)?;
     match member_with_index(ty, index) {
-        Some(member) => member_value(btf, kind, bits, ty, member),
+        Some(member) => member_field_value(btf, kind, bits, ty, member),
         None => Err(BtfError::InvalidTypeInfo),
     }
 }

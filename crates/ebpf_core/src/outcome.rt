@@ -5,7 +5,7 @@ ghost use Rattle.ebpf_core.specs.Answers.{Tells, each, of_types, without_texts};
 ghost use Rattle.ebpf_core.specs.Fields.{field_value};
 ghost use Rattle.ebpf_core.specs.Memory.{is_memory};
 ghost use Rattle.ebpf_core.specs.Refused.{AmongIsRefused};
-ghost use Rattle.ebpf_core.specs.Outcomes.{values_agree, concluded, differing_names, loaded_by, local_loaded, outcome_among, agreed_outcome, without_match};
+ghost use Rattle.ebpf_core.specs.Outcomes.{values_agree, outcome_of_matches, differing_names, loaded_by, local_loaded, outcome_among, agreed_outcome, without_match};
 
 use crate::error::RelocationError;
 use crate::faults::invalid_kind;
@@ -119,7 +119,7 @@ fn differing_names(
 }
 
 /// What matches come to: the first's value, where all others agree with it.
-#[tactic(auto, unfolding(crate::specs::Outcomes::concluded))]
+#[tactic(auto, unfolding(crate::specs::Outcomes::outcome_of_matches))]
 fn conclude(
     alloc: Global,
     target: &Btf,
@@ -128,7 +128,7 @@ fn conclude(
     local: Option<LoadedField>,
     values: &[MatchValue],
 ) -> Result<Outcome, RelocationError>
-    ensures { Tells result (concluded target.now type_name.now kind local values.now) }
+    ensures { Tells result (outcome_of_matches target.now type_name.now kind local values.now) }
 {
     let Some((first, others)) = values.split_first() else {
         return Ok(Outcome {

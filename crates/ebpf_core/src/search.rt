@@ -97,14 +97,14 @@ pub struct CoreSearch<'a> {
 impl<'a> Model for CoreSearch<'a> {
     ghost use Rattle.std.specs.Prelude.{◌≡◌};
     ghost use Rattle.std.specs.Option.{ForSome};
-    ghost use Rattle.ebpf_core.specs.Questions.{AreCached};
+    ghost use Rattle.ebpf_core.specs.Questions.{OutcomesAreCached};
     ghost use Rattle.ebpf_core.specs.Sides.{Sides};
 
     ghost Value = { Sides };
 
     ghost view = { λ s. record { local = s.local.now; target = s.target.now } };
 
-    ghost invariant = { λ s. ForSome s.index (λ index. index ≡ s.target.now) × AreCached s.local.now s.target.now s.cached };
+    ghost invariant = { λ s. ForSome s.index (λ index. index ≡ s.target.now) × OutcomesAreCached s.local.now s.target.now s.cached };
 }
 
 impl<'a> CoreSearch<'a> {

@@ -19,8 +19,8 @@ use Rattle.ebpf_core_relo.proofs.OutcomeRows.{outcomes-append, slots-append}
 use Rattle.ebpf_core_relo.proofs.OutcomeSlots.{same_ok}
 use Rattle.ebpf_core_relo.specs.Absences.{absence_of}
 use Rattle.ebpf_core_relo.specs.Answers.{error_in_section}
-use Rattle.ebpf_core_relo.specs.OutcomeLaws.{FirstRefusalIsTheFault, HaveRecords, SlotsAreTheSame, refusal, refusal_in, told_name, unless}
-use Rattle.ebpf_core_relo.specs.RecordOutcomes.{Named, answered, applied, concluded, left_after, left_by, named_in, named_records, outcome_after, outcomes_from, record_slots, result_in, section_at, section_by, slots_left}
+use Rattle.ebpf_core_relo.specs.OutcomeLaws.{FirstRefusalIsTheFault, HaveRecords, SlotsAreTheSame, refusal, refusal_in, name_or_unnamed, unless}
+use Rattle.ebpf_core_relo.specs.RecordOutcomes.{Named, outcome_result, applied, record_result, left_after, left_by, named_in, named_records, outcome_after, outcomes_from, record_slots, result_in, section_number_at, section_by, slots_left}
 use Rattle.ebpf_core_relo.specs.Records.{RelocationInputs, Written, all_applied, answer_in_section, named_applied, record_applied, records_applied, section_applied, unnamed_section}
 use Rattle.ebpf_core_relo.specs.declared.error.BtfRelocationError.{BtfRelocationError}
 use Rattle.ebpf_core_relo.specs.declared.record_outcome.RecordResult.TheVariants.{Value, Absent}
@@ -36,16 +36,16 @@ stated inputs so_far records = unless (first inputs so_far records) (slots_left 
 -- ---- one record
 
 -- an outcome is no refusal
-not_refused : (sides : Sides) (name : List ℕ) (r : Relocation) (outcome : Outcome) → refusal_in name (answered sides r outcome) ≡ None
+not_refused : (sides : Sides) (name : List ℕ) (r : Relocation) (outcome : Outcome) → refusal_in name (outcome_result sides r outcome) ≡ None
 not_refused sides name r outcome = by_test (is_some outcome.value)
   where
     by_test : (b : Bool) → refusal_in name (if b then Value outcome else Absent (absence_of sides.local sides.target r)) ≡ None
     by_test true = refl
     by_test false = refl
 
-module _ (inputs : RelocationInputs) (offset : ℕ) (name : List ℕ) (named : told_name offset (text_at inputs.sides.local.strings offset) ≡ name) where
+module _ (inputs : RelocationInputs) (offset : ℕ) (name : List ℕ) (named : name_or_unnamed offset (text_at inputs.sides.local.strings offset) ≡ name) where
   abbrev section : Result ℕ RelocationError
-  section = section_at inputs.sides.local inputs.section_infos offset
+  section = section_number_at inputs.sides.local inputs.section_infos offset
 
   refusal_is : (so_far : Written) (r : Relocation) (s : Result ℕ RelocationError) → section ≡ s
       → refusal inputs (outcome_after inputs so_far (offset, r)) ≡ refusal_in name (result_in inputs s so_far r)
@@ -56,10 +56,10 @@ module _ (inputs : RelocationInputs) (offset : ℕ) (name : List ℕ) (named : t
 
   -- where the section is found, a record is refused where it can't be applied
   by_applied : (number : ℕ) (so_far : Written) (r : Relocation) (a : Result Written RelocationError) → record_applied inputs number so_far r ≡ a
-      → refusal_in name (concluded inputs.sides r (if_ok a (λ left. outcome_of inputs.sides.local inputs.sides.target r))) ≡ fault_of (answer_in_section name a)
+      → refusal_in name (record_result inputs.sides r (if_ok a (λ left. outcome_of inputs.sides.local inputs.sides.target r))) ≡ fault_of (answer_in_section name a)
   by_applied number so_far r (Ok next) is =
       let p = applied_puts inputs number so_far next r is in
-      ap (λ o. refusal_in name (concluded inputs.sides r o)) p.found ∙ not_refused inputs.sides name r p.outcome
+      ap (λ o. refusal_in name (record_result inputs.sides r o)) p.found ∙ not_refused inputs.sides name r p.outcome
   by_applied number so_far r (Err fault) is = refl
 
   -- ---- the records of a section
@@ -108,8 +108,8 @@ abbrev by_section : RelocationInputs → List ℕ → ℕ × List Relocation →
 by_section inputs name part so_far o = answer_in_section name (if_some o (λ section. records_applied inputs section.0 part.1 so_far) (Err errors.SectionNotFound))
 
 section_found : (inputs : RelocationInputs) (offset : ℕ) (t : Result (List ℕ) BtfError) → text_at inputs.sides.local.strings offset ≡ t
-    → section_at inputs.sides.local inputs.section_infos offset ≡ section_by inputs.section_infos (of_types t)
-unfolding section_at
+    → section_number_at inputs.sides.local inputs.section_infos offset ≡ section_by inputs.section_infos (of_types t)
+unfolding section_number_at
 section_found inputs offset t is = ap (λ r. section_by inputs.section_infos (of_types r)) is
 
 -- where a part is refused it has records
@@ -120,19 +120,19 @@ part_stated inputs part so_far some = by_text (text_at inputs.sides.local.string
   where
     by_text : (t : Result (List ℕ) BtfError) → text_at inputs.sides.local.strings part.0 ≡ t → by_name inputs part so_far t ≡ stated inputs so_far (named_in part.0 part.1)
     by_text (Err e) is =
-        in_none inputs part.0 (unnamed_section part.0) (ap (told_name part.0) is) (errors.BtfError e) (section_found inputs part.0 (Err e) is) part.1 so_far
+        in_none inputs part.0 (unnamed_section part.0) (ap (name_or_unnamed part.0) is) (errors.BtfError e) (section_found inputs part.0 (Err e) is) part.1 so_far
         (some _ (ap (by_name inputs part so_far) is))
     by_text (Ok name) is = by_number (get inputs.section_infos name) refl
       where
         found : (o : Option SectionIndex) → get inputs.section_infos name ≡ o
-            → section_at inputs.sides.local inputs.section_infos part.0 ≡ if_some o (λ section. Ok section.0) (Err errors.SectionNotFound)
+            → section_number_at inputs.sides.local inputs.section_infos part.0 ≡ if_some o (λ section. Ok section.0) (Err errors.SectionNotFound)
         found o there = section_found inputs part.0 (Ok name) is ∙ ap (λ p. if_some p (λ section. Ok section.0) (Err errors.SectionNotFound)) there
 
         by_number : (o : Option SectionIndex) → get inputs.section_infos name ≡ o → by_section inputs name part so_far o ≡ stated inputs so_far (named_in part.0 part.1)
         by_number None there =
-            in_none inputs part.0 name (ap (told_name part.0) is) errors.SectionNotFound (found None there) part.1 so_far
+            in_none inputs part.0 name (ap (name_or_unnamed part.0) is) errors.SectionNotFound (found None there) part.1 so_far
             (some _ (ap (by_name inputs part so_far) is ∙ ap (by_section inputs name part so_far) there))
-        by_number (Some number) there = in_records inputs part.0 name (ap (told_name part.0) is) number.0 (found (Some number) there) part.1 so_far
+        by_number (Some number) there = in_records inputs part.0 name (ap (name_or_unnamed part.0) is) number.0 (found (Some number) there) part.1 so_far
 
 -- ---- all parts
 

@@ -4,7 +4,7 @@ use Rattle.std.specs.Prelude.{fold, if◌then◌else◌}
 use Rattle.std.proofs.lemmas.Bool.{cases_lt, le-ltb, lt-ltb}
 use Rattle.std.proofs.lemmas.Option.{same_Some}
 use Rattle.ebpf_btf.specs.TypeInfo.{TypeInfo}
-use Rattle.ebpf_places.specs.FunctionSpans.{place_of}
+use Rattle.ebpf_places.specs.Places.{place_of}
 use Rattle.ebpf_places.specs.declared.steps.Step.{Step}
 use Rattle.ebpf_core_relo.proofs.Reaches.{fails_past, passes, reach_within}
 use Rattle.ebpf_core_relo.specs.AbsenceLaws.{ComesFurthest, FurthestComesFurthest, NoneLeads}
@@ -100,7 +100,7 @@ module _ (local target : TypeInfo) (steps : List Step) (ids : List ℕ) where
   comes id last (Met place other at is more all first) named =
       let same : other ≡ id = same_Some _ _ (sym (ap (λ (f : Furthest). f.candidate) is) ∙ named) in
       let whole : ComesFurthest local target steps ids other (far other) = record {
-        place = place;
+        index = place;
         at = at;
         within = reach_within local target steps other;
         there = leads_so_far other more;

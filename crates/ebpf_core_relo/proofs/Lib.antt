@@ -2,7 +2,7 @@ pub mod FirstRefusal
 pub mod FurthestOnes
 pub mod Grouped
 pub mod SpanRuns
-pub mod KeptAbsences
+pub mod CachedAbsences
 pub mod MatchAbsences
 pub mod MisfitNames
 pub mod NamedMembers

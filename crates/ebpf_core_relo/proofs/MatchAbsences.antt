@@ -8,10 +8,10 @@ use Rattle.std.proofs.lemmas.Option.{same_Some, slice_get_past}
 use Rattle.ebpf_btf.specs.TypeInfo.{TypeInfo}
 use Rattle.ebpf_btf.specs.declared.error.BtfError.{BtfError}
 use Rattle.ebpf_ext.specs.declared.relocation.Relocation.{Relocation}
-use Rattle.ebpf_places.specs.FunctionSpans.{place_of}
+use Rattle.ebpf_places.specs.Places.{place_of}
 use Rattle.ebpf_places.specs.declared.fault.PlaceFault.{PlaceFault}
 use Rattle.ebpf_places.specs.declared.fault.PlaceFault.TheVariants.{NestingLevel, Btf}
-use Rattle.ebpf_places.specs.declared.function_spans.Place.{Place}
+use Rattle.ebpf_places.specs.declared.places.Place.{Place}
 use Rattle.ebpf_places.specs.declared.steps.Step.{Step}
 use Rattle.ebpf_places.specs.declared.steps.Step.TheVariants.{Name, Index}
 use Rattle.ebpf_core.proofs.Questions.{outcomes_rest_on_questions}
@@ -29,7 +29,7 @@ use Rattle.ebpf_core.specs.declared.paths.NamedPath.TheVariants as paths
 use Rattle.ebpf_core_relo.proofs.FurthestOnes.{comes_furthest, nothing_leads}
 use Rattle.ebpf_core_relo.proofs.OneRecord.{ok_parts}
 use Rattle.ebpf_core_relo.proofs.OutcomeSlots.{same_ok}
-use Rattle.ebpf_core_relo.specs.AbsenceLaws.{AbsencesAreTold, ComesFurthest, IsTold, NoValueIsOfMatches}
+use Rattle.ebpf_core_relo.specs.AbsenceLaws.{AbsencesAreOfPaths, ComesFurthest, IsPathAbsence, NoValueIsOfMatches}
 use Rattle.ebpf_core_relo.specs.Absences.{absence_by, absence_of, field_absence, furthest, is_place, lacks, leads, step_absence, without_place}
 use Rattle.ebpf_core_relo.specs.declared.absence.Absence.{Absence}
 use Rattle.ebpf_core_relo.specs.declared.absence.Absence.TheVariants.{MemberOfAnotherKind, NoMember, NoValue}
@@ -40,32 +40,32 @@ use Rattle.ebpf_core_relo.specs.declared.furthest.Furthest.{Furthest}
 -- its path, its candidates
 told_among : (local target : TypeInfo) (r : Relocation) (path : LocalPath) → local_path local (without_place r) ≡ Ok path
     → (ids : Result (List ℕ) BtfError) → candidates_for local target r.type_id ≡ ids → (outcome : Outcome)
-    → if_ok (of_types ids) (outcome_among local target (without_place r) path) ≡ Ok outcome → IsTold local target r
+    → if_ok (of_types ids) (outcome_among local target (without_place r) path) ≡ Ok outcome → IsPathAbsence local target r
 unfolding absence_of
 told_among local target r path side (Ok ids) are outcome e = record {
   path = path;
   side = side;
   ids = ids;
   candidates = are;
-  told = ap (absence_by local target (candidates_for local target r.type_id)) side ∙ ap (λ c. absence_by local target c (Ok path)) are;
+  absence = ap (absence_by local target (candidates_for local target r.type_id)) side ∙ ap (λ c. absence_by local target c (Ok path)) are;
 }
 told_among local target r path side (Err fault) are outcome e = cc
 
 without_texts_by : (local target : TypeInfo) (r : Relocation) (outcome : Outcome) → outcome.value ≡ None → (side : Result LocalPath RelocationError) → local_path local (without_place r) ≡ side
     → if_ok side (λ path.
     if is_local r.kind then Ok (itself r.type_id) else if_ok (of_types (candidates_for local target r.type_id)) (outcome_among local target (without_place r) path)) ≡ Ok outcome
-    → IsTold local target r
+    → IsPathAbsence local target r
 without_texts_by local target r outcome none (Err fault) is e = cc
 without_texts_by local target r outcome none (Ok path) is e = by_kind (is_local r.kind) e
   where
     by_kind : (b : Bool) → (if b then Ok (itself r.type_id) else if_ok (of_types (candidates_for local target r.type_id)) (outcome_among local target (without_place r) path)) ≡ Ok outcome
-        → IsTold local target r
+        → IsPathAbsence local target r
     by_kind true e = let never : Some r.type_id ≡ None = ap (λ (o : Outcome). o.value) (same_ok _ _ e) ∙ none in cc
     by_kind false e = told_among local target r path is (candidates_for local target r.type_id) refl outcome e
 
-pub absences_are_told : AbsencesAreTold
+pub absences_are_of_paths : AbsencesAreOfPaths
 unfolding outcome_of
-absences_are_told local target r outcome is none =
+absences_are_of_paths local target r outcome is none =
     without_texts_by local target r outcome none (local_path local (without_place r)) refl (outcomes_rest_on_questions local target r (without_place r) outcome refl is)
 
 -- ---- matches of a field

@@ -19,8 +19,8 @@ use Rattle.ebpf_btf.specs.declared.types.BtfType.{BtfType}
 use Rattle.ebpf_candidates.specs.Compatibility.{fields_compatible}
 use Rattle.ebpf_places.proofs.TypeMembers.{known_members, known_role}
 use Rattle.ebpf_places.specs.Members.{MemberSearch, Member, if_read, member_search, indexed_member, members_from, members_in, named_role, role, anonymous_levels, anonymous_role}
-use Rattle.ebpf_places.specs.MemberViews.{ViewEntry, below as under, entry, flat, is_misfit, nothing, own, view}
-use Rattle.ebpf_places.specs.Searches.{answer_member, or_on, run, search_entries, first_fitting, stop_by}
+use Rattle.ebpf_places.specs.MemberViews.{ViewEntry, below as under, view_entry, flat_view, is_misfit, empty_view, own, view}
+use Rattle.ebpf_places.specs.Searches.{answer_member, or_on, run_search, search_entries, first_fitting, stop_by}
 use Rattle.ebpf_places.specs.declared.fault.PlaceFault.{PlaceFault}
 use Rattle.ebpf_places.specs.declared.fault.PlaceFault.TheVariants.{NestingLevel}
 use Rattle.ebpf_places.specs.declared.role.Role.{Role}
@@ -29,7 +29,7 @@ use Rattle.ebpf_places.specs.declared.search.Answer.{Answer}
 use Rattle.ebpf_places.specs.declared.search.Answer.TheVariants.{Found, Absent}
 use Rattle.ebpf_core_relo.proofs.NamedMembers.{below, has_any}
 use Rattle.ebpf_core_relo.specs.AbsenceLaws.{NamesAreMisfits}
-use Rattle.ebpf_core_relo.specs.Absences.{has_member, is_or_has, members_at}
+use Rattle.ebpf_core_relo.specs.Absences.{has_member, is_or_has, members_of_id}
 
 -- ---- a search that stops nowhere
 
@@ -54,13 +54,13 @@ module _ (K : MemberSearch) where
   abbrev any_misfit : List ViewEntry → Bool
   any_misfit es = list_any (λ e. is_misfit (at e)) es
 
-  stops_nowhere : (es : List ViewEntry) (limit left : ℕ) → run K limit es ≡ Ok (Absent left) → are_quiet es ≡ true
-  unfolding run
+  stops_nowhere : (es : List ViewEntry) (limit left : ℕ) → run_search K limit es ≡ Ok (Absent left) → are_quiet es ≡ true
+  unfolding run_search
   stops_nowhere [] limit left e = refl
   stops_nowhere (x ∷ es) zero left e = cc
   stops_nowhere (x ∷ es) (suc limit) left e = by_role (at x) (stops_nowhere es limit left) e
     where
-      by_role : (r : Result Role PlaceFault) → (run K limit es ≡ Ok (Absent left) → are_quiet es ≡ true) → or_on (stop_by r x) (run K limit es) ≡ Ok (Absent left)
+      by_role : (r : Result Role PlaceFault) → (run_search K limit es ≡ Ok (Absent left) → are_quiet es ≡ true) → or_on (stop_by r x) (run_search K limit es) ≡ Ok (Absent left)
           → (quiet r && are_quiet es) ≡ true
       by_role (Ok (Anonymous id)) more e = more e
       by_role (Ok Other) more e = more e
@@ -70,9 +70,9 @@ module _ (K : MemberSearch) where
 
   found_nothing : (limit : ℕ) (ms : List Member) → first_fitting K limit ms ≡ Ok None → are_quiet (view K anonymous_levels 0 0 ms) ≡ true
   unfolding first_fitting
-  found_nothing limit ms e = by_answer (run K limit (view K anonymous_levels 0 0 ms)) refl e
+  found_nothing limit ms e = by_answer (run_search K limit (view K anonymous_levels 0 0 ms)) refl e
     where
-      by_answer : (r : Result Answer PlaceFault) → run K limit (view K anonymous_levels 0 0 ms) ≡ r → answer_member r ≡ Ok None → are_quiet (view K anonymous_levels 0 0 ms) ≡ true
+      by_answer : (r : Result Answer PlaceFault) → run_search K limit (view K anonymous_levels 0 0 ms) ≡ r → answer_member r ≡ Ok None → are_quiet (view K anonymous_levels 0 0 ms) ≡ true
       by_answer (Ok (Found m)) is e = cc
       by_answer (Ok (Absent left)) is e = stops_nowhere (view K anonymous_levels 0 0 ms) limit left is
       by_answer (Err fault) is e = cc
@@ -150,7 +150,7 @@ module _ (local target : TypeInfo) (name : List ℕ) (local_type : ℕ) where
 
   module _ (levels : ℕ) (deeper : ℕ → ℕ → List Member → List ViewEntry) (inside bits : ℕ) (told : AreToldUnder levels deeper inside) (id : ℕ) (t : BtfType) where
     abbrev follow : Member → List ViewEntry
-    follow m = entry inside bits m ∷ under (λ n. deeper (inside + 1) (bits + m.bits) (K.members_of n)) (K.role_of inside m)
+    follow m = view_entry inside bits m ∷ under (λ n. deeper (inside + 1) (bits + m.bits) (K.members_of n)) (K.role_of inside m)
 
     abbrev rest : Member → List Member → Result Role PlaceFault → List ViewEntry
     rest m ms r = under (λ n. deeper (inside + 1) (bits + m.bits) (K.members_of n)) r ++ flat_map follow (if is_misfit r then [] else own K inside ms)
@@ -173,7 +173,7 @@ module _ (local target : TypeInfo) (name : List ℕ) (local_type : ℕ) where
 
     one_told : (first : Member) (ms : List Member) (m : BtfMember) (bms : List BtfMember) → K.role_of inside first ≡ what inside m → RoleIs inside m
         → calm_by first ms (K.role_of inside first) ≡ true
-        → (are_quiet K (flat K deeper inside bits ms) ≡ true → any_misfit K (flat K deeper inside bits ms) ≡ list_any tells bms)
+        → (are_quiet K (flat_view K deeper inside bits ms) ≡ true → any_misfit K (flat_view K deeper inside bits ms) ≡ list_any tells bms)
         → misfits first ms (K.role_of inside first) ≡ (tells m || list_any tells bms)
     one_told first ms m bms same (IsMisfit some there is) calm later =
         ap (misfits first ms) (same ∙ is) ∙ sym (ap (λ b. b || list_any tells bms) (tells_name m some true there))
@@ -183,7 +183,7 @@ module _ (local target : TypeInfo) (name : List ℕ) (local_type : ℕ) where
         ∙ sym (ap (λ b. b || list_any tells bms) (tells_name m some false other))
     one_told first ms m bms same (IsUnnamed n none shallow leads is) calm later =
         let inner : List ViewEntry = deeper (inside + 1) (bits + first.bits) (K.members_of n) in
-        let outer : List ViewEntry = flat K deeper inside bits ms in
+        let outer : List ViewEntry = flat_view K deeper inside bits ms in
         let all : are_quiet K (inner ++ outer) ≡ true = sym (ap (calm_by first ms) (same ∙ is)) ∙ calm in
         let parts = both_true (are_quiet K inner) (are_quiet K outer) (sym (list_all-append (λ e. quiet (at K e)) inner outer) ∙ all) in
         ap (misfits first ms) (same ∙ is)
@@ -192,8 +192,8 @@ module _ (local target : TypeInfo) (name : List ℕ) (local_type : ℕ) where
         ∙ ap (λ b. below target name levels m.btf_type || b) (later parts.1)
         ∙ sym (ap (λ b. b || list_any tells bms) (tells_under m none))
 
-    own_told : (number : ℕ) (bms : List BtfMember) → are_quiet K (flat K deeper inside bits (members_from id t number bms)) ≡ true
-        → any_misfit K (flat K deeper inside bits (members_from id t number bms)) ≡ list_any tells bms
+    own_told : (number : ℕ) (bms : List BtfMember) → are_quiet K (flat_view K deeper inside bits (members_from id t number bms)) ≡ true
+        → any_misfit K (flat_view K deeper inside bits (members_from id t number bms)) ≡ list_any tells bms
     own_told number [] calm = refl
     own_told number (m ∷ bms) calm =
         let first : Member = indexed_member id t (number, m) in
@@ -218,7 +218,7 @@ module _ (local target : TypeInfo) (name : List ℕ) (local_type : ℕ) where
     in_is o there = ap (λ p. option_map_or (λ t. members_from id t 0 (spans_or_none t)) p []) there
 
     at_is : (o : Option BtfType) → slice_get target.types id ≡ o
-        → members_at target type_id ≡ unwrap_or (option_and_then members_of (result_ok (types.if_some o (λ t. Ok t) (Err (UnknownBtfType id))))) []
+        → members_of_id target type_id ≡ unwrap_or (option_and_then members_of (result_ok (types.if_some o (λ t. Ok t) (Err (UnknownBtfType id))))) []
     at_is o there =
         ap (λ r. unwrap_or (option_and_then members_of (result_ok (types.if_ok r (type_at target.types)))) []) leads
         ∙ ap (λ p. unwrap_or (option_and_then members_of (result_ok (types.if_some p (λ t. Ok t) (Err (UnknownBtfType id))))) []) there
@@ -228,11 +228,11 @@ module _ (local target : TypeInfo) (name : List ℕ) (local_type : ℕ) where
         → ((t : BtfType) (bms : List BtfMember) → are_quiet K (view K levels inside bits (members_from id t 0 bms)) ≡ true
         → any_misfit K (view K levels inside bits (members_from id t 0 bms)) ≡ has_member target name levels bms)
         → are_quiet K (view K levels inside bits (members_in target.types id)) ≡ true
-        → any_misfit K (view K levels inside bits (members_in target.types id)) ≡ has_member target name levels (members_at target type_id)
+        → any_misfit K (view K levels inside bits (members_in target.types id)) ≡ has_member target name levels (members_of_id target type_id)
     members_told levels inside bits lists calm = by_type (slice_get target.types id) refl
       where
         by_type : (o : Option BtfType) → slice_get target.types id ≡ o
-            → any_misfit K (view K levels inside bits (members_in target.types id)) ≡ has_member target name levels (members_at target type_id)
+            → any_misfit K (view K levels inside bits (members_in target.types id)) ≡ has_member target name levels (members_of_id target type_id)
         by_type None there =
             ap (λ ms. any_misfit K (view K levels inside bits ms)) (in_is None there)
             ∙ none_told levels inside bits
@@ -247,7 +247,7 @@ module _ (local target : TypeInfo) (name : List ℕ) (local_type : ℕ) where
       → any_misfit K (view K levels inside bits (members_from id t number bms)) ≡ has_member target name levels bms
   unfolding view
   list_told zero inside bits id number t bms depth calm =
-      own_told zero nothing inside bits (λ type_id n more shallow leads c. absurd (omega arith)) id t number bms calm ∙ sym (has_any target name zero bms)
+      own_told zero empty_view inside bits (λ type_id n more shallow leads c. absurd (omega arith)) id t number bms calm ∙ sym (has_any target name zero bms)
   list_told (suc levels) inside bits id number t bms depth calm =
       own_told (suc levels) (view K levels) inside bits
       (λ type_id n more shallow leads c.

@@ -8,13 +8,13 @@ use Rattle.ebpf_btf.specs.Strings.{is_text, text_at}
 use Rattle.ebpf_btf.specs.TypeInfo.{TypeInfo}
 use Rattle.ebpf_btf.specs.declared.members.BtfMember.{BtfMember}
 use Rattle.ebpf_core_relo.proofs.OutcomeRows.{rest_at}
-use Rattle.ebpf_core_relo.specs.Absences.{has_member, is_or_has, members_at}
+use Rattle.ebpf_core_relo.specs.Absences.{has_member, is_or_has, members_of_id}
 
 module _ (target : TypeInfo) (name : List ℕ) where
   -- what an unnamed member is told by, so many levels above the last
   abbrev pub below : ℕ → ℕ → Bool
   below zero id = false
-  below (suc levels) id = has_member target name levels (members_at target id)
+  below (suc levels) id = has_member target name levels (members_of_id target id)
 
   pub has_any : (levels : ℕ) (ms : List BtfMember) → has_member target name levels ms ≡ list_any (is_or_has target name (below levels)) ms
   unfolding has_member
@@ -45,9 +45,9 @@ module _ (target : TypeInfo) (name : List ℕ) where
     unnamed none =
         ap (λ test. if test then below levels here.btf_type else is_text name (text_at target.strings here.name_offset)) (eq-eqb here.name_offset 0 none)
 
-    below_is : (n : ℕ) (id : ℕ) → n ≢ 0 → below n id ≡ has_member target name (n - 1) (members_at target id)
+    below_is : (n : ℕ) (id : ℕ) → n ≢ 0 → below n id ≡ has_member target name (n - 1) (members_of_id target id)
     below_is zero id some = absurd (some refl)
-    below_is (suc n) id some = let on : n ≡ suc n - 1 = omega arith in ap (λ k. has_member target name k (members_at target id)) on
+    below_is (suc n) id some = let on : n ≡ suc n - 1 = omega arith in ap (λ k. has_member target name k (members_of_id target id)) on
 
     nothing_below : (n : ℕ) (id : ℕ) → n ≡ 0 → below n id ≡ false
     nothing_below n id none = ap (λ k. below k id) none
@@ -59,7 +59,7 @@ module _ (target : TypeInfo) (name : List ℕ) where
     pub has_none : here.name_offset ≡ 0 → levels ≡ 0 → has_member target name levels (drop i ms) ≡ has_member target name levels (drop (i + 1) ms)
     has_none none last = at false (unnamed none ∙ nothing_below levels here.btf_type last)
 
-    pub has_inside : here.name_offset ≡ 0 → levels ≢ 0 → (b : Bool) → b ≡ has_member target name (levels - 1) (members_at target here.btf_type)
+    pub has_inside : here.name_offset ≡ 0 → levels ≢ 0 → (b : Bool) → b ≡ has_member target name (levels - 1) (members_of_id target here.btf_type)
         → has_member target name levels (drop i ms) ≡ (b || has_member target name levels (drop (i + 1) ms))
     has_inside none some b is = at b (unnamed none ∙ below_is levels here.btf_type some ∙ sym is)
 

@@ -19,7 +19,7 @@ use Rattle.ebpf_core_relo.specs.Alone.{Carries, HasSlot, Touches, goes_on, recor
 use Rattle.ebpf_core_relo.specs.Carried.{written}
 use Rattle.ebpf_core_relo.specs.RecordFunctions.{spans_of}
 use Rattle.ebpf_core_relo.specs.Records.{RelocationInputs, Written, own_slots, put_outcome, record_applied, slots_so_far, slots_by}
-use Rattle.ebpf_core_relo.specs.SlotOutcomes.{CarriesAt, behind, carrying}
+use Rattle.ebpf_core_relo.specs.SlotOutcomes.{CarriesAt, next_slot_written, carrying}
 use Rattle.ebpf_core_relo.specs.Spans.{span_at}
 use Rattle.ebpf_core_relo.specs.declared.spans.Span.{Span}
 use Rattle.ebpf_parts.specs.declared.insn.bpf_insn.{bpf_insn}
@@ -140,7 +140,7 @@ module _ (inputs : RelocationInputs) (located : ℕ × Relocation) (so_far left 
   second_stays apart true is = absurd (apart (touches_second (sound.goes_on_only p.key p.slot is)))
   second_stays apart false is = carries.next ∙ stays (slice_get (slots_now inputs so_far p.key) (p.slot + 1))
     where
-      stays : (o : Option bpf_insn) → option_map (behind p.outcome.value carries.old) o ≡ o
+      stays : (o : Option bpf_insn) → option_map (next_slot_written p.outcome.value carries.old) o ≡ o
       stays None = refl
       stays (Some next) = ap Some (nothing_behind p.outcome.value carries.old next (sym (ap goes_on carries.was) ∙ is))
 
@@ -183,8 +183,8 @@ module _ (inputs : RelocationInputs) (located : ℕ × Relocation) (so_far left 
     second_same : goes_on (slice_get (slots_before inputs p.key) p.slot) ≡ true → slice_get p.slots (p.slot + 1) ≡ slice_get too.0 (p.slot + 1)
     second_same h =
         carries.next
-        ∙ ap (option_map (behind p.outcome.value carries.old)) (own p.key (p.slot + 1) (touches_second h))
-        ∙ ap (λ s. option_map (behind p.outcome.value s) (slice_get (slots_before inputs p.key) (p.slot + 1))) same_old
+        ∙ ap (option_map (next_slot_written p.outcome.value carries.old)) (own p.key (p.slot + 1) (touches_second h))
+        ∙ ap (λ s. option_map (next_slot_written p.outcome.value s) (slice_get (slots_before inputs p.key) (p.slot + 1))) same_old
         ∙ sym own_carries.next
 
     at_key : slots_now inputs left p.key ≡ p.slots

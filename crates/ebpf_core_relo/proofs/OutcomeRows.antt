@@ -7,7 +7,7 @@ use Rattle.std.specs.FinMap.{empty}
 use Rattle.ebpf_ext.specs.declared.relocation.Relocation.{Relocation}
 use Rattle.ebpf_core.specs.declared.error.RelocationError.{RelocationError}
 use Rattle.ebpf_core_relo.specs.OutcomeLaws.{OutcomesAreInOrder}
-use Rattle.ebpf_core_relo.specs.RecordOutcomes.{Named, applied, left_after, left_by, named_in, named_records, outcome_after, outcome_in, outcomes_from, section_at, slots_left}
+use Rattle.ebpf_core_relo.specs.RecordOutcomes.{Named, applied, left_after, left_by, named_in, named_records, outcome_after, outcome_in, outcomes_from, section_number_at, slots_left}
 use Rattle.ebpf_core_relo.specs.Records.{RelocationInputs, Written}
 use Rattle.ebpf_core_relo.specs.declared.record_outcome.RecordOutcome.{RecordOutcome}
 use Rattle.ebpf_core_relo.specs.declared.record_outcome.RecordResult.{RecordResult}
@@ -29,7 +29,7 @@ rest_at xs i d below =
 
 -- ---- one record more
 
-module _ (inputs from : RelocationInputs) (same : from ≡ inputs) (name : ℕ) (section : Result ℕ RelocationError) (found : section ≡ section_at inputs.sides.local inputs.section_infos name)
+module _ (inputs from : RelocationInputs) (same : from ≡ inputs) (name : ℕ) (section : Result ℕ RelocationError) (found : section ≡ section_number_at inputs.sides.local inputs.section_infos name)
     (rs : List Relocation) (i : ℕ) (r : Relocation) (here : drop i rs ≡ r ∷ drop (i + 1) rs) (so_far left : Written)
     (written : left ≡ left_by so_far (applied from section so_far r)) where
   abbrev later : List Named

@@ -11,7 +11,7 @@ use Rattle.ebpf_core.specs.declared.field.LoadedField.{LoadedField}
 use Rattle.ebpf_core.specs.declared.outcome.Outcome.{Outcome}
 use Rattle.ebpf_core_relo.specs.Alone.{goes_on}
 use Rattle.ebpf_core_relo.specs.Carried.{both_written, carried_by, carrier_of, carrier_of_class, is_wide_load, high_half, carried_at, may_resize, moved_code, value_written, poison, poisoned, resized, size_bits, written}
-use Rattle.ebpf_core_relo.specs.SlotOutcomes.{CarriesAt, WrittenSlotsCarry, behind, carrying}
+use Rattle.ebpf_core_relo.specs.SlotOutcomes.{CarriesAt, WrittenSlotsCarry, next_slot_written, carrying}
 use Rattle.ebpf_core_relo.specs.declared.carried.Carrier.{Carrier}
 use Rattle.ebpf_core_relo.specs.declared.carried.Carrier.TheVariants.{Immediate, Offset, WideLoad, Nothing}
 use Rattle.ebpf_parts.specs.Slots.{src_of}
@@ -57,19 +57,19 @@ ok_some (Err x) e = cc
 -- ---- a slot, and the one behind it
 
 module _ (i : ℕ) (outcome : Outcome) (before : List bpf_insn) (old new : bpf_insn) (was : slice_get before i ≡ Some old) (carries : carrying outcome.value old outcome ≡ Some new) where
-  one_slot : ((next : bpf_insn) → behind outcome.value old next ≡ next) → CarriesAt i outcome before (slice_set before i new)
+  one_slot : ((next : bpf_insn) → next_slot_written outcome.value old next ≡ next) → CarriesAt i outcome before (slice_set before i new)
   one_slot stays = record {
     old = old;
     was = was;
     new = new;
     carries = carries;
     is = set_same before i new (slice_get_within before i old was);
-    next = set_other before i (i + 1) new (λ e. omega arith) ∙ sym (map_same (slice_get before (i + 1)) (behind outcome.value old) stays);
+    next = set_other before i (i + 1) new (λ e. omega arith) ∙ sym (map_same (slice_get before (i + 1)) (next_slot_written outcome.value old) stays);
     others = λ k a b. set_other before i k new a;
     as_many = length-set before i new;
   }
 
-  two_slots : (next : bpf_insn) (second : bpf_insn → bpf_insn) → slice_get before (i + 1) ≡ Some next → ((x : bpf_insn) → second x ≡ behind outcome.value old x)
+  two_slots : (next : bpf_insn) (second : bpf_insn → bpf_insn) → slice_get before (i + 1) ≡ Some next → ((x : bpf_insn) → second x ≡ next_slot_written outcome.value old x)
       → CarriesAt i outcome before (slice_set (slice_set before i new) (i + 1) (second next))
   two_slots next second follows same =
       let first = slice_set before i new in
@@ -80,7 +80,7 @@ module _ (i : ℕ) (outcome : Outcome) (before : List bpf_insn) (old new : bpf_i
         new = new;
         carries = carries;
         is = set_other first (i + 1) i (second next) (λ e. omega arith) ∙ set_same before i new (slice_get_within before i old was);
-        next = set_same first (i + 1) (second next) inside ∙ ap Some (same next) ∙ sym (ap (option_map (behind outcome.value old)) follows);
+        next = set_same first (i + 1) (second next) inside ∙ ap Some (same next) ∙ sym (ap (option_map (next_slot_written outcome.value old)) follows);
         others = λ k a b. set_other first (i + 1) k (second next) b ∙ set_other before i k new a;
         as_many = length-set first (i + 1) (second next) ∙ length-set before i new;
       }
@@ -98,7 +98,7 @@ both_parts number before after i first second e = go (slice_get before (i + 1)) 
 module _ (number : ℕ) (before after : List bpf_insn) (i : ℕ) (outcome : Outcome) (slot : bpf_insn) (was : slice_get before i ≡ Some slot) where
   -- one slot or two, by a test
   by_test : (b : Bool) (new : bpf_insn) (second : bpf_insn → bpf_insn) → carrying outcome.value slot outcome ≡ Some new
-      → ((x : bpf_insn) → behind outcome.value slot x ≡ (if b then second x else x))
+      → ((x : bpf_insn) → next_slot_written outcome.value slot x ≡ (if b then second x else x))
       → (if b then both_written number before i new second else Ok (slice_set before i new)) ≡ Ok after
       → CarriesAt i outcome before after
   by_test true new second carries same e =
@@ -112,11 +112,11 @@ module _ (number : ℕ) (before after : List bpf_insn) (i : ℕ) (outcome : Outc
   by_carried n value (Some new) is e =
       by_test (is_wide_load (carrier_of slot)) new (λ x. record x { imm = high_half n })
       (ap (λ v. carrying v slot outcome) value ∙ is)
-      (λ x. ap (λ v. behind v slot x) value) e
+      (λ x. ap (λ v. next_slot_written v slot x) value) e
 
   by_value : (v : Option ℕ) → outcome.value ≡ v → if_some v (λ n. value_written number before i slot n outcome) (poisoned number before i slot) ≡ Ok after → CarriesAt i outcome before after
   by_value None value e =
-      by_test (slot.code == 0x18) poison (λ x. poison) (ap (λ v. carrying v slot outcome) value) (λ x. ap (λ v. behind v slot x) value) e
+      by_test (slot.code == 0x18) poison (λ x. poison) (ap (λ v. carrying v slot outcome) value) (λ x. ap (λ v. next_slot_written v slot x) value) e
   by_value (Some n) value e = by_carried n value (carried_by (carrier_of slot) slot n outcome) refl e
 
 pub written_slots_carry : WrittenSlotsCarry
@@ -240,7 +240,7 @@ new_goes_on None old new outcome e h = let never : false ≡ true = ap goes_on e
 new_goes_on (Some n) old new outcome e h = ap (λ class. class == 0) (sym (carried_class (carrier_of old) old n outcome new e)) ∙ h
 
 -- and so does the slot behind it
-next_goes_on : (v : Option ℕ) (old next : bpf_insn) → goes_on (Some (behind v old next)) ≡ true → goes_on (Some next) ≡ true
+next_goes_on : (v : Option ℕ) (old next : bpf_insn) → goes_on (Some (next_slot_written v old next)) ≡ true → goes_on (Some next) ≡ true
 next_goes_on None old next h = by_code (old.code == 0x18) h
   where
     by_code : (b : Bool) → goes_on (Some (if b then poison else next)) ≡ true → goes_on (Some next) ≡ true
@@ -252,7 +252,7 @@ next_goes_on (Some n) old next h = by_carrier (is_wide_load (carrier_of old)) h
     by_carrier true h = h
     by_carrier false h = h
 
-mapped_goes_on : (v : Option ℕ) (old : bpf_insn) (o : Option bpf_insn) → goes_on (option_map (behind v old) o) ≡ true → goes_on o ≡ true
+mapped_goes_on : (v : Option ℕ) (old : bpf_insn) (o : Option bpf_insn) → goes_on (option_map (next_slot_written v old) o) ≡ true → goes_on o ≡ true
 mapped_goes_on v old None h = h
 mapped_goes_on v old (Some next) h = next_goes_on v old next h
 
@@ -283,7 +283,7 @@ narrow class h = by_tests (class == 0) (class == 4) (class == 5) (class == 6) (c
     by_tests false false false false false h = refl
 
 -- behind a slot that doesn't go on nothing changes
-pub nothing_behind : (v : Option ℕ) (old next : bpf_insn) → goes_on (Some old) ≡ false → behind v old next ≡ next
+pub nothing_behind : (v : Option ℕ) (old next : bpf_insn) → goes_on (Some old) ≡ false → next_slot_written v old next ≡ next
 nothing_behind None old next h = by_code (old.code == 0x18) refl
   where
     by_code : (b : Bool) → (old.code == 0x18) ≡ b → (if b then poison else next) ≡ next

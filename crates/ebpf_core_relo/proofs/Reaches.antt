@@ -3,7 +3,7 @@ use Rattle.std.proofs.Common.{◌≡◌, ℕ, zero, suc, ◌<◌, ◌≤◌, max
 use Rattle.std.specs.Prelude.{◌≢◌, if◌then◌else◌}
 use Rattle.std.proofs.lemmas.Bool.{cases_eq, cases_lt, le-ltb, lt-ltb}
 use Rattle.ebpf_btf.specs.TypeInfo.{TypeInfo}
-use Rattle.ebpf_places.specs.FunctionSpans.{root_spot, followed, if_fine, onward, place_of, stepped}
+use Rattle.ebpf_places.specs.Places.{root_spot, followed, if_fine, onward, place_of, stepped}
 use Rattle.ebpf_places.specs.declared.fault.PlaceFault.{PlaceFault}
 use Rattle.ebpf_places.specs.declared.steps.Step.{Step}
 use Rattle.ebpf_places.specs.declared.steps.Step.TheVariants.{Name, Index}

@@ -10,11 +10,11 @@ use Rattle.ebpf_btf.specs.declared.error.BtfError.{BtfError}
 use Rattle.ebpf_btf.specs.declared.members.BtfMember.{BtfMember}
 use Rattle.ebpf_btf.specs.declared.types.BtfType.{BtfType}
 use Rattle.ebpf_places.specs.Members.{anonymous_levels}
-use Rattle.ebpf_places.specs.FunctionSpans.{place_of}
+use Rattle.ebpf_places.specs.Places.{place_of}
 use Rattle.ebpf_places.specs.declared.fault.PlaceFault.{PlaceFault}
-use Rattle.ebpf_places.specs.declared.function_spans.Place.{Place}
-use Rattle.ebpf_places.specs.declared.function_spans.PlaceEnd.{PlaceEnd}
-use Rattle.ebpf_places.specs.declared.function_spans.PlaceEnd.TheVariants.{Element, Member}
+use Rattle.ebpf_places.specs.declared.places.Place.{Place}
+use Rattle.ebpf_places.specs.declared.places.PlaceEnd.{PlaceEnd}
+use Rattle.ebpf_places.specs.declared.places.PlaceEnd.TheVariants.{Element, Member}
 use Rattle.ebpf_places.specs.declared.steps.Step.{Step}
 use Rattle.ebpf_places.specs.declared.steps.Step.TheVariants.{Name, Index}
 use Rattle.ebpf_ext.specs.declared.relocation.Relocation.{Relocation}
@@ -62,8 +62,8 @@ furthest local target steps ids = fold (λ so_far id. further so_far id (reach l
 -- ---- whether a name stands in a type
 
 -- the members of the type that an id stands for
-abbrev pub members_at : TypeInfo → ℕ → List BtfMember
-members_at target id = unwrap_or (option_and_then members_of (result_ok (resolved_type target.types id))) []
+abbrev pub members_of_id : TypeInfo → ℕ → List BtfMember
+members_of_id target id = unwrap_or (option_and_then members_of (result_ok (resolved_type target.types id))) []
 
 -- whether a member has a name; an unnamed one is told by the type that it leads to
 abbrev pub is_or_has : TypeInfo → List ℕ → (ℕ → Bool) → BtfMember → Bool
@@ -73,7 +73,7 @@ is_or_has target name inner m = if m.name_offset == 0 then inner m.btf_type else
 -- down
 unfoldable pub has_member : TypeInfo → List ℕ → ℕ → List BtfMember → Bool
 has_member target name zero members = list_any (is_or_has target name (λ id. false)) members
-has_member target name (suc levels) members = list_any (is_or_has target name (λ id. has_member target name levels (members_at target id))) members
+has_member target name (suc levels) members = list_any (is_or_has target name (λ id. has_member target name levels (members_of_id target id))) members
 
 -- ---- what is missing
 
@@ -84,7 +84,7 @@ type_of_end types (Member parent index) = option_map (λ m. m.btf_type) (option_
 
 abbrev pub is_member_of : TypeInfo → List ℕ → Option ℕ → Bool
 is_member_of target name None = false
-is_member_of target name (Some id) = has_member target name anonymous_levels (members_at target id)
+is_member_of target name (Some id) = has_member target name anonymous_levels (members_of_id target id)
 
 -- A step by a name that leads nowhere from a place: a member of the name that is there has a type that doesn't fit.
 abbrev pub name_absence : TypeInfo → List ℕ → Result (Option Place) PlaceFault → Absence

@@ -4,7 +4,7 @@ pub mod Alone
 pub mod Answers
 pub mod Carried
 pub mod Carrying
-pub mod Kept
+pub mod CachedAbsences
 pub mod OutcomeLaws
 pub mod RecordFunctions
 pub mod RecordOutcomes

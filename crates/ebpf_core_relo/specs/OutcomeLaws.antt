@@ -21,9 +21,9 @@ OutcomesAreInOrder =
     ≡ option_map (λ named. outcome_after inputs (slots_left inputs empty (take k (named_records parts))) named) (slice_get (named_records parts) k)
 
 -- the name of a section, or what stands for one that can't be read
-abbrev pub told_name : ℕ → Result (List ℕ) BtfError → List ℕ
-told_name offset (Ok name) = name
-told_name offset (Err e) = unnamed_section offset
+abbrev pub name_or_unnamed : ℕ → Result (List ℕ) BtfError → List ℕ
+name_or_unnamed offset (Ok name) = name
+name_or_unnamed offset (Err e) = unnamed_section offset
 
 -- the refusal of a record, in its section
 abbrev pub refusal_in : List ℕ → RecordResult → Option BtfRelocationError
@@ -32,7 +32,7 @@ refusal_in name (Absent absence) = None
 refusal_in name (Refused fault) = Some (error_in_section name fault)
 
 abbrev pub refusal : RelocationInputs → RecordOutcome → Option BtfRelocationError
-refusal inputs row = refusal_in (told_name row.section_name (text_at inputs.sides.local.strings row.section_name)) row.result
+refusal inputs row = refusal_in (name_or_unnamed row.section_name (text_at inputs.sides.local.strings row.section_name)) row.result
 
 -- some slots, unless there is a refusal
 abbrev pub unless : Option BtfRelocationError → Written → Result Written BtfRelocationError

@@ -40,11 +40,11 @@ named_records parts = flat_map (λ part. named_in part.0 part.1) parts
 abbrev pub section_by : FinMap text_cmp SectionIndex → Result (List ℕ) RelocationError → Result ℕ RelocationError
 section_by infos name = if_ok name (λ text. if_some (get infos text) (λ section. Ok section.0) (Err SectionNotFound))
 
-unfoldable pub section_at : TypeInfo → FinMap text_cmp SectionIndex → ℕ → Result ℕ RelocationError
-section_at local infos offset = section_by infos (of_types (text_at local.strings offset))
+unfoldable pub section_number_at : TypeInfo → FinMap text_cmp SectionIndex → ℕ → Result ℕ RelocationError
+section_number_at local infos offset = section_by infos (of_types (text_at local.strings offset))
 
-abbrev pub section_of : RelocationInputs → Named → Result ℕ RelocationError
-section_of inputs named = section_at inputs.sides.local inputs.section_infos named.0
+abbrev pub record_section : RelocationInputs → Named → Result ℕ RelocationError
+record_section inputs named = section_number_at inputs.sides.local inputs.section_infos named.0
 
 -- what a record makes of the slots that were written before it, or its fault
 abbrev pub applied : RelocationInputs → Result ℕ RelocationError → Written → Relocation → Result Written RelocationError
@@ -56,7 +56,7 @@ left_by so_far (Ok left) = left
 left_by so_far (Err fault) = so_far
 
 abbrev pub left_after : RelocationInputs → Written → Named → Written
-left_after inputs so_far named = left_by so_far (applied inputs (section_of inputs named) so_far named.1)
+left_after inputs so_far named = left_by so_far (applied inputs (record_section inputs named) so_far named.1)
 
 -- the slots that records leave: the ones write that aren't refused, each over those before it
 abbrev pub slots_left : RelocationInputs → Written → List Named → Written
@@ -65,29 +65,29 @@ slots_left inputs so_far records = fold (left_after inputs) so_far records
 -- ---- what they come to
 
 -- the slot that a record of a section is about
-abbrev pub slot_in : RelocationInputs → Result ℕ RelocationError → Relocation → Option RecordSlot
-slot_in inputs (Ok section) r = option_map (λ place. record { function = place.0; slot = place.1 }) (record_slot inputs (section, r))
-slot_in inputs (Err fault) r = None
+abbrev pub slot_of_record : RelocationInputs → Result ℕ RelocationError → Relocation → Option RecordSlot
+slot_of_record inputs (Ok section) r = option_map (λ place. record { function = place.0; slot = place.1 }) (record_slot inputs (section, r))
+slot_of_record inputs (Err fault) r = None
 
--- an outcome without a value is without_texts by why there is none
-abbrev pub answered : Sides → Relocation → Outcome → RecordResult
-answered sides r outcome = if is_some outcome.value then Value outcome else Absent (absence_of sides.local sides.target r)
+-- an outcome without a value is absent, with the reason why there is none
+abbrev pub outcome_result : Sides → Relocation → Outcome → RecordResult
+outcome_result sides r outcome = if is_some outcome.value then Value outcome else Absent (absence_of sides.local sides.target r)
 
-abbrev pub concluded : Sides → Relocation → Result Outcome RelocationError → RecordResult
-concluded sides r (Ok outcome) = answered sides r outcome
-concluded sides r (Err fault) = Refused fault
+abbrev pub record_result : Sides → Relocation → Result Outcome RelocationError → RecordResult
+record_result sides r (Ok outcome) = outcome_result sides r outcome
+record_result sides r (Err fault) = Refused fault
 
 -- what a record of a section comes to, over the slots that were written before it
 abbrev pub result_in : RelocationInputs → Result ℕ RelocationError → Written → Relocation → RecordResult
 result_in inputs section so_far r =
-    concluded inputs.sides r (if_ok (applied inputs section so_far r) (λ left. outcome_of inputs.sides.local inputs.sides.target r))
+    record_result inputs.sides r (if_ok (applied inputs section so_far r) (λ left. outcome_of inputs.sides.local inputs.sides.target r))
 
 abbrev pub outcome_in : RelocationInputs → ℕ → Result ℕ RelocationError → Written → Relocation → RecordOutcome
 outcome_in inputs offset section so_far r =
-    record { section_name = offset; number = r.number; slot = slot_in inputs section r; result = result_in inputs section so_far r }
+    record { section_name = offset; number = r.number; slot = slot_of_record inputs section r; result = result_in inputs section so_far r }
 
 unfoldable pub outcome_after : RelocationInputs → Written → Named → RecordOutcome
-outcome_after inputs so_far named = outcome_in inputs named.0 (section_of inputs named) so_far named.1
+outcome_after inputs so_far named = outcome_in inputs named.0 (record_section inputs named) so_far named.1
 
 -- what records come to one after the other, each over the slots that those before it left
 abbrev pub outcomes_from : RelocationInputs → Written → List Named → List RecordOutcome
@@ -103,10 +103,10 @@ record_slots inputs parts = slots_left inputs empty (named_records parts)
 
 -- ---- without the texts in faults that are for people to read
 
-abbrev pub told_result : RecordResult → RecordResult
-told_result (Value outcome) = Value outcome
-told_result (Absent absence) = Absent absence
-told_result (Refused fault) = Refused (without_texts fault)
+abbrev pub result_without_texts : RecordResult → RecordResult
+result_without_texts (Value outcome) = Value outcome
+result_without_texts (Absent absence) = Absent absence
+result_without_texts (Refused fault) = Refused (without_texts fault)
 
-abbrev pub told_outcome : RecordOutcome → RecordOutcome
-told_outcome row = record row { result = told_result row.result }
+abbrev pub outcome_without_texts : RecordOutcome → RecordOutcome
+outcome_without_texts row = record row { result = result_without_texts row.result }

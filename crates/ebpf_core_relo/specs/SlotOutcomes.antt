@@ -11,9 +11,9 @@ carrying None slot outcome = Some poison
 carrying (Some number) slot outcome = carried_by (carrier_of slot) slot number outcome
 
 -- the slot behind it: the upper half of the number of a wide load, or the second slot of one that fails
-abbrev pub behind : Option ℕ → bpf_insn → bpf_insn → bpf_insn
-behind None slot next = if slot.code == ld_imm64 then poison else next
-behind (Some number) slot next = if is_wide_load (carrier_of slot) then record next { imm = high_half number } else next
+abbrev pub next_slot_written : Option ℕ → bpf_insn → bpf_insn → bpf_insn
+next_slot_written None slot next = if slot.code == ld_imm64 then poison else next
+next_slot_written (Some number) slot next = if is_wide_load (carrier_of slot) then record next { imm = high_half number } else next
 
 -- the slots of a function of which slot i carries an outcome, slot by slot
 pub record CarriesAt (i : ℕ) (outcome : Outcome) (before after : List bpf_insn) : Type 0 where
@@ -22,7 +22,7 @@ pub record CarriesAt (i : ℕ) (outcome : Outcome) (before after : List bpf_insn
   pub new : bpf_insn
   pub carries : carrying outcome.value old outcome ≡ Some new
   pub is : slice_get after i ≡ Some new
-  pub next : slice_get after (i + 1) ≡ option_map (behind outcome.value old) (slice_get before (i + 1))
+  pub next : slice_get after (i + 1) ≡ option_map (next_slot_written outcome.value old) (slice_get before (i + 1))
   pub others : (k : ℕ) → k ≢ i → k ≢ i + 1 → slice_get after k ≡ slice_get before k
   pub as_many : length after ≡ length before
 

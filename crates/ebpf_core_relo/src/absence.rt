@@ -2,8 +2,8 @@
 
 ghost use Rattle.std.specs.Prelude.{◌≡◌, IfOk};
 ghost use Rattle.ebpf_btf.specs.Strings.{is_text, text_at};
-ghost use Rattle.ebpf_places.specs.FunctionSpans.{place_of};
-ghost use Rattle.ebpf_core_relo.specs.Absences.{absence_among, field_absence, has_member, is_member_of, members_at, name_absence, path_absence, type_of_end};
+ghost use Rattle.ebpf_places.specs.Places.{place_of};
+ghost use Rattle.ebpf_core_relo.specs.Absences.{absence_among, field_absence, has_member, is_member_of, members_of_id, name_absence, path_absence, type_of_end};
 
 use crate::furthest::furthest_candidate;
 use crate::memory::unless_memory_of_places;
@@ -41,8 +41,8 @@ fn has_name(target: &Btf, name: &str, member: &BtfMember) -> bool
 }
 
 /// The members of the type that an id stands for; none of one that is no STRUCT or UNION.
-fn members_at(target: &Btf, type_id: u32) -> &[BtfMember]
-    ensures { result.now ≡ members_at target.now type_id }
+fn members_of_id(target: &Btf, type_id: u32) -> &[BtfMember]
+    ensures { result.now ≡ members_of_id target.now type_id }
 {
     let Ok(ty) = target.resolved_type(type_id) else {
         return &[];
@@ -53,9 +53,9 @@ fn members_at(target: &Btf, type_id: u32) -> &[BtfMember]
 /// Whether a type has a member of a name. Unnamed members are looked into, so many levels down.
 #[tactic(auto, unfolding(crate::specs::Absences::has_member))]
 fn has_member(target: &Btf, name: &str, type_id: u32, levels: u32) -> bool
-    ensures { result ≡ has_member target.now name.now levels (members_at target.now type_id) }
+    ensures { result ≡ has_member target.now name.now levels (members_of_id target.now type_id) }
 {
-    for member in members_at(target, type_id) {
+    for member in members_of_id(target, type_id) {
         if member.name_offset != 0 {
             if has_name(target, name, member) {
                 return true;

@@ -1,7 +1,7 @@
 //! Why records have no value, one after the other.
 
 ghost use Rattle.std.specs.Prelude.{◌≡◌, IfOk};
-ghost use Rattle.ebpf_core.specs.Questions.{asked};
+ghost use Rattle.ebpf_core.specs.Questions.{question_of};
 ghost use Rattle.ebpf_core.specs.LocalPaths.{local_path};
 ghost use Rattle.ebpf_core.specs.Searches.{candidates_for, candidates_named, was_enum64};
 ghost use Rattle.ebpf_core_relo.specs.Absences.{absence_by, absence_in, absence_of, without_place};
@@ -75,11 +75,11 @@ fn absence_over(
 }
 
 /// What a record asks, by which its absence is kept: its type and its access string, and the number of its kind.
-type Asked = ((u32, u32), u32);
+type Question = ((u32, u32), u32);
 
 /// What a record asks.
-fn asked(relocation: &Relocation) -> Asked
-    ensures { result ≡ asked relocation.now }
+fn question_of(relocation: &Relocation) -> Question
+    ensures { result ≡ question_of relocation.now }
 {
     (
         (relocation.type_id, relocation.access_str_off),
@@ -107,20 +107,20 @@ pub struct Absences<'a> {
     local: &'a Btf,
     target: &'a Btf,
     index: Option<TypeIndex<'a>>,
-    kept: BTreeMap<Asked, Absence>,
+    cached: BTreeMap<Question, Absence>,
 }
 
 impl<'a> Model for Absences<'a> {
     ghost use Rattle.std.specs.Prelude.{◌≡◌};
     ghost use Rattle.std.specs.Option.{ForSome};
     ghost use Rattle.ebpf_core.specs.Sides.{Sides};
-    ghost use Rattle.ebpf_core_relo.specs.Kept.{AreKept};
+    ghost use Rattle.ebpf_core_relo.specs.CachedAbsences.{AbsencesAreCached};
 
     ghost Value = { Sides };
 
     ghost view = { λ s. record { local = s.local.now; target = s.target.now } };
 
-    ghost invariant = { λ s. ForSome s.index (λ index. index ≡ s.target.now) × AreKept s.local.now s.target.now s.kept };
+    ghost invariant = { λ s. ForSome s.index (λ index. index ≡ s.target.now) × AbsencesAreCached s.local.now s.target.now s.cached };
 }
 
 impl<'a> Absences<'a> {
@@ -133,7 +133,7 @@ impl<'a> Absences<'a> {
             local,
             target,
             index: None,
-            kept: BTreeMap::new(alloc),
+            cached: BTreeMap::new(alloc),
         }
     }
 
@@ -177,11 +177,11 @@ impl<'a> Absences<'a> {
     }
 
     /// Keeps the absence of a record for all that ask the same.
-    fn keep(&mut self, relocation: &Relocation, absence: Absence) -> Result<(), AllocError>
+    fn cache(&mut self, relocation: &Relocation, absence: Absence) -> Result<(), AllocError>
         requires { absence ≡ absence_of self.old.local self.old.target relocation.now }
         ensures { self.new ≡ self.old }
     {
-        self.kept.insert(asked(relocation), absence)?;
+        self.cached.insert(question_of(relocation), absence)?;
         Ok(())
     }
 
@@ -190,11 +190,11 @@ impl<'a> Absences<'a> {
         ensures absence { IfOk result (λ absence. absence ≡ absence_of self.old.local self.old.target relocation.now) }
         ensures stays { self.new ≡ self.old }
     {
-        if let Some(absence) = self.kept.get(&asked(relocation)) {
+        if let Some(absence) = self.cached.get(&question_of(relocation)) {
             return Ok(*absence);
         }
         let absence = self.find(alloc, relocation)?;
-        self.keep(relocation, absence)?;
+        self.cache(relocation, absence)?;
         Ok(absence)
     }
 }

@@ -1,6 +1,6 @@
 //! What holds of the slots that records write.
 
-ghost use Rattle.ebpf_core_relo.specs.AbsenceLaws.{AbsencesAreTold, FurthestComesFurthest, NamesAreMisfits, NoValueIsOfMatches, NoneLeads};
+ghost use Rattle.ebpf_core_relo.specs.AbsenceLaws.{AbsencesAreOfPaths, FurthestComesFurthest, NamesAreMisfits, NoValueIsOfMatches, NoneLeads};
 ghost use Rattle.ebpf_core_relo.specs.Alone.{OtherSlotsStay, PutSlotsStand, RecordsAloneAreCarried, RecordsHaveSections, RecordsHaveSlots, RecordsKeepShapes, SlotsStayAsMany};
 ghost use Rattle.ebpf_core_relo.specs.OutcomeLaws.{FirstRefusalIsTheFault, OutcomesAreInOrder, SlotsAreTheSame};
 ghost use Rattle.ebpf_core_relo.specs.Refused.{FaultsAreRefusals, RefusalIsOne};
@@ -60,8 +60,8 @@ pub fn first_refusal_is_the_fault()
 {}
 
 /// Where a record has no value, both of its sides could be read: the reason is that of its path among its candidates.
-pub fn absences_are_told()
-    ensures { AbsencesAreTold }
+pub fn absences_are_of_paths()
+    ensures { AbsencesAreOfPaths }
 {}
 
 /// The candidate that comes furthest along a field's path is one in which so many steps lead somewhere as in none more,

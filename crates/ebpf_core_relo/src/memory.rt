@@ -3,7 +3,7 @@
 ghost use Rattle.std.specs.Prelude.{◌≡◌, false, IfOk, OnOk};
 ghost use Rattle.ebpf_btf.specs.Memory as types;
 ghost use Rattle.ebpf_core.specs.Memory.{is_memory};
-ghost use Rattle.ebpf_places.specs.Memory as function_spans;
+ghost use Rattle.ebpf_places.specs.Memory as places;
 
 use ebpf_btf::BtfError;
 use ebpf_core::RelocationError;
@@ -33,7 +33,7 @@ pub fn unless_memory_of_types(error: BtfError) -> Result<(), AllocError>
 
 /// Refuses where memory was refused to a look at a place.
 pub fn unless_memory_of_places(fault: PlaceFault) -> Result<(), AllocError>
-    ensures { OnOk result (function_spans.is_memory fault ≡ false) }
+    ensures { OnOk result (places.is_memory fault ≡ false) }
 {
     match fault {
         PlaceFault::Btf(error) => unless_memory_of_types(error),

@@ -2,7 +2,7 @@
 
 ghost use Rattle.std.specs.Prelude.{◌≡◌, [], ◌∷◌, ◌++◌, map, None, Ok, IfOk, OnOk};
 ghost use Rattle.ebpf_core.specs.Sides.{Sides};
-ghost use Rattle.ebpf_core_relo.specs.RecordOutcomes.{answered, applied, left_by, named_in, named_records, outcome_in, outcomes_from, record_outcomes, record_slots, result_in, section_at, slot_in, slots_left, told_outcome, told_result};
+ghost use Rattle.ebpf_core_relo.specs.RecordOutcomes.{outcome_result, applied, left_by, named_in, named_records, outcome_in, outcomes_from, record_outcomes, record_slots, result_in, section_number_at, slot_of_record, slots_left, outcome_without_texts, result_without_texts};
 ghost use Rattle.ebpf_core_relo.specs.Records.{relocation_inputs_between, relocation_inputs};
 ghost use Rattle.ebpf_core_relo.specs.Sections.{found_number};
 ghost use Rattle.ebpf_core_relo.specs.declared.record_outcome.RecordResult.TheVariants.{Refused};
@@ -42,9 +42,9 @@ struct NamedSection {
 }
 
 /// The section whose name stands at an offset.
-#[tactic(auto, unfolding(crate::specs::RecordOutcomes::section_at, ebpf_btf::specs::Strings::text_at))]
-fn section_at(function_spans: &FunctionSpans<'_>, local: &Btf, offset: u32) -> Result<FoundSection, AllocError>
-    ensures { IfOk result (λ found. found_number found ≡ section_at local.now function_spans.now.section_infos.now offset) }
+#[tactic(auto, unfolding(crate::specs::RecordOutcomes::section_number_at, ebpf_btf::specs::Strings::text_at))]
+fn section_number_at(function_spans: &FunctionSpans<'_>, local: &Btf, offset: u32) -> Result<FoundSection, AllocError>
+    ensures { IfOk result (λ found. found_number found ≡ section_number_at local.now function_spans.now.section_infos.now offset) }
 {
     let name = match local.string_at(offset) {
         Ok(name) => name,
@@ -60,8 +60,8 @@ fn section_at(function_spans: &FunctionSpans<'_>, local: &Btf, offset: u32) -> R
 }
 
 /// The slot that a record of a section is about.
-fn slot_in(function_spans: &FunctionSpans<'_>, section: usize, relocation: &Relocation) -> Option<RecordSlot>
-    ensures { (sides : Sides) → result ≡ slot_in (relocation_inputs sides function_spans.now.functions.now function_spans.now.section_infos.now) (Ok section) relocation.now }
+fn slot_of_record(function_spans: &FunctionSpans<'_>, section: usize, relocation: &Relocation) -> Option<RecordSlot>
+    ensures { (sides : Sides) → result ≡ slot_of_record (relocation_inputs sides function_spans.now.functions.now function_spans.now.section_infos.now) (Ok section) relocation.now }
 {
     let offset = relocation.insn_off as usize;
     let span = span_in(&function_spans.spans, section, offset)?;
@@ -72,13 +72,13 @@ fn slot_in(function_spans: &FunctionSpans<'_>, section: usize, relocation: &Relo
 }
 
 /// A record with an outcome, by why it has no value where it has none.
-fn answered(
+fn outcome_result(
     alloc: Global,
     absences: &mut Absences<'_>,
     relocation: &Relocation,
     outcome: Outcome,
 ) -> Result<RecordResult, AllocError>
-    ensures answered { IfOk result (λ answer. answer ≡ answered absences.old relocation.now outcome) }
+    ensures outcome_result { IfOk result (λ answer. answer ≡ outcome_result absences.old relocation.now outcome) }
     ensures stays { absences.new ≡ absences.old }
 {
     if outcome.value.is_some() {
@@ -99,13 +99,13 @@ fn result_in(
     relocation: &Relocation,
 ) -> Result<RecordResult, AllocError>
     requires { absences.old ≡ search.old }
-    ensures answered { IfOk result (λ answer. told_result answer ≡ result_in (relocation_inputs search.old function_spans.now.functions.now function_spans.now.section_infos.now) (Ok section) written.old relocation.now) }
+    ensures outcome_result { IfOk result (λ answer. result_without_texts answer ≡ result_in (relocation_inputs search.old function_spans.now.functions.now function_spans.now.section_infos.now) (Ok section) written.old relocation.now) }
     ensures written { OnOk result (written.new ≡ left_by written.old (applied (relocation_inputs search.old function_spans.now.functions.now function_spans.now.section_infos.now) (Ok section) written.old relocation.now)) }
     ensures search { search.new ≡ search.old }
     ensures absences { absences.new ≡ absences.old }
 {
     match apply_record(alloc, search, function_spans, section, written, relocation) {
-        Ok(outcome) => answered(alloc, absences, relocation, outcome),
+        Ok(outcome) => outcome_result(alloc, absences, relocation, outcome),
         Err(fault) => Ok(RecordResult::Refused(unless_memory(fault)?)),
     }
 }
@@ -133,7 +133,7 @@ fn outcome_in(
     relocation: &Relocation,
 ) -> Result<RecordOutcome, AllocError>
     requires { absences.old ≡ search.old }
-    ensures outcome { IfOk result (λ outcome. told_outcome outcome ≡ outcome_in (relocation_inputs search.old function_spans.now.functions.now function_spans.now.section_infos.now) section.name (found_number section.found) written.old relocation.now) }
+    ensures outcome { IfOk result (λ outcome. outcome_without_texts outcome ≡ outcome_in (relocation_inputs search.old function_spans.now.functions.now function_spans.now.section_infos.now) section.name (found_number section.found) written.old relocation.now) }
     ensures written { OnOk result (written.new ≡ left_by written.old (applied (relocation_inputs search.old function_spans.now.functions.now function_spans.now.section_infos.now) (found_number section.found) written.old relocation.now)) }
     ensures search { search.new ≡ search.old }
     ensures absences { absences.new ≡ absences.old }
@@ -144,7 +144,7 @@ fn outcome_in(
             Ok(RecordOutcome {
                 section_name: section.name,
                 number: relocation.number,
-                slot: slot_in(function_spans, number, relocation),
+                slot: slot_of_record(function_spans, number, relocation),
                 result,
             })
         }
@@ -171,7 +171,7 @@ fn add_record(
     outcomes: &mut RecordOutcomes,
 ) -> Result<(), AllocError>
     requires { absences.old ≡ search.old }
-    ensures records { OnOk result (map told_outcome outcomes.new.records ≡ map told_outcome outcomes.old.records ++ outcome_in (relocation_inputs search.old function_spans.now.functions.now function_spans.now.section_infos.now) section.name (found_number section.found) outcomes.old.written relocation.now ∷ []) }
+    ensures records { OnOk result (map outcome_without_texts outcomes.new.records ≡ map outcome_without_texts outcomes.old.records ++ outcome_in (relocation_inputs search.old function_spans.now.functions.now function_spans.now.section_infos.now) section.name (found_number section.found) outcomes.old.written relocation.now ∷ []) }
     ensures written { OnOk result (outcomes.new.written ≡ left_by outcomes.old.written (applied (relocation_inputs search.old function_spans.now.functions.now function_spans.now.section_infos.now) (found_number section.found) outcomes.old.written relocation.now)) }
     ensures search { search.new ≡ search.old }
     ensures absences { absences.new ≡ absences.old }
@@ -200,8 +200,8 @@ fn add_records(
     outcomes: &mut RecordOutcomes,
 ) -> Result<(), AllocError>
     requires sides { absences.old ≡ search.old }
-    requires section { found_number section.found ≡ section_at search.old.local function_spans.now.section_infos.now section.name }
-    ensures records { OnOk result (map told_outcome outcomes.new.records ≡ map told_outcome outcomes.old.records ++ outcomes_from (relocation_inputs search.old function_spans.now.functions.now function_spans.now.section_infos.now) outcomes.old.written (named_in section.name relocations.now)) }
+    requires section { found_number section.found ≡ section_number_at search.old.local function_spans.now.section_infos.now section.name }
+    ensures records { OnOk result (map outcome_without_texts outcomes.new.records ≡ map outcome_without_texts outcomes.old.records ++ outcomes_from (relocation_inputs search.old function_spans.now.functions.now function_spans.now.section_infos.now) outcomes.old.written (named_in section.name relocations.now)) }
     ensures written { OnOk result (outcomes.new.written ≡ slots_left (relocation_inputs search.old function_spans.now.functions.now function_spans.now.section_infos.now) outcomes.old.written (named_in section.name relocations.now)) }
     ensures search { search.new ≡ search.old }
     ensures absences { absences.new ≡ absences.old }
@@ -226,13 +226,13 @@ fn add_sections(
 ) -> Result<(), AllocError>
     requires sides { absences.old ≡ search.old }
     requires local { search.old.local ≡ local.now }
-    ensures records { OnOk result (map told_outcome outcomes.new.records ≡ map told_outcome outcomes.old.records ++ outcomes_from (relocation_inputs search.old function_spans.now.functions.now function_spans.now.section_infos.now) outcomes.old.written (named_records sections.now)) }
+    ensures records { OnOk result (map outcome_without_texts outcomes.new.records ≡ map outcome_without_texts outcomes.old.records ++ outcomes_from (relocation_inputs search.old function_spans.now.functions.now function_spans.now.section_infos.now) outcomes.old.written (named_records sections.now)) }
     ensures written { OnOk result (outcomes.new.written ≡ slots_left (relocation_inputs search.old function_spans.now.functions.now function_spans.now.section_infos.now) outcomes.old.written (named_records sections.now)) }
 {
     for part in sections {
         let section = NamedSection {
             name: part.0,
-            found: section_at(function_spans, local, part.0)?,
+            found: section_number_at(function_spans, local, part.0)?,
         };
         let relocations = part.1.as_slice();
         add_records(
@@ -268,7 +268,7 @@ pub fn record_outcomes(
     relocations: &BtfExt,
     target: &Btf,
 ) -> Result<RecordOutcomes, AllocError>
-    ensures records { IfOk result (λ outcomes. map told_outcome outcomes.records ≡ record_outcomes (relocation_inputs_between local.now target.now functions.now section_infos.now) relocations.now.relocations) }
+    ensures records { IfOk result (λ outcomes. map outcome_without_texts outcomes.records ≡ record_outcomes (relocation_inputs_between local.now target.now functions.now section_infos.now) relocations.now.relocations) }
     ensures written { IfOk result (λ outcomes. outcomes.written ≡ record_slots (relocation_inputs_between local.now target.now functions.now section_infos.now) relocations.now.relocations) }
 {
     let function_spans = FunctionSpans::new(alloc, functions, section_infos)?;

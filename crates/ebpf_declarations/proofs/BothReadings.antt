@@ -17,7 +17,7 @@ use Rattle.ebpf_btf.specs.declared.members.DataSecEntry.{DataSecEntry}
 use Rattle.ebpf_btf.specs.declared.types.BtfType.{BtfType}
 use Rattle.ebpf_btf.specs.declared.types.BtfType.TheVariants.{Ptr, Struct}
 use Rattle.ebpf_declarations.proofs.KnownStructs.{via, with_same}
-use Rattle.ebpf_declarations.proofs.MoreMaps.{named_by, from_type, by_type}
+use Rattle.ebpf_declarations.proofs.AddedMaps.{named_by, from_type, by_type}
 use Rattle.ebpf_declarations.specs.Attempts.{given}
 use Rattle.ebpf_declarations.specs.DataSections.{DatasecMatch, Named, UnreadableName, datasec_match}
 use Rattle.ebpf_declarations.specs.Laws.{BroadDeclaresAsStated}

@@ -21,7 +21,7 @@ use Rattle.ebpf_declarations.specs.NamedSections.{datasec_entries_at, ids_maps, 
 use Rattle.ebpf_declarations.specs.declared.definitions.MapDefinitions.{MapDefinitions}
 use Rattle.ebpf_declarations.specs.declared.distinct_maps.DistinctMaps.{DistinctMaps}
 use Rattle.ebpf_declarations.specs.declared.named_sections.NamedSections.{NamedSections}
-use Rattle.ebpf_declarations.proofs.MoreMaps.{IsSame, defined_name, numbered_name, same_named}
+use Rattle.ebpf_declarations.proofs.AddedMaps.{IsSame, defined_name, numbered_name, same_named}
 use Rattle.ebpf_declarations.proofs.NamedSections.{equal, flat_map-append, or_none, or_other, first_some-append}
 use Rattle.ebpf_parts.specs.declared.error.ParseError.{ParseError}
 use Rattle.ebpf_parts.specs.declared.error.ParseError.TheVariants as errors

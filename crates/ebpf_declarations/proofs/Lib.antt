@@ -5,6 +5,6 @@ pub mod AllGiven
 pub mod KnownStructs
 pub mod NamedSections
 pub mod ExternNames
-pub mod MoreMaps
+pub mod AddedMaps
 pub mod Distinct
 pub mod BothReadings

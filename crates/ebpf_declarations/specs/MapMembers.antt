@@ -59,12 +59,12 @@ number types id =
     (Err (unexpected p)))
 
 -- an ENUM's value has its sign extended, as libbpf widens it whatever the ENUM says of its values
-abbrev pub sign_extended : ℕ → ℕ
-sign_extended value = if nat_lt value 0x80000000 then value else value + 0xFFFFFFFF00000000
+abbrev pub extended_enum_value : ℕ → ℕ
+extended_enum_value value = if nat_lt value 0x80000000 then value else value + 0xFFFFFFFF00000000
 
 -- the number that an ENUM or ENUM64 of one value is (libbpf's `__ulong`)
 unfoldable pub sole_value : BtfType → Option ℕ
-sole_value (Enum _ _ _ (e ∷ [])) = Some (sign_extended e.value)
+sole_value (Enum _ _ _ (e ∷ [])) = Some (extended_enum_value e.value)
 sole_value (Enum64 _ _ _ (e ∷ [])) = Some (e.value_high * 2 ^ 32 + e.value_low)
 sole_value _ = None
 

@@ -4,7 +4,7 @@ ghost use Rattle.std.specs.Prelude.{◌≡◌, Some};
 ghost use Rattle.std.specs.Option.{option_copied};
 ghost use Rattle.ebpf_base.specs.Faults.{Gives};
 ghost use Rattle.ebpf_btf.specs.Memory.{is_memory};
-ghost use Rattle.ebpf_declarations.specs.MapMembers.{unexpected, pointee, struct_members, number, sign_extended, sole_value, own_number, sized_type};
+ghost use Rattle.ebpf_declarations.specs.MapMembers.{unexpected, pointee, struct_members, number, extended_enum_value, sole_value, own_number, sized_type};
 
 use ebpf_btf::{Btf, BtfError, BtfMember, BtfType};
 
@@ -56,8 +56,8 @@ pub fn number(btf: &Btf, type_id: u32) -> Result<u32, BtfError>
 }
 
 /// An ENUM's value with its sign extended.
-fn sign_extended(value: u32) -> u64
-    ensures { result ≡ sign_extended value }
+fn extended_enum_value(value: u32) -> u64
+    ensures { result ≡ extended_enum_value value }
 {
     if value < 0x8000_0000 {
         return value as u64;
@@ -72,7 +72,7 @@ fn sole_value(ty: &BtfType) -> Option<u64>
 {
     match ty {
         BtfType::Enum { variants, .. } => match variants.as_slice() {
-            [only] => Some(sign_extended(only.value)),
+            [only] => Some(extended_enum_value(only.value)),
             _ => None,
         },
         BtfType::Enum64 { variants, .. } => match variants.as_slice() {

@@ -7,7 +7,7 @@ use Rattle.ebpf_elf.specs.declared.error.ElfReadError.{ElfReadError}
 use Rattle.ebpf_elf.specs.declared.error.ElfReadError.TheVariants.{TooShort, BadMagic, NotElf64, BadByteOrder, BadSectionTable, BadStringTable, BadSymbolTable, BadRelocationTable, ExtendedNumbering}
 use Rattle.ebpf_elf.specs.File.{e_shoff, e_shentsize, e_shnum, e_shstrndx, section, section_indices, is_inside}
 use Rattle.ebpf_elf.specs.Strings.{is_string_table}
-use Rattle.ebpf_elf.specs.SymbolTable.{symbol_table, st_shndx_at, symbol_table_indices}
+use Rattle.ebpf_elf.specs.SymbolTable.{symbol_table_section, st_shndx_at, symbol_table_indices}
 use Rattle.ebpf_elf.specs.RelocationTables.{holds_relocations, is_bad_relocation_table}
 
 -- the file's header: its size, EI_MAG0 to EI_MAG3, EI_CLASS and EI_DATA ('ELF Identification')
@@ -59,4 +59,4 @@ symbol_table_faults bytes (Some i) = symbol_faults bytes i ∷ xindex_faults byt
 -- with no section headers nothing past the identification is looked at
 unfoldable pub faults : List ℕ → List (List (Row ElfReadError))
 faults bytes = identity_faults bytes ∷
-    (if e_shoff bytes == 0 then [] else table_faults bytes ∷ names_faults bytes ∷ symbol_table_faults bytes (symbol_table bytes))
+    (if e_shoff bytes == 0 then [] else table_faults bytes ∷ names_faults bytes ∷ symbol_table_faults bytes (symbol_table_section bytes))

@@ -6,7 +6,7 @@ use Rattle.ebpf_base.specs.Numbers.{number_at}
 use Rattle.ebpf_elf.specs.declared.constants.TheConstants.{R_BPF_64_64, R_BPF_64_32}
 use Rattle.ebpf_elf.specs.declared.entries.ElfRelocation.{ElfRelocation}
 use Rattle.ebpf_elf.specs.File.{ei_data}
-use Rattle.ebpf_elf.specs.SymbolTable.{symbol_table}
+use Rattle.ebpf_elf.specs.SymbolTable.{symbol_table_section}
 use Rattle.ebpf_elf.specs.RelocationTables.{relocation_size, holds_relocations}
 use Rattle.ebpf_elf.specs.Sections.{SectionOf, header, sections}
 
@@ -28,7 +28,7 @@ relocation_sections_in bytes None = []
 relocation_sections_in bytes (Some t) = filter (λ s. holds_relocations s.file t s.index) (sections bytes)
 
 abbrev pub relocation_sections : List ℕ → List SectionOf
-relocation_sections bytes = relocation_sections_in bytes (symbol_table bytes)
+relocation_sections bytes = relocation_sections_in bytes (symbol_table_section bytes)
 
 -- sh_info, the index of the section that the entries patch
 abbrev pub relocated_section : SectionOf → ℕ

@@ -6,8 +6,8 @@ use Rattle.ebpf_elf.specs.declared.constants.TheConstants.{SHT_SYMTAB}
 use Rattle.ebpf_elf.specs.File.{ei_data, section, section_indices}
 
 -- the first section of kind SYMTAB
-unfoldable pub symbol_table : List ℕ → Option ℕ
-symbol_table bytes = find (λ i. (section bytes i).sh_type == SHT_SYMTAB) (section_indices bytes)
+unfoldable pub symbol_table_section : List ℕ → Option ℕ
+symbol_table_section bytes = find (λ i. (section bytes i).sh_type == SHT_SYMTAB) (section_indices bytes)
 
 -- where the entry of a symbol stands in the table i: each has 24 bytes
 abbrev pub symbol_offset : List ℕ → ℕ → ℕ → ℕ

@@ -8,7 +8,7 @@ use Rattle.ebpf_elf.specs.declared.entries.SymbolKind.TheVariants.{Unknown, Text
 use Rattle.ebpf_elf.specs.declared.symbol_entry.SymbolEntry.{SymbolEntry}
 use Rattle.ebpf_elf.specs.File.{ei_data, section, range_of}
 use Rattle.ebpf_elf.specs.Names.{string_table_name}
-use Rattle.ebpf_elf.specs.SymbolTable.{symbol_table, symbol_offset, symbol_table_indices}
+use Rattle.ebpf_elf.specs.SymbolTable.{symbol_table_section, symbol_offset, symbol_table_indices}
 
 -- an entry of 24 bytes (Elf64_Sym)
 unfoldable pub symbol_at : Endianness → List ℕ → ℕ → SymbolEntry
@@ -36,7 +36,7 @@ symbols_in bytes None = []
 symbols_in bytes (Some t) = map (λ k. record { file = bytes; table = t; index = k }) (symbol_table_indices bytes t)
 
 abbrev pub symbols : List ℕ → List SymbolOf
-symbols bytes = symbols_in bytes (symbol_table bytes)
+symbols bytes = symbols_in bytes (symbol_table_section bytes)
 
 -- its name, where it can be read: in the string table that is the link of the symbol table
 abbrev pub symbol_names : SymbolOf → List ℕ

@@ -6,7 +6,7 @@ ghost use Rattle.ebpf_base.specs.Faults.{first_of, first_in, fault_of};
 ghost use Rattle.ebpf_elf.specs.Faults.{faults, names_faults, symbol_table_faults, relocation_faults};
 ghost use Rattle.ebpf_elf.specs.Layout.{symbol_table_index};
 ghost use Rattle.ebpf_elf.specs.Strings.{section_names};
-ghost use Rattle.ebpf_elf.specs.SymbolTable.{symbol_table};
+ghost use Rattle.ebpf_elf.specs.SymbolTable.{symbol_table_section};
 
 use crate::error::ElfReadError;
 use crate::symbol_table::{SymbolTable, find_symbol_table, open_symbol_table};
@@ -50,7 +50,7 @@ pub struct Layout<'a> {
     pub names: &'a [u8],
     pub symbols: Option<SymbolTable<'a>>,
     ghost strings: { 0 < table.count → names.now ≡ section_names table.bytes.now },
-    ghost symtab: { symbol_table table.bytes.now ≡ symbol_table_index symbols },
+    ghost symtab: { symbol_table_section table.bytes.now ≡ symbol_table_index symbols },
     ghost relocations: { ForSome symbols (λ s. first_of (relocation_faults s.table.bytes.now s.index) ≡ None) },
     ghost same: { ForSome symbols (λ s. s.table.bytes.now ≡ table.bytes.now) },
 }

@@ -5,7 +5,7 @@ ghost use Rattle.std.specs.List.{list_any};
 ghost use Rattle.ebpf_base.specs.Faults.{first_of, fault_of};
 ghost use Rattle.ebpf_elf.specs.Faults.{symbol_faults, xindex_faults};
 ghost use Rattle.ebpf_elf.specs.File.{section, range_of};
-ghost use Rattle.ebpf_elf.specs.SymbolTable.{symbol_table, symbol_count, symbol_table_indices, st_shndx_at};
+ghost use Rattle.ebpf_elf.specs.SymbolTable.{symbol_table_section, symbol_count, symbol_table_indices, st_shndx_at};
 
 use crate::constants::{SHN_XINDEX, SHT_SYMTAB};
 use crate::error::ElfReadError;
@@ -13,9 +13,9 @@ use crate::table::SectionTable;
 use ebpf_base::numbers::read_u16;
 
 /// The index of the first section of kind SYMTAB.
-#[tactic(auto, unfolding(crate::specs::SymbolTable::symbol_table))]
+#[tactic(auto, unfolding(crate::specs::SymbolTable::symbol_table_section))]
 pub fn find_symbol_table(table: &SectionTable<'_>) -> Option<usize>
-    ensures first { result ≡ symbol_table table.now.bytes.now }
+    ensures first { result ≡ symbol_table_section table.now.bytes.now }
     ensures below { IfSome result (λ i. i < table.now.count) }
 {
     (1..table.count).find(|i| table.header(*i).sh_type == SHT_SYMTAB)

@@ -4,7 +4,7 @@ ghost use Rattle.std.specs.Prelude.{◌≡◌, ℕ, List, false, true, map, IfOk
 ghost use Rattle.ebpf_inspect.specs.Inspected.{with_linking, AreReports, AreReportsOf, IsInspected};
 ghost use Rattle.ebpf_inspect.specs.Named.{report_of, function_slots_at};
 ghost use Rattle.ebpf_object.specs.LinkedPrograms.{programs_in_order};
-ghost use Rattle.ebpf_object.specs.Prepared.{IsParsed, IsStageFault, IsFirstFault, RefusesPreparing};
+ghost use Rattle.ebpf_object.specs.Prepared.{IsParsed, IsStageFault, IsFirstPrepareFault, RefusesPreparing};
 ghost use Rattle.ebpf_object.specs.StageFaults.{Wrapped};
 ghost use Rattle.ebpf_object.specs.Stages.{LinksPrograms, LinkingFault};
 ghost use Rattle.ebpf_object.specs.Steps.{chosen};
@@ -119,7 +119,7 @@ pub fn inspect_object<K: SymbolSource>(
     ensures reports { IfOk result (AreReportsOf (chosen steps.now) (K.source kallsyms) object) }
     ensures inspected { (reading : Reading) (file : List ℕ) → IsParsed reading file object → IfOk result (IsInspected (chosen steps.now) (K.source kallsyms) reading file) }
     ensures fault { IfErr result (RefusesPreparing (IsStageFault (with_linking (chosen steps.now)) (K.source kallsyms) object)) }
-    ensures first_fault { (reading : Reading) (file : List ℕ) → IsParsed reading file object → IfErr result (RefusesPreparing (IsFirstFault (with_linking (chosen steps.now)) (K.source kallsyms) reading file)) }
+    ensures first_fault { (reading : Reading) (file : List ℕ) → IsParsed reading file object → IfErr result (RefusesPreparing (IsFirstPrepareFault (with_linking (chosen steps.now)) (K.source kallsyms) reading file)) }
 {
     inspect_all(alloc, object, steps, kallsyms)
 }
@@ -139,7 +139,7 @@ pub fn inspect<K: SymbolSource>(
     kallsyms: K,
 ) -> Result<Items<ProgramReport>, PrepareError>
     ensures reports { IfOk result (IsInspected (chosen steps.now) (K.source kallsyms) Stated bytes.now) }
-    ensures fault { IfErr result (RefusesPreparing (IsFirstFault (with_linking (chosen steps.now)) (K.source kallsyms) Stated bytes.now)) }
+    ensures fault { IfErr result (RefusesPreparing (IsFirstPrepareFault (with_linking (chosen steps.now)) (K.source kallsyms) Stated bytes.now)) }
 {
     match Object::parse(alloc, bytes) {
         Ok(object) => inspect_object(alloc, object, steps, kallsyms),

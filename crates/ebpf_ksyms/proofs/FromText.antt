@@ -18,7 +18,7 @@ use Rattle.ebpf_ksyms.specs.declared.error.KsymsError.{KsymsError}
 use Rattle.ebpf_ksyms.specs.declared.error.KsymsError.TheVariants.{KallsymsAccessError, OutOfMemory}
 use Rattle.ebpf_ksyms.specs.Addresses.{Item, Line, line_fault, line_of_item, lines_fault, with_before}
 use Rattle.ebpf_ksyms.specs.Counted.{Counts}
-use Rattle.ebpf_ksyms.specs.Externs.{Externs, IsRefused, IsResolved, lines_refused, names_read, names_refused, reads_lines, resolved_externs, types_refused}
+use Rattle.ebpf_ksyms.specs.Externs.{Externs, IsResolutionFault, IsResolved, lines_refused, names_read, names_refused, reads_lines, resolved_externs, types_refused}
 use Rattle.ebpf_ksyms.specs.Faults.{is_memory, line_read_fault}
 use Rattle.ebpf_ksyms.specs.Named.{is_one_of}
 use Rattle.ebpf_ksyms.specs.TextLines.{GivesLine, Unread, lines_left}
@@ -156,7 +156,7 @@ module _ (s : Unread) (local kernel : Option TypeInfo) (externs : Externs) where
       })
   at_item e items (Err err) t u kind reads types c step before refused = at_error e items err t u kind reads types c step before refused
 
-  pub refused_by : error_kind s.error ≡ InvalidData → (e : KsymsError) → IsRefused GivesLine s local kernel externs e → MatchBool (is_memory e) ⊤ (IsRefusedBy s.text local kernel externs e)
+  pub refused_by : error_kind s.error ≡ InvalidData → (e : KsymsError) → IsResolutionFault GivesLine s local kernel externs e → MatchBool (is_memory e) ⊤ (IsRefusedBy s.text local kernel externs e)
   refused_by kind e (inl types) =
       given (is_memory e) (record {
         error = s.error;
@@ -182,6 +182,6 @@ pub all_resolved : {E : Type 0} (s : Unread) (local kernel : Option TypeInfo) (e
 all_resolved s local kernel externs (Err e) h = tt
 all_resolved s local kernel externs (Ok after) h = resolved_by s local kernel externs after h
 
-pub all_refused : {X : Type 0} (s : Unread) → error_kind s.error ≡ InvalidData → (local kernel : Option TypeInfo) (externs : Externs) (r : Result X KsymsError) → IfErr r (λ e. MatchBool (is_memory e) ⊤ (IsRefused GivesLine s local kernel externs e)) → IfErr r (λ e. MatchBool (is_memory e) ⊤ (IsRefusedBy s.text local kernel externs e))
+pub all_refused : {X : Type 0} (s : Unread) → error_kind s.error ≡ InvalidData → (local kernel : Option TypeInfo) (externs : Externs) (r : Result X KsymsError) → IfErr r (λ e. MatchBool (is_memory e) ⊤ (IsResolutionFault GivesLine s local kernel externs e)) → IfErr r (λ e. MatchBool (is_memory e) ⊤ (IsRefusedBy s.text local kernel externs e))
 all_refused s kind local kernel externs (Ok x) h = tt
 all_refused s kind local kernel externs (Err e) h = match_after (IsRefusedBy s.text local kernel externs e) (is_memory e) (refused_by s local kernel externs kind e) h

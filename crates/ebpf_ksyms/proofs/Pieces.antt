@@ -18,7 +18,7 @@ use Rattle.ebpf_ksyms.specs.declared.error.KsymsError.{KsymsError}
 use Rattle.ebpf_ksyms.specs.declared.error.KsymsError.TheVariants.{KallsymsAccessError, OutOfMemory}
 use Rattle.ebpf_ksyms.specs.Addresses.{Item, Line, line_fault, line_of_item, lines_fault, with_before}
 use Rattle.ebpf_ksyms.specs.Counted.{Counts}
-use Rattle.ebpf_ksyms.specs.Externs.{Externs, IsRefused, IsResolved, lines_refused, names_read, names_refused, reads_lines, resolved_externs, types_refused}
+use Rattle.ebpf_ksyms.specs.Externs.{Externs, IsResolutionFault, IsResolved, lines_refused, names_read, names_refused, reads_lines, resolved_externs, types_refused}
 use Rattle.ebpf_ksyms.specs.Faults.{is_memory, is_memory_kind, line_read_fault}
 use Rattle.ebpf_ksyms.specs.Named.{is_one_of}
 use Rattle.ebpf_ksyms.specs.Readers.{AreFirst, AreTexts, CameAll, CameFirst, CountsLines, IsRefusedIn, IsResolvedIn, StopsAtAccessIn, after_lines, read_lines}
@@ -158,7 +158,7 @@ module _ {S : Type 0} (known : S → Option (List ℕ)) (steps : S → Option It
           is = refl;
         }) (cc))
 
-    pub refused_in : (e : KsymsError) → IsRefused steps s local kernel externs e → MatchBool (is_memory e) ⊤ (IsRefusedIn o local kernel externs e)
+    pub refused_in : (e : KsymsError) → IsResolutionFault steps s local kernel externs e → MatchBool (is_memory e) ⊤ (IsRefusedIn o local kernel externs e)
     refused_in e (inl types) = given (is_memory e) (inl types)
     refused_in e (inr (inl h)) =
         let r = last_call steps h.items h.item s h.rest h.came in
@@ -178,6 +178,6 @@ module _ {S : Type 0} (known : S → Option (List ℕ)) (steps : S → Option It
   all_resolved s o is local kernel externs (Err e) h = tt
   all_resolved s o is local kernel externs (Ok after) h = resolved_in s o is local kernel externs after h
 
-  pub all_refused : {X : Type 0} (s : S) (o : Option (List ℕ)) → known s ≡ o → (local kernel : Option TypeInfo) (externs : Externs) (r : Result X KsymsError) → IfErr r (λ e. MatchBool (is_memory e) ⊤ (IsRefused steps s local kernel externs e)) → IfErr r (λ e. MatchBool (is_memory e) ⊤ (IsRefusedIn o local kernel externs e))
+  pub all_refused : {X : Type 0} (s : S) (o : Option (List ℕ)) → known s ≡ o → (local kernel : Option TypeInfo) (externs : Externs) (r : Result X KsymsError) → IfErr r (λ e. MatchBool (is_memory e) ⊤ (IsResolutionFault steps s local kernel externs e)) → IfErr r (λ e. MatchBool (is_memory e) ⊤ (IsRefusedIn o local kernel externs e))
   all_refused s o is local kernel externs (Ok x) h = tt
   all_refused s o is local kernel externs (Err e) h = match_after (IsRefusedIn o local kernel externs e) (is_memory e) (refused_in s o is local kernel externs e) h

@@ -11,7 +11,7 @@ use Rattle.ebpf_model.specs.declared.extern_desc.ExternDesc.{ExternDesc}
 use Rattle.ebpf_ksyms.specs.declared.error.KsymsError.{KsymsError}
 use Rattle.ebpf_ksyms.specs.Addresses.{Item, Line, address_of, line_of_item}
 use Rattle.ebpf_ksyms.specs.Entries.{externs_from}
-use Rattle.ebpf_ksyms.specs.Externs.{NamedExtern, Externs, IsRefused, IsResolved, kernel_ids_of, is_typed, is_typeless, left_without, name_refused, names_read, names_refused, outcome, renewed, resolved_externs, resolved_as, types_refused, wanted_names, with_address, with_outcome}
+use Rattle.ebpf_ksyms.specs.Externs.{NamedExtern, Externs, IsResolutionFault, IsResolved, kernel_ids_of, is_typed, is_typeless, left_without, name_refused, names_read, names_refused, outcome, renewed, resolved_externs, resolved_as, types_refused, wanted_names, with_address, with_outcome}
 use Rattle.ebpf_ksyms.specs.Named.{is_one_of, only_at}
 use Rattle.ebpf_ksyms.specs.AddressesByLine.{AreRead, KnownAddresses, StopsAt}
 use Rattle.ebpf_ksyms.specs.TypelessExterns.{flattened, known_at, typeless_as, typeless_refused}
@@ -108,15 +108,15 @@ module _ {S : Type 0} (steps : S → Option Item → S → Type 0) (source : S) 
     typed_all : List NamedExtern
     typed_all = renewed (typed_as (kernel_ids_of kernel) local kernel) (entries externs)
 
-    pub at_type : (e : KsymsError) → first_some (typed_refused (kernel_ids_of kernel) local kernel) (entries externs) ≡ Some e → IsRefused steps source (Some local) kernel externs e
+    pub at_type : (e : KsymsError) → first_some (typed_refused (kernel_ids_of kernel) local kernel) (entries externs) ≡ Some e → IsResolutionFault steps source (Some local) kernel externs e
     unfolding types_refused
     at_type e h = inl h
 
-    pub at_line : (e : KsymsError) → first_some (typed_refused (kernel_ids_of kernel) local kernel) (entries externs) ≡ None → StopsAt steps source (wanted_names (entries externs)) e → IsRefused steps source (Some local) kernel externs e
+    pub at_line : (e : KsymsError) → first_some (typed_refused (kernel_ids_of kernel) local kernel) (entries externs) ≡ None → StopsAt steps source (wanted_names (entries externs)) e → IsResolutionFault steps source (Some local) kernel externs e
     unfolding types_refused names_read
     at_line e types h = inr (inl (record { items = h.items; item = h.item; rest = h.rest; wanted = h.wanted; came = h.came; types = types; before = h.before; refused = h.refused }))
 
-    pub at_name : (e : KsymsError) (known : KnownAddresses) → first_some (typed_refused (kernel_ids_of kernel) local kernel) (entries externs) ≡ None → AreRead steps source (wanted_names (entries externs)) known → first_some (typeless_refused (known_at known)) (renewed (typed_as (kernel_ids_of kernel) local kernel) (entries externs)) ≡ Some e → IsRefused steps source (Some local) kernel externs e
+    pub at_name : (e : KsymsError) (known : KnownAddresses) → first_some (typed_refused (kernel_ids_of kernel) local kernel) (entries externs) ≡ None → AreRead steps source (wanted_names (entries externs)) known → first_some (typeless_refused (known_at known)) (renewed (typed_as (kernel_ids_of kernel) local kernel) (entries externs)) ≡ Some e → IsResolutionFault steps source (Some local) kernel externs e
     unfolding types_refused names_read names_refused typed
     at_name e known types h left = inr (inr (record {
       items = h.items;

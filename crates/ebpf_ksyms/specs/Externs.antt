@@ -165,6 +165,6 @@ module _ {S : Type 0} (steps : S → Option Item → S → Type 0) (lines : S) w
     pub refused : names_refused local externs (map line_of_item items) ≡ Some e
 
   -- the least refusal: externs with types come first, then the lines, then the names left
-  abbrev pub IsRefused : Option TypeInfo → Option TypeInfo → Externs → KsymsError → Type 0
-  IsRefused local kernel externs e =
+  abbrev pub IsResolutionFault : Option TypeInfo → Option TypeInfo → Externs → KsymsError → Type 0
+  IsResolutionFault local kernel externs e =
       StopsAtType local kernel externs e ⊎ (StopsAtLine local kernel externs e ⊎ StopsAtName local kernel externs e)

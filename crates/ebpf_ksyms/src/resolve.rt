@@ -3,7 +3,7 @@
 ghost use Rattle.std.specs.Prelude.{IfOk, IfErr, MatchBool, ⊤};
 ghost use Rattle.std.specs.Iterator.{IsFinite};
 ghost use Rattle.std.specs.Option.{option_copied};
-ghost use Rattle.ebpf_ksyms.specs.Externs.{IsRefused, IsResolved};
+ghost use Rattle.ebpf_ksyms.specs.Externs.{IsResolutionFault, IsResolved};
 ghost use Rattle.ebpf_ksyms.specs.Faults.{is_memory};
 ghost use Rattle.ebpf_ksyms.specs.Readers.{IsRefusedIn, IsResolvedIn};
 ghost use Rattle.ebpf_ksyms.specs.Texts.{IsRefusedBy, IsResolvedBy};
@@ -54,7 +54,7 @@ pub fn resolve_lines<I: Iterator<Item = io::Result<String>> + Drop>(
     requires can { I.can_next lines }
     requires ends { IsFinite (I.remaining lines) }
     ensures ok { IfOk result (λ after. IsResolved I.next_gives lines (option_copied btf.entry) (option_copied kernel_btf.entry) externs.now after) }
-    ensures fault { IfErr result (λ e. MatchBool (is_memory e) ⊤ (IsRefused I.next_gives lines (option_copied btf.entry) (option_copied kernel_btf.entry) externs.now e)) }
+    ensures fault { IfErr result (λ e. MatchBool (is_memory e) ⊤ (IsResolutionFault I.next_gives lines (option_copied btf.entry) (option_copied kernel_btf.entry) externs.now e)) }
 {
     let all = entries_of(alloc, externs)?;
     let Some(local) = btf else {

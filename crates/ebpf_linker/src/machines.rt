@@ -40,10 +40,10 @@ fn flow_of(slot: bpf_insn) -> Flow {
 }
 
 /// A function and one of its slots. A linked program is one function, number 0.
-type Place = (usize, i64);
+type SlotPosition = (usize, i64);
 
 /// The place so many slots further.
-fn further(place: Place, by: i64) -> Place {
+fn further(place: SlotPosition, by: i64) -> SlotPosition {
     (place.0, place.1.saturating_add(by))
 }
 
@@ -57,13 +57,13 @@ enum Code<'a> {
 }
 
 /// The slot at a place of these.
-fn slot_at(slots: &[bpf_insn], place: Place) -> Option<bpf_insn> {
+fn slot_at(slots: &[bpf_insn], place: SlotPosition) -> Option<bpf_insn> {
     let number = usize::try_from(place.1).ok()?;
     slots.get(number).copied()
 }
 
 /// The first slot of the function that a slot refers to.
-fn entry_of(calls: &[Vec<Call>], place: Place) -> Option<Place> {
+fn entry_of(calls: &[Vec<Call>], place: SlotPosition) -> Option<SlotPosition> {
     let number = usize::try_from(place.1).ok()?;
     let list = calls.get(place.0)?;
     let call = list.iter().find(|call| call.slot == number)?;
@@ -74,7 +74,7 @@ fn entry_of(calls: &[Vec<Call>], place: Place) -> Option<Place> {
 }
 
 impl Code<'_> {
-    fn fetch(&self, place: Place) -> Option<bpf_insn> {
+    fn fetch(&self, place: SlotPosition) -> Option<bpf_insn> {
         match self {
             Code::Separate(bodies, _) => slot_at(bodies.get(place.0)?.slots, place),
             Code::Flat(slots) => slot_at(slots, place),
@@ -82,7 +82,7 @@ impl Code<'_> {
     }
 
     /// Where the call at a place goes.
-    fn entry(&self, place: Place, slot: bpf_insn) -> Option<Place> {
+    fn entry(&self, place: SlotPosition, slot: bpf_insn) -> Option<SlotPosition> {
         match self {
             Code::Separate(_, calls) => entry_of(calls, place),
             Code::Flat(_) => Some(further(further(place, 1), i64::from(slot.imm))),
@@ -105,14 +105,14 @@ enum Stop {
 /// A run under way: its place, those to which calls return, and the decisions to come.
 #[derive(Drop)]
 struct Walker<'a> {
-    place: Place,
-    stack: Vec<Place>,
+    place: SlotPosition,
+    stack: Vec<SlotPosition>,
     decisions: &'a [bool],
 }
 
 impl Walker<'_> {
     /// Goes on to a place.
-    fn goes(&mut self, place: Place) -> Stop {
+    fn goes(&mut self, place: SlotPosition) -> Stop {
         self.place = place;
         Stop::Going
     }
@@ -124,7 +124,7 @@ impl Walker<'_> {
         }
     }
 
-    fn enters(&mut self, entry: Option<Place>) -> Result<Stop, AllocError> {
+    fn enters(&mut self, entry: Option<SlotPosition>) -> Result<Stop, AllocError> {
         let Some(entry) = entry else {
             return Ok(Stop::Left);
         };
@@ -160,7 +160,7 @@ impl Walker<'_> {
 /// The places that were visited, and why the run stands.
 #[derive(Drop)]
 struct Run {
-    visited: Vec<Place>,
+    visited: Vec<SlotPosition>,
     stop: Stop,
 }
 
@@ -189,7 +189,7 @@ fn walk(alloc: Global, code: Code<'_>, decisions: &[bool]) -> Result<Run, AllocE
 }
 
 /// The function and the slot that stand at a place of the linked program, where these functions stand in turn.
-fn name(bodies: &[Body<'_>], order: &[usize], place: Place) -> Option<Place> {
+fn name(bodies: &[Body<'_>], order: &[usize], place: SlotPosition) -> Option<SlotPosition> {
     let mut rest = usize::try_from(place.1).ok()?;
     for function in order {
         let slots = bodies.get(*function)?.slots;
@@ -219,7 +219,7 @@ impl Row<'_> {
         walk(alloc, Code::Flat(self.slots), decisions)
     }
 
-    fn name(&self, place: Place) -> Option<Place> {
+    fn name(&self, place: SlotPosition) -> Option<SlotPosition> {
         name(self.bodies, self.order, place)
     }
 

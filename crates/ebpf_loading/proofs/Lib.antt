@@ -1,4 +1,4 @@
-pub mod Found
+pub mod FirstFound
 pub mod Prefixes
 pub mod TargetPieces
 pub mod TargetRows

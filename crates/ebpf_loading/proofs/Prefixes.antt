@@ -6,13 +6,13 @@ use Rattle.std.specs.Str.{IsCharBoundary, IsUtf8, is_utf8}
 use Rattle.std.specs.Str.Pattern.{FindsTextPrefix, StripsPrefix}
 use Rattle.std.proofs.lemmas.Str.{IsUtf8-from_is_utf8, is_utf8-from_IsUtf8}
 use Rattle.std.proofs.lemmas.Str.Pattern.{starts_text}
-use Rattle.ebpf_loading.specs.Texts.{as_text, behind}
+use Rattle.ebpf_loading.specs.Texts.{as_text, without_prefix}
 use denote.Ref.{Bor}
 
 -- what `strip_prefix` at a text gives
 pub strips_text : (prefix text : List ℕ) (r : Option (Bor (List ℕ)))
     → MatchOption r (FindsTextPrefix prefix text None) (λ x. StripsPrefix (FindsTextPrefix prefix) text x.now)
-    → option_copied r ≡ behind prefix text
+    → option_copied r ≡ without_prefix prefix text
 strips_text prefix text None lacks =
     ap (λ b. if b then Some (drop (length prefix) text) else None) (starts_text false prefix text lacks)
 strips_text prefix text (Some x) (n, found, rest, size) =

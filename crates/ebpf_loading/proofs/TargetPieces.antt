@@ -5,7 +5,7 @@ use Rattle.std.specs.List.{list_any, position_or_len, starts_with}
 use Rattle.std.specs.Str.{bytes_eq}
 use Rattle.std.proofs.lemmas.Bool.{and_parts, cases_Bool, eqb-true, not-true, or_cases, or_parts}
 use Rattle.std.proofs.lemmas.Slice.Eq.{bytes_eq-Decides}
-use Rattle.ebpf_parts.specs.ProgramKinds.{fits, has_target, row_name}
+use Rattle.ebpf_parts.specs.ProgramKinds.{name_fits, has_target, row_name}
 use Rattle.ebpf_parts.specs.ProgramSections.{first_piece}
 use Rattle.ebpf_parts.specs.declared.programs.kind.NamedKind.{NamedKind}
 
@@ -37,7 +37,7 @@ target_piece (b ∷ name) (o ∷ own) none begins slash =
     rw (← is, parts.0, on) (ap (λ rest. o ∷ rest) (target_piece name own parts.1 same.1 slash))
 
 -- a name that a row fits has the first piece of the row's own, where no row with a slash takes a target
-pub piece_of_fit : (name : List ℕ) (row : NamedKind) → not (row.takes_target && has_slash (row_name row)) ≡ true → fits name row ≡ true
+pub piece_of_fit : (name : List ℕ) (row : NamedKind) → not (row.takes_target && has_slash (row_name row)) ≡ true → name_fits name row ≡ true
     → first_piece name ≡ first_piece (row_name row)
 piece_of_fit name row plain fit = by_fit (or_cases _ _ fit)
   where
@@ -61,7 +61,7 @@ fits_piece (b ∷ name) = elim (cases_Bool (b == 47)) [
 ]
 
 -- a row that takes a target fits each name that has its own as its first piece
-pub fit_of_piece : (name : List ℕ) (row : NamedKind) → (row.takes_target && bytes_eq (row_name row) (first_piece name)) ≡ true → fits name row ≡ true
+pub fit_of_piece : (name : List ℕ) (row : NamedKind) → (row.takes_target && bytes_eq (row_name row) (first_piece name)) ≡ true → name_fits name row ≡ true
 fit_of_piece name row is =
     let parts = and_parts row.takes_target _ is in
     rw (parts.0, (bytes_eq-Decides (row_name row) (first_piece name)).0 parts.1) (fits_piece name)

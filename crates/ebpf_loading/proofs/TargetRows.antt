@@ -7,7 +7,7 @@ use Rattle.std.specs.Str.{bytes_eq}
 use Rattle.std.proofs.lemmas.Bool.{and_parts, cases_Bool}
 use Rattle.std.proofs.lemmas.Slice.Eq.{bytes_eq-Decides}
 use Rattle.ebpf_parts.proofs.KindRows.{of_longest}
-use Rattle.ebpf_parts.specs.ProgramKinds.{fits, is_marked, longer, longest_fit, row_name, program_kind, unmarked}
+use Rattle.ebpf_parts.specs.ProgramKinds.{name_fits, is_marked, longer, longest_fit, row_name, program_kind, unmarked}
 use Rattle.ebpf_parts.specs.ProgramSections.{first_piece, lookup_piece}
 use Rattle.ebpf_parts.specs.declared.programs.kind.NamedKind.{NamedKind}
 use Rattle.ebpf_parts.specs.declared.programs.kind.ProgramKind.{ProgramKind}
@@ -42,14 +42,14 @@ all_agree = refl
 abbrev AgreesOn : List ℕ → NamedKind → Type 0
 AgreesOn name row = row.kind.wants_target_type ≡ has (first_piece name)
 
-row_agrees : (name : List ℕ) (row : NamedKind) → agrees row ≡ true → fits name row ≡ true → AgreesOn name row
+row_agrees : (name : List ℕ) (row : NamedKind) → agrees row ≡ true → name_fits name row ≡ true → AgreesOn name row
 unfolding agrees
 row_agrees name row checked fit =
     let parts = and_parts (not (row.takes_target && has_slash (row_name row))) _ checked in
     rw (piece_of_fit name row parts.0 fit) (same_is _ _ parts.1)
 
 rows_agree : (name : List ℕ) (rows : List NamedKind) → list_all agrees rows ≡ true
-    → AllByRecursion (λ row. fits name row ≡ true → AgreesOn name row) rows
+    → AllByRecursion (λ row. name_fits name row ≡ true → AgreesOn name row) rows
 rows_agree name [] checked = tt
 rows_agree name (row ∷ rows) checked =
     let parts = and_parts (agrees row) _ checked in
@@ -72,12 +72,12 @@ row_of rows (t ∷ table) piece checked found = elim (cases_Bool (bytes_eq piece
   | inr other ↦ row_of rows table piece (and_parts (has_row rows t.0) _ checked).1 (rw other at found)
 ]
 
-fits_some : (name : List ℕ) (rows : List NamedKind) → has_row rows (first_piece name) ≡ true → list_any (fits name) rows ≡ true
+fits_some : (name : List ℕ) (rows : List NamedKind) → has_row rows (first_piece name) ≡ true → list_any (name_fits name) rows ≡ true
 unfolding has_row
 fits_some name [] found = absurd (cc)
 fits_some name (row ∷ rows) found = elim (cases_Bool (row.takes_target && bytes_eq (row_name row) (first_piece name))) [
   | inl here ↦ rw (fit_of_piece name row here) refl
-  | inr later ↦ elim (cases_Bool (fits name row)) [
+  | inr later ↦ elim (cases_Bool (name_fits name row)) [
     | inl fit ↦ rw fit refl
     | inr misfit ↦ rw misfit (fits_some name rows (rw later at found))
   ]
@@ -94,11 +94,11 @@ stays row (next ∷ rows) = by_length (nat_le (length (row_name next)) (length (
     by_length true first second = first
     by_length false first second = second
 
-finds_some : (name : List ℕ) (rows : List NamedKind) → list_any (fits name) rows ≡ true → is_some (longest_fit name rows) ≡ true
+finds_some : (name : List ℕ) (rows : List NamedKind) → list_any (name_fits name) rows ≡ true → is_some (longest_fit name rows) ≡ true
 unfolding longest_fit
 finds_some name [] found = absurd (cc)
-finds_some name (row ∷ rows) found = elim (cases_Bool (fits name row)) [
-  | inl fit ↦ rw fit (stays row (filter (fits name) rows))
+finds_some name (row ∷ rows) found = elim (cases_Bool (name_fits name row)) [
+  | inl fit ↦ rw fit (stays row (filter (name_fits name) rows))
   | inr misfit ↦ rw misfit (finds_some name rows (rw misfit at found))
 ]
 

@@ -12,7 +12,7 @@ use Rattle.ebpf_loading.specs.declared.attach.AttachTarget.{AttachTarget}
 use Rattle.ebpf_loading.specs.declared.attach.AttachTarget.TheVariants.{NotWanted, Unnamed, Found, NotFound}
 use Rattle.ebpf_loading.specs.declared.target.Target.{Target}
 use Rattle.ebpf_loading.specs.declared.target.Target.TheVariants.{TracePoint, SecurityHook, Iterator, Function}
-use Rattle.ebpf_loading.specs.Texts.{behind}
+use Rattle.ebpf_loading.specs.Texts.{without_prefix}
 
 -- what the programs of a section are attached to, by the first piece of the section's name
 unfoldable pub targets : List (List ℕ × Target)
@@ -40,11 +40,11 @@ prefix_of Iterator = codes "bpf_iter_"
 prefix_of Function = []
 
 -- the kind of that type
-unfoldable pub kind_of : Target → BtfKind
-kind_of TracePoint = kinds.Typedef
-kind_of SecurityHook = kinds.Func
-kind_of Iterator = kinds.Func
-kind_of Function = kinds.Func
+unfoldable pub kind_of_target : Target → BtfKind
+kind_of_target TracePoint = kinds.Typedef
+kind_of_target SecurityHook = kinds.Func
+kind_of_target Iterator = kinds.Func
+kind_of_target Function = kinds.Func
 
 -- ---- the name of a section, a mark `?` before it aside
 
@@ -57,7 +57,7 @@ abbrev pub kernel_mark : List ℕ
 kernel_mark = codes "vmlinux:"
 
 abbrev pub in_kernel : List ℕ → List ℕ
-in_kernel name = unwrap_or (behind kernel_mark name) name
+in_kernel name = unwrap_or (without_prefix kernel_mark name) name
 
 -- the name of the target: what follows the first slash
 abbrev pub target_name : List ℕ → List ℕ
@@ -76,7 +76,7 @@ type_named name kind types = found_as name (id_of_name types name kind)
 -- a target without a name is none
 abbrev pub target_in : TypeInfo → Target → List ℕ → AttachTarget
 target_in types target [] = Unnamed
-target_in types target (b ∷ name) = type_named (prefix_of target ++ b ∷ name) (kind_of target) types
+target_in types target (b ∷ name) = type_named (prefix_of target ++ b ∷ name) (kind_of_target target) types
 
 abbrev pub target_or_none : TypeInfo → Option Target → List ℕ → AttachTarget
 target_or_none types None name = NotWanted

@@ -10,7 +10,7 @@ use Rattle.ebpf_btf.specs.declared.kind.BtfKind.TheVariants as kinds
 use Rattle.ebpf_btf.specs.declared.members.BtfEnum.{BtfEnum}
 use Rattle.ebpf_btf.specs.declared.types.BtfType.{BtfType}
 use Rattle.ebpf_btf.specs.declared.types.BtfType.TheVariants.{Enum}
-use Rattle.ebpf_loading.specs.Texts.{as_text, behind}
+use Rattle.ebpf_loading.specs.Texts.{as_text, without_prefix}
 
 -- the enumerators of an ENUM
 unfoldable pub enumerators_of : BtfType → List BtfEnum
@@ -35,8 +35,8 @@ pub record Numbering : Type 0 where
 abbrev pub helpers : Numbering
 helpers = record { enumeration = codes "bpf_func_id"; end = codes "__BPF_FUNC_MAX_ID" }
 
-abbrev pub map_types : Numbering
-map_types = record { enumeration = codes "bpf_map_type"; end = codes "__MAX_BPF_MAP_TYPE" }
+abbrev pub map_type_numbering : Numbering
+map_type_numbering = record { enumeration = codes "bpf_map_type"; end = codes "__MAX_BPF_MAP_TYPE" }
 
 -- whether an enumerator has a number; the one at the end doesn't count
 abbrev pub has_number : TypeInfo → List ℕ → ℕ → BtfEnum → Bool
@@ -50,7 +50,7 @@ unfoldable pub knows_helper : TypeInfo → ℕ → Option Bool
 knows_helper = knows helpers
 
 unfoldable pub knows_map_type : TypeInfo → ℕ → Option Bool
-knows_map_type = knows map_types
+knows_map_type = knows map_type_numbering
 
 -- ---- names of helpers
 
@@ -59,7 +59,7 @@ helper_mark = codes "BPF_FUNC_"
 
 -- the name that an enumerator gives a helper: what stands behind the mark, where it is a text
 abbrev pub name_by : TypeInfo → BtfEnum → Option (List ℕ)
-name_by types e = option_and_then (behind helper_mark) (option_and_then as_text (before_zero (drop e.name_offset types.strings)))
+name_by types e = option_and_then (without_prefix helper_mark) (option_and_then as_text (before_zero (drop e.name_offset types.strings)))
 
 -- the first enumerator with a number
 abbrev pub enumerator_with : Numbering → TypeInfo → ℕ → Option BtfEnum

@@ -15,8 +15,8 @@ use Rattle.ebpf_parts.specs.declared.section_kind.EbpfSectionKind.{EbpfSectionKi
 use Rattle.ebpf_parts.specs.declared.section_kind.EbpfSectionKind.TheVariants.{Data, Rodata, Bss}
 use Rattle.ebpf_loading.specs.declared.map_type_ids.MapTypeIds.{MapTypeIds}
 
-abbrev pub no_types : MapTypeIds
-no_types = record { key = 0; value = 0 }
+abbrev pub no_type_ids : MapTypeIds
+no_type_ids = record { key = 0; value = 0 }
 
 -- ---- the types of maps
 
@@ -46,7 +46,7 @@ struct_ops = 26
 -- what a type of maps takes of some ids
 abbrev pub taken : ℕ → MapTypeIds → MapTypeIds
 taken map_type ids =
-    if list_any (λ t. nat_eq t map_type) untyped_maps then no_types
+    if list_any (λ t. nat_eq t map_type) untyped_maps then no_type_ids
     else if map_type == struct_ops then record ids { value = 0 }
     else ids
 
@@ -77,7 +77,7 @@ data_type types name m =
 -- the ids that the definition of a map states, or that the map of a data section has by its name
 abbrev pub stated_ids : TypeInfo → List ℕ → Map → MapTypeIds
 stated_ids types name (Btf m) = record { key = m.def.btf_key_type_id; value = m.def.btf_value_type_id }
-stated_ids types name (Legacy m) = if is_data m.section_kind then record { key = 0; value = data_type types name m } else no_types
+stated_ids types name (Legacy m) = if is_data m.section_kind then record { key = 0; value = data_type types name m } else no_type_ids
 
 -- the ids that a map of this name is created with
 unfoldable pub map_type_ids : List ℕ → Map → TypeInfo → MapTypeIds

@@ -4,8 +4,8 @@ use Rattle.std.specs.List.{starts_with}
 use Rattle.std.specs.Str.{is_utf8}
 
 -- what stands behind a prefix, where a text begins with it
-abbrev pub behind : List ℕ → List ℕ → Option (List ℕ)
-behind prefix text = if starts_with nat_eq text prefix then Some (drop (length prefix) text) else None
+abbrev pub without_prefix : List ℕ → List ℕ → Option (List ℕ)
+without_prefix prefix text = if starts_with nat_eq text prefix then Some (drop (length prefix) text) else None
 
 -- bytes that are a text
 abbrev pub as_text : List ℕ → Option (List ℕ)

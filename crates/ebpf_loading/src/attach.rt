@@ -5,11 +5,11 @@ ghost use Rattle.std.specs.List.{after_first};
 ghost use Rattle.ebpf_btf.specs.Strings.{id_of_name};
 ghost use Rattle.ebpf_parts.specs.ProgramKinds.{unmarked};
 ghost use Rattle.ebpf_parts.specs.ProgramSections.{first_piece};
-ghost use Rattle.ebpf_loading.specs.AttachTargets.{attach_target, in_kernel, kind_of, prefix_of, target_in, type_named};
+ghost use Rattle.ebpf_loading.specs.AttachTargets.{attach_target, in_kernel, kind_of_target, prefix_of, target_in, type_named};
 
 use crate::named::id_of_name;
 use crate::target::{Target, target_by};
-use crate::texts::behind;
+use crate::texts::without_prefix;
 use ebpf_base::Text;
 use ebpf_btf::{Btf, BtfKind};
 use std::alloc::{AllocError, Global};
@@ -67,7 +67,7 @@ fn behind_slash(name: &str) -> &str
 fn in_kernel(name: &str) -> &str
     ensures { result.now ≡ in_kernel name.now }
 {
-    behind(name, "vmlinux:").unwrap_or(name)
+    without_prefix(name, "vmlinux:").unwrap_or(name)
 }
 
 /// The name of a target's type.

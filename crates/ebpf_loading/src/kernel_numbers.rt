@@ -4,10 +4,10 @@ ghost use Rattle.std.specs.Prelude.{◌≡◌, find};
 ghost use Rattle.std.specs.List.{list_any};
 ghost use Rattle.std.specs.Option.{option_copied};
 ghost use Rattle.ebpf_base.specs.Faults.{or_else};
-ghost use Rattle.ebpf_loading.specs.KernelNumbers.{enumeration, enumerators_of, has_number, helper_name, helpers, knows_helper, knows_map_type, map_types, name_by, named_enumerators};
+ghost use Rattle.ebpf_loading.specs.KernelNumbers.{enumeration, enumerators_of, has_number, helper_name, helpers, knows_helper, knows_map_type, map_type_numbering, name_by, named_enumerators};
 
 use crate::named::is_named;
-use crate::texts::{as_text, behind};
+use crate::texts::{as_text, without_prefix};
 use ebpf_btf::strings::is_text_at;
 use ebpf_btf::{Btf, BtfEnum, BtfKind, BtfType};
 use std::marker::Model;
@@ -51,7 +51,7 @@ fn found_or<'a>(
 /// Both enumerations, by one pass over the types.
 fn enumerations_in(types: &Btf) -> Enumerations<'_>
     ensures helpers { option_copied result.helpers ≡ enumeration types.now helpers.enumeration }
-    ensures map_types { option_copied result.map_types ≡ enumeration types.now map_types.enumeration }
+    ensures map_types { option_copied result.map_types ≡ enumeration types.now map_type_numbering.enumeration }
 {
     let mut helpers = None;
     let mut map_types = None;
@@ -97,7 +97,7 @@ fn name_by<'a>(types: &'a Btf, enumerator: &BtfEnum) -> Option<&'a str>
     ensures { option_copied result ≡ name_by types.now enumerator.now }
 {
     let bytes = types.bytes_at(enumerator.name_offset).ok()?;
-    behind(as_text(bytes)?, "BPF_FUNC_")
+    without_prefix(as_text(bytes)?, "BPF_FUNC_")
 }
 
 /// The numbers that a kernel knows, by its types.
@@ -113,13 +113,13 @@ impl<'a> Model for KernelNumbers<'a> {
     ghost use Rattle.std.specs.Prelude.{◌≡◌};
     ghost use Rattle.std.specs.Option.{option_copied};
     ghost use Rattle.ebpf_btf.specs.TypeInfo.{TypeInfo};
-    ghost use Rattle.ebpf_loading.specs.KernelNumbers.{enumeration, helpers, map_types};
+    ghost use Rattle.ebpf_loading.specs.KernelNumbers.{enumeration, helpers, map_type_numbering};
 
     ghost Value = { TypeInfo };
 
     ghost view = { λ k. k.types.now };
 
-    ghost invariant = { λ k. (option_copied k.found.helpers ≡ enumeration k.types.now helpers.enumeration) × (option_copied k.found.map_types ≡ enumeration k.types.now map_types.enumeration) };
+    ghost invariant = { λ k. (option_copied k.found.helpers ≡ enumeration k.types.now helpers.enumeration) × (option_copied k.found.map_types ≡ enumeration k.types.now map_type_numbering.enumeration) };
 }
 
 impl<'a> KernelNumbers<'a> {

@@ -2,7 +2,7 @@
 
 ghost use Rattle.std.specs.Prelude.{◌≡◌};
 ghost use Rattle.ebpf_parts.specs.ProgramSections.{lookup_piece};
-ghost use Rattle.ebpf_loading.specs.AttachTargets.{kind_of, prefix_of, targets};
+ghost use Rattle.ebpf_loading.specs.AttachTargets.{kind_of_target, prefix_of, targets};
 
 use ebpf_btf::BtfKind;
 
@@ -51,9 +51,9 @@ impl Target {
     }
 
     /// The kind of that type.
-    #[tactic(auto, unfolding(crate::specs::AttachTargets::kind_of))]
+    #[tactic(auto, unfolding(crate::specs::AttachTargets::kind_of_target))]
     pub fn kind(self) -> BtfKind
-        ensures { result ≡ kind_of self }
+        ensures { result ≡ kind_of_target self }
     {
         match self {
             Target::TracePoint => BtfKind::Typedef,

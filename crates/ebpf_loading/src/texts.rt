@@ -2,11 +2,11 @@
 
 ghost use Rattle.std.specs.Prelude.{◌≡◌};
 ghost use Rattle.std.specs.Option.{option_copied};
-ghost use Rattle.ebpf_loading.specs.Texts.{as_text, behind};
+ghost use Rattle.ebpf_loading.specs.Texts.{as_text, without_prefix};
 
 /// What stands behind a prefix, where a text begins with it.
-pub fn behind<'a>(text: &'a str, prefix: &str) -> Option<&'a str>
-    ensures { option_copied result ≡ behind prefix.now text.now }
+pub fn without_prefix<'a>(text: &'a str, prefix: &str) -> Option<&'a str>
+    ensures { option_copied result ≡ without_prefix prefix.now text.now }
 {
     text.strip_prefix(prefix)
 }

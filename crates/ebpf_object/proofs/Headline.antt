@@ -41,7 +41,7 @@ use Rattle.ebpf_parts.specs.declared.reading.Reading.{Reading}
 -- a program of a table has its key among those of all programs
 module _ (program : Program) where
   abbrev key_among : List (List ℕ × Program) → Bool
-  key_among es = list_any (λ (p : ProgramValue). eq_by_cmp key_cmp (key_of_program program) (linking.key_of_program p)) (map (λ e. program_value e.0 e.1) es)
+  key_among es = list_any (λ (p : ProgramValue). eq_by_cmp key_cmp (key_of_program program) (linking.key_of p)) (map (λ e. program_value e.0 e.1) es)
 
   or_true : (c more : Bool) → more ≡ true → (c || more) ≡ true
   or_true true more is = refl

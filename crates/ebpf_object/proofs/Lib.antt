@@ -14,7 +14,7 @@ pub mod MapsOfLinked
 pub mod Staging
 pub mod OneResolution
 pub mod OnePreparation
-pub mod KeptParts
+pub mod UnchangedFields
 pub mod Headline
 pub mod OwnMaps
 pub mod GivenMaps

@@ -18,8 +18,8 @@ use Rattle.ebpf_object.proofs.OneResolution.{not_resolved, one_refusal, one_reso
 use Rattle.ebpf_object.specs.RelocatedSlots.{relocated_slots}
 use Rattle.ebpf_object.specs.LinkedPrograms.{ProgramsAreLinked, is_program_key, linkable_of, programs_in_order}
 use Rattle.ebpf_object.specs.Objects.{object_as, parse_fault_as}
-use Rattle.ebpf_object.specs.OnePreparation.{OnePreparation, OneStaging, is_access, is_access_error, without_texts}
-use Rattle.ebpf_object.specs.Prepared.{IsStageFault, IsFaultAfter, IsFirstFault, IsPrepared, NamesNothing, RefusesPreparing, Stages, before_calls, before_externs, before_maps, before_resolution, is_memory}
+use Rattle.ebpf_object.specs.OnePreparation.{OnePreparation, OneStaging, is_access, is_access_error, prepare_error_without_texts}
+use Rattle.ebpf_object.specs.Prepared.{IsStageFault, IsFaultAfter, IsFirstPrepareFault, IsPrepared, NamesNothing, RefusesPreparing, Stages, before_calls, before_externs, before_maps, before_resolution, is_memory}
 use Rattle.ebpf_object.specs.Stages.{RelocatesTypes, TypesFault, LinksPrograms, LinkingFault, Resolves, ResolvingFault, fds_written, fds_fault, with_externs_if, externs_fault_if}
 use Rattle.ebpf_object.specs.Steps.{Chosen}
 use Rattle.ebpf_object.specs.TextSections.{has_function_in}
@@ -105,7 +105,7 @@ no_fault_linked : (parts : LinkableValue) (programs : List ProgramValue) (after 
 no_fault_linked parts programs after e are_linked f =
     let key = key_of f.program in
     let among : is_program_key programs key ≡ true =
-    any_at (λ (p : ProgramValue). eq_by_cmp key_cmp key (key_of p)) programs f.place f.program f.at ((eq_by_cmp_equiv key_total).refl key)
+    any_at (λ (p : ProgramValue). eq_by_cmp key_cmp key (key_of p)) programs f.index f.program f.at ((eq_by_cmp_equiv key_total).refl key)
     in
     let linked = linked_from (is_program_key programs key) _ _ among (are_linked key) in
     not_refused parts key linked.0 e.error linked.2 f.refused.1
@@ -216,7 +216,7 @@ module _ (lines : List ℕ) (o : Object) where
   led_on steps after s (Parse e) other f = f
   led_on steps after s OutOfMemory other f = f
 
-  one_fault : (steps : Chosen) (d e : PrepareError) → is_access d ≡ false → is_access e ≡ false → IsStageFault steps (Reader (Some lines)) o d → IsStageFault steps (Reader (Some lines)) o e → without_texts d ≡ without_texts e
+  one_fault : (steps : Chosen) (d e : PrepareError) → is_access d ≡ false → is_access e ≡ false → IsStageFault steps (Reader (Some lines)) o d → IsStageFault steps (Reader (Some lines)) o e → prepare_error_without_texts d ≡ prepare_error_without_texts e
   one_fault steps (Types d) (Types e) od oe f g = ap Types (one_types_fault steps.target o d e f g)
   one_fault steps (Types d) (Maps e) od oe f g = absurd (led_on (before_maps steps) g.before g.stages (Types d) od f)
   one_fault steps (Types d) (Ksyms e) od oe f g = absurd (led_on (before_resolution steps) g.before g.stages (Types d) od f)
@@ -278,7 +278,7 @@ one_staging steps lines o (Err d) (Err e) h g hs gs =
 
 module _ (steps : Chosen) (lines : List ℕ) (reading : Reading) (bytes : List ℕ) where
   abbrev First : PrepareError → Type 0
-  First e = IsFirstFault steps (Reader (Some lines)) reading bytes e
+  First e = IsFirstPrepareFault steps (Reader (Some lines)) reading bytes e
 
   -- the file's own fault, or that of a stage
   abbrev OfFile : PrepareError → Type 0
@@ -296,10 +296,10 @@ module _ (steps : Chosen) (lines : List ℕ) (reading : Reading) (bytes : List �
   either (Calls e) f = inr f
   either OutOfMemory f = inr f
 
-  one_first : (d e : PrepareError) → is_access d ≡ false → is_access e ≡ false → OfFile d ⊎ OfStage d → OfFile e ⊎ OfStage e → without_texts d ≡ without_texts e
+  one_first : (d e : PrepareError) → is_access d ≡ false → is_access e ≡ false → OfFile d ⊎ OfStage d → OfFile e ⊎ OfStage e → prepare_error_without_texts d ≡ prepare_error_without_texts e
   one_first d e od oe (inl f) (inl g) =
       let same : f.0 ≡ g.0 = same_some (parse_fault_as reading bytes) f.0 g.0 f.1 g.1 in
-      ap without_texts (f.2 ∙ ap Parse same ∙ sym g.2)
+      ap prepare_error_without_texts (f.2 ∙ ap Parse same ∙ sym g.2)
   one_first d e od oe (inl f) (inr g) = absurd (none_or_some (parse_fault_as reading bytes) f.0 g.0 f.1)
   one_first d e od oe (inr f) (inl g) = absurd (none_or_some (parse_fault_as reading bytes) g.0 f.0 g.1)
   one_first d e od oe (inr f) (inr g) = one_fault lines (object_as reading bytes) steps d e od oe f.1 g.1
@@ -311,12 +311,12 @@ module _ (steps : Chosen) (lines : List ℕ) (reading : Reading) (bytes : List �
 pub one_preparation : OnePreparation
 one_preparation steps lines reading bytes (Ok a) (Ok b) h g hs gs = ap Ok (one_staged lines (object_as reading bytes) steps a b h.stages g.stages)
 one_preparation steps lines reading bytes (Ok a) (Err e) h g hs gs =
-    let Fault = IsFirstFault steps (Reader (Some lines)) reading bytes in
+    let Fault = IsFirstPrepareFault steps (Reader (Some lines)) reading bytes in
     absurd (no_first steps lines reading bytes a e (no_access Fault e gs) h (either steps lines reading bytes e (refusal_stated Fault e gs g)))
 one_preparation steps lines reading bytes (Err d) (Ok b) h g hs gs =
-    let Fault = IsFirstFault steps (Reader (Some lines)) reading bytes in
+    let Fault = IsFirstPrepareFault steps (Reader (Some lines)) reading bytes in
     absurd (no_first steps lines reading bytes b d (no_access Fault d hs) g (either steps lines reading bytes d (refusal_stated Fault d hs h)))
 one_preparation steps lines reading bytes (Err d) (Err e) h g hs gs =
-    let Fault = IsFirstFault steps (Reader (Some lines)) reading bytes in
+    let Fault = IsFirstPrepareFault steps (Reader (Some lines)) reading bytes in
     ap Err (one_first steps lines reading bytes d e (no_access Fault d hs) (no_access Fault e gs)
     (either steps lines reading bytes d (refusal_stated Fault d hs h)) (either steps lines reading bytes e (refusal_stated Fault e gs g)))

@@ -1,7 +1,7 @@
 -- The stages of preparing an object, put together.
 use Rattle.std.proofs.Common.{◌≡◌, ℕ, Bool, true, false, List, Option, Some, None, refl, subst, sym}
 use Rattle.std.specs.Prelude.{MatchBool, Result, Ok, Err, OnOk, IfOk, IfErr, IsErrAnd}
-use Rattle.ebpf_object.specs.Prepared.{Stages, before_calls, before_externs, before_resolution, before_maps, IsStageFault, IsFirstFault, IsPrepared, IsParsed, RefusesPreparing, NamesNothing, is_memory}
+use Rattle.ebpf_object.specs.Prepared.{Stages, before_calls, before_externs, before_resolution, before_maps, IsStageFault, IsFirstPrepareFault, IsPrepared, IsParsed, RefusesPreparing, NamesNothing, is_memory}
 use Rattle.ebpf_ksyms.specs.Sources.{Source}
 use Rattle.ebpf_object.specs.Objects.{object_as, parse_fault_as}
 use Rattle.ebpf_object.specs.StageFaults.{Wrapped}
@@ -150,7 +150,7 @@ module _ (steps : Chosen) (lines : Source) (o : Object) where
 
 -- ---- with parsing before the stages
 
-first_of : (steps : Chosen) (lines : Source) (reading : Reading) (bytes : List ℕ) → parse_fault_as reading bytes ≡ None → (e : PrepareError) → IsStageFault steps lines (object_as reading bytes) e → IsFirstFault steps lines reading bytes e
+first_of : (steps : Chosen) (lines : Source) (reading : Reading) (bytes : List ℕ) → parse_fault_as reading bytes ≡ None → (e : PrepareError) → IsStageFault steps lines (object_as reading bytes) e → IsFirstPrepareFault steps lines reading bytes e
 first_of steps lines reading bytes sound (Parse e) f = elim f [ ]
 first_of steps lines reading bytes sound (Types e) f = (sound, f)
 first_of steps lines reading bytes sound (Maps e) f = (sound, f)
@@ -168,7 +168,7 @@ module _ (steps : Chosen) (lines : Source) (reading : Reading) (bytes : List ℕ
   pub prepared_file : (after : Object) → Stages steps lines o after → IsPrepared steps lines reading bytes after
   prepared_file after stages = record { sound = from.sound; stages = subst (λ (x : Object). Stages steps lines x after) from.is stages }
 
-  pub file_refused : (e : PrepareError) → RefusesPreparing (IsStageFault steps lines o) e → RefusesPreparing (IsFirstFault steps lines reading bytes) e
+  pub file_refused : (e : PrepareError) → RefusesPreparing (IsStageFault steps lines o) e → RefusesPreparing (IsFirstPrepareFault steps lines reading bytes) e
   file_refused e r =
-      other_fault (is_memory e) (NamesNothing e) (IsStageFault steps lines (object_as reading bytes) e) (IsFirstFault steps lines reading bytes e) (first_of steps lines reading bytes from.sound e)
+      other_fault (is_memory e) (NamesNothing e) (IsStageFault steps lines (object_as reading bytes) e) (IsFirstPrepareFault steps lines reading bytes e) (first_of steps lines reading bytes from.sound e)
       (subst (λ (x : Object). RefusesPreparing (IsStageFault steps lines x) e) from.is r)

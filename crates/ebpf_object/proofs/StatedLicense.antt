@@ -19,7 +19,7 @@ use Rattle.ebpf_elf.specs.declared.entries.SectionIndex.{SectionIndex}
 use Rattle.ebpf_btf.specs.TypeInfo.{TypeInfo}
 use Rattle.ebpf_parsing.specs.FileContents.{is_type_information, section_infos, name_entries}
 use Rattle.ebpf_parsing.specs.FileTypes.{type_info_names, type_names, ext_names, names_in, ext_names_beside, btf_of}
-use Rattle.ebpf_parsing.specs.OfSection.{name_in}
+use Rattle.ebpf_parsing.specs.OfSection.{section_info_entry}
 use Rattle.ebpf_parsing.specs.LicenseAndVersion.{first_section_named}
 use Rattle.ebpf_parts.specs.Sections.{name_or_empty, section_of, section_with}
 
@@ -79,14 +79,14 @@ found : (k a : Bool) (s : SectionOf) (rest : Option SectionOf) → a ≡ is_some
 found true a s rest h = refl
 found false a s rest h = h
 
-one_section : (t n : Bool) (s : SectionOf) (others : List SectionOf) (rest : Option SectionOf) → n ≡ (not t && is_license (name_or_empty s)) → list_any names_license (flat_map name_in (map section_of others)) ≡ is_some rest → list_any names_license (flat_map name_in (map section_of (cond (not t) (s ∷ others) others))) ≡ is_some (cond n (Some s) rest)
+one_section : (t n : Bool) (s : SectionOf) (others : List SectionOf) (rest : Option SectionOf) → n ≡ (not t && is_license (name_or_empty s)) → list_any names_license (flat_map section_info_entry (map section_of others)) ≡ is_some rest → list_any names_license (flat_map section_info_entry (map section_of (cond (not t) (s ∷ others) others))) ≡ is_some (cond n (Some s) rest)
 unfolding section_of section_with
 one_section true n s others rest is h = h ∙ ap (λ b. is_some (cond b (Some s) rest)) (sym is)
 one_section false n s others rest is h =
-    found (is_license (name_or_empty s)) (list_any names_license (flat_map name_in (map section_of others))) s rest h
+    found (is_license (name_or_empty s)) (list_any names_license (flat_map section_info_entry (map section_of others))) s rest h
     ∙ ap (λ b. is_some (cond b (Some s) rest)) (sym is)
 
-any_section : (ss : List SectionOf) → list_any names_license (flat_map name_in (map section_of (filter (λ s. not (is_type_information s)) ss))) ≡ is_some (find (λ s. is_name license (section_name s)) ss)
+any_section : (ss : List SectionOf) → list_any names_license (flat_map section_info_entry (map section_of (filter (λ s. not (is_type_information s)) ss))) ≡ is_some (find (λ s. is_name license (section_name s)) ss)
 any_section [] = refl
 any_section (s ∷ ss) =
     one_section (is_type_information s) (is_name license (section_name s)) s (filter (λ s. not (is_type_information s)) ss) (find (λ s. is_name license (section_name s)) ss) (one_name (section_name s)) (any_section ss)

@@ -15,7 +15,7 @@ pub mod Steps
 pub mod Stages
 pub mod StageFaults
 pub mod Prepared
-pub mod KeptParts
+pub mod UnchangedFields
 pub mod OnePreparation
 pub mod Chain
 pub mod BothReadings

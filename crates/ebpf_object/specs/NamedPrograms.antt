@@ -6,9 +6,9 @@ use Rattle.ebpf_parts.specs.declared.insn.bpf_insn.{bpf_insn}
 use Rattle.ebpf_model.specs.declared.function.Function.{Function}
 
 -- the function at the key of the program with a name
-abbrev pub program_function : Object → List ℕ → Option Function
-program_function o name = option_and_then (λ p. get o.functions (p.section_index, p.address)) (get o.programs name)
+abbrev pub function_of_named_program : Object → List ℕ → Option Function
+function_of_named_program o name = option_and_then (λ p. get o.functions (p.section_index, p.address)) (get o.programs name)
 
 -- its slots
 abbrev pub program_slots : Object → List ℕ → Option (List bpf_insn)
-program_slots o name = option_map (λ f. f.instructions) (program_function o name)
+program_slots o name = option_map (λ f. f.instructions) (function_of_named_program o name)

@@ -5,7 +5,7 @@ use Rattle.ebpf_core_relo.specs.Answers.{without_texts_at}
 use Rattle.ebpf_ksyms.specs.Sources.{Source, Reader}
 use Rattle.ebpf_ksyms.specs.declared.error.KsymsError.{KsymsError}
 use Rattle.ebpf_ksyms.specs.declared.error.KsymsError.TheVariants.{KallsymsAccessError}
-use Rattle.ebpf_object.specs.Prepared.{IsStageFault, IsFirstFault, IsPrepared, RefusesPreparing, Stages, is_memory}
+use Rattle.ebpf_object.specs.Prepared.{IsStageFault, IsFirstPrepareFault, IsPrepared, RefusesPreparing, Stages, is_memory}
 use Rattle.ebpf_object.specs.Steps.{Chosen}
 use Rattle.ebpf_object.specs.declared.object.Object.{Object}
 use Rattle.ebpf_object.specs.declared.prepare_error.PrepareError.{PrepareError}
@@ -30,13 +30,13 @@ is_open (Ok o) = false
 is_open (Err e) = is_memory e || is_access e
 
 -- a refusal without the texts in it that are for people to read
-abbrev pub without_texts : PrepareError → PrepareError
-without_texts (Types e) = Types (without_texts_at e)
-without_texts e = e
+abbrev pub prepare_error_without_texts : PrepareError → PrepareError
+prepare_error_without_texts (Types e) = Types (without_texts_at e)
+prepare_error_without_texts e = e
 
 abbrev pub answer_without_texts : Answer → Answer
 answer_without_texts (Ok o) = Ok o
-answer_without_texts (Err e) = Err (without_texts e)
+answer_without_texts (Err e) = Err (prepare_error_without_texts e)
 
 -- what the stages may answer of an object
 abbrev pub MayStage : Chosen → Source → Object → Answer → Type 0
@@ -46,7 +46,7 @@ MayStage steps lines o (Err e) = RefusesPreparing (IsStageFault steps lines o) e
 -- what preparing may answer of a file in a reading
 abbrev pub MayPrepare : Chosen → Source → Reading → List ℕ → Answer → Type 0
 MayPrepare steps lines reading bytes (Ok o) = IsPrepared steps lines reading bytes o
-MayPrepare steps lines reading bytes (Err e) = RefusesPreparing (IsFirstFault steps lines reading bytes) e
+MayPrepare steps lines reading bytes (Err e) = RefusesPreparing (IsFirstPrepareFault steps lines reading bytes) e
 
 -- any two of these answers are the same
 abbrev pub IsOne : (Answer → Type 0) → Type 0

@@ -68,9 +68,9 @@ module _ (steps : Chosen) (lines : Source) where
     pub stages : Stages steps lines (object_as reading bytes) o
 
   -- the first fault: the file's own, or that of a stage of its object
-  abbrev pub IsFirstFault : Reading → List ℕ → PrepareError → Type 0
-  IsFirstFault reading bytes (Parse e) = parse_fault_as reading bytes ≡ Some e
-  IsFirstFault reading bytes e = (parse_fault_as reading bytes ≡ None) × IsStageFault (object_as reading bytes) e
+  abbrev pub IsFirstPrepareFault : Reading → List ℕ → PrepareError → Type 0
+  IsFirstPrepareFault reading bytes (Parse e) = parse_fault_as reading bytes ≡ Some e
+  IsFirstPrepareFault reading bytes e = (parse_fault_as reading bytes ≡ None) × IsStageFault (object_as reading bytes) e
 
 -- an object as the bytes of a file are parsed in a reading
 pub record IsParsed (reading : Reading) (bytes : List ℕ) (o : Object) : Type 0 where

@@ -2,7 +2,7 @@
 
 ghost use Rattle.std.specs.Prelude.{◌≡◌, option_map};
 ghost use Rattle.std.specs.Option.{option_copied};
-ghost use Rattle.ebpf_object.specs.NamedPrograms.{program_function, program_slots};
+ghost use Rattle.ebpf_object.specs.NamedPrograms.{function_of_named_program, program_slots};
 
 use crate::object::Object;
 use ebpf_model::Function;
@@ -13,7 +13,7 @@ impl Object {
     /// function that it reaches behind them. `None` where no program has the name, or the program no function, as never
     /// in a parsed object.
     pub fn program_function(&self, name: &str) -> Option<&Function>
-        ensures { option_copied result ≡ program_function self.now name.now }
+        ensures { option_copied result ≡ function_of_named_program self.now name.now }
     {
         match self.programs.get(name) {
             Some(program) => self.functions.get(program.function_key()),

@@ -2,9 +2,9 @@
 
 ghost use Rattle.std.specs.Prelude.{◌≡◌, ℕ, List, IfOk, IfErr, OnOk, OnErr};
 ghost use Rattle.ebpf_object.specs.Headline.{Headline};
-ghost use Rattle.ebpf_object.specs.KeptParts.{KeepsOthers};
+ghost use Rattle.ebpf_object.specs.UnchangedFields.{KeepsOthers};
 ghost use Rattle.ebpf_object.specs.Objects.{object_of};
-ghost use Rattle.ebpf_object.specs.Prepared.{IsParsed, IsStageFault, IsFirstFault, RefusesPreparing, Stages};
+ghost use Rattle.ebpf_object.specs.Prepared.{IsParsed, IsStageFault, IsFirstPrepareFault, RefusesPreparing, Stages};
 ghost use Rattle.ebpf_object.specs.Steps.{chosen};
 ghost use Rattle.ebpf_parts.specs.declared.reading.Reading.{Reading};
 ghost use Rattle.ebpf_parts.specs.declared.reading.Reading.TheVariants.{Stated};
@@ -68,7 +68,7 @@ pub fn prepare_object<K: SymbolSource>(
     ensures headline { (reading : Reading) (file : List ℕ) → IsParsed reading file object → IfOk result (Headline (chosen steps.now) (K.source kallsyms) reading file) }
     ensures others_stay { IfOk result (KeepsOthers object) }
     ensures fault { IfErr result (RefusesPreparing (IsStageFault (chosen steps.now) (K.source kallsyms) object)) }
-    ensures first_fault { (reading : Reading) (file : List ℕ) → IsParsed reading file object → IfErr result (RefusesPreparing (IsFirstFault (chosen steps.now) (K.source kallsyms) reading file)) }
+    ensures first_fault { (reading : Reading) (file : List ℕ) → IsParsed reading file object → IfErr result (RefusesPreparing (IsFirstPrepareFault (chosen steps.now) (K.source kallsyms) reading file)) }
 {
     run_all(alloc, object, steps, kallsyms)
 }
@@ -89,7 +89,7 @@ pub fn prepare_copy<K: SymbolSource>(
     ensures headline { (reading : Reading) (file : List ℕ) → IsParsed reading file object.now → IfOk result (Headline (chosen steps.now) (K.source kallsyms) reading file) }
     ensures others_stay { IfOk result (KeepsOthers object.now) }
     ensures fault { IfErr result (RefusesPreparing (IsStageFault (chosen steps.now) (K.source kallsyms) object.now)) }
-    ensures first_fault { (reading : Reading) (file : List ℕ) → IsParsed reading file object.now → IfErr result (RefusesPreparing (IsFirstFault (chosen steps.now) (K.source kallsyms) reading file)) }
+    ensures first_fault { (reading : Reading) (file : List ℕ) → IsParsed reading file object.now → IfErr result (RefusesPreparing (IsFirstPrepareFault (chosen steps.now) (K.source kallsyms) reading file)) }
 {
     let Ok(copy) = object.clone() else {
         return Err(PrepareError::OutOfMemory);
@@ -113,7 +113,7 @@ pub fn prepare_in_place<K: SymbolSource>(
     ensures headline { (reading : Reading) (file : List ℕ) → IsParsed reading file object.old → OnOk result (Headline (chosen steps.now) (K.source kallsyms) reading file object.new) }
     ensures others_stay { KeepsOthers object.old object.new }
     ensures fault { IfErr result (RefusesPreparing (IsStageFault (chosen steps.now) (K.source kallsyms) object.old)) }
-    ensures first_fault { (reading : Reading) (file : List ℕ) → IsParsed reading file object.old → IfErr result (RefusesPreparing (IsFirstFault (chosen steps.now) (K.source kallsyms) reading file)) }
+    ensures first_fault { (reading : Reading) (file : List ℕ) → IsParsed reading file object.old → IfErr result (RefusesPreparing (IsFirstPrepareFault (chosen steps.now) (K.source kallsyms) reading file)) }
     ensures unchanged { OnErr result (object.new ≡ object.old) }
 {
     let Ok(functions) = copy_keys(&object.functions) else {
@@ -151,7 +151,7 @@ pub fn prepare<K: SymbolSource>(
 ) -> Result<Object, PrepareError>
     ensures headline { IfOk result (Headline (chosen steps.now) (K.source kallsyms) Stated bytes.now) }
     ensures others_stay { IfOk result (λ o. KeepsOthers (object_of bytes.now) o) }
-    ensures fault { IfErr result (RefusesPreparing (IsFirstFault (chosen steps.now) (K.source kallsyms) Stated bytes.now)) }
+    ensures fault { IfErr result (RefusesPreparing (IsFirstPrepareFault (chosen steps.now) (K.source kallsyms) Stated bytes.now)) }
 {
     match Object::parse(alloc, bytes) {
         Ok(object) => prepare_object(alloc, object, steps, kallsyms),

@@ -2,7 +2,7 @@
 
 ghost use Rattle.std.specs.Prelude.{◌≡◌, None, Some, OnOk, OnErr, IfErr, MatchBool};
 ghost use Rattle.std.specs.Iterator.{IsFinite};
-ghost use Rattle.ebpf_passes.specs.Passes.{Given};
+ghost use Rattle.ebpf_passes.specs.Passes.{HoldsOfGivenMaps};
 ghost use Rattle.ebpf_passes.specs.Relocated.{out_of_memory};
 ghost use Rattle.ebpf_model.specs.TextSections.{text_sections_in};
 ghost use Rattle.ebpf_model.specs.Memory.{is_memory_at};
@@ -37,8 +37,8 @@ impl Object {
     ) -> Result<(), EbpfRelocationError>
         requires can { I.can_next maps }
         requires ends { IsFinite (I.remaining maps) }
-        ensures ok { OnOk result (Given I.next_gives maps (λ given. (self.new ≡ with_maps self.old (text_sections_in text_sections.now) given) × (maps_fault self.old (text_sections_in text_sections.now) given ≡ None))) }
-        ensures fault { IfErr result (λ e. MatchBool (is_memory_at e) (e ≡ out_of_memory) (Given I.next_gives maps (λ given. maps_fault self.old (text_sections_in text_sections.now) given ≡ Some e))) }
+        ensures ok { OnOk result (HoldsOfGivenMaps I.next_gives maps (λ given. (self.new ≡ with_maps self.old (text_sections_in text_sections.now) given) × (maps_fault self.old (text_sections_in text_sections.now) given ≡ None))) }
+        ensures fault { IfErr result (λ e. MatchBool (is_memory_at e) (e ≡ out_of_memory) (HoldsOfGivenMaps I.next_gives maps (λ given. maps_fault self.old (text_sections_in text_sections.now) given ≡ Some e))) }
         ensures others_stay { self.new ≡ record self.old { functions = self.new.functions } }
         ensures err { OnErr result (self.new ≡ self.old) }
     {

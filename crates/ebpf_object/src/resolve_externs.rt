@@ -3,7 +3,7 @@
 ghost use Rattle.std.specs.Prelude.{◌≡◌, IfErr, MatchBool, OnErr, OnOk, ⊤};
 ghost use Rattle.std.specs.Iterator.{IsFinite};
 ghost use Rattle.std.specs.Option.{option_copied};
-ghost use Rattle.ebpf_ksyms.specs.Externs.{IsRefused, IsResolved};
+ghost use Rattle.ebpf_ksyms.specs.Externs.{IsResolutionFault, IsResolved};
 ghost use Rattle.ebpf_ksyms.specs.Faults.{is_memory};
 ghost use Rattle.ebpf_ksyms.specs.Readers.{IsRefusedIn, IsResolvedIn};
 ghost use Rattle.ebpf_ksyms.specs.Sources.{IsRefusedFrom, IsResolvedFrom};
@@ -39,7 +39,7 @@ impl Object {
         requires can { I.can_next lines }
         requires ends { IsFinite (I.remaining lines) }
         ensures ok { OnOk result (IsResolved I.next_gives lines self.old.btf (option_copied kernel_btf.entry) self.old.externs self.new.externs) }
-        ensures fault { IfErr result (λ e. MatchBool (is_memory e) ⊤ (IsRefused I.next_gives lines self.old.btf (option_copied kernel_btf.entry) self.old.externs e)) }
+        ensures fault { IfErr result (λ e. MatchBool (is_memory e) ⊤ (IsResolutionFault I.next_gives lines self.old.btf (option_copied kernel_btf.entry) self.old.externs e)) }
         ensures others_stay { self.new ≡ record self.old { externs = self.new.externs } }
         ensures unchanged { OnErr result (self.new ≡ self.old) }
     {

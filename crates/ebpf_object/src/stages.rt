@@ -2,7 +2,7 @@
 
 ghost use Rattle.std.specs.Prelude.{◌≡◌, None, Some, option_map, is_some, OnOk, IfErr};
 ghost use Rattle.std.specs.Option.{option_copied};
-ghost use Rattle.ebpf_object.specs.KeptParts.{KeepsOthers};
+ghost use Rattle.ebpf_object.specs.UnchangedFields.{KeepsOthers};
 ghost use Rattle.ebpf_object.specs.Prepared.{Stages, IsStageFault, RefusesPreparing};
 ghost use Rattle.ebpf_object.specs.Stages.{RelocatesTypes, TypesFault, Resolves, ResolvingFault, with_externs_if, externs_fault_if, LinksPrograms, LinkingFault, fds_written, fds_fault};
 ghost use Rattle.ebpf_object.specs.StageFaults.{Wrapped};

@@ -6,7 +6,7 @@ use Rattle.ebpf_base.proofs.Keyed.{put_all-flat_map}
 use Rattle.ebpf_btf.specs.TypeInfo.{TypeInfo}
 use Rattle.ebpf_elf.specs.Sections.{SectionOf}
 use Rattle.ebpf_parsing.specs.FileContents.{is_type_information, read_fault, symbols_at}
-use Rattle.ebpf_parsing.specs.OfSection.{maps_in, programs_in, functions_in, relocations_in, name_in}
+use Rattle.ebpf_parsing.specs.OfSection.{maps_in, programs_in, functions_in, relocations_in, section_info_entry}
 use Rattle.ebpf_parsing.specs.ObjectTables.{added, all_added}
 use Rattle.ebpf_parsing.specs.Symbols.{SymbolValue, section_symbols}
 use Rattle.ebpf_parsing.specs.declared.object_tables.ObjectTables.{ObjectTables}
@@ -27,7 +27,7 @@ all_more metadata p symbols s rest = λ i. record {
   programs = put_all-flat_map (λ t. programs_in metadata.reading metadata.license metadata.kernel_version t (symbols_at symbols t)) p.programs s rest i;
   functions = put_all-flat_map (λ t. functions_in metadata.btf_ext t (symbols_at symbols t)) p.functions s rest i;
   relocations = put_all-flat_map relocations_in p.relocations s rest i;
-  section_infos = put_all-flat_map name_in p.section_infos s rest i;
+  section_infos = put_all-flat_map section_info_entry p.section_infos s rest i;
 }
 
 -- a section that holds type information is none of them

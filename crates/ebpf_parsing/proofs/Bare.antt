@@ -14,7 +14,7 @@ use Rattle.ebpf_parsing.specs.DataMaps.{data_definition, data_flags, data_bytes,
 use Rattle.ebpf_parsing.specs.BtfDefinedMaps.{btf_defined_maps, btf_defined_maps_fault}
 use Rattle.ebpf_parsing.specs.LastData.{is_index, last_maps, put_by, added_last}
 use Rattle.ebpf_parsing.specs.LegacyMaps.{legacy_map, legacy_fault, legacy_maps_fault}
-use Rattle.ebpf_parsing.specs.OfSection.{programs_by, functions_by, fault_by, fault_in, programs_in, functions_in, relocations_in, name_in, program_section_faults}
+use Rattle.ebpf_parsing.specs.OfSection.{programs_by, functions_by, fault_by, fault_in, programs_in, functions_in, relocations_in, section_info_entry, program_section_faults}
 use Rattle.ebpf_parsing.specs.ObjectTables.{added}
 use Rattle.ebpf_parsing.specs.Programs.{programs_of, program_function, program_fault, with_key}
 use Rattle.ebpf_parsing.specs.Records.{FuncAndLineInfo, func_and_line_info_of}
@@ -142,5 +142,5 @@ module _ (list : List ElfRelocation) (s : SectionValue) where
     programs = put_all before.programs (programs_same metadata.reading metadata.license metadata.kernel_version ys s.kind i);
     functions = put_all before.functions (map with_key (functions_same (func_and_line_info_of metadata.btf_ext s.name) ys s.kind i));
     relocations = put_all before.relocations (relocations_in p);
-    section_infos = put_all before.section_infos (name_in s);
+    section_infos = put_all before.section_infos (section_info_entry s);
   }

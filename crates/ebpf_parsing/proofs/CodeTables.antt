@@ -22,7 +22,7 @@ use Rattle.ebpf_parts.specs.declared.section_kind.EbpfSectionKind.TheVariants.{T
 module _ (bytes : List ℕ) (i : ℕ) (s : SectionValue) (here : slice_get (object_sections bytes) i ≡ Some s) where
   of_code : (rs : List ElfRelocation) → s.relocations ≡ rs → (s.kind ≡ Text) ⊎ (s.kind ≡ Programs) → AllByRecursion (λ e. IsTableOfCode bytes e.0 e.1) (relocation_table_at s.index.0 rs)
   of_code [] e kind = tt
-  of_code (r ∷ rs) e kind = (record { place = i; section = s; here = here; numbered = refl; kind = kind; own = ap relocations_by_offset (sym e) }, tt)
+  of_code (r ∷ rs) e kind = (record { index = i; section = s; here = here; numbered = refl; kind = kind; own = ap relocations_by_offset (sym e) }, tt)
 
   of_kind : (kind : EbpfSectionKind) → s.kind ≡ kind → AllByRecursion (λ e. IsTableOfCode bytes e.0 e.1) (relocations_by kind s)
   of_kind Programs e = of_code s.relocations refl (inr e)
@@ -58,5 +58,5 @@ pub relocations_name_symbols : RelocationsNameSymbols
 relocations_name_symbols reading bytes clear section table e o r at =
     let code = tables_of_code bytes section table e in
     let rs = code.section.relocations in
-    let named = clear_test (list_any (λ x. x.symbol_index == 0) rs) (targets_clear reading bytes clear code.place code.section code.here) in
+    let named = clear_test (list_any (λ x. x.symbol_index == 0) rs) (targets_clear reading bytes clear code.index code.section code.here) in
     stands nat_cmp exact_unsigned (λ k x. x.symbol_index ≢ 0) o later_number_stands (map offset_of rs) (all_named rs named) r (ap (λ t. get t o) (sym code.own) ∙ at)

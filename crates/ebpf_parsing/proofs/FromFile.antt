@@ -7,7 +7,7 @@ use Rattle.ebpf_elf.specs.File.{section_count}
 use Rattle.ebpf_elf.specs.RelocationTables.{holds_relocations}
 use Rattle.ebpf_elf.specs.Relocations.{relocation_sections, relocation_sections_in, relocated_section}
 use Rattle.ebpf_elf.specs.Sections.{SectionOf, sections}
-use Rattle.ebpf_elf.specs.SymbolTable.{symbol_table}
+use Rattle.ebpf_elf.specs.SymbolTable.{symbol_table_section}
 use Rattle.ebpf_parsing.specs.EntryRanges.{AreOf, AreOfOneFile}
 
 pub some_same : {X : Type 0} (x y : X) → Some x ≡ Some y → x ≡ y
@@ -34,7 +34,7 @@ tables_in file None = tt
 tables_in file (Some t) = some_from file (λ s. holds_relocations s.file t s.index) (sections file) (all_from file)
 
 pub tables_from : (file : List ℕ) → AreOf file (relocation_sections file)
-tables_from file = tables_in file (symbol_table file)
+tables_from file = tables_in file (symbol_table_section file)
 
 one_file : (file : List ℕ) (xs : List SectionOf) → AreOf file xs → AreOfOneFile xs
 one_file file [] h = tt

@@ -2,7 +2,7 @@ pub mod AddedLemmas
 pub mod FirstNames
 pub mod FromFile
 pub mod Grouped
-pub mod Kept
+pub mod KeptRelocations
 pub mod Offsets
 pub mod ExtTables
 pub mod TextLemmas

@@ -15,7 +15,7 @@ use Rattle.ebpf_declarations.specs.Attempts.{given}
 use Rattle.ebpf_declarations.specs.DataSections.{DatasecMatch, Named, UnreadableName, datasec_match}
 use Rattle.ebpf_declarations.specs.Maps.{declared, map_at, entry_map, type_maps, map_with_symbol, matched_maps as maps_of_entries}
 use Rattle.ebpf_declarations.specs.declared.definitions.MapDefinitions.{MapDefinitions}
-use Rattle.ebpf_elf.specs.SymbolTable.{symbol_table as table_of}
+use Rattle.ebpf_elf.specs.SymbolTable.{symbol_table_section as table_of}
 use Rattle.ebpf_elf.specs.Symbols.{symbols_in}
 use Rattle.ebpf_parsing.specs.FileContents.{maps_as, map_entries, object_sections, own_symbols}
 use Rattle.ebpf_parsing.specs.DataMaps.{data_map, data_maps}
@@ -71,9 +71,9 @@ module _ (bytes : List ℕ) where
 
   -- the table has each symbol of the file at its number
   at_number : (y : SymbolValue) → IsOfFile y → Among y (file_symbols bytes) → get (symbol_table (file_symbols bytes)) y.index ≡ Some (symbol_entry y).1
-  at_number y own place =
-      let entry : slice_get (map symbol_entry (file_symbols bytes)) place.0 ≡ Some (symbol_entry y) = slice_get-map symbol_entry (file_symbols bytes) place.0 ∙ ap (option_map symbol_entry) place.1 in
-      let found = known nat_cmp nat_cmp_total y.index later_number_stands (map symbol_entry (file_symbols bytes)) (symbol_entry y).1 (place.0, entry) in
+  at_number y own index =
+      let entry : slice_get (map symbol_entry (file_symbols bytes)) index.0 ≡ Some (symbol_entry y) = slice_get-map symbol_entry (file_symbols bytes) index.0 ∙ ap (option_map symbol_entry) index.1 in
+      let found = known nat_cmp nat_cmp_total y.index later_number_stands (map symbol_entry (file_symbols bytes)) (symbol_entry y).1 (index.0, entry) in
       let is = symbols_stand bytes y.index found.0 found.1 in
       let one : Some is.table ≡ Some own.0 = sym is.of_file ∙ own.1.0 in
       let same : is.table ≡ own.0 = cc in
@@ -156,7 +156,7 @@ module _ (bytes : List ℕ) where
   no_symbol s k e = absurd (let no : ⊥ = cc in no)
 
   by_data : (i : ℕ) (s : SectionValue) → slice_get (object_sections bytes) i ≡ Some s → (s.kind ≡ Data) ⊎ ((s.kind ≡ Rodata) ⊎ (s.kind ≡ Bss)) → ArePlaced (data_maps s)
-  by_data i s here kind = ((no_symbol s, (λ e. record { place = i; section = s; here = here; kind = kind; named = refl; own = refl })), tt)
+  by_data i s here kind = ((no_symbol s, (λ e. record { index = i; section = s; here = here; kind = kind; named = refl; own = refl })), tt)
 
   by_kind : (reading : Reading) (types : Option TypeInfo) (i : ℕ) (s : SectionValue) → slice_get (object_sections bytes) i ≡ Some s → (kind : EbpfSectionKind) → s.kind ≡ kind → ArePlaced (maps_by kind reading types s (own_symbols bytes s))
   by_kind reading types i s here Data e = by_data i s here (inl e)

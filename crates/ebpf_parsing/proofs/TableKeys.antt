@@ -17,7 +17,7 @@ use Rattle.ebpf_btf.specs.declared.members.DataSecEntry.{DataSecEntry}
 use Rattle.ebpf_declarations.specs.Attempts.{given}
 use Rattle.ebpf_declarations.specs.DataSections.{matched_entries}
 use Rattle.ebpf_declarations.specs.Externs.{extern_of, extern_types, ksyms_datasec}
-use Rattle.ebpf_elf.specs.SymbolTable.{symbol_table as table_of}
+use Rattle.ebpf_elf.specs.SymbolTable.{symbol_table_section as table_of}
 use Rattle.ebpf_elf.specs.Symbols.{symbols_in}
 use Rattle.ebpf_elf.specs.declared.entries.ElfRelocation.{ElfRelocation}
 use Rattle.ebpf_parsing.specs.FileContents.{programs_as, functions, relocation_tables, object_sections, own_symbols, function_entries, program_entries, relocation_entries}

@@ -19,7 +19,7 @@ use Rattle.ebpf_elf.specs.declared.entries.ElfRelocation.{ElfRelocation}
 use Rattle.ebpf_parsing.proofs.FromFile.{some_same}
 use Rattle.ebpf_parsing.proofs.LastEntries.{equal, last_at-append}
 use Rattle.ebpf_parsing.proofs.Lasts.{has, false_is_not, any-append, whatever, none_last, Lasts, another, fewer_lasts}
-use Rattle.ebpf_parsing.specs.EntryRanges.{entry_range_cmp, entry_range_total, entry_range_of, entries_at, lacks_symbol, AreCached, AreOf, table_row}
+use Rattle.ebpf_parsing.specs.EntryRanges.{entry_range_cmp, entry_range_total, entry_range_of, entries_at, lacks_symbol, EntryRangesAreCached, AreOf, table_row}
 use Rattle.ebpf_parsing.specs.LastData.{is_index}
 use Rattle.ebpf_parsing.specs.Relocations.{offset_of}
 use Rattle.ebpf_parts.proofs.Tables.{tables_more, tables_none, target_append}
@@ -34,10 +34,10 @@ pub at_places : (s : SectionOf) → table_entries s ≡ entries_at s.file (entry
 unfolding table_entry
 at_places s = refl
 
-pub cached_is : (s : SectionOf) (cached : FinMap entry_range_cmp Bool) (lacks : Bool) → AreCached s.file cached → get cached (entry_range_of s) ≡ Some lacks → lacks ≡ lacks_symbol (table_entries s)
+pub cached_is : (s : SectionOf) (cached : FinMap entry_range_cmp Bool) (lacks : Bool) → EntryRangesAreCached s.file cached → get cached (entry_range_of s) ≡ Some lacks → lacks ≡ lacks_symbol (table_entries s)
 cached_is s cached lacks so at = so (entry_range_of s) lacks at ∙ sym (ap lacks_symbol (at_places s))
 
-pub cached_more : (s : SectionOf) (cached : FinMap entry_range_cmp Bool) (lacks : Bool) → AreCached s.file cached → lacks ≡ lacks_symbol (table_entries s) → AreCached s.file (insert cached (entry_range_of s) lacks)
+pub cached_more : (s : SectionOf) (cached : FinMap entry_range_cmp Bool) (lacks : Bool) → EntryRangesAreCached s.file cached → lacks ≡ lacks_symbol (table_entries s) → EntryRangesAreCached s.file (insert cached (entry_range_of s) lacks)
 cached_more s cached lacks so is p other at = step (eq_by_cmp entry_range_cmp p (entry_range_of s)) refl (sym (get-insert entry_range_total cached (entry_range_of s) lacks p) ∙ at)
   where
     step : (b : Bool) → eq_by_cmp entry_range_cmp p (entry_range_of s) ≡ b → cond b (Some lacks) (get cached p) ≡ Some other → other ≡ lacks_symbol (entries_at s.file p)
@@ -45,7 +45,7 @@ cached_more s cached lacks so is p other at = step (eq_by_cmp entry_range_cmp p 
     step false same found = so p other found
 
 -- nothing is cached at the start
-pub none_cached : (file : List ℕ) (cached : FinMap entry_range_cmp Bool) → cached ≡ empty → AreCached file cached
+pub none_cached : (file : List ℕ) (cached : FinMap entry_range_cmp Bool) → cached ≡ empty → EntryRangesAreCached file cached
 none_cached file cached none p lacks at = absurd (none-some lacks (sym (ap (λ (m : FinMap entry_range_cmp Bool). get m p) none ∙ get-empty entry_range_cmp p) ∙ at))
 
 -- ---- faults

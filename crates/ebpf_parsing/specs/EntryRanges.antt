@@ -39,8 +39,8 @@ abbrev pub lacks_symbol : List ElfRelocation → Bool
 lacks_symbol list = list_any (λ r. r.symbol_index == 0) list
 
 -- what is cached of entry ranges of a file is so
-abbrev pub AreCached : List ℕ → FinMap entry_range_cmp Bool → Type 0
-AreCached bytes cached = (p : EntryRange) (lacks : Bool) → get cached p ≡ Some lacks → lacks ≡ lacks_symbol (entries_at bytes p)
+abbrev pub EntryRangesAreCached : List ℕ → FinMap entry_range_cmp Bool → Type 0
+EntryRangesAreCached bytes cached = (p : EntryRange) (lacks : Bool) → get cached p ≡ Some lacks → lacks ≡ lacks_symbol (entries_at bytes p)
 
 -- the number of a section of relocations, by its entries' places
 abbrev pub table_row : SectionOf → List (EntryRange × ℕ)

@@ -18,7 +18,7 @@ use Rattle.ebpf_elf.specs.declared.entries.SectionIndex.{SectionIndex}
 use Rattle.ebpf_parsing.specs.FileExterns.{types_of, externs_of, file_externs_fault}
 use Rattle.ebpf_parsing.specs.FileSymbols.{file_symbols, symbol_table, symbols_fault}
 use Rattle.ebpf_parsing.specs.FileTypes.{ext_of, type_info_names, file_types_fault}
-use Rattle.ebpf_parsing.specs.OfSection.{maps_in, programs_in, functions_in, relocations_in, name_in, fault_in}
+use Rattle.ebpf_parsing.specs.OfSection.{maps_in, programs_in, functions_in, relocations_in, section_info_entry, fault_in}
 use Rattle.ebpf_parsing.specs.Symbols.{SymbolValue, section_symbols}
 use Rattle.ebpf_parsing.specs.CodeOrder.{order_fault_as}
 use Rattle.ebpf_parsing.specs.LicenseAndVersion.{license_as, license_fault_as, kernel_version_of, version_fault}
@@ -68,7 +68,7 @@ unfoldable pub relocation_entries : List ℕ → List (ℕ × FinMap nat_cmp Elf
 relocation_entries bytes = flat_map relocations_in (object_sections bytes)
 
 unfoldable pub name_entries : List ℕ → List (List ℕ × SectionIndex)
-name_entries bytes = flat_map name_in (object_sections bytes)
+name_entries bytes = flat_map section_info_entry (object_sections bytes)
 
 -- ---- the tables
 

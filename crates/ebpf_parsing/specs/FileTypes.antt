@@ -13,7 +13,7 @@ use Rattle.ebpf_btf.specs.declared.error.BtfError.{BtfError as TypeError}
 use Rattle.ebpf_elf.specs.File.{ei_data}
 use Rattle.ebpf_elf.specs.Sections.{SectionOf}
 use Rattle.ebpf_elf.specs.declared.entries.SectionIndex.{SectionIndex}
-use Rattle.ebpf_parsing.specs.OfSection.{name_in}
+use Rattle.ebpf_parsing.specs.OfSection.{section_info_entry}
 use Rattle.ebpf_parsing.specs.LicenseAndVersion.{first_section_named}
 use Rattle.ebpf_parts.specs.Sections.{section_of, section_fault}
 use Rattle.ebpf_parts.specs.declared.error.ParseError.{ParseError}
@@ -22,7 +22,7 @@ use Rattle.ebpf_parts.specs.declared.error.ParseError.TheVariants.{BtfError}
 -- a section's number, by its name
 abbrev pub names_in : Option SectionOf → List (List ℕ × SectionIndex)
 names_in None = []
-names_in (Some s) = name_in (section_of s)
+names_in (Some s) = section_info_entry (section_of s)
 
 -- ---- types
 

@@ -6,7 +6,7 @@ use Rattle.ebpf_base.specs.Keyed.{put_all}
 use Rattle.ebpf_base.specs.Keys.{text_cmp}
 use Rattle.ebpf_elf.specs.declared.entries.SectionIndex.{SectionIndex}
 use Rattle.ebpf_parsing.specs.FileContents.{symbols_at, map_entries, program_entries, function_entries, relocation_entries, name_entries}
-use Rattle.ebpf_parsing.specs.OfSection.{maps_in, programs_in, functions_in, relocations_in, name_in}
+use Rattle.ebpf_parsing.specs.OfSection.{maps_in, programs_in, functions_in, relocations_in, section_info_entry}
 use Rattle.ebpf_parsing.specs.Symbols.{SymbolValue}
 use Rattle.ebpf_parsing.specs.declared.object_tables.ObjectTables.{ObjectTables}
 use Rattle.ebpf_parsing.specs.declared.metadata.FileMetadata.{FileMetadata}
@@ -19,7 +19,7 @@ added metadata p s symbols = record {
   programs = put_all p.programs (programs_in metadata.reading metadata.license metadata.kernel_version s symbols);
   functions = put_all p.functions (functions_in metadata.btf_ext s symbols);
   relocations = put_all p.relocations (relocations_in s);
-  section_infos = put_all p.section_infos (name_in s);
+  section_infos = put_all p.section_infos (section_info_entry s);
 }
 
 -- what sections add, one after the other
@@ -29,7 +29,7 @@ all_added metadata p symbols rest = record {
   programs = put_all p.programs (flat_map (λ s. programs_in metadata.reading metadata.license metadata.kernel_version s (symbols_at symbols s)) rest);
   functions = put_all p.functions (flat_map (λ s. functions_in metadata.btf_ext s (symbols_at symbols s)) rest);
   relocations = put_all p.relocations (flat_map relocations_in rest);
-  section_infos = put_all p.section_infos (flat_map name_in rest);
+  section_infos = put_all p.section_infos (flat_map section_info_entry rest);
 }
 
 -- none but the names that were met before

@@ -67,8 +67,8 @@ unfoldable pub relocations_in : SectionValue → List (ℕ × FinMap nat_cmp Elf
 relocations_in s = relocations_by s.kind s
 
 -- the section's number, by its name
-abbrev pub name_in : SectionValue → List (List ℕ × SectionIndex)
-name_in s = (s.name, s.index) ∷ []
+abbrev pub section_info_entry : SectionValue → List (List ℕ × SectionIndex)
+section_info_entry s = (s.name, s.index) ∷ []
 
 -- the faults of a Program section: its name, no symbol, then the programs by symbol
 unfoldable pub program_section_faults : Reading → SectionValue → List SymbolValue → Option ParseError

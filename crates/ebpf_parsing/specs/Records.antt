@@ -17,13 +17,13 @@ pub record FuncAndLineInfo : Type 0 where
   pub line_size : ℕ
 
 -- func info and line info, by the names of sections; a file without `.BTF.ext` has none
-abbrev pub funcs_of : Option ExtInfo → FinMap text_cmp FuncSecInfo
-funcs_of None = empty
-funcs_of (Some x) = x.func_info
+abbrev pub func_info_of : Option ExtInfo → FinMap text_cmp FuncSecInfo
+func_info_of None = empty
+func_info_of (Some x) = x.func_info
 
-abbrev pub lines_of : Option ExtInfo → FinMap text_cmp LineSecInfo
-lines_of None = empty
-lines_of (Some x) = x.line_info
+abbrev pub line_info_of : Option ExtInfo → FinMap text_cmp LineSecInfo
+line_info_of None = empty
+line_info_of (Some x) = x.line_info
 
 -- the sizes of the records
 abbrev pub func_size_of : Option ExtInfo → ℕ
@@ -36,8 +36,8 @@ line_size_of (Some x) = x.line_record_size
 
 abbrev pub func_and_line_info_of : Option ExtInfo → List ℕ → FuncAndLineInfo
 func_and_line_info_of ext name = record {
-  funcs = func_info_at (funcs_of ext) name;
-  lines = line_info_at (lines_of ext) name;
+  funcs = func_info_at (func_info_of ext) name;
+  lines = line_info_at (line_info_of ext) name;
   func_size = func_size_of ext;
   line_size = line_size_of ext;
 }

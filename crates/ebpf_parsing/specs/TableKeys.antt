@@ -2,7 +2,7 @@
 use Rattle.std.specs.Prelude.{◌≡◌, ◌≢◌, ◌⊎◌, ℕ, false, List, Some, None, slice_get}
 use Rattle.std.specs.FinMap.{FinMap, get}
 use Rattle.std.specs.Ordering.{nat_cmp}
-use Rattle.ebpf_elf.specs.SymbolTable.{symbol_table as table_of}
+use Rattle.ebpf_elf.specs.SymbolTable.{symbol_table_section as table_of}
 use Rattle.ebpf_elf.specs.declared.entries.ElfRelocation.{ElfRelocation}
 use Rattle.ebpf_parsing.specs.FileContents.{maps_as, programs_as, functions, relocation_tables, object_sections, parse_fault_as}
 use Rattle.ebpf_parsing.specs.DataMaps.{data_map}
@@ -43,9 +43,9 @@ RelocationsAtTheirOffsets = (bytes : List ℕ) (section : ℕ) (table : FinMap n
 
 -- the relocations of a section of code: Text or Program
 pub record IsTableOfCode (bytes : List ℕ) (number : ℕ) (table : FinMap nat_cmp ElfRelocation) : Type 0 where
-  pub place : ℕ
+  pub index : ℕ
   pub section : SectionValue
-  pub here : slice_get (object_sections bytes) place ≡ Some section
+  pub here : slice_get (object_sections bytes) index ≡ Some section
   pub numbered : section.index.0 ≡ number
   pub kind : (section.kind ≡ Text) ⊎ (section.kind ≡ Programs)
   pub own : table ≡ relocations_by_offset section.relocations
@@ -78,9 +78,9 @@ MapsHaveTheirSymbols = (reading : Reading) (bytes : List ℕ) (name : List ℕ) 
 
 -- the map of a section of data with this name
 pub record IsDataMap (bytes : List ℕ) (name : List ℕ) (m : Map) : Type 0 where
-  pub place : ℕ
+  pub index : ℕ
   pub section : SectionValue
-  pub here : slice_get (object_sections bytes) place ≡ Some section
+  pub here : slice_get (object_sections bytes) index ≡ Some section
   pub kind : (section.kind ≡ Data) ⊎ ((section.kind ≡ Rodata) ⊎ (section.kind ≡ Bss))
   pub named : section.name ≡ name
   pub own : m ≡ data_map section

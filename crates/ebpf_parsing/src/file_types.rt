@@ -10,7 +10,7 @@ ghost use Rattle.ebpf_elf.specs.File.{ei_data};
 ghost use Rattle.ebpf_parsing.specs.FileContents.{is_type_information};
 ghost use Rattle.ebpf_parsing.specs.FileTypes.{btf_of, btf_fault, ext_of, ext_fault, ext_beside, ext_fault_beside, ext_names_beside, ext_in, ext_fault_in, ext_section, names_in, type_names, type_info_names, file_types_fault};
 ghost use Rattle.ebpf_parsing.specs.Groups.{AreTablesOf};
-ghost use Rattle.ebpf_parsing.specs.OfSection.{name_in};
+ghost use Rattle.ebpf_parsing.specs.OfSection.{section_info_entry};
 ghost use Rattle.ebpf_parts.specs.Memory.{is_memory};
 ghost use Rattle.ebpf_parts.specs.declared.error.ParseError.TheVariants.{BtfError as TypeFault};
 
@@ -70,7 +70,7 @@ pub fn remember(
     section_infos: &mut ByName<SectionIndex>,
     section: &Section<'_>,
 ) -> Result<(), ParseError>
-    ensures put { OnOk result (section_infos.new ≡ put_all section_infos.old (name_in section.now)) }
+    ensures put { OnOk result (section_infos.new ≡ put_all section_infos.old (section_info_entry section.now)) }
     ensures memory { IfErr result (λ e. is_memory e ≡ true) }
 {
     section_infos.insert(String::from_str(alloc, section.name)?, section.index)?;

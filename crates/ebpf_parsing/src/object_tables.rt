@@ -56,7 +56,7 @@ pub struct ObjectTables {
 }
 
 /// Puts the relocations of a section that has some.
-#[tactic(auto, using(crate::proofs::Kept::none_kept, crate::proofs::Kept::some_kept))]
+#[tactic(auto, using(crate::proofs::KeptRelocations::none_kept, crate::proofs::KeptRelocations::some_kept))]
 fn put_table(
     alloc: Global,
     relocations: &mut BySection<ByOffset<Relocation>>,

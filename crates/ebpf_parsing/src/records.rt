@@ -137,7 +137,7 @@ impl<'e> FuncRecords<'e> {
     }
 
     /// The records on the function that begins at a slot, their slots counted from another one.
-    #[tactic(auto, using(crate::proofs::EntryRange::funcs_found, crate::proofs::EntryRange::funcs_inside))]
+    #[tactic(auto, using(crate::proofs::RecordIndices::funcs_found, crate::proofs::RecordIndices::funcs_inside))]
     fn records_at(
         &self,
         alloc: Global,
@@ -179,7 +179,7 @@ fn func_from(base: usize, row: &bpf_func_info) -> bpf_func_info
 }
 
 /// A copy of records, their slots counted from another one.
-#[tactic(auto, using(crate::proofs::EntryRange::funcs_kept))]
+#[tactic(auto, using(crate::proofs::RecordIndices::funcs_kept))]
 fn funcs_counted_from(
     alloc: Global,
     rows: &[bpf_func_info],
@@ -229,7 +229,7 @@ fn line_from(base: usize, row: &bpf_line_info) -> bpf_line_info
 }
 
 /// A copy of records, their slots counted from another one.
-#[tactic(auto, using(crate::proofs::EntryRange::lines_kept))]
+#[tactic(auto, using(crate::proofs::RecordIndices::lines_kept))]
 fn lines_counted_from(
     alloc: Global,
     rows: &[bpf_line_info],
@@ -322,7 +322,7 @@ impl<'e> LineRecords<'e> {
     }
 
     /// The records on the lines of so many slots from a slot on, their slots counted from another one.
-    #[tactic(auto, using(crate::proofs::EntryRange::lines_found, crate::proofs::EntryRange::lines_inside))]
+    #[tactic(auto, using(crate::proofs::RecordIndices::lines_found, crate::proofs::RecordIndices::lines_inside))]
     fn records_in(
         &self,
         alloc: Global,

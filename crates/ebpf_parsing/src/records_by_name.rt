@@ -2,7 +2,7 @@
 
 ghost use Rattle.std.specs.Prelude.{◌≡◌, IfOk, IfErr, IfSome, true};
 ghost use Rattle.ebpf_declarations.specs.TypesInReading.{types_in_reading};
-ghost use Rattle.ebpf_parsing.specs.Records.{AreFuncsOf, AreLinesOf, FuncAndLineInfo, func_and_line_info_of, funcs_of, lines_of};
+ghost use Rattle.ebpf_parsing.specs.Records.{AreFuncsOf, AreLinesOf, FuncAndLineInfo, func_and_line_info_of, func_info_of, line_info_of};
 ghost use Rattle.ebpf_parts.specs.Memory.{is_memory};
 
 use crate::records::{FuncRecords, LineRecords, SectionRecords};
@@ -92,8 +92,8 @@ pub struct RecordsByName<'e> {
     ext: &'e Option<BtfExt>,
     funcs: ByName<FuncRecords<'e>>,
     lines: ByName<LineRecords<'e>>,
-    ghost funcs_are: { AreFuncsOf (funcs_of ext.now) funcs },
-    ghost lines_are: { AreLinesOf (lines_of ext.now) lines },
+    ghost funcs_are: { AreFuncsOf (func_info_of ext.now) funcs },
+    ghost lines_are: { AreLinesOf (line_info_of ext.now) lines },
 }
 
 impl<'e> Model for RecordsByName<'e> {

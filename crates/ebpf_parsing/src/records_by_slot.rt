@@ -69,7 +69,7 @@ impl RecordsBySlot {
     }
 
     /// The indices of the records at a slot.
-    #[tactic(auto, using(crate::proofs::EntryRange::at_one_slot))]
+    #[tactic(auto, using(crate::proofs::RecordIndices::at_one_slot))]
     pub fn at(&self, slot: usize) -> &[RecordIndex]
         ensures { result.now ≡ filter (is_at_slot slot) self.now }
     {
@@ -107,7 +107,7 @@ fn indices_of(alloc: Global, places: &[RecordIndex]) -> Result<Vec<usize>, Parse
 }
 
 /// The indices of records on functions.
-#[tactic(auto, using(crate::proofs::EntryRange::places_start, crate::proofs::EntryRange::places_none))]
+#[tactic(auto, using(crate::proofs::RecordIndices::places_start, crate::proofs::RecordIndices::places_none))]
 pub fn func_indices(alloc: Global, records: &[bpf_func_info]) -> Result<Vec<RecordIndex>, ParseError>
     ensures places { IfOk result (λ places. places.items ≡ indices_with (func_slot records.now) (length records.now)) }
     ensures memory { IfErr result (λ e. is_memory e ≡ true) }
@@ -121,7 +121,7 @@ pub fn func_indices(alloc: Global, records: &[bpf_func_info]) -> Result<Vec<Reco
 }
 
 /// The indices of records on lines.
-#[tactic(auto, using(crate::proofs::EntryRange::places_start, crate::proofs::EntryRange::places_none))]
+#[tactic(auto, using(crate::proofs::RecordIndices::places_start, crate::proofs::RecordIndices::places_none))]
 pub fn line_indices(alloc: Global, records: &[bpf_line_info]) -> Result<Vec<RecordIndex>, ParseError>
     ensures places { IfOk result (λ places. places.items ≡ indices_with (line_slot records.now) (length records.now)) }
     ensures memory { IfErr result (λ e. is_memory e ≡ true) }

@@ -6,7 +6,7 @@ ghost use Rattle.std.specs.List.{flat_map};
 ghost use Rattle.ebpf_base.specs.Faults.{Refuses};
 ghost use Rattle.ebpf_base.specs.Keyed.{put_all};
 ghost use Rattle.ebpf_elf.specs.Relocations.{table_entries};
-ghost use Rattle.ebpf_parsing.specs.EntryRanges.{AreCached, AreOfOneFile, lacks_symbol, last_tables};
+ghost use Rattle.ebpf_parsing.specs.EntryRanges.{EntryRangesAreCached, AreOfOneFile, lacks_symbol, last_tables};
 ghost use Rattle.ebpf_parsing.specs.Groups.{AreTablesOf};
 ghost use Rattle.ebpf_parsing.specs.Relocations.{relocations_by_offset, offset_of};
 ghost use Rattle.ebpf_parts.specs.Memory.{is_memory};
@@ -64,9 +64,9 @@ fn read_table<'a>(
     cached: &mut ByEntryRange<bool>,
     section: ElfRelocationSection<'a>,
 ) -> Result<RelocationTable<'a>, ParseError>
-    requires { AreCached section.file cached.old }
+    requires { EntryRangesAreCached section.file cached.old }
     ensures table { IfOk result (λ table. table ≡ section.entry) }
-    ensures cached { OnOk result (AreCached section.entry.file cached.new) }
+    ensures cached { OnOk result (EntryRangesAreCached section.entry.file cached.new) }
     ensures memory { IfErr result (λ e. is_memory e ≡ true) }
 {
     if let Some(known) = cached.get(&section) {

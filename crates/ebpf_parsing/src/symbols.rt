@@ -84,8 +84,8 @@ impl<'a> NamedSymbol<'a> {
     }
 
     /// What an object keeps of it.
-    fn kept(&self, alloc: Global) -> Result<Symbol, ParseError>
-        ensures symbol { IfOk result (λ kept. kept ≡ (symbol_entry self.now).1) }
+    fn owned(&self, alloc: Global) -> Result<Symbol, ParseError>
+        ensures symbol { IfOk result (λ owned. owned ≡ (symbol_entry self.now).1) }
         ensures memory { IfErr result (λ e. is_memory e ≡ true) }
     {
         Ok(Symbol {
@@ -166,7 +166,7 @@ pub fn object_symbols(
     let mut table = ByIndex::from_map(HashMap::with_capacity(alloc, names.len())?);
     for (symbol, name) in file.symbols().zip(names) {
         let symbol = NamedSymbol::named(&symbol, *name);
-        table.insert(symbol.index, symbol.kept(alloc)?)?;
+        table.insert(symbol.index, symbol.owned(alloc)?)?;
     }
     Ok(table)
 }

@@ -10,7 +10,7 @@ use Rattle.ebpf_base.specs.Faults.{or_else}
 use Rattle.ebpf_parts.proofs.KindTypes.{marked_says_none}
 use Rattle.ebpf_parts.specs.ProgramKinds.{is_marked, unmarked}
 use Rattle.ebpf_parts.specs.ProgramSections.{program_section, first_piece, second_piece, lookup_piece, one_piece, two_pieces, cgroup_section, probe_sections, trace_sections, packet_sections, kernel_sections, pair_sections, xdp_sections, sk_skb_sections, sk_reuseport_sections, cgroup_skb_sections, cgroup_sections, socket_events, address_calls}
-use Rattle.ebpf_parts.specs.Readings.{section_as, NoNameSaysOther, BroadKeepsKinds, BroadTakesNames}
+use Rattle.ebpf_parts.specs.Readings.{section_as, NoNameIsOther, BroadKeepsKinds, BroadTakesNames}
 use Rattle.ebpf_parts.specs.declared.program_section.ProgramSection.{ProgramSection}
 use Rattle.ebpf_parts.specs.declared.program_section.ProgramSection.TheVariants.{CgroupSock, CgroupSockAddr, Other}
 use Rattle.ebpf_parts.specs.declared.programs.cgroup_sock.CgroupSockAttachType.{CgroupSockAttachType}
@@ -119,7 +119,7 @@ pairs (Some piece) = (
 none_other : (name : List ℕ) → Named (program_section name)
 none_other name = either _ _ (first (first_piece name)) (flat (pair_sections (second_piece name)) (pairs (second_piece name)) (first_piece name))
 
-pub no_name_says_other : NoNameSaysOther
+pub no_name_says_other : NoNameIsOther
 unfolding is_other
 no_name_says_other name is = let no : true ≡ false = sym (ap is_other is) ∙ none_other name in cc
 

@@ -20,8 +20,8 @@ section_fault_as reading name = no_section name (section_as reading name)
 -- ---- laws
 
 -- no name of the table is of another kind
-abbrev pub NoNameSaysOther : Type 0
-NoNameSaysOther = (name : List ℕ) → program_section name ≢ Some Other
+abbrev pub NoNameIsOther : Type 0
+NoNameIsOther = (name : List ℕ) → program_section name ≢ Some Other
 
 -- what has a kind in the stated reading has it in the broad one
 abbrev pub BroadKeepsKinds : Type 0

@@ -1,7 +1,7 @@
 //! What holds of slots, and of the names of program sections.
 
 ghost use Rattle.ebpf_parts.specs.ProgramKinds.{TypesAgree};
-ghost use Rattle.ebpf_parts.specs.Readings.{NoNameSaysOther, BroadKeepsKinds, BroadTakesNames};
+ghost use Rattle.ebpf_parts.specs.Readings.{NoNameIsOther, BroadKeepsKinds, BroadTakesNames};
 ghost use Rattle.ebpf_parts.specs.SlotBytes.{SlotIsBytes, SlotsAreBytes};
 
 /// The bytes of a slot are the eight that it was read of, and the bytes of all slots, one after the other, are those that they were
@@ -19,7 +19,7 @@ pub fn kinds_of_names_agree()
 /// No name of the table says `Other`: `ProgramSection::from_str` never gives it. What a name says there it says in the
 /// broad reading too, which refuses no name.
 pub fn names_are_read()
-    ensures stated { NoNameSaysOther }
+    ensures stated { NoNameIsOther }
     ensures kept { BroadKeepsKinds }
     ensures taken { BroadTakesNames }
 {}

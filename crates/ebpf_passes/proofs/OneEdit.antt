@@ -7,7 +7,7 @@ use Rattle.ebpf_parts.specs.declared.insn.bpf_insn.{bpf_insn}
 use Rattle.ebpf_passes.specs.declared.edit.Edit.{Edit}
 use Rattle.ebpf_passes.specs.declared.edit.Edit.TheVariants.{Stay, Slot, Pair}
 use Rattle.ebpf_passes.specs.Edits.{slot_or_zeros, edited, edited_next, found_slot, slot_after}
-use Rattle.ebpf_passes.specs.InPlaceEdits.{applied}
+use Rattle.ebpf_passes.specs.InPlaceEdits.{slots_after_edit}
 
 abbrev pub zeros : bpf_insn
 zeros = record { code = 0; regs = 0; off = pos 0; imm = pos 0 }
@@ -82,7 +82,7 @@ module _ (edit has_next : ℕ → bpf_insn → Edit) (old : List bpf_insn) (p : 
     own = done.each p inside ∙ after_here
 
     -- by what is made of slot p
-    at_slot : (e : Edit) (k : ℕ) → k < length old → e ≡ has_next p (found_slot has_next old p) → slot_or_zeros (applied new p e) k ≡ slot_after has_next old k
+    at_slot : (e : Edit) (k : ℕ) → k < length old → e ≡ has_next p (found_slot has_next old p) → slot_or_zeros (slots_after_edit new p e) k ≡ slot_after has_next old k
     at_slot Stay k lt is = elim (cases_eq k p) [
       | inl here ↦ rw here (own ∙ ap (λ e. edited e (found_slot has_next old p)) is)
       | inr off ↦ elim (cases_eq k (suc p)) [
@@ -112,13 +112,13 @@ module _ (edit has_next : ℕ → bpf_insn → Edit) (old : List bpf_insn) (p : 
           ]
         ]
 
-    length-applied : (e : Edit) → length (applied new p e) ≡ length new
-    length-applied Stay = refl
-    length-applied (Slot made) = length-set new p made
-    length-applied (Pair made next) = length-set _ p made ∙ length-set new (p + 1) _
+    length-slots_after_edit : (e : Edit) → length (slots_after_edit new p e) ≡ length new
+    length-slots_after_edit Stay = refl
+    length-slots_after_edit (Slot made) = length-set new p made
+    length-slots_after_edit (Pair made next) = length-set _ p made ∙ length-set new (p + 1) _
 
-    pub one_more : AreEdited has_next old (applied new p (has_next p (slot_or_zeros new p)))
+    pub one_more : AreEdited has_next old (slots_after_edit new p (has_next p (slot_or_zeros new p)))
     one_more = record {
-      as_many = length-applied (has_next p (slot_or_zeros new p)) ∙ done.as_many;
+      as_many = length-slots_after_edit (has_next p (slot_or_zeros new p)) ∙ done.as_many;
       each = λ k lt. at_slot (has_next p (slot_or_zeros new p)) k lt (ap (has_next p) own);
     }

@@ -12,7 +12,7 @@ use Rattle.ebpf_passes.specs.declared.edit.Edit.{Edit}
 use Rattle.ebpf_passes.specs.declared.edit.Edit.TheVariants.{Stay}
 use Rattle.ebpf_passes.specs.Edits.{slot_or_zeros, found_slot, edited, edited_next, slot_after, slots_after}
 use Rattle.ebpf_passes.specs.Relocated.{EditRule, SectionRelocations, edit_of, edit_by, edit_at}
-use Rattle.ebpf_passes.specs.InPlaceEdits.{applied, slots_after_relocations}
+use Rattle.ebpf_passes.specs.InPlaceEdits.{slots_after_edit, slots_after_relocations}
 use Rattle.ebpf_passes.proofs.InOrder.{Above, Rising, AllFrom, AtLeastHead, rising_from, find_other, find_head, find_none, above_head, rising_kept, all_kept, find_kept}
 use Rattle.ebpf_passes.proofs.OneEdit.{zeros, AreEdited, same_edits, one_more}
 
@@ -75,9 +75,9 @@ module _ (rule_edit : EditRule) (section_relocations : SectionRelocations) (star
           ∙ ap (λ o. edit_by rule_edit o s (nat_lt (p + 1) (length old))) (ap (get section_relocations) (sym here) ∙ tail e.0 (omega arith) ∙ find_head e es)
 
       here_relocation : (slots : List bpf_insn) → p < length old → AreEdited (made (e ∷ es)) old slots
-          → AreEdited (made es) old (applied slots p (edit_of (rule_edit e.1 (slot_or_zeros slots p) (nat_lt (p + 1) (length slots)))))
+          → AreEdited (made es) old (slots_after_edit slots p (edit_of (rule_edit e.1 (slot_or_zeros slots p) (nat_lt (p + 1) (length slots)))))
       here_relocation slots inside done =
-          subst (λ x. AreEdited (made es) old (applied slots p x))
+          subst (λ x. AreEdited (made es) old (slots_after_edit slots p x))
           (now (slot_or_zeros slots p) ∙ ap (λ n. edit_of (rule_edit e.1 (slot_or_zeros slots p) (nat_lt (p + 1) n))) (sym done.as_many))
           (one_more (made (e ∷ es)) (made es) old p others none slots done inside)
 
@@ -101,7 +101,7 @@ module _ (rule_edit : EditRule) (section_relocations : SectionRelocations) (star
   runs (e ∷ es) slots rising from tail done = by_cases _ _ refl refl (λ next made. runs es next rising.1 from.1 (tail_on e es rising.0 tail) made)
     where
       by_cases : (b c : Bool) → nat_lt ((e.0 - start) / 8) (length slots) ≡ b → ((e.0 - start) % 8 == 0) ≡ c → Later es
-          → AreEdited edit old (if b then slots_after_relocations rule_edit start es (if c then applied slots ((e.0 - start) / 8) (edit_of (rule_edit e.1 (slot_or_zeros slots ((e.0 - start) / 8)) (nat_lt ((e.0 - start) / 8 + 1) (length slots)))) else slots) else slots)
+          → AreEdited edit old (if b then slots_after_relocations rule_edit start es (if c then slots_after_edit slots ((e.0 - start) / 8) (edit_of (rule_edit e.1 (slot_or_zeros slots ((e.0 - start) / 8)) (nat_lt ((e.0 - start) / 8 + 1) (length slots)))) else slots) else slots)
       by_cases false c inside aligned later = past_relocation e es rising from.0 tail slots (ap (nat_lt ((e.0 - start) / 8)) (sym done.as_many) ∙ inside) done
       by_cases true false inside aligned later = later slots (off_relocation e es rising from.0 tail slots aligned done)
       by_cases true true inside aligned later =

@@ -15,7 +15,7 @@ use Rattle.ebpf_passes.specs.declared.refusal.Fault.TheVariants.{InvalidOffset}
 use Rattle.ebpf_passes.specs.declared.refusal.Refusal.{Refusal}
 use Rattle.ebpf_passes.specs.Edits.{slot_or_zeros, edited_next, found_slot}
 use Rattle.ebpf_passes.specs.Relocated.{EditRule, SectionRelocations, edit_of, edit_by, edit_at, is_in_slots, refused, refusal_at}
-use Rattle.ebpf_passes.specs.InPlaceEdits.{Pending, pending_slot, pending_of, left_by, scan_on, scan}
+use Rattle.ebpf_passes.specs.InPlaceEdits.{Pending, pending_slot, pending_of, pending_after, scan_on, scan}
 use Rattle.ebpf_passes.proofs.InOrder.{Above, Rising, AllFrom, AtLeastHead, rising_from, find_other, find_head, find_none, above_head, rising_kept, all_kept, find_kept, first_kept, all_none}
 
 -- what an edit leaves is found by the next slot
@@ -93,7 +93,7 @@ module _ (rule_edit : EditRule) (section_relocations : SectionRelocations) (star
   scanned (e ∷ es) p rising from tail head = by_cases _ _ _ refl refl refl (λ next found_slot. scanned es next rising.1 from.1 (tail_on e es rising.0 tail) found_slot)
     where
       by_result : Later es → (j : ℕ) (r : Result Edit Fault) → e.0 ≡ start + 8 * j → rule_edit e.1 (found_slot edit slots j) (nat_lt (j + 1) (length slots)) ≡ r
-          → scan_on e (left_by j r) (λ next. scan rule_edit start slots next es) ≡ or_else (refused e r) (first_some fault es)
+          → scan_on e (pending_after j r) (λ next. scan rule_edit start slots next es) ≡ or_else (refused e r) (first_some fault es)
       by_result later j (Err f) here is = refl
       by_result later j (Ok made) here is =
           let stands : get section_relocations (start + 8 * j) ≡ Some e.1 = ap (get section_relocations) (sym here) ∙ tail e.0 (omega arith) ∙ find_head e es in
@@ -101,14 +101,14 @@ module _ (rule_edit : EditRule) (section_relocations : SectionRelocations) (star
           later (pending_of j made) (head_on e es j made rising tail here makes)
 
       by_cases : (a b c : Bool) → nat_le start e.0 ≡ a → nat_lt ((e.0 - start) / 8) (length slots) ≡ b → ((e.0 - start) % 8 == 0) ≡ c → Later es
-          → (if b then scan_on e (if c then left_by ((e.0 - start) / 8) (rule_edit e.1 (pending_slot p ((e.0 - start) / 8) (slot_or_zeros slots ((e.0 - start) / 8))) (nat_lt ((e.0 - start) / 8 + 1) (length slots))) else Err InvalidOffset) (λ next. scan rule_edit start slots next es) else None)
+          → (if b then scan_on e (if c then pending_after ((e.0 - start) / 8) (rule_edit e.1 (pending_slot p ((e.0 - start) / 8) (slot_or_zeros slots ((e.0 - start) / 8))) (nat_lt ((e.0 - start) / 8 + 1) (length slots))) else Err InvalidOffset) (λ next. scan rule_edit start slots next es) else None)
           ≡ or_else (if a && b then (if c then refused e (rule_edit e.1 (found_slot edit slots ((e.0 - start) / 8)) (nat_lt ((e.0 - start) / 8 + 1) (length slots))) else refused e (Err InvalidOffset)) else None) (first_some fault es)
       by_cases false b c at inside aligned later = absurd (grind (arith, nat_tests, from.0))
       by_cases true false c at inside aligned later = sym (all_none fault e.0 es rising.0 (λ f up. past_none e f inside up))
       by_cases true true false at inside aligned later = refl
       by_cases true true true at inside aligned later =
           let here : e.0 ≡ start + 8 * ((e.0 - start) / 8) = grind (arith, nat_tests, from.0) in
-          ap (λ s. scan_on e (left_by ((e.0 - start) / 8) (rule_edit e.1 s (nat_lt ((e.0 - start) / 8 + 1) (length slots)))) (λ next. scan rule_edit start slots next es)) (sym (head ((e.0 - start) / 8) here))
+          ap (λ s. scan_on e (pending_after ((e.0 - start) / 8) (rule_edit e.1 s (nat_lt ((e.0 - start) / 8 + 1) (length slots)))) (λ next. scan rule_edit start slots next es)) (sym (head ((e.0 - start) / 8) here))
           ∙ by_result later ((e.0 - start) / 8) _ here refl
 
   -- before the first of them nothing is pending

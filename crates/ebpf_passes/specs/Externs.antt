@@ -56,13 +56,13 @@ load_of desc = load_by desc.kernel_btf_id desc.ksym_addr desc.is_weak
 
 -- An id has source 3 (the kernel's BPF_PSEUDO_BTF_ID) and 0 in the slot after it; an address has source 0, its low
 -- half in the slot and its high half in the one after it.
-abbrev pub loaded : Load → bpf_insn → Edit
-loaded (Id id) slot = Pair (with_source slot 3 (cast_signed w32 id)) (pos 0)
-loaded (Address address) slot = Pair (with_source slot 0 (cast_signed w32 (address % 2 ^ 32))) (cast_signed w32 (address / 2 ^ 32))
+abbrev pub edit_of_load : Load → bpf_insn → Edit
+edit_of_load (Id id) slot = Pair (with_source slot 3 (cast_signed w32 id)) (pos 0)
+edit_of_load (Address address) slot = Pair (with_source slot 0 (cast_signed w32 (address % 2 ^ 32))) (cast_signed w32 (address / 2 ^ 32))
 
 abbrev pub load_edit : Option Load → bpf_insn → Bool → Result Edit Fault
 load_edit None slot has_next = Err UnresolvableSymbol
-load_edit (Some load) slot has_next = if has_next then Ok (loaded load slot) else Err InvalidOffset
+load_edit (Some load) slot has_next = if has_next then Ok (edit_of_load load slot) else Err InvalidOffset
 
 -- a call has code 0x85, a load of 64 bits 0x18 (RFC 9669, sections 4.3 and 5.4)
 abbrev pub declared_extern_edit : Option ExternDesc → ℕ → bpf_insn → Bool → Result Edit Fault

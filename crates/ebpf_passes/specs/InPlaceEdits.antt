@@ -11,16 +11,16 @@ use Rattle.ebpf_passes.specs.Edits.{slot_or_zeros}
 use Rattle.ebpf_passes.specs.Relocated.{EditRule, edit_of}
 
 -- the slots after an edit of slot j
-abbrev pub applied : List bpf_insn → ℕ → Edit → List bpf_insn
-applied slots j Stay = slots
-applied slots j (Slot made) = slice_set slots j made
-applied slots j (Pair made next) = slice_set (slice_set slots (j + 1) (record (slot_or_zeros slots (j + 1)) { imm = next })) j made
+abbrev pub slots_after_edit : List bpf_insn → ℕ → Edit → List bpf_insn
+slots_after_edit slots j Stay = slots
+slots_after_edit slots j (Slot made) = slice_set slots j made
+slots_after_edit slots j (Pair made next) = slice_set (slice_set slots (j + 1) (record (slot_or_zeros slots (j + 1)) { imm = next })) j made
 
 -- the slots after a relocation at a distance from the first of them
 abbrev pub slots_after_relocation : EditRule → ℕ → ElfRelocation → List bpf_insn → List bpf_insn
 slots_after_relocation rule_edit distance relocation slots =
     if distance % 8 == 0
-    then applied slots (distance / 8) (edit_of (rule_edit relocation (slot_or_zeros slots (distance / 8)) (nat_lt (distance / 8 + 1) (length slots))))
+    then slots_after_edit slots (distance / 8) (edit_of (rule_edit relocation (slot_or_zeros slots (distance / 8)) (nat_lt (distance / 8 + 1) (length slots))))
     else slots
 
 -- the slots after relocations in order, up to the first that is past them
@@ -43,15 +43,15 @@ pending_of j Stay = None
 pending_of j (Slot made) = None
 pending_of j (Pair made next) = Some (j + 1, next)
 
-abbrev pub left_by : ℕ → Result Edit Fault → Result Pending Fault
-left_by j (Ok edit) = Ok (pending_of j edit)
-left_by j (Err fault) = Err fault
+abbrev pub pending_after : ℕ → Result Edit Fault → Result Pending Fault
+pending_after j (Ok edit) = Ok (pending_of j edit)
+pending_after j (Err fault) = Err fault
 
 -- what a relocation at a distance from the first slot leaves to be found, or why it can't be applied
 abbrev pub tried : EditRule → List bpf_insn → Pending → ℕ → ElfRelocation → Result Pending Fault
 tried rule_edit slots pending distance relocation =
     if distance % 8 == 0
-    then left_by (distance / 8) (rule_edit relocation (pending_slot pending (distance / 8) (slot_or_zeros slots (distance / 8))) (nat_lt (distance / 8 + 1) (length slots)))
+    then pending_after (distance / 8) (rule_edit relocation (pending_slot pending (distance / 8) (slot_or_zeros slots (distance / 8))) (nat_lt (distance / 8 + 1) (length slots)))
     else Err InvalidOffset
 
 abbrev pub scan_on : ℕ × ElfRelocation → Result Pending Fault → (Pending → Option Refusal) → Option Refusal

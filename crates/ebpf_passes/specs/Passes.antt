@@ -14,8 +14,8 @@ use Rattle.ebpf_passes.specs.Maps.{GivenMap, LentMap, given_map, MapInputs, tabl
 use Rattle.ebpf_passes.specs.Relocated.{Relocations, relocated, first_fault}
 
 -- what holds of the maps that an iterator gives until it ends
-abbrev pub Given : {I : Type 0} → (I → Option LentMap → I → Type 0) → I → (List GivenMap → Type 0) → Type 0
-Given next_gives maps P = (lent : List LentMap) × Drains next_gives maps lent × P (map given_map lent)
+abbrev pub HoldsOfGivenMaps : {I : Type 0} → (I → Option LentMap → I → Type 0) → I → (List GivenMap → Type 0) → Type 0
+HoldsOfGivenMaps next_gives maps P = (lent : List LentMap) × Drains next_gives maps lent × P (map given_map lent)
 
 abbrev pub inputs_of : FinMap nat_cmp Symbol → TextSections → List GivenMap → MapInputs
 inputs_of symbols text_sections given = record { symbols = symbols; tables = tables_of given; text_sections = text_sections }

@@ -1,7 +1,7 @@
 //! What relocations to externs make of slots.
 
 ghost use Rattle.std.specs.Prelude.{◌≡◌, ◌<◌, [], Some, unwrap_or};
-ghost use Rattle.ebpf_passes.specs.Externs.{kernel_call, absent_call, call_edit, load_of, loaded, load_edit, declared_extern_edit, extern_edit};
+ghost use Rattle.ebpf_passes.specs.Externs.{kernel_call, absent_call, call_edit, load_of, edit_of_load, load_edit, declared_extern_edit, extern_edit};
 ghost use Rattle.ebpf_passes.specs.Rules.{extern_inputs};
 
 use crate::edit::Edit;
@@ -91,8 +91,8 @@ fn load_of(desc: &ExternDesc) -> Option<Load>
 }
 
 /// What a load of an id or an address becomes.
-fn loaded(load: Load, slot: bpf_insn) -> Edit
-    ensures { result ≡ loaded load slot }
+fn edit_of_load(load: Load, slot: bpf_insn) -> Edit
+    ensures { result ≡ edit_of_load load slot }
 {
     match load {
         Load::Id(id) => Edit::Pair(with_source(slot, BPF_PSEUDO_BTF_ID, id.cast_signed()), 0),
@@ -114,7 +114,7 @@ fn load_edit(desc: &ExternDesc, slot: bpf_insn, has_next: bool) -> Result<Edit, 
     if !has_next {
         return Err(Fault::InvalidOffset);
     }
-    Ok(loaded(load, slot))
+    Ok(edit_of_load(load, slot))
 }
 
 /// What an extern makes of a slot that refers to it.

@@ -5,7 +5,7 @@ ghost use Rattle.std.specs.Iterator.{IsFinite};
 ghost use Rattle.ebpf_base.specs.Mapped.{map_values};
 ghost use Rattle.ebpf_model.specs.TextSections.{text_sections_in};
 ghost use Rattle.ebpf_model.specs.Memory.{is_memory_at};
-ghost use Rattle.ebpf_passes.specs.Passes.{Given, with_map_fds, map_fault};
+ghost use Rattle.ebpf_passes.specs.Passes.{HoldsOfGivenMaps, with_map_fds, map_fault};
 ghost use Rattle.ebpf_passes.specs.Relocated.{out_of_memory};
 
 use crate::functions::relocate;
@@ -45,8 +45,8 @@ pub fn relocate_maps<'a, I: Iterator<Item = (&'a str, i32, &'a Map)> + Drop>(
 ) -> Result<(), EbpfRelocationError>
     requires can { I.can_next maps }
     requires ends { IsFinite (I.remaining maps) }
-    ensures ok { OnOk result (Given I.next_gives maps (λ given. (functions.new ≡ map_values (with_map_fds symbols.now (text_sections_in text_sections.now) given relocations.now) functions.old) × (map_fault symbols.now (text_sections_in text_sections.now) given relocations.now functions.old ≡ None))) }
-    ensures fault { IfErr result (λ e. MatchBool (is_memory_at e) (e ≡ out_of_memory) (Given I.next_gives maps (λ given. map_fault symbols.now (text_sections_in text_sections.now) given relocations.now functions.old ≡ Some e))) }
+    ensures ok { OnOk result (HoldsOfGivenMaps I.next_gives maps (λ given. (functions.new ≡ map_values (with_map_fds symbols.now (text_sections_in text_sections.now) given relocations.now) functions.old) × (map_fault symbols.now (text_sections_in text_sections.now) given relocations.now functions.old ≡ None))) }
+    ensures fault { IfErr result (λ e. MatchBool (is_memory_at e) (e ≡ out_of_memory) (HoldsOfGivenMaps I.next_gives maps (λ given. map_fault symbols.now (text_sections_in text_sections.now) given relocations.now functions.old ≡ Some e))) }
     ensures err { OnErr result (functions.new ≡ functions.old) }
 {
     let Ok(tables) = MapTables::gather(alloc, maps) else {

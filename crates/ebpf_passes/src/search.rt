@@ -5,7 +5,7 @@ ghost use Rattle.ebpf_base.specs.Faults.{fault_of};
 ghost use Rattle.ebpf_passes.specs.Edits.{slots_after};
 ghost use Rattle.ebpf_passes.specs.Relocated.{first_refusal, edit_at};
 ghost use Rattle.ebpf_passes.specs.Rules.{rule_edit_of};
-ghost use Rattle.ebpf_passes.specs.InPlaceEdits.{pending_slot, pending_of, left_by, tried, slots_after_relocation};
+ghost use Rattle.ebpf_passes.specs.InPlaceEdits.{pending_slot, pending_of, pending_after, tried, slots_after_relocation};
 ghost use Rattle.ebpf_passes.specs.declared.edit.Edit.TheVariants.{Stay};
 
 use crate::edit::Edit;
@@ -49,7 +49,7 @@ fn edit_of(
     relocation: Relocation,
 ) -> Result<Edit, Fault>
     requires { distance / 8 < length slots.now }
-    ensures tried { left_by (distance / 8) result ≡ tried (rule_edit_of rule.now) slots.now pending distance relocation }
+    ensures tried { pending_after (distance / 8) result ≡ tried (rule_edit_of rule.now) slots.now pending distance relocation }
     ensures stays { pending ≡ None → result ≡ Ok Stay → slots_after_relocation (rule_edit_of rule.now) distance relocation slots.now ≡ slots.now }
 {
     if distance % 8 != 0 {

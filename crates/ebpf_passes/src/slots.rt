@@ -4,7 +4,7 @@ ghost use Rattle.std.specs.Prelude.{◌≡◌, ◌/◌, ◌<◌, length, slice_s
 ghost use Rattle.ebpf_passes.specs.Edits.{slot_or_zeros, slots_after};
 ghost use Rattle.ebpf_passes.specs.Relocated.{edit_of, edit_at};
 ghost use Rattle.ebpf_passes.specs.Rules.{rule_edit_of};
-ghost use Rattle.ebpf_passes.specs.InPlaceEdits.{applied, slots_after_relocation};
+ghost use Rattle.ebpf_passes.specs.InPlaceEdits.{slots_after_edit, slots_after_relocation};
 
 use crate::edit::Edit;
 use crate::rule::Rule;
@@ -24,7 +24,7 @@ fn write_imm(slots: &mut [bpf_insn], at: usize, imm: i32)
 /// Makes an edit of a slot.
 fn apply(slots: &mut [bpf_insn], at: usize, edit: Edit)
     requires { at < length slots.old }
-    ensures { slots.new ≡ applied slots.old at edit }
+    ensures { slots.new ≡ slots_after_edit slots.old at edit }
 {
     match edit {
         Edit::Stay => {}

@@ -5,7 +5,7 @@ use Rattle.std.proofs.lemmas.Bool.Decides.{eqb_tells}
 use Rattle.ebpf_linker.specs.Functions.{Among}
 use Rattle.ebpf_reach.specs.declared.registers.Registers.{Registers}
 use Rattle.ebpf_reach.specs.declared.steps.Step.{Step}
-use Rattle.ebpf_reach.specs.Registers.{IsBelow, met}
+use Rattle.ebpf_reach.specs.Registers.{IsBelow, least_upper_bound}
 use Rattle.ebpf_reach.specs.Counted.{changes_left}
 use Rattle.ebpf_reach.specs.Reached.{Assignment, IsStateBelow, state_at}
 use Rattle.ebpf_reach.specs.Searched.{TakesIn, work_left}
@@ -92,11 +92,11 @@ new_taken A old p a h none eleven = put_taken A old p a a h
     (λ z _ q. q)
     (subst (λ (x : Option Registers). changes_left (Some a) < changes_left x) (sym none) (let within = known_within a.numbers in omega arith))
 
-met_least : (a b : Registers) (z : Option Registers) → IsStateBelow (Some b) z → IsStateBelow (Some a) z → IsStateBelow (Some (met b a)) z
+met_least : (a b : Registers) (z : Option Registers) → IsStateBelow (Some b) z → IsStateBelow (Some a) z → IsStateBelow (Some (least_upper_bound b a)) z
 met_least a b None p q = absurd p
 met_least a b (Some c) p q = met_below b a c p q
 
-fewer_changes : (a b : Registers) → length b.numbers ≡ length a.numbers → met b a ≢ b → changes_left (Some (met b a)) < changes_left (Some b)
+fewer_changes : (a b : Registers) → length b.numbers ≡ length a.numbers → least_upper_bound b a ≢ b → changes_left (Some (least_upper_bound b a)) < changes_left (Some b)
 fewer_changes a b h changed =
     elim (fewer_known b.numbers a.numbers h) [
       | inl same ↦ absurd (changed (let make : List (Option ℕ) → Registers = λ numbers. record { numbers = numbers } in ap make same))
@@ -104,15 +104,15 @@ fewer_changes a b h changed =
     ]
 
 -- where paths meet and a number is forgotten
-pub met_taken : (A : Assignment) (old : List ℕ) (p : ℕ) (a b : Registers) → p < length A → state_at A p ≡ Some b → length b.numbers ≡ length a.numbers → met b a ≢ b → TakesIn (record { place = p; registers = a } ∷ []) A (set A p (Some (met b a))) old (old ++ p ∷ [])
-met_taken A old p a b h some as_many changed = put_taken A old p a (met b a) h
-    (subst (λ (x : Option Registers). IsStateBelow x (Some (met b a))) (sym some) (above_first b a as_many))
+pub met_taken : (A : Assignment) (old : List ℕ) (p : ℕ) (a b : Registers) → p < length A → state_at A p ≡ Some b → length b.numbers ≡ length a.numbers → least_upper_bound b a ≢ b → TakesIn (record { place = p; registers = a } ∷ []) A (set A p (Some (least_upper_bound b a))) old (old ++ p ∷ [])
+met_taken A old p a b h some as_many changed = put_taken A old p a (least_upper_bound b a) h
+    (subst (λ (x : Option Registers). IsStateBelow x (Some (least_upper_bound b a))) (sym some) (above_first b a as_many))
     (above_second b a as_many)
     (λ z q r. met_least a b z (subst (λ (x : Option Registers). IsStateBelow x z) some q) r)
-    (subst (λ (x : Option Registers). changes_left (Some (met b a)) < changes_left x) (sym some) (fewer_changes a b as_many changed))
+    (subst (λ (x : Option Registers). changes_left (Some (least_upper_bound b a)) < changes_left x) (sym some) (fewer_changes a b as_many changed))
 
 -- where they meet and nothing is forgotten
-pub same_taken : (A : Assignment) (old : List ℕ) (p : ℕ) (a b : Registers) → state_at A p ≡ Some b → length b.numbers ≡ length a.numbers → met b a ≡ b → TakesIn (record { place = p; registers = a } ∷ []) A A old old
+pub same_taken : (A : Assignment) (old : List ℕ) (p : ℕ) (a b : Registers) → state_at A p ≡ Some b → length b.numbers ≡ length a.numbers → least_upper_bound b a ≡ b → TakesIn (record { place = p; registers = a } ∷ []) A A old old
 same_taken A old p a b some as_many same = record {
   as_many = refl;
   holds = (subst (λ (x : Option Registers). IsStateBelow (Some a) x) (sym some) (subst (λ (c : Registers). IsBelow a c) same (above_second b a as_many)), tt);

@@ -6,7 +6,7 @@ use Rattle.ebpf_reach.specs.declared.steps.Step.{Step}
 use Rattle.ebpf_reach.specs.Registers.{IsBelow, unknown}
 use Rattle.ebpf_reach.specs.Steps.{steps}
 use Rattle.ebpf_reach.specs.Reached.{AreBelow, Assignment, Holds, IsStateBelow, reached, state_at}
-use Rattle.ebpf_reach.specs.Visits.{AnswerIsOne, AreNumbers, Begins, GoesOn, IsStep, MachinesAreReached, MachinesAreTold}
+use Rattle.ebpf_reach.specs.Visits.{AnswerIsOne, AreNumbers, Begins, GoesOn, IsStep, MachinesAreReached, AnswersCoverMachines}
 use Rattle.ebpf_reach.proofs.Order.{below_through}
 use Rattle.ebpf_reach.proofs.Upward.{leads_held, steps_below}
 use Rattle.ebpf_reach.proofs.Searching.{nothing_there}
@@ -28,7 +28,7 @@ same_flags (x ∷ A) (y ∷ B) h p q =
 
 pub answer_is_one : AnswerIsOne
 answer_is_one slots one other p q =
-    p.told ∙ (same_flags p.assignment q.assignment (p.least.closed.as_many ∙ sym q.least.closed.as_many) (p.least.least q.assignment q.least.closed) (q.least.least p.assignment p.least.closed) ∙ sym q.told)
+    p.is ∙ (same_flags p.assignment q.assignment (p.least.closed.as_many ∙ sym q.least.closed.as_many) (p.least.least q.assignment q.least.closed) (q.least.least p.assignment p.least.closed) ∙ sym q.is)
 
 -- what holds a list of steps holds each of them
 holds_step : (A : Assignment) (s : List Step) (step : Step) → Holds A s → IsStep s step → IsStateBelow (Some step.registers) (state_at A step.place)
@@ -61,7 +61,7 @@ told_at [] i b h = cc
 told_at (x ∷ A) zero b h = flag_some x b h
 told_at (x ∷ A) (suc i) b h = told_at A i b h
 
-pub machines_are_told : MachinesAreTold
-machines_are_told slots answer p i a comes =
+pub answers_cover_machines : AnswersCoverMachines
+answers_cover_machines slots answer p i a comes =
     let (b, is, below) = machines_are_reached slots p.assignment p.least.closed i a comes in
-    subst (λ (u : List Bool). slice_get u i ≡ Some true) (sym p.told) (told_at p.assignment i b is)
+    subst (λ (u : List Bool). slice_get u i ≡ Some true) (sym p.is) (told_at p.assignment i b is)

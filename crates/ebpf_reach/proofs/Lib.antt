@@ -1,7 +1,7 @@
 pub mod Meeting
 pub mod Order
 pub mod Flows
-pub mod Told
+pub mod Monotone
 pub mod Upward
 pub mod Intake
 pub mod Searching

@@ -3,7 +3,7 @@ use Rattle.std.proofs.Common.{◌≡◌, ◌≢◌, ℕ, zero, suc, ◌<◌, ◌
 use Rattle.std.proofs.lemmas.List.{set_past}
 use Rattle.std.proofs.lemmas.Bool.Decides.{eqb_tells, leb_tells, nat_tests}
 use Rattle.ebpf_reach.specs.declared.registers.Registers.{Registers}
-use Rattle.ebpf_reach.specs.Registers.{IsBelow, known, learned, forgotten, called, common, commons, met}
+use Rattle.ebpf_reach.specs.Registers.{IsBelow, known, learned, forgotten, called, common, commons, least_upper_bound}
 use Rattle.ebpf_reach.specs.Counted.{numbers_known}
 
 -- what y tells, x tells too
@@ -81,20 +81,20 @@ common_told (Some m) None n p q = cc
 common_told (Some m) (Some k) n p q = grind (arith, nat_tests)
 
 -- each of two paths is below their meeting
-pub above_first : (a b : Registers) → length a.numbers ≡ length b.numbers → IsBelow a (met a b)
+pub above_first : (a b : Registers) → length a.numbers ≡ length b.numbers → IsBelow a (least_upper_bound a b)
 above_first a b h = record {
   as_many = sym (commons_as_many a.numbers b.numbers h);
   numbers = λ r n e. (common_tells (known a r) (known b r) n (sym (commons_at a.numbers b.numbers r) ∙ e)).0;
 }
 
-pub above_second : (a b : Registers) → length a.numbers ≡ length b.numbers → IsBelow b (met a b)
+pub above_second : (a b : Registers) → length a.numbers ≡ length b.numbers → IsBelow b (least_upper_bound a b)
 above_second a b h = record {
   as_many = sym h ∙ sym (commons_as_many a.numbers b.numbers h);
   numbers = λ r n e. (common_tells (known a r) (known b r) n (sym (commons_at a.numbers b.numbers r) ∙ e)).1;
 }
 
 -- and what both are below, the meeting is below
-pub met_below : (a b c : Registers) → IsBelow a c → IsBelow b c → IsBelow (met a b) c
+pub met_below : (a b c : Registers) → IsBelow a c → IsBelow b c → IsBelow (least_upper_bound a b) c
 met_below a b c p q = record {
   as_many = commons_as_many a.numbers b.numbers (p.as_many ∙ sym q.as_many) ∙ p.as_many;
   numbers = λ r n e. commons_at a.numbers b.numbers r ∙ common_told (known a r) (known b r) n (p.numbers r n e) (q.numbers r n e);

@@ -7,9 +7,9 @@ use Rattle.ebpf_parts.specs.declared.insn.bpf_insn.{bpf_insn}
 use Rattle.ebpf_reach.specs.declared.registers.Registers.{Registers}
 use Rattle.ebpf_reach.specs.declared.steps.Step.{Step}
 use Rattle.ebpf_reach.specs.Registers.{unknown}
-use Rattle.ebpf_reach.specs.Steps.{leads, steps}
+use Rattle.ebpf_reach.specs.Steps.{steps_to, steps}
 use Rattle.ebpf_reach.specs.Reached.{Assignment, Holds, IsClosed, IsLeast, IsStateBelow, state_at}
-use Rattle.ebpf_reach.specs.Searched.{Searched, TakesIn, followed, work_left}
+use Rattle.ebpf_reach.specs.Searched.{Searched, TakesIn, steps_if_reached, work_left}
 use Rattle.ebpf_reach.proofs.Upward.{holds_above, steps_below}
 use Rattle.ebpf_reach.proofs.Intake.{among_split}
 
@@ -18,25 +18,25 @@ holds_some slots C i a None closed is below = absurd below
 holds_some slots C i a (Some b) closed is below = steps_below slots C i a b below (closed.steps i b is)
 
 -- a closed assignment holds the steps of all that is below it
-closed_holds : (slots : List bpf_insn) (C : Assignment) (i : ℕ) (x : Option Registers) → IsClosed slots C → IsStateBelow x (state_at C i) → Holds C (followed slots i x)
+closed_holds : (slots : List bpf_insn) (C : Assignment) (i : ℕ) (x : Option Registers) → IsClosed slots C → IsStateBelow x (state_at C i) → Holds C (steps_if_reached slots i x)
 closed_holds slots C i None closed below = tt
 closed_holds slots C i (Some a) closed below = holds_some slots C i a (state_at C i) closed refl below
 
 -- the slot that was followed is held, and each other one as before
-held_on : (slots : List bpf_insn) (A B : Assignment) (rest new : List ℕ) (i j : ℕ) → TakesIn (followed slots i (state_at A i)) A B rest new → (state_at B j ≡ state_at A j) ⊎ Among new j → Among (rest ++ i ∷ []) j ⊎ Holds A (followed slots j (state_at A j)) → Among new j ⊎ Holds B (followed slots j (state_at B j))
+held_on : (slots : List bpf_insn) (A B : Assignment) (rest new : List ℕ) (i j : ℕ) → TakesIn (steps_if_reached slots i (state_at A i)) A B rest new → (state_at B j ≡ state_at A j) ⊎ Among new j → Among (rest ++ i ∷ []) j ⊎ Holds A (steps_if_reached slots j (state_at A j)) → Among new j ⊎ Holds B (steps_if_reached slots j (state_at B j))
 held_on slots A B rest new i j t (inr m) h = inl m
 held_on slots A B rest new i j t (inl same) (inr h) =
-    inr (subst (λ (x : Option Registers). Holds B (followed slots j x)) (sym same) (holds_above A B (followed slots j (state_at A j)) t.above h))
+    inr (subst (λ (x : Option Registers). Holds B (steps_if_reached slots j x)) (sym same) (holds_above A B (steps_if_reached slots j (state_at A j)) t.above h))
 held_on slots A B rest new i j t (inl same) (inl m) =
     elim (among_split rest i j m) [
       | inl before ↦ inl (t.kept j before)
-      | inr last ↦ inr (subst (λ (x : Option Registers). Holds B (followed slots j x)) (sym same) (subst (λ (k : ℕ). Holds B (followed slots k (state_at A k))) last t.holds))
+      | inr last ↦ inr (subst (λ (x : Option Registers). Holds B (steps_if_reached slots j x)) (sym same) (subst (λ (k : ℕ). Holds B (steps_if_reached slots k (state_at A k))) last t.holds))
     ]
 
-pub searched_on : (slots : List bpf_insn) (A B : Assignment) (rest new : List ℕ) (i : ℕ) → Searched slots A (rest ++ i ∷ []) → TakesIn (followed slots i (state_at A i)) A B rest new → Searched slots B new
+pub searched_on : (slots : List bpf_insn) (A B : Assignment) (rest new : List ℕ) (i : ℕ) → Searched slots A (rest ++ i ∷ []) → TakesIn (steps_if_reached slots i (state_at A i)) A B rest new → Searched slots B new
 searched_on slots A B rest new i s t = record {
   as_many = t.as_many ∙ s.as_many;
-  first = holds_above A B (leads slots (pos 0) unknown) t.above s.first;
+  first = holds_above A B (steps_to slots (pos 0) unknown) t.above s.first;
   least = λ C closed. t.least C (s.least C closed) (closed_holds slots C i (state_at A i) closed (s.least C closed i));
   held = λ j. held_on slots A B rest new i j t (t.changed j) (s.held j);
 }
@@ -59,13 +59,13 @@ nothing_there X n i =
     ]
 
 -- before the first step no slot is reached
-pub searched_first : (slots : List bpf_insn) (B : Assignment) (new : List ℕ) → TakesIn (leads slots (pos 0) unknown) (replicate (length slots) None) B [] new → Searched slots B new
+pub searched_first : (slots : List bpf_insn) (B : Assignment) (new : List ℕ) → TakesIn (steps_to slots (pos 0) unknown) (replicate (length slots) None) B [] new → Searched slots B new
 searched_first slots B new t = record {
   as_many = t.as_many ∙ length_nothing Registers (length slots);
   first = t.holds;
   least = λ C closed. t.least C (λ i. let P : Option Registers → Type 0 = λ x. IsStateBelow x (state_at C i) in subst P (sym (nothing_there Registers (length slots) i)) tt) closed.first;
   held = λ i. elim (t.changed i) [
-    | inl same ↦ inr (let P : Option Registers → Type 0 = λ x. Holds B (followed slots i x) in subst P (sym (same ∙ nothing_there Registers (length slots) i)) tt)
+    | inl same ↦ inr (let P : Option Registers → Type 0 = λ x. Holds B (steps_if_reached slots i x) in subst P (sym (same ∙ nothing_there Registers (length slots) i)) tt)
     | inr m ↦ inl m
   ];
 }
@@ -79,7 +79,7 @@ searched_all slots A [] s empty = record {
     first = s.first;
     steps = λ i a is. elim (s.held i) [
       | inl m ↦ absurd m
-      | inr h ↦ let P : Option Registers → Type 0 = λ x. Holds A (followed slots i x) in subst P is h
+      | inr h ↦ let P : Option Registers → Type 0 = λ x. Holds A (steps_if_reached slots i x) in subst P is h
     ];
   };
   least = s.least;

@@ -8,11 +8,11 @@ use Rattle.ebpf_linker.specs.Slots.{Flow, Return, PseudoCall, WideLoad, Jump, Br
 use Rattle.ebpf_reach.specs.declared.registers.Registers.{Registers}
 use Rattle.ebpf_reach.specs.declared.steps.Step.{Step}
 use Rattle.ebpf_reach.specs.Registers.{IsBelow, unknown, learned, called}
-use Rattle.ebpf_reach.specs.Effects.{decided, loaded}
-use Rattle.ebpf_reach.specs.Steps.{behind, callback, follow, further, leads, steps, steps_at, ways}
+use Rattle.ebpf_reach.specs.Effects.{decided, wide_load_result}
+use Rattle.ebpf_reach.specs.Steps.{next_index, callback, steps_by_flow, target_index, steps_to, steps, steps_at, ways}
 use Rattle.ebpf_reach.specs.Reached.{AreBelow, Assignment, Holds, IsStateBelow, state_at}
 use Rattle.ebpf_reach.proofs.Order.{Tells, below_itself, below_through, learned_below, called_below}
-use Rattle.ebpf_reach.proofs.Told.{after_below, decided_tells}
+use Rattle.ebpf_reach.proofs.Monotone.{after_below, decided_tells}
 
 pub state_below_itself : (x : Option Registers) → IsStateBelow x x
 state_below_itself None = tt
@@ -45,7 +45,7 @@ one_below : (A : Assignment) (t : Bool) (n : ℕ) (a b : Registers) → IsBelow 
 one_below A true n a b p h = (state_below_through (Some a) (Some b) (state_at A n) p h.0, tt)
 one_below A false n a b p h = tt
 
-leads_below : (slots : List bpf_insn) (A : Assignment) (x : ℤ) (a b : Registers) → IsBelow a b → Holds A (leads slots x b) → Holds A (leads slots x a)
+leads_below : (slots : List bpf_insn) (A : Assignment) (x : ℤ) (a b : Registers) → IsBelow a b → Holds A (steps_to slots x b) → Holds A (steps_to slots x a)
 leads_below slots A (negsuc n) a b p h = tt
 leads_below slots A (pos n) a b p h = one_below A (nat_lt n (length slots)) n a b p h
 
@@ -60,20 +60,20 @@ ways_below A (Some false) (Some false) s t u v p q r h = q h
 ways_below A (Some true) (Some false) s t u v p q r h = absurd (let e : Some true ≡ Some false = p false refl in cc)
 ways_below A (Some false) (Some true) s t u v p q r h = absurd (let e : Some false ≡ Some true = p true refl in cc)
 
-follow_below : (slots : List bpf_insn) (A : Assignment) (i : ℕ) (slot : bpf_insn) (a b : Registers) (f : Flow) → IsBelow a b → Holds A (follow slots i slot b f) → Holds A (follow slots i slot a f)
+follow_below : (slots : List bpf_insn) (A : Assignment) (i : ℕ) (slot : bpf_insn) (a b : Registers) (f : Flow) → IsBelow a b → Holds A (steps_by_flow slots i slot b f) → Holds A (steps_by_flow slots i slot a f)
 follow_below slots A i slot a b Return p h = tt
 follow_below slots A i slot a b PseudoCall p h =
-    let back = leads slots (behind i) (called b) in
-    let there = leads slots (further i slot.imm) unknown in
-    holds_both A (leads slots (behind i) (called a)) there (leads_below slots A (behind i) _ _ (called_below a b p) (holds_first A back there h)) (holds_second A back there h)
+    let back = steps_to slots (next_index i) (called b) in
+    let there = steps_to slots (target_index i slot.imm) unknown in
+    holds_both A (steps_to slots (next_index i) (called a)) there (leads_below slots A (next_index i) _ _ (called_below a b p) (holds_first A back there h)) (holds_second A back there h)
 follow_below slots A i slot a b WideLoad p h =
-    let next = leads slots (pos i +ℤ pos 2) (learned b (dst_of slot) (loaded slots i slot)) in
+    let next = steps_to slots (pos i +ℤ pos 2) (learned b (dst_of slot) (wide_load_result slots i slot)) in
     let there = callback slots i slot in
-    holds_both A (leads slots (pos i +ℤ pos 2) (learned a (dst_of slot) (loaded slots i slot))) there (leads_below slots A (pos i +ℤ pos 2) _ _ (learned_below a b (dst_of slot) _ _ p (λ n e. e)) (holds_first A next there h)) (holds_second A next there h)
-follow_below slots A i slot a b (Jump d) p h = leads_below slots A (further i d) a b p h
+    holds_both A (steps_to slots (pos i +ℤ pos 2) (learned a (dst_of slot) (wide_load_result slots i slot))) there (leads_below slots A (pos i +ℤ pos 2) _ _ (learned_below a b (dst_of slot) _ _ p (λ n e. e)) (holds_first A next there h)) (holds_second A next there h)
+follow_below slots A i slot a b (Jump d) p h = leads_below slots A (target_index i d) a b p h
 follow_below slots A i slot a b (Branch d) p h =
-    ways_below A (decided slot a) (decided slot b) _ _ _ _ (decided_tells slot a b p) (leads_below slots A (behind i) a b p) (leads_below slots A (further i d) a b p) h
-follow_below slots A i slot a b Next p h = leads_below slots A (behind i) _ _ (after_below slot a b p) h
+    ways_below A (decided slot a) (decided slot b) _ _ _ _ (decided_tells slot a b p) (leads_below slots A (next_index i) a b p) (leads_below slots A (target_index i d) a b p) h
+follow_below slots A i slot a b Next p h = leads_below slots A (next_index i) _ _ (after_below slot a b p) h
 
 steps_at_below : (slots : List bpf_insn) (A : Assignment) (i : ℕ) (x : Option bpf_insn) (a b : Registers) → IsBelow a b → Holds A (steps_at slots i b x) → Holds A (steps_at slots i a x)
 steps_at_below slots A i None a b p h = tt
@@ -90,5 +90,5 @@ one_held A true n a e h = h.0
 one_held A false n a e h = cc
 
 -- a step to a place of the program that is held
-pub leads_held : (slots : List bpf_insn) (A : Assignment) (n : ℕ) (a : Registers) → n < length slots → Holds A (leads slots (pos n) a) → IsStateBelow (Some a) (state_at A n)
+pub leads_held : (slots : List bpf_insn) (A : Assignment) (n : ℕ) (a : Registers) → n < length slots → Holds A (steps_to slots (pos n) a) → IsStateBelow (Some a) (state_at A n)
 leads_held slots A n a within h = one_held A (nat_lt n (length slots)) n a (within_true n (length slots) within) h

@@ -34,8 +34,8 @@ abbrev pub negated : Width → ℕ → ℕ
 negated w x = (2 ^ bits w - x) % 2 ^ bits w
 
 -- the operations with offset 0, but for NEG (8), MOV (11) and END (13)
-abbrev pub plain : Width → ℕ → ℕ → ℕ → Option ℕ
-plain w operation x y =
+abbrev pub operation_at_offset_0 : Width → ℕ → ℕ → ℕ → Option ℕ
+operation_at_offset_0 w operation x y =
     if operation == 0 then Some ((x + y) % 2 ^ bits w)
     else (if operation == 1 then Some ((x + (2 ^ bits w - y)) % 2 ^ bits w)
     else (if operation == 2 then Some ((x * y) % 2 ^ bits w)
@@ -58,7 +58,7 @@ signed w operation x y =
 
 unfoldable pub computed : Width → ℕ → ℤ → ℕ → ℕ → Option ℕ
 computed w operation offset x y =
-    if int_eq offset (pos 0) then plain w operation x y
+    if int_eq offset (pos 0) then operation_at_offset_0 w operation x y
     else (if int_eq offset (pos 1) then signed w operation x y
     else None)
 

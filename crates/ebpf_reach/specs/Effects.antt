@@ -42,29 +42,29 @@ moved slot y =
     else None)
 
 -- NEG, which takes no register
-abbrev pub turned : bpf_insn → ℕ → Option ℕ
-turned slot x =
+abbrev pub negation : bpf_insn → ℕ → Option ℕ
+negation slot x =
     if takes_register slot then None
     else (if int_eq slot.off (pos 0) then Some (if class slot == 4 then negated w32 (x % 2 ^ 32) else negated w64 x)
     else None)
 
 -- END of class 4, to little endian or, with the bit of a register, to big endian; of class 7 always turned round
-abbrev pub ended : bpf_insn → ℕ → Option ℕ
-ended slot x =
+abbrev pub byte_swapped : bpf_insn → ℕ → Option ℕ
+byte_swapped slot x =
     if class slot == 4 then (if takes_register slot then swapped slot.imm x else truncated slot.imm x)
     else (if takes_register slot then None else swapped slot.imm x)
 
 -- the operations of two operands, where both are known
-abbrev pub joined : bpf_insn → Registers → Option ℕ
-joined slot a = option_and_then (λ x. option_and_then (λ y. calculated slot x y) (source slot a)) (destination slot a)
+abbrev pub binary_result : bpf_insn → Registers → Option ℕ
+binary_result slot a = option_and_then (λ x. option_and_then (λ y. calculated slot x y) (source slot a)) (destination slot a)
 
 -- what arithmetic leaves in its destination; nothing is known where it is no valid instruction
 abbrev pub arithmetic : bpf_insn → Registers → Option ℕ
 arithmetic slot a =
     if operation slot == 11 then option_and_then (moved slot) (source slot a)
-    else (if operation slot == 8 then option_and_then (turned slot) (destination slot a)
-    else (if operation slot == 13 then option_and_then (ended slot) (destination slot a)
-    else joined slot a))
+    else (if operation slot == 8 then option_and_then (negation slot) (destination slot a)
+    else (if operation slot == 13 then option_and_then (byte_swapped slot) (destination slot a)
+    else binary_result slot a))
 
 -- Whether a slot is one that a CO-RE relocation poisoned: a call of the helper function 0x0bad2310, which no kernel has.
 abbrev pub is_poisoned : bpf_insn → Bool
@@ -99,8 +99,8 @@ abbrev pub wide : bpf_insn → bpf_insn → ℕ
 wide slot second = cast_unsigned w32 slot.imm + 2 ^ 32 * cast_unsigned w32 second.imm
 
 -- what a wide load leaves in its destination: a plain number where the source field is 0, else an address
-abbrev pub loaded : List bpf_insn → ℕ → bpf_insn → Option ℕ
-loaded slots i slot = if src_of slot == 0 then option_map (wide slot) (slice_get slots (i + 1)) else None
+abbrev pub wide_load_result : List bpf_insn → ℕ → bpf_insn → Option ℕ
+wide_load_result slots i slot = if src_of slot == 0 then option_map (wide slot) (slice_get slots (i + 1)) else None
 
 -- how a conditional jump decides, where both operands are known
 abbrev pub decided : bpf_insn → Registers → Option Bool

@@ -4,7 +4,7 @@ use Rattle.ebpf_parts.specs.declared.insn.bpf_insn.{bpf_insn}
 use Rattle.ebpf_reach.specs.declared.registers.Registers.{Registers}
 use Rattle.ebpf_reach.specs.declared.steps.Step.{Step}
 use Rattle.ebpf_reach.specs.Registers.{IsBelow, unknown}
-use Rattle.ebpf_reach.specs.Steps.{leads, steps}
+use Rattle.ebpf_reach.specs.Steps.{steps_to, steps}
 
 -- of each slot nothing, where it isn't reached, or what is known of the registers there
 abbrev pub Assignment : Type 0
@@ -31,7 +31,7 @@ Holds A (step ∷ more) = IsStateBelow (Some step.registers) (state_at A step.pl
 -- it holds the first slot, with nothing known, and the steps of each slot that it reaches
 pub record IsClosed (slots : List bpf_insn) (A : Assignment) : Type 0 where
   pub as_many : length A ≡ length slots
-  pub first : Holds A (leads slots (pos 0) unknown)
+  pub first : Holds A (steps_to slots (pos 0) unknown)
   pub steps : (i : ℕ) (a : Registers) → state_at A i ≡ Some a → Holds A (steps slots i a)
 
 -- the least of those
@@ -47,4 +47,4 @@ reached A = map is_some A
 pub record AreReached (slots : List bpf_insn) (answer : List Bool) : Type 0 where
   pub assignment : Assignment
   pub least : IsLeast slots assignment
-  pub told : answer ≡ reached assignment
+  pub is : answer ≡ reached assignment

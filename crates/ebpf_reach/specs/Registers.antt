@@ -37,5 +37,5 @@ commons [] ys = []
 commons (x ∷ xs) [] = []
 commons (x ∷ xs) (y ∷ ys) = common x y ∷ commons xs ys
 
-abbrev pub met : Registers → Registers → Registers
-met a b = record { numbers = commons a.numbers b.numbers }
+abbrev pub least_upper_bound : Registers → Registers → Registers
+least_upper_bound a b = record { numbers = commons a.numbers b.numbers }

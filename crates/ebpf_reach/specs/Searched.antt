@@ -7,7 +7,7 @@ use Rattle.ebpf_reach.specs.declared.steps.Step.{Step}
 use Rattle.ebpf_reach.specs.Counted.{changes_left}
 use Rattle.ebpf_parts.specs.declared.insn.bpf_insn.{bpf_insn}
 use Rattle.ebpf_reach.specs.Registers.{unknown}
-use Rattle.ebpf_reach.specs.Steps.{leads, steps}
+use Rattle.ebpf_reach.specs.Steps.{steps_to, steps}
 use Rattle.ebpf_reach.specs.Reached.{Assignment, AreBelow, Holds, IsClosed, state_at}
 
 -- how much the search has yet to do at most: each change of a slot makes it follow the slot once more
@@ -25,14 +25,14 @@ pub record TakesIn (steps : List Step) (A B : Assignment) (old new : List ℕ) :
   pub less : work_left B new ≤ work_left A old
 
 -- the steps from a slot, if it is reached
-abbrev pub followed : List bpf_insn → ℕ → Option Registers → List Step
-followed slots i None = []
-followed slots i (Some a) = steps slots i a
+abbrev pub steps_if_reached : List bpf_insn → ℕ → Option Registers → List Step
+steps_if_reached slots i None = []
+steps_if_reached slots i (Some a) = steps slots i a
 
 -- What the search keeps: its assignment is below each closed one, it holds the first slot, and the steps of each slot
 -- that isn't pending.
 pub record Searched (slots : List bpf_insn) (A : Assignment) (pending : List ℕ) : Type 0 where
   pub as_many : length A ≡ length slots
-  pub first : Holds A (leads slots (pos 0) unknown)
+  pub first : Holds A (steps_to slots (pos 0) unknown)
   pub least : (C : Assignment) → IsClosed slots C → AreBelow A C
-  pub held : (i : ℕ) → Among pending i ⊎ Holds A (followed slots i (state_at A i))
+  pub held : (i : ℕ) → Among pending i ⊎ Holds A (steps_if_reached slots i (state_at A i))

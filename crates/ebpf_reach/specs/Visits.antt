@@ -2,8 +2,8 @@
 use Rattle.std.specs.Prelude.{◌≡◌, ℕ, zero, suc, ◌<◌, ℤ, pos, negsuc, Bool, IsSome, Option, Some, None, List, [], ◌∷◌, length, ⊤, ◌⊎◌, true, slice_get}
 use Rattle.std.specs.Option.{option_and_then}
 use Rattle.ebpf_parts.specs.declared.insn.bpf_insn.{bpf_insn}
-use Rattle.ebpf_linker.specs.Slots.{Flow, Branch, flow, slot_at}
-use Rattle.ebpf_linker.specs.Machine.{State, StepResult, Goes, Ends, Waits, Leaves, run, begin, flat, step_at}
+use Rattle.ebpf_linker.specs.Slots.{Flow, Branch, flow, slot_at_integer}
+use Rattle.ebpf_linker.specs.Machine.{State, StepResult, Goes, Ends, Waits, Leaves, run_steps, begin, flat_code, step_at}
 use Rattle.ebpf_reach.specs.declared.registers.Registers.{Registers}
 use Rattle.ebpf_reach.specs.declared.steps.Step.{Step}
 use Rattle.ebpf_reach.specs.Registers.{IsBelow, known}
@@ -48,11 +48,11 @@ HeedsTurn rest Leaves = ⊤
 -- In a run of the flat program's machine each decision at a jump heeds what is known there.
 abbrev pub Heeds : List bpf_insn → Assignment → ℕ → State ℤ → Type 0
 Heeds slots A zero s = ⊤
-Heeds slots A (suc n) s = HeedsAt A s.place (slot_at slots s.place) s.decisions × HeedsTurn (Heeds slots A n) (step_at (flat slots) s (slot_at slots s.place))
+Heeds slots A (suc n) s = HeedsAt A s.place (slot_at_integer slots s.place) s.decisions × HeedsTurn (Heeds slots A n) (step_at (flat_code slots) s (slot_at_integer slots s.place))
 
 -- Each place that such a run visits from the first slot is reached.
 abbrev pub VisitsAreReached : Type 0
-VisitsAreReached = (slots : List bpf_insn) (A : Assignment) → IsClosed slots A → (decisions : List Bool) (n : ℕ) → Heeds slots A n (begin (pos 0) decisions) → AllReached A (run (flat slots) n (begin (pos 0) decisions)).visited
+VisitsAreReached = (slots : List bpf_insn) (A : Assignment) → IsClosed slots A → (decisions : List Bool) (n : ℕ) → Heeds slots A n (begin (pos 0) decisions) → AllReached A (run_steps (flat_code slots) n (begin (pos 0) decisions)).visited
 
 -- an assignment that nowhere knows a number
 abbrev pub KnowsNothing : Assignment → Type 0
@@ -60,7 +60,7 @@ KnowsNothing A = (i r : ℕ) (a : Registers) → state_at A i ≡ Some a → kno
 
 -- There each place is reached that any run visits, whatever it decides.
 abbrev pub AllVisitsAreReached : Type 0
-AllVisitsAreReached = (slots : List bpf_insn) (A : Assignment) → IsClosed slots A → KnowsNothing A → (decisions : List Bool) (n : ℕ) → AllReached A (run (flat slots) n (begin (pos 0) decisions)).visited
+AllVisitsAreReached = (slots : List bpf_insn) (A : Assignment) → IsClosed slots A → KnowsNothing A → (decisions : List Bool) (n : ℕ) → AllReached A (run_steps (flat_code slots) n (begin (pos 0) decisions)).visited
 
 -- the registers as a machine has them: eleven numbers
 pub record AreNumbers (a : Registers) : Type 0 where
@@ -82,5 +82,5 @@ abbrev pub MachinesAreReached : Type 0
 MachinesAreReached = (slots : List bpf_insn) (A : Assignment) → IsClosed slots A → (i : ℕ) (a : Registers) → ComesTo slots i a → (b : Registers) × (state_at A i ≡ Some b) × IsBelow a b
 
 -- So the answer tells of each slot to which a machine comes that it is reached.
-abbrev pub MachinesAreTold : Type 0
-MachinesAreTold = (slots : List bpf_insn) (answer : List Bool) → AreReached slots answer → (i : ℕ) (a : Registers) → ComesTo slots i a → slice_get answer i ≡ Some true
+abbrev pub AnswersCoverMachines : Type 0
+AnswersCoverMachines = (slots : List bpf_insn) (answer : List Bool) → AreReached slots answer → (i : ℕ) (a : Registers) → ComesTo slots i a → slice_get answer i ≡ Some true

@@ -2,7 +2,7 @@
 
 ghost use Rattle.std.specs.Prelude.{◌≡◌, ◌<◌, ◌%◌, ◌^◌};
 ghost use Rattle.std.specs.Int.{w8, w16, w32, w64};
-ghost use Rattle.ebpf_reach.specs.Arithmetic.{computed, extended, extended_32, extended_64, negated, plain, quotient, remainder, shifted_left, shifted_right, shifted_signed, signed, signed_quotient, signed_remainder, swapped, truncated};
+ghost use Rattle.ebpf_reach.specs.Arithmetic.{computed, extended, extended_32, extended_64, negated, operation_at_offset_0, quotient, remainder, shifted_left, shifted_right, shifted_signed, signed, signed_quotient, signed_remainder, swapped, truncated};
 
 fn quotient_32(x: u32, y: u32) -> u32
     ensures { result ≡ quotient x y }
@@ -125,7 +125,7 @@ pub fn negated_64(x: u64) -> u64
 
 // The operations with offset 0, but for NEG, MOV and END.
 fn plain_32(operation: u8, x: u32, y: u32) -> Option<u32>
-    ensures { result ≡ plain w32 operation x y }
+    ensures { result ≡ operation_at_offset_0 w32 operation x y }
 {
     match operation {
         0 => Some(x.wrapping_add(y)),
@@ -145,7 +145,7 @@ fn plain_32(operation: u8, x: u32, y: u32) -> Option<u32>
 
 // The operations with offset 0, but for NEG, MOV and END.
 fn plain_64(operation: u8, x: u64, y: u64) -> Option<u64>
-    ensures { result ≡ plain w64 operation x y }
+    ensures { result ≡ operation_at_offset_0 w64 operation x y }
 {
     match operation {
         0 => Some(x.wrapping_add(y)),

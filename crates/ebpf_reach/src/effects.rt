@@ -2,7 +2,7 @@
 
 ghost use Rattle.std.specs.Prelude.{◌≡◌, ◌+◌, ◌<◌, length};
 ghost use Rattle.std.specs.Int.{cast_unsigned, w64};
-ghost use Rattle.ebpf_reach.specs.Effects.{after, arithmetic, calculated, class, decided, destination, ended, is_poisoned, joined, loaded, moved, operation, source, stored, takes_register, turned, wide};
+ghost use Rattle.ebpf_reach.specs.Effects.{after, arithmetic, calculated, class, decided, destination, byte_swapped, is_poisoned, binary_result, wide_load_result, moved, operation, source, stored, takes_register, negation, wide};
 
 use crate::arithmetic::{
     computed_32, computed_64, extended_32, extended_64, low_32, negated_32, negated_64, swapped,
@@ -95,8 +95,8 @@ fn moved(slot: bpf_insn, y: u64) -> Option<u64>
 }
 
 // What NEG gives.
-fn turned(slot: bpf_insn, x: u64) -> Option<u64>
-    ensures { result ≡ turned slot x }
+fn negation(slot: bpf_insn, x: u64) -> Option<u64>
+    ensures { result ≡ negation slot x }
 {
     if takes_register(slot) || slot.off != 0 {
         return None;
@@ -108,8 +108,8 @@ fn turned(slot: bpf_insn, x: u64) -> Option<u64>
 }
 
 // What END gives.
-fn ended(slot: bpf_insn, x: u64) -> Option<u64>
-    ensures { result ≡ ended slot x }
+fn byte_swapped(slot: bpf_insn, x: u64) -> Option<u64>
+    ensures { result ≡ byte_swapped slot x }
 {
     if class(slot) == ALU {
         if takes_register(slot) {
@@ -124,8 +124,8 @@ fn ended(slot: bpf_insn, x: u64) -> Option<u64>
 }
 
 // What operations of two operands give.
-fn joined(slot: bpf_insn, registers: &Registers) -> Option<u64>
-    ensures { result ≡ joined slot registers.now }
+fn binary_result(slot: bpf_insn, registers: &Registers) -> Option<u64>
+    ensures { result ≡ binary_result slot registers.now }
 {
     match (destination(slot, registers), source(slot, registers)) {
         (Some(x), Some(y)) => calculated(slot, x, y),
@@ -139,9 +139,9 @@ fn arithmetic(slot: bpf_insn, registers: &Registers) -> Option<u64>
 {
     match operation(slot) {
         11 => moved(slot, source(slot, registers)?),
-        8 => turned(slot, destination(slot, registers)?),
-        13 => ended(slot, destination(slot, registers)?),
-        _ => joined(slot, registers),
+        8 => negation(slot, destination(slot, registers)?),
+        13 => byte_swapped(slot, destination(slot, registers)?),
+        _ => binary_result(slot, registers),
     }
 }
 
@@ -190,9 +190,9 @@ fn wide(slot: bpf_insn, second: bpf_insn) -> u64
 }
 
 /// What the wide load at a place leaves in its destination.
-pub fn loaded(slots: &[bpf_insn], place: usize, slot: bpf_insn) -> Option<u64>
+pub fn wide_load_result(slots: &[bpf_insn], place: usize, slot: bpf_insn) -> Option<u64>
     requires { place < length slots.now }
-    ensures { result ≡ loaded slots.now place slot }
+    ensures { result ≡ wide_load_result slots.now place slot }
 {
     if slot.src_reg() != 0 {
         return None;

@@ -1,6 +1,6 @@
 //! What the answer says of runs.
 
-ghost use Rattle.ebpf_reach.specs.Visits.{AllVisitsAreReached, AnswerIsOne, MachinesAreReached, MachinesAreTold, VisitsAreReached};
+ghost use Rattle.ebpf_reach.specs.Visits.{AllVisitsAreReached, AnswerIsOne, MachinesAreReached, AnswersCoverMachines, VisitsAreReached};
 
 /// A program has one answer: the least assignment is one.
 pub fn answer_is_one()
@@ -11,7 +11,7 @@ pub fn answer_is_one()
 /// that are known there; so the answer tells of each slot to which it comes.
 pub fn machines_are_reached()
     ensures reached { MachinesAreReached }
-    ensures told { MachinesAreTold }
+    ensures told { AnswersCoverMachines }
 {}
 
 /// Each place that the machine of the flat program visits is reached, where its decisions heed the numbers that are known;

@@ -1,7 +1,7 @@
 //! What is known of the registers where a slot is reached.
 
 ghost use Rattle.std.specs.Prelude.{◌≡◌};
-ghost use Rattle.ebpf_reach.specs.Registers.{called, common, forgotten, known, learned, met, unknown};
+ghost use Rattle.ebpf_reach.specs.Registers.{called, common, forgotten, known, learned, least_upper_bound, unknown};
 
 /// How many registers a program has: r0 to r10.
 pub const COUNT: usize = 11;
@@ -75,8 +75,8 @@ impl Registers {
     }
 
     /// What is known where two paths meet: the numbers that are equal on both.
-    pub fn met(&self, other: &Registers) -> Registers
-        ensures { result ≡ met self.now other.now }
+    pub fn least_upper_bound(&self, other: &Registers) -> Registers
+        ensures { result ≡ least_upper_bound self.now other.now }
     {
         let mut numbers = [None; 11];
         for register in 0..COUNT {

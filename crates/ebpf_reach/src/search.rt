@@ -4,7 +4,7 @@ ghost use Rattle.std.specs.Prelude.{◌≡◌, ◌<◌, [], ◌∷◌, ◌++◌,
 ghost use Rattle.std.specs.Option.{option_to_list};
 ghost use Rattle.ebpf_reach.specs.Reached.{AreReached, IsLeast, reached, state_at};
 ghost use Rattle.ebpf_reach.specs.Steps.{steps};
-ghost use Rattle.ebpf_reach.specs.Searched.{Searched, TakesIn, followed};
+ghost use Rattle.ebpf_reach.specs.Searched.{Searched, TakesIn, steps_if_reached};
 
 use crate::registers::Registers;
 use crate::steps::{Step, step_to, steps_from};
@@ -34,12 +34,12 @@ impl Search {
     }
 
     // Reaches a slot once more. Where that forgets a number, the slot is to be followed once more.
-    fn meet(&mut self, step: Step, before: Registers) -> Result<(), AllocError>
+    fn join_state(&mut self, step: Step, before: Registers) -> Result<(), AllocError>
         requires within { step.place < vec_len self.old.states }
         requires before { state_at self.old.states.items step.place ≡ Some before }
         ensures { OnOk result (TakesIn (step ∷ []) self.old.states.items self.new.states.items self.old.pending.items self.new.pending.items) }
     {
-        let registers = before.met(&step.registers);
+        let registers = before.least_upper_bound(&step.registers);
         if registers == before {
             return Ok(());
         }
@@ -53,7 +53,7 @@ impl Search {
     {
         match self.states[step.place] {
             None => self.put(step.place, step.registers),
-            Some(before) => self.meet(step, before),
+            Some(before) => self.join_state(step, before),
         }
     }
 
@@ -87,7 +87,7 @@ impl Search {
     // Takes the steps from a slot, if it was reached.
     fn follow(&mut self, slots: &[bpf_insn], place: usize) -> Result<(), AllocError>
         requires { vec_len self.old.states ≡ length slots.now }
-        ensures { OnOk result (TakesIn (followed slots.now place (state_at self.old.states.items place)) self.old.states.items self.new.states.items self.old.pending.items self.new.pending.items) }
+        ensures { OnOk result (TakesIn (steps_if_reached slots.now place (state_at self.old.states.items place)) self.old.states.items self.new.states.items self.old.pending.items self.new.pending.items) }
     {
         let Some(Some(registers)) = self.states.get(place) else {
             return Ok(());

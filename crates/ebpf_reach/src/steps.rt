@@ -4,9 +4,9 @@ ghost use Rattle.std.specs.Prelude.{◌≡◌, ◌+◌, ◌<◌, pos, length, If
 ghost use Rattle.std.specs.Option.{option_to_list};
 ghost use Rattle.ebpf_linker.specs.Slots.{flow, is_branch};
 ghost use Rattle.ebpf_reach.specs.Effects.{decided};
-ghost use Rattle.ebpf_reach.specs.Steps.{AreWithin, behind, callback, follow, further, leads, listed, steps, ways};
+ghost use Rattle.ebpf_reach.specs.Steps.{AreWithin, next_index, callback, steps_by_flow, target_index, steps_to, pair_to_list, steps, ways};
 
-use crate::effects::{after, decided, loaded};
+use crate::effects::{after, decided, wide_load_result};
 use crate::registers::Registers;
 use ebpf_parts::insn::bpf_insn;
 use ebpf_parts::insn::opcodes::{BPF_PSEUDO_FUNC, EXIT, JA, JA32, JMP, JMP32, LD_IMM64};
@@ -20,7 +20,7 @@ pub struct Step {
 
 /// The step to a place, if the program has it.
 pub fn step_to(slots: &[bpf_insn], place: usize, registers: Registers) -> Option<Step>
-    ensures leads { option_to_list result ≡ leads slots.now (pos place) registers }
+    ensures steps_to { option_to_list result ≡ steps_to slots.now (pos place) registers }
     ensures within { IfSome result (λ step. step.place < length slots.now) }
 {
     if place < slots.len() {
@@ -33,7 +33,7 @@ pub fn step_to(slots: &[bpf_insn], place: usize, registers: Registers) -> Option
 // The step to the place so many slots behind the next one.
 fn step_further(slots: &[bpf_insn], place: usize, by: i32, registers: Registers) -> Option<Step>
     requires { place < length slots.now }
-    ensures leads { option_to_list result ≡ leads slots.now (further place by) registers }
+    ensures steps_to { option_to_list result ≡ steps_to slots.now (target_index place by) registers }
     ensures within { IfSome result (λ step. step.place < length slots.now) }
 {
     match (place + 1).checked_add_signed(by as isize) {
@@ -50,7 +50,7 @@ fn ways(
     registers: Registers,
 ) -> (Option<Step>, Option<Step>)
     requires { place < length slots.now }
-    ensures ways { listed result ≡ ways (decided slot registers) (leads slots.now (behind place) registers) (leads slots.now (further place slot.off) registers) }
+    ensures ways { pair_to_list result ≡ ways (decided slot registers) (steps_to slots.now (next_index place) registers) (steps_to slots.now (target_index place slot.off) registers) }
     ensures within { AreWithin slots.now result }
 {
     let here = step_to(slots, place + 1, registers);
@@ -65,7 +65,7 @@ fn ways(
 // The step to the first slot of a callback, where a wide load has its address.
 fn callback(slots: &[bpf_insn], place: usize, slot: bpf_insn) -> Option<Step>
     requires { place < length slots.now }
-    ensures leads { option_to_list result ≡ callback slots.now place slot }
+    ensures steps_to { option_to_list result ≡ callback slots.now place slot }
     ensures within { IfSome result (λ step. step.place < length slots.now) }
 {
     if slot.src_reg() != BPF_PSEUDO_FUNC {
@@ -89,7 +89,7 @@ fn steps_of(
     registers: Registers,
 ) -> (Option<Step>, Option<Step>)
     requires { place < length slots.now }
-    ensures steps { listed result ≡ follow slots.now place slot registers (flow slot) }
+    ensures steps { pair_to_list result ≡ steps_by_flow slots.now place slot registers (flow slot) }
     ensures within { AreWithin slots.now result }
 {
     if slot.code == EXIT {
@@ -102,7 +102,7 @@ fn steps_of(
         );
     }
     if slot.code == LD_IMM64 {
-        let known = registers.learned(slot.dst_reg(), loaded(slots, place, slot));
+        let known = registers.learned(slot.dst_reg(), wide_load_result(slots, place, slot));
         return (
             step_to(slots, place + 2, known),
             callback(slots, place, slot),
@@ -130,7 +130,7 @@ pub fn steps_from(
     registers: Registers,
 ) -> (Option<Step>, Option<Step>)
     requires { place < length slots.now }
-    ensures steps { listed result ≡ steps slots.now place registers }
+    ensures steps { pair_to_list result ≡ steps slots.now place registers }
     ensures within { AreWithin slots.now result }
 {
     steps_of(slots, place, slots[place], registers)

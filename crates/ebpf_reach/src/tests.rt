@@ -40,7 +40,7 @@ fn skip_if_equal(register: u8, imm: i32) -> bpf_insn {
 }
 
 /// A digit for each slot: 1 where it is reached.
-fn told(alloc: Global, slots: &[bpf_insn]) -> Result<String, AllocError> {
+fn reached_text(alloc: Global, slots: &[bpf_insn]) -> Result<String, AllocError> {
     let flags = reached_slots(alloc, slots)?;
     let mut text = String::new(alloc);
     for flag in flags.iter() {
@@ -52,7 +52,7 @@ fn told(alloc: Global, slots: &[bpf_insn]) -> Result<String, AllocError> {
 /// No slot, no flag.
 #[test]
 fn empty(rt: HostRuntime) -> Result<(), Fail> {
-    assert_eq!(rt; told(rt.alloc(), &[])?.as_str(), "");
+    assert_eq!(rt; reached_text(rt.alloc(), &[])?.as_str(), "");
     Ok(())
 }
 
@@ -60,7 +60,7 @@ fn empty(rt: HostRuntime) -> Result<(), Fail> {
 #[test]
 fn both_ways(rt: HostRuntime) -> Result<(), Fail> {
     let slots = [skip_if_equal(1, 0), poisoned(), exit()];
-    assert_eq!(rt; told(rt.alloc(), &slots)?.as_str(), "111");
+    assert_eq!(rt; reached_text(rt.alloc(), &slots)?.as_str(), "111");
     Ok(())
 }
 
@@ -68,9 +68,9 @@ fn both_ways(rt: HostRuntime) -> Result<(), Fail> {
 #[test]
 fn guarded(rt: HostRuntime) -> Result<(), Fail> {
     let slots = [mov(1, 0), skip_if_equal(1, 0), poisoned(), exit()];
-    assert_eq!(rt; told(rt.alloc(), &slots)?.as_str(), "1101");
+    assert_eq!(rt; reached_text(rt.alloc(), &slots)?.as_str(), "1101");
     let other = [mov(1, 1), skip_if_equal(1, 0), poisoned(), exit()];
-    assert_eq!(rt; told(rt.alloc(), &other)?.as_str(), "1111");
+    assert_eq!(rt; reached_text(rt.alloc(), &other)?.as_str(), "1111");
     Ok(())
 }
 
@@ -85,7 +85,7 @@ fn widths(rt: HostRuntime) -> Result<(), Fail> {
         poisoned(),
         exit(),
     ];
-    assert_eq!(rt; told(rt.alloc(), &slots)?.as_str(), "11111");
+    assert_eq!(rt; reached_text(rt.alloc(), &slots)?.as_str(), "11111");
     // the same with if w1 == w2
     let low = [
         mov(1, -1),
@@ -94,13 +94,13 @@ fn widths(rt: HostRuntime) -> Result<(), Fail> {
         poisoned(),
         exit(),
     ];
-    assert_eq!(rt; told(rt.alloc(), &low)?.as_str(), "11101");
+    assert_eq!(rt; reached_text(rt.alloc(), &low)?.as_str(), "11101");
     // if r1 s< 0, of -1
     let signed = [mov(1, -1), slot(0xc5, 1, 1, 0), poisoned(), exit()];
-    assert_eq!(rt; told(rt.alloc(), &signed)?.as_str(), "1101");
+    assert_eq!(rt; reached_text(rt.alloc(), &signed)?.as_str(), "1101");
     // if r1 < 0, of -1
     let unsigned = [mov(1, -1), slot(0xa5, 1, 1, 0), exit(), poisoned()];
-    assert_eq!(rt; told(rt.alloc(), &unsigned)?.as_str(), "1110");
+    assert_eq!(rt; reached_text(rt.alloc(), &unsigned)?.as_str(), "1110");
     Ok(())
 }
 
@@ -114,7 +114,7 @@ fn gives(alloc: Global, x: i32, operation: bpf_insn, wanted: i32) -> Result<bool
         poisoned(),
         exit(),
     ];
-    let text = told(alloc, &slots)?;
+    let text = reached_text(alloc, &slots)?;
     Ok(text.as_str() == "111101")
 }
 
@@ -195,9 +195,9 @@ fn arithmetic_32(rt: HostRuntime) -> Result<(), Fail> {
 #[test]
 fn calls(rt: HostRuntime) -> Result<(), Fail> {
     let kept = [mov(6, 0), helper(), skip_if_equal(6, 0), poisoned(), exit()];
-    assert_eq!(rt; told(rt.alloc(), &kept)?.as_str(), "11101");
+    assert_eq!(rt; reached_text(rt.alloc(), &kept)?.as_str(), "11101");
     let lost = [mov(5, 0), helper(), skip_if_equal(5, 0), poisoned(), exit()];
-    assert_eq!(rt; told(rt.alloc(), &lost)?.as_str(), "11111");
+    assert_eq!(rt; reached_text(rt.alloc(), &lost)?.as_str(), "11111");
     Ok(())
 }
 
@@ -214,7 +214,7 @@ fn pseudo_call(rt: HostRuntime) -> Result<(), Fail> {
         exit(),
         exit(),
     ];
-    assert_eq!(rt; told(rt.alloc(), &slots)?.as_str(), "1111110");
+    assert_eq!(rt; reached_text(rt.alloc(), &slots)?.as_str(), "1111110");
     Ok(())
 }
 
@@ -229,7 +229,7 @@ fn callback(rt: HostRuntime) -> Result<(), Fail> {
         exit(),
         exit(),
     ];
-    assert_eq!(rt; told(rt.alloc(), &slots)?.as_str(), "10101");
+    assert_eq!(rt; reached_text(rt.alloc(), &slots)?.as_str(), "10101");
     Ok(())
 }
 
@@ -245,7 +245,7 @@ fn wide_loads(rt: HostRuntime) -> Result<(), Fail> {
         poisoned(),
         exit(),
     ];
-    assert_eq!(rt; told(rt.alloc(), &slots)?.as_str(), "101101");
+    assert_eq!(rt; reached_text(rt.alloc(), &slots)?.as_str(), "101101");
     Ok(())
 }
 
@@ -259,10 +259,10 @@ fn loops(rt: HostRuntime) -> Result<(), Fail> {
         slot(0x55, 1, -2, 10),
         exit(),
     ];
-    assert_eq!(rt; told(rt.alloc(), &slots)?.as_str(), "1111");
+    assert_eq!(rt; reached_text(rt.alloc(), &slots)?.as_str(), "1111");
     // without an end
     let forever = [slot(0x05, 0, -1, 0), exit()];
-    assert_eq!(rt; told(rt.alloc(), &forever)?.as_str(), "10");
+    assert_eq!(rt; reached_text(rt.alloc(), &forever)?.as_str(), "10");
     Ok(())
 }
 
@@ -279,10 +279,10 @@ fn meetings(rt: HostRuntime) -> Result<(), Fail> {
         poisoned(),
         exit(),
     ];
-    assert_eq!(rt; told(rt.alloc(), &same)?.as_str(), "1111101");
+    assert_eq!(rt; reached_text(rt.alloc(), &same)?.as_str(), "1111101");
     let mut different = same;
     different[3] = mov(2, 6);
-    assert_eq!(rt; told(rt.alloc(), &different)?.as_str(), "1111111");
+    assert_eq!(rt; reached_text(rt.alloc(), &different)?.as_str(), "1111111");
     Ok(())
 }
 
@@ -290,7 +290,7 @@ fn meetings(rt: HostRuntime) -> Result<(), Fail> {
 #[test]
 fn past_poison(rt: HostRuntime) -> Result<(), Fail> {
     let slots = [mov(6, 0), poisoned(), skip_if_equal(6, 0), helper(), exit()];
-    assert_eq!(rt; told(rt.alloc(), &slots)?.as_str(), "11111");
+    assert_eq!(rt; reached_text(rt.alloc(), &slots)?.as_str(), "11111");
     Ok(())
 }
 
@@ -298,18 +298,18 @@ fn past_poison(rt: HostRuntime) -> Result<(), Fail> {
 #[test]
 fn leaves(rt: HostRuntime) -> Result<(), Fail> {
     assert_eq!(rt;
-        told(rt.alloc(), &[slot(0x05, 0, 7, 0), exit()])?.as_str(),
+        reached_text(rt.alloc(), &[slot(0x05, 0, 7, 0), exit()])?.as_str(),
         "10"
     );
     assert_eq!(rt;
-        told(rt.alloc(), &[slot(0x06, 0, 0, -2), exit()])?.as_str(),
+        reached_text(rt.alloc(), &[slot(0x06, 0, 0, -2), exit()])?.as_str(),
         "10"
     );
     assert_eq!(rt;
-        told(rt.alloc(), &[slot(0x06, 0, 0, 0), exit()])?.as_str(),
+        reached_text(rt.alloc(), &[slot(0x06, 0, 0, 0), exit()])?.as_str(),
         "11"
     );
-    assert_eq!(rt; told(rt.alloc(), &[slot(0x18, 0, 0, 0)])?.as_str(), "1");
+    assert_eq!(rt; reached_text(rt.alloc(), &[slot(0x18, 0, 0, 0)])?.as_str(), "1");
     Ok(())
 }
 

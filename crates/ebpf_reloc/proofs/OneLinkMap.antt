@@ -50,7 +50,7 @@ only program p zero at = cc
 only program p (suc i) at = cc
 
 refused_alone : (parts : LinkableValue) (program : ProgramValue) (e : EbpfRelocationError) → IsFirstRefusal parts (program ∷ []) e → IsProgramRefusal parts program e
-refused_alone parts program e h = subst (λ (p : ProgramValue). IsProgramRefusal parts p e) (only program h.program h.place h.at) h.refused
+refused_alone parts program e h = subst (λ (p : ProgramValue). IsProgramRefusal parts p e) (only program h.program h.index h.at) h.refused
 
 linked_alone : (parts : LinkableValue) (program : ProgramValue) (m : FinMap key_cmp Function) → AreLinked parts (program ∷ []) m → (g : Function) × IsLinked parts (key_of program) g
 linked_alone parts program m h = step (get m (key_of program)) refl (h.keys (key_of program) ∙ ap (λ b. b || false) ((eq_by_cmp_equiv key_total).refl (key_of program)))
@@ -102,8 +102,8 @@ mapped_are_linked parts key m a =
 -- ---- all programs
 
 pub first_without_map : FirstWithoutLinkMap
-first_without_map parts programs place program e at refused earlier = record {
-  place = place;
+first_without_map parts programs index program e at refused earlier = record {
+  index = index;
   program = program;
   at = at;
   refused = refused;
@@ -111,4 +111,4 @@ first_without_map parts programs place program e at refused earlier = record {
 }
 
 pub all_with_maps : AllWithLinkMaps
-all_with_maps parts programs all e h = let (m, a) = all h.place h.program h.at in not_mapped parts (key_of h.program) m e.error a h.refused.1
+all_with_maps parts programs all e h = let (m, a) = all h.index h.program h.at in not_mapped parts (key_of h.program) m e.error a h.refused.1

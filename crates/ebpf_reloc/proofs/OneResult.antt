@@ -71,15 +71,15 @@ one_link_map parts programs m n a b = same_map key_total key_exact m n (λ key. 
 
 one_first : (parts : LinkableValue) (programs : List ProgramValue) (d e : EbpfRelocationError) → IsFirstRefusal parts programs d → IsFirstRefusal parts programs e → d ≡ e
 one_first parts programs d e a b = ⊎_elim
-    (λ (low : a.place < b.place). let earlier = b.before a.place a.program low a.at in absurd (not_refused parts (key_of a.program) earlier.0 d.error earlier.1 a.refused.1))
-    (λ (rest : b.place ≤ a.place). ⊎_elim
-    (λ (low : b.place < a.place). let earlier = a.before b.place b.program low b.at in absurd (not_refused parts (key_of b.program) earlier.0 e.error earlier.1 b.refused.1))
-    (λ (same : a.place ≤ b.place).
-    let place : a.place ≡ b.place = omega arith in
-    let program : a.program ≡ b.program = same_value (slice_get programs b.place) a.program b.program (ap (slice_get programs) (sym place) ∙ a.at) b.at in
+    (λ (low : a.index < b.index). let earlier = b.before a.index a.program low a.at in absurd (not_refused parts (key_of a.program) earlier.0 d.error earlier.1 a.refused.1))
+    (λ (rest : b.index ≤ a.index). ⊎_elim
+    (λ (low : b.index < a.index). let earlier = a.before b.index b.program low b.at in absurd (not_refused parts (key_of b.program) earlier.0 e.error earlier.1 b.refused.1))
+    (λ (same : a.index ≤ b.index).
+    let index : a.index ≡ b.index = omega arith in
+    let program : a.program ≡ b.program = same_value (slice_get programs b.index) a.program b.program (ap (slice_get programs) (sym index) ∙ a.at) b.at in
     one_refusal parts b.program d e (subst (λ (p : ProgramValue). IsProgramRefusal parts p d) program a.refused) b.refused)
-    (cases_lt b.place a.place))
-    (cases_lt a.place b.place)
+    (cases_lt b.index a.index))
+    (cases_lt a.index b.index)
 
 pub any_at : (p : ProgramValue → Bool) (programs : List ProgramValue) (i : ℕ) (program : ProgramValue) → slice_get programs i ≡ Some program → p program ≡ true → list_any p programs ≡ true
 any_at p [] i program at h = cc
@@ -93,7 +93,7 @@ any_at p (q ∷ programs) (suc i) program at h = ap (λ b. p q || b) (any_at p p
 not_both : (parts : LinkableValue) (programs : List ProgramValue) (m : FinMap key_cmp Function) (e : EbpfRelocationError) → AreLinked parts programs m → IsFirstRefusal parts programs e → ⊥
 not_both parts programs m e a h =
     let key = key_of h.program in
-    let there : is_some (get m key) ≡ true = a.keys key ∙ any_at (λ p. eq_by_cmp key_cmp key (key_of p)) programs h.place h.program h.at ((eq_by_cmp_equiv key_total).refl key) in
+    let there : is_some (get m key) ≡ true = a.keys key ∙ any_at (λ p. eq_by_cmp key_cmp key (key_of p)) programs h.index h.program h.at ((eq_by_cmp_equiv key_total).refl key) in
     step (get m key) refl there
   where
     step : (o : Option Function) → get m (key_of h.program) ≡ o → is_some (get m (key_of h.program)) ≡ true → ⊥

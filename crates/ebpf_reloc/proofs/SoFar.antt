@@ -53,7 +53,7 @@ module _ (parts : LinkableValue) (programs : List ProgramValue) where
       here = sym (get_or_from_slice_get programs i program program at_here)
 
       pub first_fault : (e : EbpfRelocationError) → IsProgramRefusal parts program e → IsFirstRefusal parts programs e
-      first_fault e refused = record { place = i; program = program; at = at_here; refused = refused; before = so_far.before }
+      first_fault e refused = record { index = i; program = program; at = at_here; refused = refused; before = so_far.before }
 
       module _ (has : contains_key linked (key_of program) ≡ true) where
         keys_same : (a b c d : Bool) → (b ≡ true → a ≡ true) → (a || (b || c)) ≡ d → (a || c) ≡ d
@@ -79,8 +79,8 @@ module _ (parts : LinkableValue) (programs : List ProgramValue) where
           before = λ k earlier lt at. ⊎_elim
               (λ (low : k < i). so_far.before k earlier low at)
               (λ (high : i ≤ k).
-              let place : k ≡ i = omega arith in
-              let same : Some earlier ≡ Some program = sym at ∙ ap (slice_get programs) place ∙ at_here in
+              let index : k ≡ i = omega arith in
+              let same : Some earlier ≡ Some program = sym at ∙ ap (slice_get programs) index ∙ at_here in
               let equal : earlier ≡ program = cc in
               subst (λ (p : ProgramValue). (x : Function) × IsLinked parts (key_of p) x) (sym equal) (value (get linked (key_of program)) refl has))
               (cases_lt k i);
@@ -118,8 +118,8 @@ module _ (parts : LinkableValue) (programs : List ProgramValue) where
           before = λ k earlier lt at. ⊎_elim
               (λ (low : k < i). so_far.before k earlier low at)
               (λ (high : i ≤ k).
-              let place : k ≡ i = omega arith in
-              let same : Some earlier ≡ Some program = sym at ∙ ap (slice_get programs) place ∙ at_here in
+              let index : k ≡ i = omega arith in
+              let same : Some earlier ≡ Some program = sym at ∙ ap (slice_get programs) index ∙ at_here in
               let equal : earlier ≡ program = cc in
               subst (λ (p : ProgramValue). (x : Function) × IsLinked parts (key_of p) x) (sym equal) (g, is))
               (cases_lt k i);

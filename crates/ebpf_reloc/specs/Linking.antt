@@ -61,8 +61,8 @@ pub record AreLinked (parts : LinkableValue) (programs : List ProgramValue) (lin
 
 -- the refusal of the first program that can't be linked
 pub record IsFirstRefusal (parts : LinkableValue) (programs : List ProgramValue) (e : EbpfRelocationError) : Type 0 where
-  pub place : ℕ
+  pub index : ℕ
   pub program : ProgramValue
-  pub at : slice_get programs place ≡ Some program
+  pub at : slice_get programs index ≡ Some program
   pub refused : IsProgramRefusal parts program e
-  pub before : (k : ℕ) (earlier : ProgramValue) → k < place → slice_get programs k ≡ Some earlier → (linked : Function) × IsLinked parts (key_of earlier) linked
+  pub before : (k : ℕ) (earlier : ProgramValue) → k < index → slice_get programs k ≡ Some earlier → (linked : Function) × IsLinked parts (key_of earlier) linked

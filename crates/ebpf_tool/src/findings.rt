@@ -35,7 +35,7 @@ pub struct Topic {
 
 /// A place in a linked program. Contracts say nothing of it.
 #[derive(Debug, Drop)]
-pub struct Place {
+pub struct Location {
     /// The function that the slot was copied from, and the slot in it, where it is not the program's own.
     pub within: Option<(Text, usize)>,
     /// The source line.
@@ -53,7 +53,7 @@ pub struct Found {
     /// The value that the object's own types give.
     pub own: Option<u64>,
     /// The places in linked programs.
-    pub places: BTreeMap<At, Place>,
+    pub places: BTreeMap<At, Location>,
     /// The values that kernels give, each with the kernels by their numbers.
     pub values: BTreeMap<u64, Vec<usize>>,
     /// The kernels, by their numbers.
@@ -82,9 +82,9 @@ fn add_kernel(kernels: &mut Vec<usize>, kernel: usize) -> Result<(), AllocError>
 
 /// Adds a kernel to a place.
 fn add_place(
-    places: &mut BTreeMap<At, Place>,
+    places: &mut BTreeMap<At, Location>,
     at: At,
-    place: Place,
+    place: Location,
     kernel: usize,
 ) -> Result<(), AllocError> {
     if let Some(known) = places.get_mut(&at) {
@@ -134,7 +134,7 @@ impl Findings {
         &mut self,
         topic: Topic,
         kernel: usize,
-        place: Option<(At, Place)>,
+        place: Option<(At, Location)>,
     ) -> Result<(), AllocError> {
         if !self.topics.contains_key(&topic) {
             let found = Found::new(self.alloc);
@@ -152,7 +152,7 @@ impl Findings {
         topic: Topic,
         found: Found,
         kernel: usize,
-        place: Option<(At, Place)>,
+        place: Option<(At, Location)>,
     ) -> Result<(), AllocError> {
         let mut found = found;
         note(&mut found, kernel, place)?;
@@ -183,7 +183,7 @@ impl Findings {
 }
 
 /// Notes a kernel, and a place.
-fn note(found: &mut Found, kernel: usize, place: Option<(At, Place)>) -> Result<(), AllocError> {
+fn note(found: &mut Found, kernel: usize, place: Option<(At, Location)>) -> Result<(), AllocError> {
     add_kernel(&mut found.kernels, kernel)?;
     match place {
         Some((at, place)) => add_place(&mut found.places, at, place, kernel),

@@ -1,6 +1,6 @@
 //! What `ebpf check --json` prints.
 
-use crate::findings::{At, Found, Place, Rank, Topic};
+use crate::findings::{At, Found, Location, Rank, Topic};
 use crate::kinds::Kind;
 use crate::names::Quoted;
 use crate::session::{Answer, KernelAnswer, Session};
@@ -92,7 +92,7 @@ fn write_line<W: Write>(out: &mut W, line: &Option<(Text, u32)>) -> io::Result<(
 }
 
 /// Writes a place.
-fn write_place<W: Write>(out: &mut W, session: &Session, at: At, place: &Place) -> io::Result<()> {
+fn write_place<W: Write>(out: &mut W, session: &Session, at: At, place: &Location) -> io::Result<()> {
     let name = match session.loaded.programs.get(at.0) {
         Some(program) => program.name.as_str(),
         None => "",
@@ -115,7 +115,7 @@ fn write_place<W: Write>(out: &mut W, session: &Session, at: At, place: &Place) 
 fn write_places<W: Write>(
     out: &mut W,
     session: &Session,
-    places: &BTreeMap<At, Place>,
+    places: &BTreeMap<At, Location>,
 ) -> io::Result<()> {
     let mut is_first = true;
     write!(out, "\"places\":[")?;

@@ -83,7 +83,7 @@ fn typed_externs(alloc: Global, object: &Object) -> Result<ByName<ExternDesc>, A
 
 /// What is asked of an object.
 #[derive(Drop)]
-struct Asked {
+struct Needs {
     programs: Vec<Chosen>,
     records: Vec<Record>,
     map_uses: ByKey<Items<MapUse>>,
@@ -92,13 +92,13 @@ struct Asked {
 }
 
 /// What is asked of an object, which it borrows: each way out of a function is proved to let go of what it holds.
-fn asked_of(alloc: Global, file: &[u8], object: &Object, all: bool) -> Result<Asked, AllocError> {
+fn needs_of(alloc: Global, file: &[u8], object: &Object, all: bool) -> Result<Needs, AllocError> {
     let records = records_of(alloc, object, all)?;
     let programs = section_names(alloc, file, object)?;
     let map_uses = map_uses(alloc, object)?;
     let typed = typed_externs(alloc, object)?;
     let settings = wanted_settings(alloc, object)?;
-    Ok(Asked {
+    Ok(Needs {
         programs,
         records,
         map_uses,
@@ -114,13 +114,13 @@ fn asked_of(alloc: Global, file: &[u8], object: &Object, all: bool) -> Result<As
 /// The reader's own; `OutOfMemory` where memory is refused.
 pub fn load(alloc: Global, file: &[u8], all: bool) -> Result<Loaded, ParseError> {
     let object = Object::parse_as(alloc, file, Reading::Broad)?;
-    let asked = asked_of(alloc, file, &object, all)?;
+    let needs = needs_of(alloc, file, &object, all)?;
     Ok(Loaded {
         object,
-        programs: asked.programs,
-        records: asked.records,
-        map_uses: asked.map_uses,
-        typed: asked.typed,
-        settings: asked.settings,
+        programs: needs.programs,
+        records: needs.records,
+        map_uses: needs.map_uses,
+        typed: needs.typed,
+        settings: needs.settings,
     })
 }

@@ -1,6 +1,6 @@
 //! What `ebpf check` prints for people.
 
-use crate::findings::{At, Found, Place, Rank, Topic};
+use crate::findings::{At, Found, Location, Rank, Topic};
 use crate::kinds::Kind;
 use crate::names::{Shown, last_part};
 use crate::session::{Answer, KernelAnswer, Session};
@@ -94,7 +94,7 @@ fn write_on<W: Write>(
 }
 
 /// Writes the program of a place, its slot and the function that the slot was copied from.
-fn write_slot<W: Write>(out: &mut W, session: &Session, at: At, place: &Place) -> io::Result<()> {
+fn write_slot<W: Write>(out: &mut W, session: &Session, at: At, place: &Location) -> io::Result<()> {
     if let Some(program) = session.loaded.programs.get(at.0) {
         let name = Shown(program.name.as_str());
         write!(out, "{name}")?;
@@ -115,7 +115,7 @@ fn write_place<W: Write>(
     session: &Session,
     manner: Manner,
     at: At,
-    place: &Place,
+    place: &Location,
     kernels: &[usize],
 ) -> io::Result<()> {
     write!(out, "    ")?;
@@ -137,7 +137,7 @@ fn write_places<W: Write>(
     out: &mut W,
     session: &Session,
     manner: Manner,
-    places: &BTreeMap<At, Place>,
+    places: &BTreeMap<At, Location>,
     kernels: &[usize],
 ) -> io::Result<()> {
     for (at, place) in places.iter() {

@@ -9,7 +9,7 @@ use crate::names::Shown;
 use crate::printing::{Manner, write_findings, write_kernel};
 use crate::programs::{counting, unknown_name};
 use crate::session::{Answer, Session};
-use crate::words::{Asked, CheckWords, WordsError, read_words};
+use crate::words::{Command, CheckWords, WordsError, read_words};
 use ebpf_base::Text;
 use ebpf_object::obj::ExplainedParse;
 use ebpf_parts::ParseError;
@@ -242,15 +242,15 @@ fn tell(rt: &HostRuntime, text: &str) -> Result<u8, Stop> {
 }
 
 /// Does what a command line asks.
-fn obey(rt: &HostRuntime, asked: &Asked) -> Result<u8, Stop> {
-    match asked {
-        Asked::Help => tell(rt, HELP),
-        Asked::CheckHelp => {
+fn obey(rt: &HostRuntime, command: &Command) -> Result<u8, Stop> {
+    match command {
+        Command::Help => tell(rt, HELP),
+        Command::CheckHelp => {
             tell(rt, CHECK_USAGE)?;
             tell(rt, CHECK_HELP)
         }
-        Asked::Version => tell(rt, VERSION),
-        Asked::Check(words) => check(rt, words),
+        Command::Version => tell(rt, VERSION),
+        Command::Check(words) => check(rt, words),
     }
 }
 
@@ -264,7 +264,7 @@ pub fn start(rt: &HostRuntime) -> ExitCode {
         }
     };
     let done = match read_words(rt.alloc(), &words) {
-        Ok(asked) => obey(rt, &asked),
+        Ok(command) => obey(rt, &command),
         Err(error) => usage(rt, &error),
     };
     match done {

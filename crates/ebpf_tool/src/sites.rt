@@ -1,7 +1,7 @@
 //! What a kernel means for the slots of a linked program.
 
 use crate::calls::judge_calls;
-use crate::findings::{At, Findings, Place, Rank, Topic};
+use crate::findings::{At, Findings, Location, Rank, Topic};
 use crate::kinds::Kind;
 use crate::lines::{Lines, Span};
 use crate::linked::Linked;
@@ -64,8 +64,8 @@ impl<'a> Site<'a> {
     }
 
     /// A program as a whole.
-    pub fn whole(alloc: Global, number: usize) -> (At, Place) {
-        let place = Place {
+    pub fn whole(alloc: Global, number: usize) -> (At, Location) {
+        let place = Location {
             within: None,
             line: None,
             kernels: Vec::new(alloc),
@@ -92,14 +92,14 @@ impl<'a> Site<'a> {
         alloc: Global,
         local: Option<&Btf>,
         spot: Spot<'_>,
-    ) -> Result<(At, Place), AllocError> {
+    ) -> Result<(At, Location), AllocError> {
         let within = if spot.copy.base == 0 {
             None
         } else {
             Some((spot.copy.name.clone()?, spot.slot))
         };
         let line = self.lines.of(alloc, local, spot.span())?;
-        let place = Place {
+        let place = Location {
             within,
             line,
             kernels: Vec::new(alloc),
@@ -113,7 +113,7 @@ fn record_topic(
     alloc: Global,
     local: &Btf,
     record: &Record,
-    place: &Place,
+    place: &Location,
     rank: Rank,
     reason: String,
 ) -> Result<Topic, AllocError> {

@@ -6,7 +6,7 @@ use thiserror::Error;
 
 /// What a command line asks for.
 #[derive(Debug, Drop)]
-pub enum Asked {
+pub enum Command {
     /// What `ebpf` does, in general.
     Help,
     /// What `ebpf check` does.
@@ -110,7 +110,7 @@ fn parted(word: &str) -> (&str, Option<&str>) {
 
 /// What words have said so far.
 #[derive(Drop)]
-struct Said {
+struct Options {
     files: Vec<Text>,
     programs: Items<Text>,
     all: bool,
@@ -119,9 +119,9 @@ struct Said {
     version: bool,
 }
 
-impl Said {
-    fn new(alloc: Global) -> Said {
-        Said {
+impl Options {
+    fn new(alloc: Global) -> Options {
+        Options {
             files: Vec::new(alloc),
             programs: Items::new(alloc),
             all: false,
@@ -143,12 +143,12 @@ impl Said {
     }
 
     /// What `ebpf check` is asked for.
-    fn asked(self, alloc: Global) -> Result<Asked, WordsError<'static>> {
+    fn command(self, alloc: Global) -> Result<Command, WordsError<'static>> {
         if self.help {
-            return Ok(Asked::CheckHelp);
+            return Ok(Command::CheckHelp);
         }
         if self.version {
-            return Ok(Asked::Version);
+            return Ok(Command::Version);
         }
         let mut files = self.files.into_iter();
         let Some(file) = files.next() else {
@@ -158,7 +158,7 @@ impl Said {
         for kernel in files {
             kernels.push(kernel)?;
         }
-        Ok(Asked::Check(CheckWords {
+        Ok(Command::Check(CheckWords {
             file,
             kernels,
             programs: self.programs,
@@ -171,7 +171,7 @@ impl Said {
 /// Reads an option; whether the next word is its value.
 fn read_option<'a>(
     alloc: Global,
-    said: &mut Said,
+    options: &mut Options,
     word: &'a str,
 ) -> Result<Option<&'a str>, WordsError<'a>> {
     let (name, value) = parted(word);
@@ -180,39 +180,39 @@ fn read_option<'a>(
     };
     match (choice, value) {
         (Choice::Program, Some(value)) => {
-            said.programs.push(Text::from_str(alloc, value)?)?;
+            options.programs.push(Text::from_str(alloc, value)?)?;
             Ok(None)
         }
         (Choice::Program, None) => Ok(Some(name)),
         (_, Some(_)) => Err(WordsError::NeedlessValue(name)),
         (choice, None) => {
-            said.choose(choice);
+            options.choose(choice);
             Ok(None)
         }
     }
 }
 
 /// Reads the words behind `check`.
-fn read_check<'a>(alloc: Global, words: &'a [String]) -> Result<Asked, WordsError<'a>> {
-    let mut said = Said::new(alloc);
+fn read_check<'a>(alloc: Global, words: &'a [String]) -> Result<Command, WordsError<'a>> {
+    let mut options = Options::new(alloc);
     let mut waits = None;
     let mut only_files = false;
     for word in words {
         let word = word.as_str();
         if waits.is_some() {
-            said.programs.push(Text::from_str(alloc, word)?)?;
+            options.programs.push(Text::from_str(alloc, word)?)?;
             waits = None;
         } else if only_files || !is_option(word) {
-            said.files.push(Text::from_str(alloc, word)?)?;
+            options.files.push(Text::from_str(alloc, word)?)?;
         } else if word == "--" {
             only_files = true;
         } else {
-            waits = read_option(alloc, &mut said, word)?;
+            waits = read_option(alloc, &mut options, word)?;
         }
     }
     match waits {
         Some(name) => Err(WordsError::NoValue(name)),
-        None => said.asked(alloc),
+        None => options.command(alloc),
     }
 }
 
@@ -223,14 +223,14 @@ fn read_check<'a>(alloc: Global, words: &'a [String]) -> Result<Asked, WordsErro
 ///
 /// `NoCommand`, `UnknownCommand`, and of `check` the first word that can't be read, in their order; `NoValue` where the
 /// last option lacks its value; `NoFile`. `OutOfMemory` where memory is refused.
-pub fn read_words<'a>(alloc: Global, words: &'a [String]) -> Result<Asked, WordsError<'a>> {
+pub fn read_words<'a>(alloc: Global, words: &'a [String]) -> Result<Command, WordsError<'a>> {
     let Some((first, rest)) = words.split_first() else {
         return Err(WordsError::NoCommand);
     };
     match first.as_str() {
         "check" => read_check(alloc, rest),
-        "-h" | "--help" | "help" => Ok(Asked::Help),
-        "-V" | "--version" => Ok(Asked::Version),
+        "-h" | "--help" | "help" => Ok(Command::Help),
+        "-V" | "--version" => Ok(Command::Version),
         word if is_option(word) => Err(WordsError::UnknownOption(word)),
         word => Err(WordsError::UnknownCommand(word)),
     }

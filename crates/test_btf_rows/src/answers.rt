@@ -4,7 +4,7 @@ use crate::kinds::kind_of;
 use ebpf_btf::{Btf, BtfError, BtfMember, BtfType};
 use std::alloc::{AllocError, Global};
 use std::borrow::CowStr;
-use test_cases::{Action, beside_copy, no_action, said, shown};
+use test_cases::{Action, beside_copy, no_action, value_or_error, shown};
 
 /// A text, or why it can't be read.
 pub fn text_of(
@@ -69,7 +69,7 @@ fn of_type(alloc: Global, btf: &Btf, question: &str, id: u32) -> Result<String, 
 /// The id of a kind and a name.
 fn id(alloc: Global, btf: &Btf, action: &Action<'_>) -> Result<String, AllocError> {
     match kind_of(action.word(0)) {
-        Some(kind) => said(alloc, btf.id_by_type_name_kind(action.word(1), kind)),
+        Some(kind) => value_or_error(alloc, btf.id_by_type_name_kind(action.word(1), kind)),
         None => no_action(alloc),
     }
 }
@@ -78,8 +78,8 @@ fn id(alloc: Global, btf: &Btf, action: &Action<'_>) -> Result<String, AllocErro
 fn of_number(alloc: Global, btf: &Btf, question: &str, number: u32) -> Result<String, AllocError> {
     match question {
         "text" => text_of(alloc, btf.string_at(number)),
-        "resolved" => said(alloc, btf.resolve_type(number)),
-        "size" => said(alloc, btf.type_size(number)),
+        "resolved" => value_or_error(alloc, btf.resolve_type(number)),
+        "size" => value_or_error(alloc, btf.type_size(number)),
         "type" | "accessors" | "name" | "error_name" => of_type(alloc, btf, question, number),
         _ => no_action(alloc),
     }

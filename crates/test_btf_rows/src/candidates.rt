@@ -4,7 +4,7 @@ use crate::kinds::kind_of;
 use ebpf_btf::{Btf, BtfKind};
 use ebpf_candidates::TypeIndex;
 use std::alloc::{AllocError, Global};
-use test_cases::{Action, no_action, said, shown};
+use test_cases::{Action, no_action, value_or_error, shown};
 
 /// The ids of a kind and a name.
 fn listed(
@@ -13,7 +13,7 @@ fn listed(
     kind: BtfKind,
     name: &str,
 ) -> Result<String, AllocError> {
-    said(alloc, index.candidates(kind, name))
+    value_or_error(alloc, index.candidates(kind, name))
 }
 
 /// The candidates of the action's kind and name.

@@ -2,12 +2,12 @@
 
 use ebpf_btf::{Btf, Endianness};
 use std::alloc::{AllocError, Global};
-use test_cases::{Action, Files, changed, front, said, tally_each};
+use test_cases::{Action, Files, changed, front, value_or_error, tally_each};
 
 /// How many types bytes have, or why they can't be read.
 fn count(alloc: Global, bytes: &[u8]) -> Result<String, AllocError> {
     let parsed = Btf::parse(alloc, bytes, Endianness::Little);
-    said(alloc, parsed.map(|btf| btf.types().len()))
+    value_or_error(alloc, parsed.map(|btf| btf.types().len()))
 }
 
 /// What the first bytes give, for each length from one number up to another.

@@ -14,7 +14,7 @@ pub fn shown_line<T: Debug + Drop>(alloc: Global, value: T) -> Result<String, Al
 }
 
 /// The value of an answer, or its error.
-pub fn said<T: Debug + Drop, E: Debug + Drop>(
+pub fn value_or_error<T: Debug + Drop, E: Debug + Drop>(
     alloc: Global,
     answer: Result<T, E>,
 ) -> Result<String, AllocError> {

@@ -59,7 +59,7 @@ fn run(
 }
 
 /// A status, and what was written.
-fn told(alloc: Global, status: u8, out: &[u8], err: &[u8]) -> Result<String, AllocError> {
+fn output_text(alloc: Global, status: u8, out: &[u8], err: &[u8]) -> Result<String, AllocError> {
     let out = str::from_utf8(out).unwrap_or("no text\n");
     let err = str::from_utf8(err).unwrap_or("no text\n");
     format!(in alloc; "status {status}\n{out}{err}")
@@ -71,5 +71,5 @@ pub fn printed(alloc: Global, files: &Files, action: &Action<'_>) -> Result<Stri
     let mut out = Vec::new(alloc);
     let mut err = Vec::new(alloc);
     let status = run(alloc, files, action, &words, &mut out, &mut err);
-    told(alloc, status, &out, &err)
+    output_text(alloc, status, &out, &err)
 }

@@ -46,7 +46,7 @@ pub fn put_records(text: &mut String, functions: &ByKey<Function>) -> Result<(),
 }
 
 /// The text at an offset, or why there is none.
-fn said(alloc: Global, btf: &Btf, offset: u32) -> Result<String, AllocError> {
+fn text_at(alloc: Global, btf: &Btf, offset: u32) -> Result<String, AllocError> {
     shown(alloc, btf.string_at(offset))
 }
 
@@ -59,7 +59,7 @@ fn put_relocation(
 ) -> Result<(), AllocError> {
     let (at, held) = (relocation.insn_off, relocation.type_id);
     let (kind, number) = (relocation.kind, relocation.number);
-    let path = said(alloc, btf, relocation.access_str_off)?;
+    let path = text_at(alloc, btf, relocation.access_str_off)?;
     writeln!(text, "{number} at {at} type {held} {path} {kind:?}")
 }
 
@@ -73,7 +73,7 @@ pub fn put_type_relocations(
         return Ok(());
     };
     for (section, relocations) in ext.relocations() {
-        let name = said(alloc, btf, *section)?;
+        let name = text_at(alloc, btf, *section)?;
         writeln!(text, "in {name}")?;
         for relocation in relocations.as_slice() {
             put_relocation(alloc, text, btf, relocation)?;

@@ -6,7 +6,7 @@ use ebpf_object::prepare::{PrepareError, Steps, SymbolText, prepare};
 use std::alloc::{AllocError, Global};
 use test_cases::{FailingReader, shown};
 
-/// The passes that find externs, write them, and link_programs programs.
+/// The passes that find externs, write them, and link programs.
 const STEPS: Steps<'static> = Steps {
     target_btf: None,
     map_fds: None,

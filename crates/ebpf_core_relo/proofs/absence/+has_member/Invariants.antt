@@ -1,5 +1,5 @@
 use Rattle.std.proofs.Common.{◌≡◌, drop}
-use Rattle.ebpf_core_relo.specs.Absences.{has_member, members_at}
+use Rattle.ebpf_core_relo.specs.Absences.{has_member, members_of_id}
 use Rattle.ebpf_core_relo.proofs.absence.+has_member.Given as goal
 
 abbrev pub decreases-has_member : goal.decreases-has_member
@@ -7,4 +7,4 @@ decreases-has_member l = l.levels
 
 -- whether the name stands among the members that are left is whether it stands among all
 abbrev pub invariant-loop-member : goal.invariant-loop-member
-invariant-loop-member l = has_member l.target l.name l.levels (members_at l.target l.type_id) ≡ has_member l.target l.name l.levels (drop l.member-index l.member-items)
+invariant-loop-member l = has_member l.target l.name l.levels (members_of_id l.target l.type_id) ≡ has_member l.target l.name l.levels (drop l.member-index l.member-items)

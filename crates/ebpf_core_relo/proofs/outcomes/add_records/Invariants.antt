@@ -1,5 +1,5 @@
 use Rattle.std.proofs.Common.{◌≡◌, ◌++◌, map, drop}
-use Rattle.ebpf_core_relo.specs.RecordOutcomes.{named_in, outcomes_from, slots_left, told_outcome}
+use Rattle.ebpf_core_relo.specs.RecordOutcomes.{named_in, outcomes_from, slots_left, outcome_without_texts}
 use Rattle.ebpf_core_relo.specs.Records.{relocation_inputs}
 use Rattle.ebpf_core_relo.proofs.outcomes.add_records.Given as goal
 
@@ -10,8 +10,8 @@ invariant-loop-relocation l =
     record {
       search : l.search ≡ l.fn.search;
       absences : l.absences ≡ l.fn.absences;
-      records : map told_outcome l.outcomes.records ++ outcomes_from inputs l.outcomes.written (named_in l.section.name (drop l.relocation-index l.relocations))
-          ≡ map told_outcome l.fn.outcomes.records ++ outcomes_from inputs l.fn.outcomes.written (named_in l.section.name l.relocations);
+      records : map outcome_without_texts l.outcomes.records ++ outcomes_from inputs l.outcomes.written (named_in l.section.name (drop l.relocation-index l.relocations))
+          ≡ map outcome_without_texts l.fn.outcomes.records ++ outcomes_from inputs l.fn.outcomes.written (named_in l.section.name l.relocations);
       written : slots_left inputs l.outcomes.written (named_in l.section.name (drop l.relocation-index l.relocations))
           ≡ slots_left inputs l.fn.outcomes.written (named_in l.section.name l.relocations);
     }

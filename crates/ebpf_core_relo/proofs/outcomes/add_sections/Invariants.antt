@@ -1,5 +1,5 @@
 use Rattle.std.proofs.Common.{◌≡◌, ◌++◌, map, drop}
-use Rattle.ebpf_core_relo.specs.RecordOutcomes.{named_records, outcomes_from, slots_left, told_outcome}
+use Rattle.ebpf_core_relo.specs.RecordOutcomes.{named_records, outcomes_from, slots_left, outcome_without_texts}
 use Rattle.ebpf_core_relo.specs.Records.{relocation_inputs}
 use Rattle.ebpf_core_relo.proofs.outcomes.add_sections.Given as goal
 
@@ -10,8 +10,8 @@ invariant-loop-part l =
     record {
       search : l.search ≡ l.fn.search;
       absences : l.absences ≡ l.fn.absences;
-      records : map told_outcome l.outcomes.records ++ outcomes_from inputs l.outcomes.written (named_records (drop l.part-index l.sections))
-          ≡ map told_outcome l.fn.outcomes.records ++ outcomes_from inputs l.fn.outcomes.written (named_records l.sections);
+      records : map outcome_without_texts l.outcomes.records ++ outcomes_from inputs l.outcomes.written (named_records (drop l.part-index l.sections))
+          ≡ map outcome_without_texts l.fn.outcomes.records ++ outcomes_from inputs l.fn.outcomes.written (named_records l.sections);
       written : slots_left inputs l.outcomes.written (named_records (drop l.part-index l.sections))
           ≡ slots_left inputs l.fn.outcomes.written (named_records l.sections);
     }

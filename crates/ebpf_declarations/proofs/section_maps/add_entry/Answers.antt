@@ -1,7 +1,7 @@
 use Rattle.std.proofs.Common.{Ok, Err, Result, OnOk}
 use Rattle.ebpf_btf.specs.Types.{name_off}
 use Rattle.ebpf_declarations.proofs.Distinct.{entry_added}
-use Rattle.ebpf_declarations.proofs.MoreMaps.{known_declared, still_remembered}
+use Rattle.ebpf_declarations.proofs.AddedMaps.{known_declared, still_remembered}
 use Rattle.ebpf_declarations.proofs.section_maps.add_entry.Goals as goal
 
 when_ok : {X E P Q : Type 0} (r : Result X E) → (P → Q) → OnOk r P → OnOk r Q

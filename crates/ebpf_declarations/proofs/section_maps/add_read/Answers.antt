@@ -2,7 +2,7 @@ use Rattle.std.proofs.Common.{rules, ◌≡◌, ◌∙◌, Result, Ok, Err, OnOk
 use Rattle.ebpf_btf.specs.Steps.{type_at}
 use Rattle.ebpf_btf.specs.Strings.{text_at}
 use Rattle.ebpf_declarations.proofs.Distinct.{entry_added, same_added}
-use Rattle.ebpf_declarations.proofs.MoreMaps.{declared_name, one_remembered, still_remembered}
+use Rattle.ebpf_declarations.proofs.AddedMaps.{declared_name, one_remembered, still_remembered}
 use Rattle.ebpf_declarations.proofs.section_maps.add_read.Goals as goal
 
 when_ok : {X E P Q : Type 0} (r : Result X E) → (P → Q) → OnOk r P → OnOk r Q

@@ -1,4 +1,4 @@
-use Rattle.ebpf_parsing.proofs.EntryRange.{begin_at}
+use Rattle.ebpf_parsing.proofs.RecordIndices.{begin_at}
 use Rattle.ebpf_parsing.proofs.by_slot.begins_at.Goals as goal
 
 pub returns-clause-cut : goal.returns-clause-cut

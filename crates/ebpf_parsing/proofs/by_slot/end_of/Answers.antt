@@ -1,6 +1,6 @@
 use Rattle.std.proofs.Common.{◌≡◌, get_or, ap, sym, ◌∙◌, arith}
 use Rattle.std.proofs.lemmas.List.{get_or_default}
-use Rattle.ebpf_parsing.proofs.EntryRange.{begin_behind}
+use Rattle.ebpf_parsing.proofs.RecordIndices.{begin_behind}
 use Rattle.ebpf_parsing.proofs.by_slot.end_of.Goals as goal
 
 pub returns-else-from-limit-clause-cut : goal.returns-else-from-limit-clause-cut

@@ -1,7 +1,7 @@
 use Rattle.std.proofs.Common.{◌≡◌, ◌+◌, ◌-◌, ◌<◌, ◌≤◌, get_or, length, ap, subst, sym, ◌∙◌, arith}
 use Rattle.std.proofs.lemmas.List.{get_or_default}
 use Rattle.std.proofs.lemmas.List.Sorted.{IsNonDecreasingBy-from_all_adjacent}
-use Rattle.ebpf_parsing.proofs.EntryRange.{adjacent_more}
+use Rattle.ebpf_parsing.proofs.RecordIndices.{adjacent_more}
 use Rattle.ebpf_parsing.proofs.by_slot.is_in_order.Goals as goal
 
 pub loop-row-preserved : goal.loop-row-preserved

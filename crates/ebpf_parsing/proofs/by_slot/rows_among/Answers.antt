@@ -1,4 +1,4 @@
-use Rattle.ebpf_parsing.proofs.EntryRange.{part_among}
+use Rattle.ebpf_parsing.proofs.RecordIndices.{part_among}
 use Rattle.ebpf_parsing.proofs.by_slot.rows_among.Goals as goal
 
 pub returns : goal.returns

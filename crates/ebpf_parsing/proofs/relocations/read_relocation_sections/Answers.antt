@@ -4,7 +4,7 @@ use Rattle.ebpf_elf.specs.Relocations.{relocation_sections, relocated_section}
 use Rattle.ebpf_parsing.proofs.FromFile.{tables_from}
 use Rattle.ebpf_parsing.proofs.Grouped.{target_more}
 use Rattle.ebpf_parsing.proofs.TableRanges.{none_cached}
-use Rattle.ebpf_parsing.specs.EntryRanges.{AreCached, AreOf}
+use Rattle.ebpf_parsing.specs.EntryRanges.{EntryRangesAreCached, AreOf}
 use Rattle.ebpf_parsing.specs.Groups.{group_at}
 use Rattle.ebpf_parsing.proofs.relocations.read_relocation_sections.Goals as goal
 
@@ -27,7 +27,7 @@ loop-section-preserved c =
     let of_file = subst (AreOf file) front c.loop-section.invariant.from in
     record {
       from = of_file.1;
-      cached = subst (λ f. AreCached f c.read_table.new.cached) of_file.0 c.in_ok-table.ensures.cached;
+      cached = subst (λ f. EntryRangesAreCached f c.read_table.new.cached) of_file.0 c.in_ok-table.ensures.cached;
       groups = λ q. target_more (group_at before q) (group_at c.add.new.self.groups q) s c.next.new.self q (
           c.in_ok-add.ensures.added q
           ∙ ap (λ t. if t == q then group_at before q ++ c.in_ok-table.table ∷ [] else group_at before q) c.target-target.ensures

@@ -1,7 +1,7 @@
 use Rattle.std.proofs.Common.{◌≡◌, ◌++◌, ℕ, filter}
 use Rattle.std.specs.Prelude.{◌==◌}
 use Rattle.ebpf_elf.specs.Relocations.{relocation_sections, relocated_section}
-use Rattle.ebpf_parsing.specs.EntryRanges.{AreCached, AreOf}
+use Rattle.ebpf_parsing.specs.EntryRanges.{EntryRangesAreCached, AreOf}
 use Rattle.ebpf_parsing.specs.Groups.{group_at}
 use Rattle.ebpf_parsing.proofs.relocations.read_relocation_sections.Given as goal
 
@@ -9,6 +9,6 @@ use Rattle.ebpf_parsing.proofs.relocations.read_relocation_sections.Given as goa
 abbrev pub invariant-loop-section : goal.invariant-loop-section
 invariant-loop-section l = record {
   from : AreOf l.file l.section-iterator;
-  cached : AreCached l.file l.cached;
+  cached : EntryRangesAreCached l.file l.cached;
   groups : (q : ℕ) → group_at l.groups.groups q ++ filter (λ r. relocated_section r == q) l.section-iterator ≡ filter (λ r. relocated_section r == q) (relocation_sections l.file);
 }

@@ -1,8 +1,8 @@
 use Rattle.std.proofs.Common.{sym, subst}
 use Rattle.ebpf_parsing.proofs.TableRanges.{cached_more}
-use Rattle.ebpf_parsing.specs.EntryRanges.{AreCached}
+use Rattle.ebpf_parsing.specs.EntryRanges.{EntryRangesAreCached}
 use Rattle.ebpf_parsing.proofs.relocations.read_table.Goals as goal
 
 pub returns-clause-cached : goal.returns-clause-cached
 returns-clause-cached c =
-    subst (AreCached c.args.section.file) (sym c.in_ok-insert.ensures.ok) (cached_more c.args.section c.args.cached.now c.lacks_symbol-lacks.result c.requires c.lacks_symbol-lacks.ensures)
+    subst (EntryRangesAreCached c.args.section.file) (sym c.in_ok-insert.ensures.ok) (cached_more c.args.section c.args.cached.now c.lacks_symbol-lacks.result c.requires c.lacks_symbol-lacks.ensures)

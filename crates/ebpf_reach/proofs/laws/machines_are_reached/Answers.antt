@@ -5,4 +5,4 @@ pub returns-clause-reached : goal.returns-clause-reached
 returns-clause-reached c = lawful.machines_are_reached
 
 pub returns-clause-told : goal.returns-clause-told
-returns-clause-told c = lawful.machines_are_told
+returns-clause-told c = lawful.answers_cover_machines

@@ -8,6 +8,6 @@ use Rattle.ebpf_core_relo.proofs.absences.Absences.absence.Goals as goal
 
 pub returns-in-Some-clause-absence : goal.returns-in-Some-clause-absence
 returns-in-Some-clause-absence c =
-    let there : get question_cmp c.self.inside.kept c.asked.result ≡ Some c.in-Some.absence.now = sym c.get.ensures.value ∙ ap option_copied c.in-Some.is in
-    sym (c.self.invariant.1 c.asked.result c.in-Some.absence.now there c.args.relocation.now (sym c.asked.ensures))
+    let there : get question_cmp c.self.inside.cached c.question_of.result ≡ Some c.in-Some.absence.now = sym c.get.ensures.value ∙ ap option_copied c.in-Some.is in
+    sym (c.self.invariant.1 c.question_of.result c.in-Some.absence.now there c.args.relocation.now (sym c.question_of.ensures))
     ∙ ap (λ (s : Sides). absence_of s.local s.target c.args.relocation.now) c.self.view_is

@@ -1,4 +1,4 @@
-use Rattle.ebpf_core_relo.proofs.KeptAbsences.{none_kept}
+use Rattle.ebpf_core_relo.proofs.CachedAbsences.{none_kept}
 use Rattle.ebpf_core_relo.proofs.absences.Absences.new.Goals as goal
 
 pub invariant_of-result : goal.invariant_of-result

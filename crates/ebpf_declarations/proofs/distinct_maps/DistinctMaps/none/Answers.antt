@@ -1,4 +1,4 @@
-use Rattle.ebpf_declarations.proofs.MoreMaps.{none_named}
+use Rattle.ebpf_declarations.proofs.AddedMaps.{none_named}
 use Rattle.ebpf_declarations.proofs.distinct_maps.DistinctMaps.none.Goals as goal
 
 pub returns-clause-named : goal.returns-clause-named

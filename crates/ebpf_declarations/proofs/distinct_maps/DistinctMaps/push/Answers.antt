@@ -1,6 +1,6 @@
 use Rattle.std.proofs.Common.{rules, ◌≡◌, ◌∙◌, ◌++◌, ◌∷◌, [], Some, length, refl, sym, ap}
 use Rattle.std.specs.FinMap.{insert}
-use Rattle.ebpf_declarations.proofs.MoreMaps.{push_with, pushed_number}
+use Rattle.ebpf_declarations.proofs.AddedMaps.{push_with, pushed_number}
 use Rattle.ebpf_declarations.proofs.distinct_maps.DistinctMaps.push.Goals as goal
 
 pub returns-clause-added : goal.returns-clause-added

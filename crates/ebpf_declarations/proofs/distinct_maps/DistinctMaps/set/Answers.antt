@@ -1,5 +1,5 @@
 use Rattle.std.proofs.Common.{refl}
-use Rattle.ebpf_declarations.proofs.MoreMaps.{put_there, set_with}
+use Rattle.ebpf_declarations.proofs.AddedMaps.{put_there, set_with}
 use Rattle.ebpf_declarations.proofs.distinct_maps.DistinctMaps.set.Goals as goal
 
 pub returns : goal.returns

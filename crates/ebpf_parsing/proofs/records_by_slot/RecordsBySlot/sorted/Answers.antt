@@ -1,6 +1,6 @@
 use Rattle.std.proofs.Common.{rules}
 use Rattle.std.proofs.lemmas.List.Sorted.{IsNonDecreasingBy-from_sort_by_key, answers_always}
-use Rattle.ebpf_parsing.proofs.EntryRange.{stable_at}
+use Rattle.ebpf_parsing.proofs.RecordIndices.{stable_at}
 use Rattle.ebpf_parsing.proofs.records_by_slot.RecordsBySlot.sorted.Goals as goal
 
 pub invariant_of-result : goal.invariant_of-result

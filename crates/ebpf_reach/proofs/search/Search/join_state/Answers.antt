@@ -1,16 +1,16 @@
 use Rattle.std.proofs.Common.{◌≡◌, ◌≢◌, ◌<◌, length, Some, arith, sym, ◌∙◌, ap}
 use Rattle.ebpf_reach.specs.declared.registers.Registers.{Registers}
-use Rattle.ebpf_reach.specs.Registers.{met}
+use Rattle.ebpf_reach.specs.Registers.{least_upper_bound}
 use Rattle.std.proofs.Common.{set}
 use Rattle.ebpf_reach.proofs.Sameness.{registers_same, registers_apart, on_ok_both}
 use Rattle.ebpf_reach.proofs.Intake.{met_taken, same_taken, taken_as}
-use Rattle.ebpf_reach.proofs.search.Search.meet.Goals as goal
+use Rattle.ebpf_reach.proofs.search.Search.join_state.Goals as goal
 
 pub returns-then-eq : goal.returns-then-eq
 returns-then-eq c =
     let mine : length c.args.before.numbers ≡ 11 = omega arith in
     let theirs : length c.args.step.registers.numbers ≡ 11 = omega arith in
-    let same : met c.args.before c.args.step.registers ≡ c.args.before = sym c.met-registers.ensures ∙ registers_same _ _ c.if-eq.ensures in
+    let same : least_upper_bound c.args.before c.args.step.registers ≡ c.args.before = sym c.least_upper_bound-registers.ensures ∙ registers_same _ _ c.if-eq.ensures in
     same_taken c.args.self.now.states.items c.args.self.now.pending.items c.args.step.place c.args.step.registers c.args.before c.requires.before (omega arith) same
 
 pub returns : goal.returns
@@ -22,6 +22,6 @@ returns c =
     let mine : length c.args.before.numbers ≡ 11 = omega arith in
     let theirs : length c.args.step.registers.numbers ≡ 11 = omega arith in
     let within : place < length A = omega (arith, c.args.self.now.states.ok.0, c.requires.within) in
-    let apart : met c.args.before registers ≢ c.args.before = λ e. registers_apart _ _ c.if-eq.ensures (c.met-registers.ensures ∙ e) in
+    let apart : least_upper_bound c.args.before registers ≢ c.args.before = λ e. registers_apart _ _ c.if-eq.ensures (c.least_upper_bound-registers.ensures ∙ e) in
     let taken = met_taken A old place registers c.args.before within c.requires.before (omega arith) apart in
-    on_ok_both c.put.result c.put.ensures.states c.put.ensures.pending (λ s p. taken_as _ _ _ _ _ _ _ (s ∙ ap (λ (u : Registers). set A place (Some u)) c.met-registers.ensures) p taken)
+    on_ok_both c.put.result c.put.ensures.states c.put.ensures.pending (λ s p. taken_as _ _ _ _ _ _ _ (s ∙ ap (λ (u : Registers). set A place (Some u)) c.least_upper_bound-registers.ensures) p taken)

@@ -1,7 +1,7 @@
 use Rattle.std.proofs.Common.{ap, sym, ◌∙◌}
 use Rattle.std.specs.FinMap.{get}
 use Rattle.ebpf_c.proofs.Texts.{named_by_text, named_by_none}
-use Rattle.ebpf_c.proofs.entries.named.Goals as goal
+use Rattle.ebpf_c.proofs.entries.value_by_bytes.Goals as goal
 
 pub returns-in-Ok : goal.returns-in-Ok
 returns-in-Ok g c =

@@ -13,6 +13,6 @@ abbrev pub heap : Global
 heap = record { memory = record { seal = tt } }
 
 -- an object in a block of its own, or no block: the pointer is null
-abbrev pub held : Ptr → Option Object → Fml
-held p None = feq Ptr p null_ptr
-held p (Some x) = box_owns (ghosts.dealloc_token heap) the_row p x
+abbrev pub handle_owns : Ptr → Option Object → Fml
+handle_owns p None = feq Ptr p null_ptr
+handle_owns p (Some x) = box_owns (ghosts.dealloc_token heap) the_row p x

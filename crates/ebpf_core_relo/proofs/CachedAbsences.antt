@@ -9,11 +9,11 @@ use Rattle.ebpf_ext.specs.RelocationKinds.{relocation_kind, relocation_kind_numb
 use Rattle.ebpf_ext.specs.declared.relocation.Relocation.{Relocation}
 use Rattle.ebpf_ext.specs.declared.relocation.RelocationKind.{RelocationKind}
 use Rattle.ebpf_core.proofs.Questions.{question_exact}
-use Rattle.ebpf_core.specs.Questions.{Question, asked, question_cmp}
+use Rattle.ebpf_core.specs.Questions.{Question, question_of, question_cmp}
 use Rattle.ebpf_core.specs.LocalPaths.{local_path}
 use Rattle.ebpf_core.specs.Searches.{candidates_for}
 use Rattle.ebpf_core_relo.specs.Absences.{absence_by, absence_of, without_place}
-use Rattle.ebpf_core_relo.specs.Kept.{AreKept}
+use Rattle.ebpf_core_relo.specs.CachedAbsences.{AbsencesAreCached}
 use Rattle.ebpf_core_relo.specs.declared.absence.Absence.{Absence}
 
 -- ---- records that ask the same
@@ -21,7 +21,7 @@ use Rattle.ebpf_core_relo.specs.declared.absence.Absence.{Absence}
 kinds_alike : (a b : RelocationKind) → relocation_kind_number a ≡ relocation_kind_number b → a ≡ b
 kinds_alike a b e = same_Some _ _ (sym (numbers_of_relocation_kinds a) ∙ ap relocation_kind e ∙ numbers_of_relocation_kinds b)
 
-same_question : (r s : Relocation) → asked r ≡ asked s → without_place r ≡ without_place s
+same_question : (r s : Relocation) → question_of r ≡ question_of s → without_place r ≡ without_place s
 same_question r s e =
     let type : r.type_id ≡ s.type_id = ap (λ (q : Question). q.0.0) e in
     let string : r.access_str_off ≡ s.access_str_off = ap (λ (q : Question). q.0.1) e in
@@ -30,7 +30,7 @@ same_question r s e =
     ∙ ap (λ n. record (without_place s) { access_str_off = n; kind = r.kind }) string
     ∙ ap (λ k. record (without_place s) { kind = k }) kind
 
-same_absence : (local target : TypeInfo) (r s : Relocation) → asked r ≡ asked s → absence_of local target r ≡ absence_of local target s
+same_absence : (local target : TypeInfo) (r s : Relocation) → question_of r ≡ question_of s → absence_of local target r ≡ absence_of local target s
 unfolding absence_of
 same_absence local target r s e =
     ap (λ q. absence_by local target (candidates_for local target r.type_id) (local_path local q)) (same_question r s e)
@@ -39,20 +39,20 @@ same_absence local target r s e =
 -- ---- what is kept
 
 module _ (local target : TypeInfo) where
-  pub none_kept : (kept : BTreeMap Question Absence) → kept.entries ≡ [] → AreKept local target kept
-  none_kept kept is q absence found = absurd (nothing (get question_cmp kept q) found (ap (λ es. lookup (is_at (question_cmp q)) es) is))
+  pub none_kept : (cached : BTreeMap Question Absence) → cached.entries ≡ [] → AbsencesAreCached local target cached
+  none_kept cached is q absence found = absurd (nothing (get question_cmp cached q) found (ap (λ es. lookup (is_at (question_cmp q)) es) is))
     where
       nothing : (o : Option Absence) → o ≡ Some absence → o ≡ None → ⊥
       nothing o some none = cc
 
-  kept_by : (kept : BTreeMap Question Absence) (r : Relocation) (k : Question) (more : Absence) → k ≡ asked r → more ≡ absence_of local target r → AreKept local target kept
-      → (q : Question) (absence : Absence) (b : Bool) → is_at (question_cmp k) q ≡ b → cond b (Some more) (get question_cmp kept q) ≡ Some absence
-      → (s : Relocation) → asked s ≡ q → absence_of local target s ≡ absence
-  kept_by kept r k more asks is are q absence true same found s also =
+  kept_by : (cached : BTreeMap Question Absence) (r : Relocation) (k : Question) (more : Absence) → k ≡ question_of r → more ≡ absence_of local target r → AbsencesAreCached local target cached
+      → (q : Question) (absence : Absence) (b : Bool) → is_at (question_cmp k) q ≡ b → cond b (Some more) (get question_cmp cached q) ≡ Some absence
+      → (s : Relocation) → question_of s ≡ q → absence_of local target s ≡ absence
+  kept_by cached r k more asks is are q absence true same found s also =
       same_absence local target s r (also ∙ sym (question_exact k q same) ∙ asks) ∙ sym is ∙ same_Some _ _ found
-  kept_by kept r k more asks is are q absence false same found s also = are q absence found s also
+  kept_by cached r k more asks is are q absence false same found s also = are q absence found s also
 
-  pub one_more : (kept new : BTreeMap Question Absence) (r : Relocation) (k : Question) (more : Absence) → k ≡ asked r → more ≡ absence_of local target r → AreKept local target kept
-      → ((q : Question) → get question_cmp new q ≡ cond (is_at (question_cmp k) q) (Some more) (get question_cmp kept q)) → AreKept local target new
-  one_more kept new r k more asks is are put q absence found =
-      kept_by kept r k more asks is are q absence (is_at (question_cmp k) q) refl (sym (put q) ∙ found)
+  pub one_more : (cached new : BTreeMap Question Absence) (r : Relocation) (k : Question) (more : Absence) → k ≡ question_of r → more ≡ absence_of local target r → AbsencesAreCached local target cached
+      → ((q : Question) → get question_cmp new q ≡ cond (is_at (question_cmp k) q) (Some more) (get question_cmp cached q)) → AbsencesAreCached local target new
+  one_more cached new r k more asks is are put q absence found =
+      kept_by cached r k more asks is are q absence (is_at (question_cmp k) q) refl (sym (put q) ∙ found)

@@ -1,7 +1,7 @@
 use Rattle.std.proofs.Common.{◌≡◌, ℕ, ◌<◌, length}
 use Rattle.std.specs.Prelude.{slice_index_or, None}
 use Rattle.ebpf_reach.specs.Registers.{common}
-use Rattle.ebpf_reach.proofs.registers.Registers.met.Given as goal
+use Rattle.ebpf_reach.proofs.registers.Registers.least_upper_bound.Given as goal
 
 -- what the registers so far have in common
 abbrev pub invariant-loop-register : goal.invariant-loop-register

@@ -6,7 +6,7 @@ use Rattle.ebpf_parts.specs.declared.insn.bpf_insn.{bpf_insn}
 use Rattle.ebpf_parts.specs.Slots.{dst_of, src_of}
 use Rattle.ebpf_reach.specs.declared.registers.Registers.{Registers}
 use Rattle.ebpf_reach.specs.Registers.{IsBelow, unknown, learned}
-use Rattle.ebpf_reach.specs.Effects.{after, arithmetic, calculated, class, decided, destination, ended, is_atomic, is_poisoned, moved, operation, source, stored, takes_register, turned}
+use Rattle.ebpf_reach.specs.Effects.{after, arithmetic, calculated, class, decided, destination, byte_swapped, is_atomic, is_poisoned, moved, operation, source, stored, takes_register, negation}
 use Rattle.ebpf_reach.proofs.Order.{Tells, below_itself, learned_below, forgotten_below, called_below}
 
 and_then_tells : {A B : Type 0} (f : A → Option B) (x y : Option A) → Tells x y → Tells (option_and_then f x) (option_and_then f y)
@@ -39,8 +39,8 @@ decided_tells slot a b p = two_tell _ _ _ _ _ (destination_tells slot a b p) (so
 arithmetic_tells : (slot : bpf_insn) (a b : Registers) → IsBelow a b → Tells (arithmetic slot a) (arithmetic slot b)
 arithmetic_tells slot a b p =
     chosen_tells (operation slot == 11) _ _ _ _ (and_then_tells (moved slot) _ _ (source_tells slot a b p))
-    (chosen_tells (operation slot == 8) _ _ _ _ (and_then_tells (turned slot) _ _ (destination_tells slot a b p))
-    (chosen_tells (operation slot == 13) _ _ _ _ (and_then_tells (ended slot) _ _ (destination_tells slot a b p))
+    (chosen_tells (operation slot == 8) _ _ _ _ (and_then_tells (negation slot) _ _ (destination_tells slot a b p))
+    (chosen_tells (operation slot == 13) _ _ _ _ (and_then_tells (byte_swapped slot) _ _ (destination_tells slot a b p))
     (two_tell (calculated slot) _ _ _ _ (destination_tells slot a b p) (source_tells slot a b p))))
 
 chosen_below : (t : Bool) (a b c d : Registers) → IsBelow a b → IsBelow c d → IsBelow (cond t a c) (cond t b d)

@@ -1,5 +1,5 @@
 use Rattle.ebpf_loading.proofs.Prefixes.{strips_text}
-use Rattle.ebpf_loading.proofs.texts.behind.Goals as goal
+use Rattle.ebpf_loading.proofs.texts.without_prefix.Goals as goal
 
 pub returns : goal.returns
 returns c = strips_text c.args.prefix.now c.args.text.now c.strip_prefix.result c.strip_prefix.ensures.cases

@@ -1,6 +1,6 @@
 -- What stays of an object over two and more passes that change no more than its functions and its externs.
 use Rattle.std.proofs.Common.{ap, ◌∙◌}
-use Rattle.ebpf_object.specs.KeptParts.{KeepsOthers}
+use Rattle.ebpf_object.specs.UnchangedFields.{KeepsOthers}
 use Rattle.ebpf_object.specs.declared.object.Object.{Object}
 
 pub kept_twice : (o a b : Object) → KeepsOthers o a → KeepsOthers a b → KeepsOthers o b
