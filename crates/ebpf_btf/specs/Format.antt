@@ -1,7 +1,7 @@
 -- The bytes of types (the kernel's Documentation/bpf/btf.rst, 2.2 "Type Encoding").
 -- A type is three words, that is numbers of four bytes: the offset of its name, its info, its size or another
 -- type. Then the words of its kind follow.
-use Rattle.std.specs.Prelude.{◌≡◌, ℕ, ◌+◌, ◌*◌, ◌/◌, ◌%◌, ◌^◌, ◌≤◌, Bool, true, false, List, [], ◌∷◌, map, Option, Some, None, ◌==◌, if◌then◌else◌}
+use Rattle.std.specs.Prelude.{◌≡◌, ℕ, ◌+◌, ◌*◌, ◌/◌, ◌%◌, ◌^◌, ◌≤◌, Bool, List, [], ◌∷◌, map, Option, Some, None, ◌==◌, if◌then◌else◌}
 use Rattle.std.specs.List.{range_with_len}
 use Rattle.ebpf_base.specs.declared.endianness.Endianness.{Endianness}
 use Rattle.ebpf_btf.specs.declared.kind.BtfKind.{BtfKind}
@@ -69,28 +69,6 @@ further_words kinds.DataSec n = 3 * n
 further_words kinds.DeclTag n = 1
 further_words kinds.Enum64 n = 3 * n
 further_words _ n = 0
-
--- whether a kind has a list
-abbrev pub has_list : BtfKind → Bool
-has_list kinds.Struct = true
-has_list kinds.Union = true
-has_list kinds.Enum = true
-has_list kinds.FuncProto = true
-has_list kinds.DataSec = true
-has_list kinds.Enum64 = true
-has_list _ = false
-
--- whether a kind has the first three words alone, and the third is its size or another type
-abbrev pub is_head : BtfKind → Bool
-is_head kinds.Ptr = true
-is_head kinds.Typedef = true
-is_head kinds.Volatile = true
-is_head kinds.Const = true
-is_head kinds.Restrict = true
-is_head kinds.Func = true
-is_head kinds.Float = true
-is_head kinds.TypeTag = true
-is_head _ = false
 
 -- n items of a size in bytes, one after the other from an offset on
 unfoldable pub items_at : {X : Type 0} → (ℕ → X) → ℕ → ℕ → ℕ → List X

@@ -10,3 +10,6 @@ pub mod Strings
 pub mod TypeInfo
 pub mod Types
 pub mod Variants
+
+-- What only private contracts and proofs name.
+pub mod PrivateContracts

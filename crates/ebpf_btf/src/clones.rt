@@ -1,7 +1,7 @@
 //! Copies of types.
 
 ghost use Rattle.std.specs.Prelude.{◌≡◌, IfOk, false};
-ghost use Rattle.ebpf_btf.specs.Format.{has_list};
+ghost use Rattle.ebpf_btf.specs.PrivateContracts.{has_list};
 ghost use Rattle.ebpf_btf.specs.Types.{kind_of};
 
 use crate::btf::Btf;

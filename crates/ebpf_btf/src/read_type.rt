@@ -5,7 +5,8 @@ ghost use Rattle.std.specs.Bool.{OnTrue};
 ghost use Rattle.std.specs.Option.{ok_or};
 ghost use Rattle.ebpf_base.specs.Faults.{Gives};
 ghost use Rattle.ebpf_btf.specs.Memory.{is_memory};
-ghost use Rattle.ebpf_btf.specs.Format.{info_kind, info_kind_flag, info_vlen, further_words, has_list, is_head, end_of, spelled};
+ghost use Rattle.ebpf_btf.specs.Format.{info_kind, info_kind_flag, info_vlen, further_words, end_of, spelled};
+ghost use Rattle.ebpf_btf.specs.PrivateContracts.{has_list, is_head};
 ghost use Rattle.ebpf_btf.specs.Reading.{type_before};
 ghost use Rattle.ebpf_btf.specs.declared.error.BtfError.TheVariants.{InvalidTypeInfo};
 

@@ -12,7 +12,7 @@ use Rattle.ebpf_base.proofs.Lists.{flat_map-same}
 use Rattle.ebpf_base.proofs.Sorted.{entries_rise}
 use Rattle.ebpf_base.specs.Keys.{lent_bytes, text_cmp, text_total}
 use Rattle.ebpf_base.proofs.Walks.{rest_more}
-use Rattle.ebpf_c.specs.Entries.{entry_if}
+use Rattle.ebpf_c.specs.PrivateContracts.{entry_if}
 
 module _ {V : Type 0} where
   -- those so far, with that of the first name that is left, and those of the others

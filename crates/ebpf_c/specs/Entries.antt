@@ -1,13 +1,8 @@
 -- Things with their names.
-use Rattle.std.specs.Prelude.{ℕ, List, [], ◌∷◌, Option, Some, None, if◌then◌else◌}
+use Rattle.std.specs.Prelude.{ℕ, List, Option, None, if◌then◌else◌}
 use Rattle.std.specs.FinMap.{FinMap, get}
 use Rattle.std.specs.Str.{is_utf8}
 use Rattle.ebpf_base.specs.Keys.{text_cmp}
-
--- the thing of a name, where there is one
-abbrev pub entry_if : {V : Type 0} → List ℕ → Option V → List (List ℕ × V)
-entry_if name None = []
-entry_if name (Some v) = (name, v) ∷ []
 
 -- the thing that some bytes name; bytes that are no text name none
 unfoldable pub value_by_bytes : {V : Type 0} → FinMap text_cmp V → List ℕ → Option V

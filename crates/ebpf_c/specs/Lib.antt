@@ -21,3 +21,6 @@ pub mod Refusal
 pub mod SectionRows
 pub mod Settings
 pub mod TargetTypes
+
+-- What only private contracts and proofs name.
+pub mod PrivateContracts

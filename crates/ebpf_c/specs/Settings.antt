@@ -12,15 +12,10 @@ use Rattle.ebpf_c.specs.Handles.{IsRefusal}
 use Rattle.ebpf_c.specs.Numbers.{parse_refusal}
 use Rattle.ebpf_c.specs.Refusal.{plain}
 use Rattle.ebpf_c.specs.Descriptors.{text_of}
-use Rattle.ebpf_c.specs.declared.codes.TheConstants.{BAD_NAME, DONE, NO_MAP}
+use Rattle.ebpf_c.specs.declared.codes.TheConstants.{BAD_NAME}
 use Rattle.ebpf_c.specs.declared.refusal.Refusal.{Refusal}
 
 -- ---- maps
-
--- the map of a name is another one, or no map has the name
-abbrev pub IsSet : (Map → Map) → List ℕ → FinMap text_cmp Map → ℕ → FinMap text_cmp Map → Type 0
-IsSet set name before number after =
-    MatchOption (value_by_bytes before name) ((number ≡ NO_MAP) × (after ≡ before)) (λ m. (number ≡ DONE) × (after ≡ insert before name (set m)))
 
 -- the same of an object; all else is as before
 pub record HasSet (set : Map → Map) (name : List ℕ) (old new : Object) : Type 0 where

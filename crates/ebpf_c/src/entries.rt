@@ -4,7 +4,8 @@ ghost use Rattle.std.specs.Prelude.{◌≡◌, IfOk};
 ghost use Rattle.std.specs.FinMap.{entries, get};
 ghost use Rattle.std.specs.List.{flat_map};
 ghost use Rattle.ebpf_base.specs.Keys.{lent_bytes};
-ghost use Rattle.ebpf_c.specs.Entries.{entry_if, value_by_bytes};
+ghost use Rattle.ebpf_c.specs.Entries.{value_by_bytes};
+ghost use Rattle.ebpf_c.specs.PrivateContracts.{entry_if};
 ghost use Rattle.std.specs.Option.{option_copied};
 
 use ebpf_base::ByName;

@@ -2,7 +2,8 @@
 
 ghost use Rattle.std.specs.Prelude.{◌≡◌, ◌⊎◌, None};
 ghost use Rattle.ebpf_c.specs.Handles.{Changes};
-ghost use Rattle.ebpf_c.specs.Settings.{HasSet, IsSet, LacksMap};
+ghost use Rattle.ebpf_c.specs.Settings.{HasSet, LacksMap};
+ghost use Rattle.ebpf_c.specs.PrivateContracts.{IsSet};
 ghost use Rattle.ebpf_parts.specs.Maps.{with_max_entries, with_value_size};
 
 use crate::codes::{CLOSED, DONE, NO_MAP};

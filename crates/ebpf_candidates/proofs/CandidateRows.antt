@@ -21,7 +21,8 @@ use Rattle.ebpf_candidates.specs.Candidates.{candidates, is_candidate}
 use Rattle.ebpf_btf.specs.EssentialNames.{essential_name}
 use Rattle.ebpf_btf.specs.Strings.{type_name}
 use Rattle.ebpf_btf.specs.TypeInfo.{TypeInfo}
-use Rattle.ebpf_candidates.specs.TypeRows.{TypeKey, is_before, type_key_cmp, type_key_hash, named_row, row_key_cmp, row_key, row_key_total, readable_name, rows, type_rows_from, search_key}
+use Rattle.ebpf_candidates.specs.TypeRows.{TypeKey, is_before, type_key_cmp, type_key_hash, named_row, row_key_cmp, row_key, readable_name, rows, type_rows_from}
+use Rattle.ebpf_candidates.specs.PrivateContracts.{row_key_total, search_key}
 use Rattle.ebpf_btf.specs.Types.{kind_number, kind_of, is_kind}
 use Rattle.ebpf_candidates.proofs.RowRange.{filter_sorted}
 

@@ -9,7 +9,7 @@ use Rattle.std.specs.declared.cmp.Ordering.{Ordering}
 use Rattle.std.specs.declared.cmp.Ordering.TheVariants.{Less, Equal, Greater}
 use denote.Param.Members.{Mut}
 use denote.Ref.{Bor}
-use Rattle.ebpf_candidates.specs.TypeRows.{IsLowerBound, IsUpperBound}
+use Rattle.ebpf_candidates.specs.PrivateContracts.{IsLowerBound, IsUpperBound}
 use Rattle.std.proofs.Common.{ltb, leb, ⊎_elim}
 use Rattle.std.proofs.lemmas.Bool.{cases_lt}
 use Rattle.std.proofs.lemmas.Cmp.{alike_right}

@@ -14,7 +14,8 @@ use Rattle.ebpf_candidates.specs.Candidates.{candidates_fault, candidates_of_bot
 use Rattle.ebpf_btf.specs.EssentialNames.{essential_name}
 use Rattle.ebpf_btf.specs.Strings.{before_zero, text_at, text_or_fault, type_name}
 use Rattle.ebpf_btf.specs.TypeInfo.{TypeInfo}
-use Rattle.ebpf_candidates.specs.TypeRows.{lower, readable_name, unread, unreadable_offset_fault, unreadable_from, unreadable_name}
+use Rattle.ebpf_candidates.specs.TypeRows.{readable_name, unread, unreadable_from, unreadable_name}
+use Rattle.ebpf_candidates.specs.PrivateContracts.{lower, unreadable_offset_fault}
 use Rattle.ebpf_btf.specs.Types.{is_kind, kind_number, kind_of, name_off}
 
 or_else_assoc : {E : Type 0} (a b c : Option E) → or_else (or_else a b) c ≡ or_else a (or_else b c)

@@ -1,6 +1,9 @@
 pub mod Candidates
-pub mod Comparisons
 pub mod Compatibility
 pub mod OddNames
 pub mod TypeRows
+
+-- What only private contracts and proofs name.
+pub mod Comparisons
 pub mod Unions
+pub mod PrivateContracts

@@ -2,7 +2,7 @@
 
 ghost use Rattle.std.specs.Prelude.{◌≡◌, ◌==◌, length, None, Some, slice_index_or, if◌then◌else◌};
 ghost use Rattle.ebpf_base.specs.Faults.{or_else};
-ghost use Rattle.ebpf_candidates.specs.TypeRows.{lower};
+ghost use Rattle.ebpf_candidates.specs.PrivateContracts.{lower};
 ghost use Rattle.ebpf_btf.specs.Types.{kind_number};
 ghost use Rattle.ebpf_btf.specs.declared.error.BtfError.TheVariants.{InvalidStringOffset};
 ghost use Rattle.ebpf_btf.specs.declared.kind.BtfKind.{BtfKind};

@@ -11,7 +11,8 @@ use Rattle.ebpf_base.specs.Keys.{text_cmp}
 use Rattle.ebpf_commands.proofs.Refusing.{nothing}
 use Rattle.ebpf_commands.specs.Failures.{is_outside, IsFailureOf}
 use Rattle.ebpf_commands.specs.Linked.{IsFileLinked}
-use Rattle.ebpf_commands.specs.Listed.{HasInspected, report_named, LacksNamedReport}
+use Rattle.ebpf_commands.specs.Listed.{HasInspected, report_named}
+use Rattle.ebpf_commands.specs.PrivateContracts.{LacksNamedReport}
 use Rattle.ebpf_commands.specs.declared.failure.Failure.{Failure}
 use Rattle.ebpf_commands.specs.declared.failure.Failure.TheVariants.{CannotRead, Btf, Preparing, NoProgram, CannotWrite, Memory}
 use Rattle.ebpf_inspect.specs.Inspected.{AreReports}

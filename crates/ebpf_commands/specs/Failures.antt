@@ -1,10 +1,9 @@
 -- Why a program of the command line prints nothing, or not all.
-use Rattle.std.specs.Prelude.{◌≡◌, ⊤, ℕ, Bool, true, false, List, Option, Some, None, Ok, Err, MatchBool}
+use Rattle.std.specs.Prelude.{◌≡◌, ℕ, Bool, true, false, List, Option, Some, None, Ok, Err}
 use Rattle.std.specs.FinMap.{get}
 use Rattle.ebpf_btf.specs.Memory as types
 use Rattle.ebpf_btf.specs.TypeInfo.{TypeInfo}
 use Rattle.ebpf_commands.specs.Linked.{kernel_types, default_passes, IsFileLinked}
-use Rattle.ebpf_commands.specs.Printed.{function_named}
 use Rattle.ebpf_commands.specs.declared.failure.Failure.{Failure}
 use Rattle.ebpf_commands.specs.declared.failure.Failure.TheVariants.{CannotRead, Btf, Preparing, NoProgram, CannotWrite, Memory}
 use Rattle.ebpf_ksyms.specs.Sources.{Source}
@@ -28,15 +27,6 @@ is_outside Memory = true
 abbrev pub is_writers : Failure → Bool
 is_writers CannotWrite = true
 is_writers _ = false
-
--- an object has no program of the name that it refuses
-abbrev pub Lacks : Object → List ℕ → Failure → Type 0
-Lacks o name (NoProgram absent) = (absent.now ≡ name) × (function_named o name ≡ None)
-Lacks o name _ = ⊥
-
-abbrev pub LacksNamed : Object → Option (List ℕ) → Failure → Type 0
-LacksNamed o None f = ⊥
-LacksNamed o (Some name) f = Lacks o name f
 
 -- preparing a file with these passes has this first fault
 abbrev pub IsPreparingFailure : Chosen → Source → List ℕ → Failure → Type 0

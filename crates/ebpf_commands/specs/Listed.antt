@@ -7,8 +7,6 @@ use Rattle.std.specs.Str.{bytes_eq}
 use Rattle.ebpf_btf.specs.TypeInfo.{TypeInfo}
 use Rattle.ebpf_commands.specs.Linked.{kernel_types, default_passes}
 use Rattle.ebpf_commands.specs.Printed.{head_line}
-use Rattle.ebpf_commands.specs.declared.failure.Failure.{Failure}
-use Rattle.ebpf_commands.specs.declared.failure.Failure.TheVariants.{NoProgram}
 use Rattle.ebpf_inspect.specs.Inspected.{IsInspected}
 use Rattle.ebpf_inspect.specs.declared.report.ProgramReport.{ProgramReport}
 use Rattle.ebpf_ksyms.specs.Sources.{Source}
@@ -67,12 +65,3 @@ pub record HasListed (file : List ℕ) (btf : Option (List ℕ)) (lines : Source
   pub inspected : HasInspected file btf lines reports
   pub named : MatchOption program ⊤ (λ name. IsSome (report_named reports name))
   pub text : Appends before now (reports_text reports program)
-
--- no report has the name that is refused
-abbrev pub LacksReport : List ProgramReport → List ℕ → Failure → Type 0
-LacksReport reports name (NoProgram absent) = (absent.now ≡ name) × (report_named reports name ≡ None)
-LacksReport reports name _ = ⊥
-
-abbrev pub LacksNamedReport : List ProgramReport → Option (List ℕ) → Failure → Type 0
-LacksNamedReport reports None f = ⊥
-LacksNamedReport reports (Some name) f = LacksReport reports name f

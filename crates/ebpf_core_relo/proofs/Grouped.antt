@@ -9,7 +9,8 @@ use Rattle.ebpf_base.proofs.Pointwise.{number_agrees}
 use Rattle.ebpf_base.specs.Keys.{key_cmp}
 use Rattle.std.specs.Prelude.{if◌then◌else◌, nat_eq}
 use Rattle.ebpf_core_relo.specs.declared.spans.Span.{Span}
-use Rattle.ebpf_core_relo.specs.RecordFunctions.{with_span, entries_of_section, spans_or_none, span_of, spans_among, spans_of}
+use Rattle.ebpf_core_relo.specs.RecordFunctions.{entries_of_section, span_of, spans_among, spans_of}
+use Rattle.ebpf_core_relo.specs.PrivateContracts.{with_span, spans_or_none}
 use Rattle.ebpf_model.specs.declared.function.Function.{Function}
 
 by_case : (b : Bool) (group own : List Span) (e : (ℕ × ℕ) × Function) (rest : List ((ℕ × ℕ) × Function)) → (b ≡ true → own ≡ group)

@@ -9,7 +9,8 @@ use Rattle.std.specs.Ordering.{eq_by_cmp, is_eq}
 use Rattle.std.specs.declared.cmp.Ordering.TheVariants.{Less}
 use Rattle.ebpf_base.proofs.Maps.{key_exact}
 use Rattle.ebpf_base.specs.Keys.{key_cmp, key_total}
-use Rattle.ebpf_core_relo.specs.Records.{Written, with_slots, with_slots_at}
+use Rattle.ebpf_core_relo.specs.Records.{Written, with_slots}
+use Rattle.ebpf_core_relo.specs.PrivateContracts.{with_slots_at}
 use Rattle.ebpf_parts.specs.declared.insn.bpf_insn.{bpf_insn}
 use Rattle.ebpf_base.proofs.Orderings.{is_equal}
 use Rattle.ebpf_model.specs.declared.function.Function.{Function}

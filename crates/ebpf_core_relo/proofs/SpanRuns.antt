@@ -4,7 +4,8 @@ use Rattle.std.specs.Option.{option_or}
 use Rattle.std.proofs.lemmas.List.Folds.{find-append}
 use Rattle.ebpf_core_relo.specs.declared.spans.Span.{Span}
 use Rattle.ebpf_core_relo.specs.Spans.{span_holds, span_at}
-use Rattle.ebpf_core_relo.specs.SpanLists.{first_at, all_spans}
+use Rattle.ebpf_core_relo.specs.SpanLists.{all_spans}
+use Rattle.ebpf_core_relo.specs.PrivateContracts.{first_at}
 
 -- the first that holds an offset, list by list, is the first of all
 pub first_of_all : (offset : ℕ) (runs : List (List Span)) (last : List Span) → first_at offset runs last ≡ span_at offset (all_spans runs last)

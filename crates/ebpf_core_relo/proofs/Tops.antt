@@ -5,7 +5,8 @@ use Rattle.std.proofs.Math.Nat.{le-max_left, le-max_right, max-le}
 use Rattle.std.specs.List.Sorted.{IsPartitionPoint, IsPartitionedBy}
 use Rattle.std.proofs.lemmas.Bool.{leb-true, leb-false, lt-leb, le-leb, lt-ltb, le-ltb, cases_lt}
 use Rattle.ebpf_core_relo.specs.declared.spans.Span.{Span}
-use Rattle.ebpf_core_relo.specs.Spans.{span_holds, span_at, if_begun}
+use Rattle.ebpf_core_relo.specs.Spans.{span_holds, span_at}
+use Rattle.ebpf_core_relo.specs.PrivateContracts.{if_begun}
 use Rattle.ebpf_core_relo.specs.SpanLists.{IsTopped, last_start, last_top, rises, tops}
 
 first : (a b : Bool) → (a && b) ≡ true → a ≡ true

@@ -1,7 +1,6 @@
 -- Which function of a section a record is about, and which of its slots.
-use Rattle.std.specs.Prelude.{ℕ, ◌+◌, ◌/◌, nat_eq, List, [], ◌∷◌, ◌++◌, length, map, filter, Option, Some, None}
-use Rattle.std.specs.FinMap.{FinMap, entries, insert}
-use Rattle.std.specs.Ordering.{nat_cmp}
+use Rattle.std.specs.Prelude.{ℕ, ◌+◌, ◌/◌, nat_eq, List, length, map, filter}
+use Rattle.std.specs.FinMap.{FinMap, entries}
 use Rattle.ebpf_base.specs.Keys.{key_cmp}
 use Rattle.ebpf_core_relo.specs.declared.spans.Span.{Span}
 use Rattle.ebpf_model.specs.Keys.{FunctionKey}
@@ -21,13 +20,3 @@ spans_among section es = map span_of (entries_of_section section es)
 
 abbrev pub spans_of : FinMap key_cmp Function → ℕ → List Span
 spans_of functions section = spans_among section (entries functions)
-
--- what a table has of a section
-abbrev pub spans_or_none : Option (List Span) → List Span
-spans_or_none None = []
-spans_or_none (Some spans) = spans
-
--- a table with one more span behind those of its section, by those that are there
-abbrev pub with_span : FinMap nat_cmp (List Span) → ℕ → Span → Option (List Span) → FinMap nat_cmp (List Span)
-with_span m section span None = insert m section (span ∷ [])
-with_span m section span (Some spans) = insert m section (spans ++ span ∷ [])

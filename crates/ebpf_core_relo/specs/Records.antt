@@ -112,8 +112,3 @@ abbrev pub with_slots : Option (List bpf_insn) → Option Function → Option Fu
 with_slots written None = None
 with_slots None (Some f) = Some f
 with_slots (Some slots) (Some f) = Some (record f { instructions = slots })
-
--- functions of which the one at a key, if it is there, has these slots
-abbrev pub with_slots_at : FinMap key_cmp Function → FunctionKey → List bpf_insn → Option Function → FinMap key_cmp Function
-with_slots_at functions key slots None = functions
-with_slots_at functions key slots (Some f) = insert functions key (record f { instructions = slots })

@@ -1,8 +1,6 @@
 -- What stands beside a list of spans: the greatest end up to each, where they begin one behind the other; and
 -- lists of such spans as one.
-use Rattle.std.specs.Prelude.{◌≡◌, ℕ, Bool, true, ◌&&◌, List, [], ◌∷◌, ◌++◌, Option, nat_le, max}
-use Rattle.std.specs.Option.{option_or}
-use Rattle.ebpf_core_relo.specs.Spans.{span_at}
+use Rattle.std.specs.Prelude.{◌≡◌, ℕ, Bool, true, ◌&&◌, List, [], ◌∷◌, ◌++◌, nat_le, max}
 use Rattle.ebpf_core_relo.specs.declared.spans.Span.{Span}
 
 -- the greatest end up to each span, and no less than one given
@@ -34,8 +32,3 @@ pub record IsTopped (spans : List Span) (ends : List ℕ) (top start : ℕ) : Ty
 abbrev pub all_spans : List (List Span) → List Span → List Span
 all_spans [] last = last
 all_spans (run ∷ runs) last = run ++ all_spans runs last
-
--- the first span that holds an offset, list by list
-abbrev pub first_at : ℕ → List (List Span) → List Span → Option Span
-first_at offset [] last = span_at offset last
-first_at offset (run ∷ runs) last = option_or (span_at offset run) (first_at offset runs last)

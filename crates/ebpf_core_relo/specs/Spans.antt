@@ -1,5 +1,5 @@
 -- The spans of functions in the data of their section, and which of them holds an offset.
-use Rattle.std.specs.Prelude.{ℕ, ◌/◌, Bool, ◌&&◌, List, Option, Some, None, find, nat_le, nat_lt, if◌then◌else◌}
+use Rattle.std.specs.Prelude.{ℕ, ◌/◌, Bool, ◌&&◌, List, Option, find, nat_le, nat_lt}
 use Rattle.ebpf_core_relo.specs.declared.spans.Span.{Span}
 
 -- whether an offset, in bytes, lies in a span: behind its start, and in a slot before its end
@@ -9,8 +9,3 @@ span_holds offset span = nat_le span.start offset && nat_lt (offset / 8) span.en
 -- the first span that holds an offset
 abbrev pub span_at : ℕ → List Span → Option Span
 span_at offset spans = find (span_holds offset) spans
-
--- a span, where it begins no later than an offset
-abbrev pub if_begun : ℕ → Option Span → Option Span
-if_begun offset None = None
-if_begun offset (Some s) = if nat_le s.start offset then Some s else None

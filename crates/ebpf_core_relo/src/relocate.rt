@@ -6,7 +6,8 @@ ghost use Rattle.ebpf_base.specs.Keys.{key_cmp};
 ghost use Rattle.ebpf_model.specs.Keys.{FunctionKey};
 ghost use Rattle.ebpf_core_relo.specs.Answers.{is_memory_at, without_texts_at};
 ghost use Rattle.ebpf_core_relo.specs.Refused.{RecordsAreRefused};
-ghost use Rattle.ebpf_core_relo.specs.Records.{relocation_inputs_between, slots_written, with_slots, with_slots_at};
+ghost use Rattle.ebpf_core_relo.specs.Records.{relocation_inputs_between, slots_written, with_slots};
+ghost use Rattle.ebpf_core_relo.specs.PrivateContracts.{with_slots_at};
 
 use crate::error::BtfRelocationError;
 use crate::function_spans::FunctionSpans;

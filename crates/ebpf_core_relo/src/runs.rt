@@ -2,7 +2,8 @@
 
 ghost use Rattle.std.specs.Prelude.{◌≡◌, ◌∷◌, [], ◌++◌, ◌≤◌, nat_le, slice_get, OnOk, true, false};
 ghost use Rattle.std.specs.List.Sorted.{IsPartitionPoint, IsPartitionedBy};
-ghost use Rattle.ebpf_core_relo.specs.Spans.{span_at, if_begun};
+ghost use Rattle.ebpf_core_relo.specs.Spans.{span_at};
+ghost use Rattle.ebpf_core_relo.specs.PrivateContracts.{if_begun};
 ghost use Rattle.ebpf_core_relo.specs.SpanLists.{last_start};
 
 use crate::spans::{SLOT, Span};

@@ -2,7 +2,8 @@
 
 ghost use Rattle.std.specs.Prelude.{◌≡◌, ℕ, OnOk, IfOk};
 ghost use Rattle.std.specs.FinMap as map;
-ghost use Rattle.ebpf_core_relo.specs.RecordFunctions.{with_span, spans_or_none, span_of, spans_of};
+ghost use Rattle.ebpf_core_relo.specs.RecordFunctions.{span_of, spans_of};
+ghost use Rattle.ebpf_core_relo.specs.PrivateContracts.{with_span, spans_or_none};
 ghost use Rattle.ebpf_core_relo.specs.Spans.{span_at};
 
 use crate::spans::{SLOT, Span, Spans};

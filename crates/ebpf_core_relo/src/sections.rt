@@ -7,7 +7,8 @@ ghost use Rattle.ebpf_btf.specs.Strings.{text_at};
 ghost use Rattle.ebpf_core.specs.Answers.{of_type_error, without_texts};
 ghost use Rattle.ebpf_core.specs.Memory.{is_memory};
 ghost use Rattle.ebpf_core.specs.declared.error.RelocationError.TheVariants.{BtfError};
-ghost use Rattle.ebpf_core_relo.specs.Answers.{IsStatedRefusal, Leaves, LeavesAt, error_in_section};
+ghost use Rattle.ebpf_core_relo.specs.Answers.{error_in_section};
+ghost use Rattle.ebpf_core_relo.specs.PrivateContracts.{IsStatedRefusal, Leaves, LeavesAt};
 ghost use Rattle.ebpf_core_relo.specs.Records.{all_applied, named_applied, relocation_inputs, section_applied, slots_written, unnamed_section};
 
 use crate::error::BtfRelocationError;

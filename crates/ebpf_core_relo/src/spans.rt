@@ -2,7 +2,7 @@
 
 ghost use Rattle.std.specs.Prelude.{◌≡◌, ◌++◌, ◌∷◌, [], OnOk};
 ghost use Rattle.ebpf_core_relo.specs.Spans.{span_at};
-ghost use Rattle.ebpf_core_relo.specs.SpanLists.{first_at};
+ghost use Rattle.ebpf_core_relo.specs.PrivateContracts.{first_at};
 
 use crate::runs::Run;
 use std::alloc::{AllocError, Global};

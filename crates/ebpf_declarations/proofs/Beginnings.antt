@@ -5,7 +5,7 @@ use Rattle.std.proofs.lemmas.List.{take-append-le, length-take}
 use Rattle.ebpf_btf.specs.Additions.{with_type, with_string, only_first}
 use Rattle.ebpf_btf.specs.TypeInfo.{TypeInfo}
 use Rattle.ebpf_btf.specs.declared.types.BtfType.{BtfType}
-use Rattle.ebpf_declarations.specs.Placeholders.{Begins}
+use Rattle.ebpf_declarations.specs.PrivateContracts.{Begins}
 
 no_shorter : {A : Type 0} (xs ys : List A) → take (length xs) ys ≡ xs → length xs ≤ length ys
 no_shorter xs ys begins = omega (arith, length-take (length xs) ys, ap length begins)

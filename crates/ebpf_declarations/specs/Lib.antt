@@ -5,9 +5,12 @@ pub mod Externs
 pub mod Laws
 pub mod MapMembers
 pub mod Maps
-pub mod NamedSections
 pub mod Placeholders
 pub mod MemberValues
+
+-- What only private contracts and proofs name.
+pub mod NamedSections
 pub mod KnownStructs
 pub mod ExternNames
 pub mod DistinctMaps
+pub mod PrivateContracts

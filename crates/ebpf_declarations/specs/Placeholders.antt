@@ -1,6 +1,6 @@
 -- The INT and the VAR that stand in for what a DATASEC of externs names as functions, since the kernel takes
 -- variables alone there.
-use Rattle.std.specs.Prelude.{◌≡◌, ℕ, Bool, false, List, length, take, Option, None, ◌==◌, codes}
+use Rattle.std.specs.Prelude.{ℕ, Bool, false, List, length, Option, None, ◌==◌, codes}
 use Rattle.std.specs.List.{position}
 use Rattle.ebpf_base.specs.Faults.{or_else}
 use Rattle.ebpf_btf.specs.Additions.{with_type, with_string, too_large_fault}
@@ -51,8 +51,3 @@ with_placeholder info = with_named (with_word info) (codes "ksym_func_placeholde
 
 abbrev pub placeholder_fault : TypeInfo → Option BtfError
 placeholder_fault info = or_else (word_fault info) (named_fault (with_word info))
-
--- types and strings that begin with others
-pub record Begins (before after : TypeInfo) : Type 0 where
-  pub types : take (length before.types) after.types ≡ before.types
-  pub strings : take (length before.strings) after.strings ≡ before.strings

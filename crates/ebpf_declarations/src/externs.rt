@@ -8,7 +8,7 @@ ghost use Rattle.ebpf_btf.specs.Memory.{is_memory};
 ghost use Rattle.ebpf_declarations.specs.Attempts.{given};
 ghost use Rattle.ebpf_declarations.specs.ExternNames.{named, all_named, IsNamed, RemembersWeak};
 ghost use Rattle.ebpf_declarations.specs.Externs.{is_function, func_or_var_type, new_extern, extern_of, function_or_fault, first_function_or_fault, ksyms_datasec, types_with, types_fault, entries_externs, extern_entries_fault, extern_types, externs, extern_declarations_fault};
-ghost use Rattle.ebpf_declarations.specs.Placeholders.{Begins};
+ghost use Rattle.ebpf_declarations.specs.PrivateContracts.{Begins};
 
 use crate::data_sections::first_entries;
 use crate::extern_names::weak_at;

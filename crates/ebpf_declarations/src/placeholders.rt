@@ -4,7 +4,8 @@ ghost use Rattle.std.specs.Prelude.{◌≡◌, ◌<◌, ◌^◌, length, IfOk, O
 ghost use Rattle.std.specs.List.{position};
 ghost use Rattle.ebpf_base.specs.Faults.{Refuses};
 ghost use Rattle.ebpf_btf.specs.Memory.{is_memory};
-ghost use Rattle.ebpf_declarations.specs.Placeholders.{Begins, is_word, word_id, with_word, word_fault, the_word, with_placeholder, placeholder_fault};
+ghost use Rattle.ebpf_declarations.specs.Placeholders.{is_word, word_id, with_word, word_fault, the_word, with_placeholder, placeholder_fault};
+ghost use Rattle.ebpf_declarations.specs.PrivateContracts.{Begins};
 
 use ebpf_btf::{Btf, BtfError, BtfType};
 

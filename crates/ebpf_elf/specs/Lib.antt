@@ -8,5 +8,7 @@ pub mod Faults
 pub mod Sections
 pub mod Symbols
 pub mod Relocations
-pub mod Layout
 pub mod Left
+
+-- What only private contracts and proofs name.
+pub mod Layout

@@ -16,7 +16,8 @@ use Rattle.ebpf_btf.specs.Memory.{is_memory}
 use Rattle.ebpf_btf.specs.Next.{if_some}
 use Rattle.ebpf_btf.specs.Strings.{is_text, text_at}
 use Rattle.ebpf_btf.specs.declared.error.BtfError.{BtfError}
-use Rattle.ebpf_ext.specs.SectionNames.{by_offsets, with_index, section_at, sections_with_names, IsIndexSet, AreLastIndices, AreUnset, NoneLonger}
+use Rattle.ebpf_ext.specs.SectionNames.{by_offsets, sections_with_names}
+use Rattle.ebpf_ext.specs.PrivateContracts.{with_index, section_at, IsIndexSet, AreLastIndices, AreUnset, NoneLonger}
 use Rattle.ebpf_ext.proofs.SectionNames.{equal, from_all, one_last, same_tests}
 
 -- ---- names that are wanted

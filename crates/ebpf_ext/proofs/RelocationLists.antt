@@ -3,7 +3,8 @@ use Rattle.std.proofs.Common.{◌≡◌, ◌-◌, ◌+◌, ◌<◌, ℕ, suc, Bo
 use Rattle.std.specs.Prelude.{⊤}
 use Rattle.std.specs.List.{range_with_len}
 use Rattle.ebpf_btf.specs.declared.error.BtfError.{BtfError}
-use Rattle.ebpf_ext.specs.ExtFormat.{prepended, all_ok, core_relo_at, core_relos_at}
+use Rattle.ebpf_ext.specs.ExtFormat.{all_ok, core_relo_at, core_relos_at}
+use Rattle.ebpf_ext.specs.PrivateContracts.{prepended}
 use Rattle.ebpf_btf.specs.Memory.{is_memory}
 use Rattle.ebpf_btf.specs.Next.{if_ok}
 

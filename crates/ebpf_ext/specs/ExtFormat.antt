@@ -1,6 +1,6 @@
 -- The bytes of `.BTF.ext` (the kernel's Documentation/bpf/btf.rst, 4.2 ".BTF.ext section"; struct btf_ext_header,
 -- struct btf_ext_info_sec, and in include/uapi/linux/bpf.h struct bpf_core_relo).
-use Rattle.std.specs.Prelude.{ℕ, ◌+◌, ◌*◌, ◌/◌, List, [], ◌∷◌, ◌++◌, map, length, Option, None, Result, Ok, Err, nat_lt, not, ◌&&◌, ◌==◌, if◌then◌else◌}
+use Rattle.std.specs.Prelude.{ℕ, ◌+◌, ◌*◌, ◌/◌, List, [], ◌∷◌, map, length, Option, None, Result, Ok, Err, nat_lt, not, ◌&&◌, ◌==◌, if◌then◌else◌}
 use Rattle.std.specs.List.{range_with_len}
 use Rattle.ebpf_base.specs.Faults.{first_of}
 use Rattle.ebpf_base.specs.declared.endianness.Endianness.{Endianness}
@@ -132,10 +132,6 @@ core_relo_at bytes size offset number =
 abbrev pub all_ok : {X : Type 0} → List (Result X BtfError) → Result (List X) BtfError
 all_ok [] = Ok []
 all_ok (r ∷ rs) = if_ok r (λ x. if_ok (all_ok rs) (λ xs. Ok (x ∷ xs)))
-
--- a list before another
-abbrev pub prepended : {X : Type 0} → List X → Result (List X) BtfError → Result (List X) BtfError
-prepended front more = if_ok more (λ xs. Ok (front ++ xs))
 
 -- so many relocations from an offset on, numbered from 0
 unfoldable pub core_relos_at : List ℕ → ℕ → ℕ → ℕ → Result (List Relocation) BtfError

@@ -1,13 +1,10 @@
 -- Sections by the names at their offsets in some strings.
-use Rattle.std.specs.Prelude.{◌≡◌, ◌≤◌, ℕ, List, [], ◌∷◌, length, ⊤, Option, Some, None, Result, Ok, Err, option_map, slice_get, if◌then◌else◌}
-use Rattle.std.specs.Bool.{MatchBool}
-use Rattle.std.specs.FinMap.{FinMap, empty, get, insert}
+use Rattle.std.specs.Prelude.{ℕ, List, [], ◌∷◌, Result, Ok, Err}
+use Rattle.std.specs.FinMap.{FinMap, empty}
 use Rattle.std.specs.List.{flat_map}
 use Rattle.ebpf_base.specs.Keyed.{put_all}
 use Rattle.ebpf_base.specs.Keys.{text_cmp}
-use Rattle.ebpf_btf.specs.Memory.{is_memory}
-use Rattle.ebpf_btf.specs.Next.{if_some}
-use Rattle.ebpf_btf.specs.Strings.{is_text, text_at}
+use Rattle.ebpf_btf.specs.Strings.{text_at}
 use Rattle.ebpf_btf.specs.declared.error.BtfError.{BtfError}
 
 -- ---- by names
@@ -24,35 +21,4 @@ sections_with_names strings sections = flat_map (λ s. section_with_name s.1 (te
 unfoldable pub by_offsets : {S : Type 0} → List ℕ → List (ℕ × S) → FinMap text_cmp S
 by_offsets strings sections = put_all empty (sections_with_names strings sections)
 
--- what a section's reading gives, with the offset of the name instead of the name; want of memory aside
-abbrev pub GivesByOffset : {S : Type 0} → List ℕ → Result ((ℕ × S) × ℕ) BtfError → Result ((List ℕ × S) × ℕ) BtfError → Type 0
-GivesByOffset strings (Ok found) stated = (name : List ℕ) × (text_at strings found.0.0 ≡ Ok name) × (stated ≡ Ok ((name, found.0.1), found.1))
-GivesByOffset strings (Err e) stated = MatchBool (is_memory e) ⊤ (stated ≡ Err e)
-
 -- ---- the indices of the last sections of some names
-
--- the section at an index
-abbrev pub section_at : {S : Type 0} → List (ℕ × S) → Option ℕ → Option S
-section_at sections None = None
-section_at sections (Some index) = option_map (λ s. s.1) (slice_get sections index)
-
--- the index of each of these names is that of its section
-pub record AreLastIndices {S : Type 0} (strings : List ℕ) (sections : List (ℕ × S)) (indices : FinMap text_cmp (Option ℕ)) : Type 0 where
-  pub is : (name : List ℕ) (index : Option ℕ) → get indices name ≡ Some index → section_at sections index ≡ get (by_offsets strings sections) name
-
--- these names have no index yet, and none is longer
-pub record AreUnset (longest : ℕ) (indices : FinMap text_cmp (Option ℕ)) : Type 0 where
-  pub is : (name : List ℕ) (index : Option ℕ) → get indices name ≡ Some index → (index ≡ None) × (length name ≤ longest)
-
--- none of these names is longer
-pub record NoneLonger (longest : ℕ) (indices : FinMap text_cmp (Option ℕ)) : Type 0 where
-  pub is : (name : List ℕ) (index : Option ℕ) → get indices name ≡ Some index → length name ≤ longest
-
--- the index of a name is set, where the name is among these
-unfoldable pub with_index : FinMap text_cmp (Option ℕ) → List ℕ → ℕ → FinMap text_cmp (Option ℕ)
-with_index indices name index = if_some (get indices name) (λ _. insert indices name (Some index)) indices
-
--- of these names the one at the offset has this index, and the others what they had
-pub record IsIndexSet (strings : List ℕ) (offset index : ℕ) (before after : FinMap text_cmp (Option ℕ)) : Type 0 where
-  pub is : (name : List ℕ) (now : Option ℕ) → get after name ≡ Some now
-      → (had : Option ℕ) × (get before name ≡ Some had) × (now ≡ (if is_text name (text_at strings offset) then Some index else had))

@@ -4,7 +4,7 @@ ghost use Rattle.std.specs.Prelude.{◌-◌, ◌≤◌, ◌<◌, length};
 ghost use Rattle.ebpf_base.specs.Faults.{Gives};
 ghost use Rattle.ebpf_btf.specs.Memory.{is_memory};
 ghost use Rattle.ebpf_ext.specs.ExtReading.{by_names, func_section, line_section, core_relo_section, sections_from};
-ghost use Rattle.ebpf_ext.specs.SectionNames.{GivesByOffset};
+ghost use Rattle.ebpf_ext.specs.PrivateContracts.{GivesByOffset};
 
 use crate::ext_infos::{FuncSecInfo, LineSecInfo};
 use crate::ext_part::{Part, SECTION_HEAD, read_section_head};

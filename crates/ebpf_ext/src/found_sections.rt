@@ -4,7 +4,8 @@ ghost use Rattle.std.specs.Prelude.{◌≡◌, false, IfOk, OnOk};
 ghost use Rattle.std.specs.FinMap as map;
 ghost use Rattle.std.specs.Option.{option_copied};
 ghost use Rattle.ebpf_btf.specs.Memory.{is_memory};
-ghost use Rattle.ebpf_ext.specs.SectionNames.{by_offsets, with_index, section_at, IsIndexSet, AreLastIndices, AreUnset, NoneLonger};
+ghost use Rattle.ebpf_ext.specs.SectionNames.{by_offsets};
+ghost use Rattle.ebpf_ext.specs.PrivateContracts.{with_index, section_at, IsIndexSet, AreLastIndices, AreUnset, NoneLonger};
 
 use crate::sections_by_name::last_named;
 use ebpf_base::ByName;
@@ -27,7 +28,7 @@ fn unset_indices(alloc: Global, names: &[&str]) -> Result<(ByName<Option<usize>>
 }
 
 /// Sets the index of a name, where the name is among these.
-#[tactic(auto, unfolding(crate::specs::SectionNames::with_index))]
+#[tactic(auto, unfolding(crate::specs::PrivateContracts::with_index))]
 fn set_index(indices: &mut ByName<Option<usize>>, name: &str, index: usize)
     ensures { indices.new ≡ with_index indices.old name.now index }
 {

@@ -1,2 +1,4 @@
 pub mod Inspected
+
+-- What only private contracts and proofs name.
 pub mod Named

@@ -15,7 +15,8 @@ use Rattle.ebpf_ksyms.specs.declared.ids.Ids.{Ids}
 use Rattle.ebpf_ksyms.specs.declared.lookup_key.Sort.{Sort}
 use Rattle.ebpf_ksyms.specs.declared.lookup_key.Sort.TheVariants.{Function, Variable}
 use Rattle.ebpf_ksyms.specs.Ids.{finished, ids_in, sort_of, with_sort, with_type_ids}
-use Rattle.ebpf_ksyms.specs.Named.{is_one_of, only_at}
+use Rattle.ebpf_ksyms.specs.Named.{is_one_of}
+use Rattle.ebpf_ksyms.specs.PrivateContracts.{only_at}
 
 is_function : Option Sort → Bool
 is_function (Some Function) = true

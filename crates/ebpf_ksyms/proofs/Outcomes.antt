@@ -16,7 +16,8 @@ use Rattle.ebpf_ksyms.specs.declared.lookup_key.Sort.{Sort}
 use Rattle.ebpf_ksyms.specs.declared.lookup_key.Sort.TheVariants.{Function, Variable}
 use Rattle.ebpf_ksyms.specs.Externs.{NamedExtern, kernel_ids_of, is_typed, outcome_by, renewed, with_outcome}
 use Rattle.ebpf_ksyms.specs.Ids.{id_at, id_of, ids_in}
-use Rattle.ebpf_ksyms.specs.Named.{is_one_of, only_at}
+use Rattle.ebpf_ksyms.specs.Named.{is_one_of}
+use Rattle.ebpf_ksyms.specs.PrivateContracts.{only_at}
 use Rattle.ebpf_ksyms.specs.KernelOutcomes.{at_found, at_lookup_key, at_type, kernel_ids_in, lookup_key_of}
 use Rattle.ebpf_ksyms.specs.LookupKeyValue.{LookupKeyValue}
 use Rattle.ebpf_ksyms.specs.Typed.{lookup_name, lookup_names, typed_as, typed_refused}

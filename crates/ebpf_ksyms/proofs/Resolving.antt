@@ -12,7 +12,8 @@ use Rattle.ebpf_ksyms.specs.declared.error.KsymsError.{KsymsError}
 use Rattle.ebpf_ksyms.specs.Addresses.{Item, Line, address_of, line_of_item}
 use Rattle.ebpf_ksyms.specs.Entries.{externs_from}
 use Rattle.ebpf_ksyms.specs.Externs.{NamedExtern, Externs, IsResolutionFault, IsResolved, kernel_ids_of, is_typed, is_typeless, left_without, name_refused, names_read, names_refused, outcome, renewed, resolved_externs, resolved_as, types_refused, wanted_names, with_address, with_outcome}
-use Rattle.ebpf_ksyms.specs.Named.{is_one_of, only_at}
+use Rattle.ebpf_ksyms.specs.Named.{is_one_of}
+use Rattle.ebpf_ksyms.specs.PrivateContracts.{only_at}
 use Rattle.ebpf_ksyms.specs.AddressesByLine.{AreRead, KnownAddresses, StopsAt}
 use Rattle.ebpf_ksyms.specs.TypelessExterns.{flattened, known_at, typeless_as, typeless_refused}
 use Rattle.ebpf_ksyms.specs.KernelOutcomes.{Outcome}

@@ -11,7 +11,8 @@ use Rattle.std.proofs.lemmas.Map.Text.{btree_map_updates_str}
 use Rattle.std.proofs.lemmas.Slice.Eq.{bytes_eq-Decides}
 use denote.Ref.{Bor}
 use Rattle.ebpf_base.specs.Keys.{lent_bytes, text_cmp}
-use Rattle.ebpf_ksyms.specs.Named.{is_one_of, only_at}
+use Rattle.ebpf_ksyms.specs.Named.{is_one_of}
+use Rattle.ebpf_ksyms.specs.PrivateContracts.{only_at}
 
 -- one more name in front
 pub only_at-cons : {V : Type 0} (name : List ℕ) (names : List (List ℕ)) (value : List ℕ → V) (q : List ℕ) → only_at (name ∷ names) value q ≡ (if bytes_eq name q then Some (value q) else only_at names value q)

@@ -6,7 +6,8 @@ use Rattle.ebpf_ksyms.specs.declared.error.KsymsError.{KsymsError}
 use Rattle.ebpf_ksyms.specs.Addresses.{Item, Line, address_of, line_of_item, lines_fault, address_if_named, stated_fault}
 use Rattle.ebpf_ksyms.specs.Counted.{Counts}
 use Rattle.ebpf_ksyms.specs.Lines.{address_and_name, stated_address}
-use Rattle.ebpf_ksyms.specs.Named.{is_one_of, only_at}
+use Rattle.ebpf_ksyms.specs.Named.{is_one_of}
+use Rattle.ebpf_ksyms.specs.PrivateContracts.{only_at}
 
 -- the address of each name that is wanted, as far as lines gave it
 abbrev pub KnownAddresses : Type 0

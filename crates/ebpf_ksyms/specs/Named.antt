@@ -1,19 +1,8 @@
 -- Values by name.
-use Rattle.std.specs.Prelude.{ℕ, Bool, List, Option, Some, None, if◌then◌else◌}
-use Rattle.std.specs.BTreeMap.{get_by}
+use Rattle.std.specs.Prelude.{ℕ, Bool, List}
 use Rattle.std.specs.List.{list_any}
 use Rattle.std.specs.Str.{bytes_eq}
-use Rattle.ebpf_base.specs.Keys.{text_cmp}
-use Rattle.ebpf_ksyms.specs.declared.named.Named.{Named}
-
--- the value at a name
-unfoldable pub value_named : {V : Type 0} → Named V → List ℕ → Option V
-value_named m name = get_by (λ k. text_cmp name k.now) m.values
 
 -- whether a name is one of some names
 abbrev pub is_one_of : List (List ℕ) → List ℕ → Bool
 is_one_of names name = list_any (λ n. bytes_eq n name) names
-
--- values at some names alone
-abbrev pub only_at : {V : Type 0} → List (List ℕ) → (List ℕ → V) → List ℕ → Option V
-only_at names value name = if is_one_of names name then Some (value name) else None

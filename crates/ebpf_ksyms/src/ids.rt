@@ -3,7 +3,7 @@
 ghost use Rattle.std.specs.Prelude.{◌≡◌, ℕ, List, IfOk, IfErr, OnOk, option_map};
 ghost use Rattle.ebpf_base.specs.Keys.{lent_bytes};
 ghost use Rattle.ebpf_ksyms.specs.Ids.{ids_in, id_at, sort_of, with_lower_id, with_type_ids};
-ghost use Rattle.ebpf_ksyms.specs.Named.{value_named, only_at};
+ghost use Rattle.ebpf_ksyms.specs.PrivateContracts.{value_named, only_at};
 ghost use Rattle.ebpf_ksyms.specs.declared.error.KsymsError.TheVariants.{OutOfMemory};
 
 use crate::error::KsymsError;

@@ -3,7 +3,7 @@
 ghost use Rattle.std.specs.Prelude.{◌≡◌, ℕ, List, IfOk, Some, option_map, if◌then◌else◌};
 ghost use Rattle.std.specs.Str.{bytes_eq};
 ghost use Rattle.ebpf_base.specs.Keys.{lent_bytes};
-ghost use Rattle.ebpf_ksyms.specs.Named.{value_named, only_at};
+ghost use Rattle.ebpf_ksyms.specs.PrivateContracts.{value_named, only_at};
 
 use std::alloc::{AllocError, Global};
 use std::collections::BTreeMap;
@@ -27,7 +27,7 @@ impl<'a, V: Copy + Drop> Named<'a, V> {
     }
 
     /// The value at a name.
-    #[tactic(auto, unfolding(crate::specs::Named::value_named))]
+    #[tactic(auto, unfolding(crate::specs::PrivateContracts::value_named))]
     pub fn get(&self, name: &str) -> Option<V>
         ensures { result ≡ value_named self.now name.now }
     {

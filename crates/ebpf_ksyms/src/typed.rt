@@ -8,7 +8,7 @@ ghost use Rattle.ebpf_btf.specs.Types.{type_word};
 ghost use Rattle.ebpf_ksyms.specs.Externs.{kernel_ids_of, outcome_by, renewed};
 ghost use Rattle.ebpf_ksyms.specs.Faults.{is_memory};
 ghost use Rattle.ebpf_ksyms.specs.Ids.{id_at};
-ghost use Rattle.ebpf_ksyms.specs.Named.{value_named};
+ghost use Rattle.ebpf_ksyms.specs.PrivateContracts.{value_named};
 ghost use Rattle.ebpf_ksyms.specs.KernelOutcomes.{at_found, compared_outcome, are_types_compatible, not_alike, not_found};
 ghost use Rattle.ebpf_ksyms.specs.Typed.{lookup_name, lookup_names, typed_as, typed_refused};
 

@@ -6,10 +6,11 @@ use Rattle.ebpf_ext.specs.declared.ext_infos.bpf_func_info.{bpf_func_info}
 use Rattle.ebpf_ext.specs.declared.ext_infos.bpf_line_info.{bpf_line_info}
 use Rattle.ebpf_linker.specs.declared.body.Body.{Body}
 use Rattle.ebpf_linker.specs.Functions.{FunctionContent}
-use Rattle.ebpf_linker.specs.Faults.{has_some, has_stray, first_line}
+use Rattle.ebpf_linker.specs.Faults.{has_some, first_line}
+use Rattle.ebpf_linker.specs.PrivateContracts.{has_stray, content_in}
 use Rattle.ebpf_linker.specs.LinkedSlots.{Fit}
 use Rattle.ebpf_linker.specs.declared.reference.Fault.TheVariants.{ProgramTooLong, InvalidLineInfo}
-use Rattle.ebpf_linker.specs.Numbered.{functions, content_in}
+use Rattle.ebpf_linker.specs.Numbered.{functions}
 use Rattle.ebpf_linker.specs.Records.{func_moved, line_moved, func_records, line_records, has_lines}
 use Rattle.ebpf_linker.proofs.BasesInOrder.{next_is, fit_next, can_have, no_body}
 use Rattle.ebpf_linker.proofs.Checked.{content_read}

@@ -8,7 +8,8 @@ use Rattle.std.proofs.lemmas.List.Elements.{All-nil, All-cons, All-head, All-tai
 use Rattle.ebpf_linker.specs.declared.reference.Target.{Target}
 use Rattle.ebpf_linker.specs.declared.reference.Target.TheVariants.{Function, Nowhere}
 use Rattle.ebpf_linker.specs.declared.reference.Call.{Call}
-use Rattle.ebpf_linker.specs.Numbered.{IsWithin, is_within, is_above, is_list_sound, Rises, Sound, calls_at}
+use Rattle.ebpf_linker.specs.Numbered.{IsWithin, Rises, Sound, calls_at}
+use Rattle.ebpf_linker.specs.PrivateContracts.{is_within, is_above, is_list_sound}
 
 in_of : (n : ℕ) (t : Target) → is_within n t ≡ true → IsWithin n t
 in_of n (Function k) e = ltb-true k n e

@@ -5,12 +5,15 @@ pub mod Faults
 pub mod Machine
 pub mod Records
 pub mod Numbered
+pub mod Result
+pub mod Renaming
+pub mod LinkMap
+pub mod LinkMapLaws
+
+-- What only private contracts and proofs name.
 pub mod Answer
 pub mod LinkedSlots
 pub mod Ready
-pub mod Result
 pub mod Steps
-pub mod Renaming
-pub mod LinkMap
 pub mod LinkedReferences
-pub mod LinkMapLaws
+pub mod PrivateContracts

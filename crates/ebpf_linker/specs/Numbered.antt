@@ -1,5 +1,5 @@
 -- Functions by their numbers.
-use Rattle.std.specs.Prelude.{ℕ, ◌+◌, ◌<◌, ◌≤◌, ◌==◌, ◌&&◌, if◌then◌else◌, Bool, true, nat_lt, List, [], ◌∷◌, Option, Some, None, slice_get, Vec, All}
+use Rattle.std.specs.Prelude.{ℕ, ◌+◌, ◌<◌, ◌≤◌, ◌==◌, if◌then◌else◌, List, [], ◌∷◌, Option, Some, None, slice_get, Vec, All}
 use Rattle.std.specs.declared.alloc.Global.{Global}
 use Rattle.ebpf_linker.specs.declared.body.Body.{Body}
 use Rattle.ebpf_linker.specs.declared.reference.Fault.{Fault}
@@ -7,7 +7,7 @@ use Rattle.ebpf_linker.specs.declared.reference.Fault.TheVariants.{FunctionInfoM
 use Rattle.ebpf_linker.specs.declared.reference.Target.{Target}
 use Rattle.ebpf_linker.specs.declared.reference.Target.TheVariants.{Function, Nowhere}
 use Rattle.ebpf_linker.specs.declared.reference.Call.{Call}
-use Rattle.ebpf_linker.specs.Functions.{SlotReference, Nothing, Faulty, Names, FunctionContent, Functions, or_empty}
+use Rattle.ebpf_linker.specs.Functions.{SlotReference, Nothing, Faulty, Names, FunctionContent, Functions}
 
 abbrev pub of_target : Target → SlotReference ℕ Fault
 of_target (Function k) = Names k
@@ -33,10 +33,6 @@ abbrev pub option_content : Option Body → Option FunctionContent
 option_content None = None
 option_content (Some b) = Some (body_content b)
 
--- what function k is
-abbrev pub content_in : List Body → ℕ → FunctionContent
-content_in B k = or_empty (option_content (slice_get B k))
-
 -- functions by their numbers, with these bodies and these references
 abbrev pub functions : List Body → List (Vec Call Global) → Functions ℕ Fault
 functions B C = record {
@@ -56,19 +52,6 @@ Rises low (c ∷ cs) = (low ≤ c.slot) × Rises (c.slot + 1) cs
 abbrev pub IsWithin : ℕ → Target → Type 0
 IsWithin n (Function k) = k < n
 IsWithin n (Nowhere e) = Unit {0}
-
-abbrev pub is_within : ℕ → Target → Bool
-is_within n (Function k) = nat_lt k n
-is_within n (Nowhere e) = true
-
-abbrev pub is_above : Option ℕ → ℕ → Bool
-is_above None slot = true
-is_above (Some before) slot = nat_lt before slot
-
--- whether the slots of references are above the one before, and each leads to one of n functions
-abbrev pub is_list_sound : ℕ → Option ℕ → List Call → Bool
-is_list_sound n before [] = true
-is_list_sound n before (c ∷ cs) = (is_above before c.slot && is_within n c.target) && is_list_sound n (Some c.slot) cs
 
 -- the references of each function rise, and lead to one of n functions
 pub record Sound (n : ℕ) (C : List (Vec Call Global)) : Type 0 where

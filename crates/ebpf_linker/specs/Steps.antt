@@ -11,7 +11,8 @@ use Rattle.ebpf_linker.specs.declared.reference.Call.{Call}
 use Rattle.ebpf_linker.specs.declared.search.Open.{Open}
 use Rattle.ebpf_linker.specs.Functions.{Functions, body}
 use Rattle.ebpf_linker.specs.Faults.{same, has_some, append_fault}
-use Rattle.ebpf_linker.specs.Numbered.{calls_at, content_in}
+use Rattle.ebpf_linker.specs.Numbered.{calls_at}
+use Rattle.ebpf_linker.specs.PrivateContracts.{content_in}
 
 -- where a reference leads, where the program p is linked
 abbrev pub checked_target : List Body → ℕ → Target → Target

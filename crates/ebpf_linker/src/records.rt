@@ -1,7 +1,8 @@
 //! The records of a linked program.
 
 ghost use Rattle.std.specs.Prelude.{◌≡◌, ℕ, ◌+◌, ◌<◌, ◌≤◌, ◌^◌, ◌++◌, List, [], length, map, false, IfOk, OnOk, All};
-ghost use Rattle.ebpf_linker.specs.Faults.{first_line, has_stray, is_stray};
+ghost use Rattle.ebpf_linker.specs.Faults.{first_line};
+ghost use Rattle.ebpf_linker.specs.PrivateContracts.{has_stray, is_stray};
 ghost use Rattle.ebpf_linker.specs.LinkedSlots.{Fit, body_at};
 ghost use Rattle.ebpf_linker.specs.Numbered.{functions};
 ghost use Rattle.ebpf_linker.specs.Records.{func_moved, line_moved, linked_func_info, linked_line_info, has_lines, count_if};

@@ -2,9 +2,10 @@
 
 ghost use Rattle.std.specs.Prelude.{◌≡◌, ℕ, ◌+◌, ◌<◌, ◌≤◌, length, [], IfOk, Some, All, true, false, slice_index_or};
 ghost use Rattle.ebpf_linker.specs.Answer.{Finds};
-ghost use Rattle.ebpf_linker.specs.Faults.{content_fault, has_stray, is_stray, checked_references, append_fault};
+ghost use Rattle.ebpf_linker.specs.Faults.{checked_references, append_fault};
+ghost use Rattle.ebpf_linker.specs.PrivateContracts.{content_fault, has_stray, is_stray, content_in};
 ghost use Rattle.ebpf_linker.specs.Functions.{Among};
-ghost use Rattle.ebpf_linker.specs.Numbered.{Sound, IsWithin, body_content, content_in, functions};
+ghost use Rattle.ebpf_linker.specs.Numbered.{Sound, IsWithin, body_content, functions};
 ghost use Rattle.ebpf_linker.specs.Steps.{Advanced, Entered, search_at, checked_calls, checked_target};
 ghost use Rattle.ebpf_linker.specs.declared.reference.Fault.TheVariants.{ProgramTooLong, InvalidLineInfo};
 

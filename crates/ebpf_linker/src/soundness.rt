@@ -2,7 +2,8 @@
 
 ghost use Rattle.std.specs.Prelude.{◌≡◌, ◌↔◌, IsTrue, None};
 ghost use Rattle.std.specs.List.{list_all};
-ghost use Rattle.ebpf_linker.specs.Numbered.{Sound, is_within, is_above, is_list_sound};
+ghost use Rattle.ebpf_linker.specs.Numbered.{Sound};
+ghost use Rattle.ebpf_linker.specs.PrivateContracts.{is_within, is_above, is_list_sound};
 
 use crate::reference::{Call, Target};
 

@@ -10,7 +10,8 @@ use Rattle.std.proofs.lemmas.Map.Keys.{IsDistinct-from_sorted}
 use Rattle.ebpf_base.proofs.Lists.{flat_map-same}
 use Rattle.ebpf_base.proofs.Sorted.{entries_rise}
 use Rattle.ebpf_base.specs.Keys.{text_cmp, text_total}
-use Rattle.ebpf_object.specs.LinkedPrograms.{program_value, program_if, program_with, programs_in_order}
+use Rattle.ebpf_object.specs.LinkedPrograms.{program_value, programs_in_order}
+use Rattle.ebpf_object.specs.PrivateContracts.{program_if, program_with}
 use Rattle.ebpf_model.specs.declared.program.Program.{Program}
 use Rattle.std.proofs.lemmas.List.{append_assoc}
 use Rattle.ebpf_base.specs.Keys.{lent_bytes}

@@ -20,6 +20,9 @@ pub mod OnePreparation
 pub mod Chain
 pub mod BothReadings
 pub mod Headline
-pub mod MapNames
 pub mod NamedPrograms
+
+-- What only private contracts and proofs name.
+pub mod MapNames
 pub mod SectionNames
+pub mod PrivateContracts

@@ -1,5 +1,5 @@
 -- Linking the programs of an object with the functions that they reach.
-use Rattle.std.specs.Prelude.{◌≡◌, ℕ, Bool, List, [], ◌∷◌, map, Option, Some, None, MatchBool}
+use Rattle.std.specs.Prelude.{◌≡◌, ℕ, Bool, List, map, Some, MatchBool}
 use Rattle.std.specs.FinMap.{FinMap, get, entries}
 use Rattle.std.specs.List.{list_any}
 use Rattle.std.specs.Ordering.{eq_by_cmp}
@@ -28,20 +28,6 @@ program_value name p = record { name = name; section_index = p.section_index; ad
 -- the programs, in byte order of their names
 abbrev pub programs_in_order : FinMap text_cmp Program → List ProgramValue
 programs_in_order programs = map (λ e. program_value e.0 e.1) (entries programs)
-
-abbrev pub program_if : List ℕ → Option Program → List ProgramValue
-program_if name None = []
-program_if name (Some p) = program_value name p ∷ []
-
--- the program with a name, where there is one
-abbrev pub program_with : FinMap text_cmp Program → List ℕ → List ProgramValue
-program_with programs name = program_if name (get programs name)
-
--- what stands at a key where a function takes the place of the one there
-abbrev pub replaced : Option Function → Option Function → Option Function
-replaced None g = None
-replaced (Some f) None = Some f
-replaced (Some f) (Some g) = Some g
 
 -- whether this is the key of a program
 abbrev pub is_program_key : List ProgramValue → FunctionKey → Bool

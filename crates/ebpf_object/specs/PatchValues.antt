@@ -1,17 +1,8 @@
 -- A patch as a value.
 use denote.Ref.{Bor}
-use Rattle.std.specs.Prelude.{ℕ, Bool, map, List, [], ◌∷◌, Option, Some, None}
+use Rattle.std.specs.Prelude.{ℕ, Bool, map, List}
 use Rattle.std.specs.FinMap.{FinMap, from_entries}
 use Rattle.ebpf_base.specs.Keys.{text_cmp}
-use Rattle.ebpf_object.specs.Patches.{PatchValue}
-use Rattle.ebpf_object.specs.declared.patch.Patch.{Patch}
-
-abbrev pub value_of : Patch → PatchValue
-value_of p = record { map_name = p.map_name; offset = p.offset; bytes = p.bytes.now }
-
-abbrev pub values_of : Option Patch → List PatchValue
-values_of None = []
-values_of (Some p) = value_of p ∷ []
 
 abbrev pub global_of : Bor (List ℕ) × Bool → List ℕ × Bool
 global_of g = (g.0.now, g.1)

@@ -9,7 +9,7 @@ ghost use Rattle.ebpf_base.specs.Keys.{lent_bytes};
 ghost use Rattle.ebpf_parts.specs.Maps.{bytes_of, with_bytes};
 ghost use Rattle.ebpf_object.specs.MapNames.{with_map_names};
 ghost use Rattle.ebpf_object.specs.Patches.{PatchValue, overwritten, with_patch, all_patched, named_at, symbol_indices, first_map};
-ghost use Rattle.ebpf_object.specs.PatchValues.{value_of};
+ghost use Rattle.ebpf_object.specs.PrivateContracts.{value_of};
 
 use ebpf_base::{ByIndex, ByName, Text};
 use ebpf_model::Symbol;

@@ -6,7 +6,8 @@ ghost use Rattle.std.specs.List.{flat_map};
 ghost use Rattle.ebpf_base.specs.Faults.{Refuses, first_some};
 ghost use Rattle.ebpf_base.specs.Keys.{lent_bytes};
 ghost use Rattle.ebpf_object.specs.Patches.{patches_at, patch_fault_at, patches_of, patches_fault, all_patched};
-ghost use Rattle.ebpf_object.specs.PatchValues.{value_of, globals_of};
+ghost use Rattle.ebpf_object.specs.PatchValues.{globals_of};
+ghost use Rattle.ebpf_object.specs.PrivateContracts.{value_of};
 ghost use Rattle.ebpf_parts.specs.Memory.{is_memory};
 
 use crate::globals::{names_of, value_at};

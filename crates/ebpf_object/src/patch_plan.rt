@@ -4,7 +4,7 @@ ghost use Rattle.std.specs.Prelude.{◌≡◌, ℕ, ◌+◌, ◌∷◌, [], nat_
 ghost use Rattle.std.specs.FinMap.{get};
 ghost use Rattle.std.specs.Option.{option_copied};
 ghost use Rattle.ebpf_object.specs.Patches.{symbol_indices, symbol_named, first_map, map_in_section, in_map, of_symbol, patch_of};
-ghost use Rattle.ebpf_object.specs.PatchValues.{value_of, values_of};
+ghost use Rattle.ebpf_object.specs.PrivateContracts.{value_of, values_of};
 ghost use Rattle.ebpf_parts.specs.Memory.{is_memory};
 ghost use Rattle.ebpf_parts.specs.declared.error.ParseError.TheVariants.{InvalidGlobalData, SymbolNotFound, MapNotFound};
 

@@ -18,7 +18,7 @@ use Rattle.ebpf_parsing.specs.OfSection.{programs_by, functions_by, fault_by, fa
 use Rattle.ebpf_parsing.specs.ObjectTables.{added}
 use Rattle.ebpf_parsing.specs.Programs.{programs_of, program_function, program_fault, with_key}
 use Rattle.ebpf_parsing.specs.Records.{FuncAndLineInfo, func_and_line_info_of}
-use Rattle.ebpf_parsing.specs.Relocations.{with_relocations}
+use Rattle.ebpf_parsing.specs.PrivateContracts.{with_relocations}
 use Rattle.ebpf_parsing.specs.Symbols.{SymbolValue}
 use Rattle.ebpf_parsing.specs.Texts.{function_at, text_fault_at, size_at, symbol_at_offset, text_function, text_function_of, text_fault_of, offsets_from, text_fault, conflict_fault}
 use Rattle.ebpf_parsing.specs.declared.object_tables.ObjectTables.{ObjectTables}

@@ -11,7 +11,8 @@ use Rattle.std.proofs.lemmas.Bool.Decides.{nat_tests}
 use Rattle.ebpf_base.proofs.Lists.{filter-filter, filter-map, filter-same, first-filter}
 use Rattle.ebpf_parsing.proofs.TextLemmas.{repeated_from, repeated_is}
 use Rattle.ebpf_parsing.specs.Symbols.{SymbolValue}
-use Rattle.ebpf_parsing.specs.Texts.{conflict_fault, conflict_fault_at, is_at, is_defined_text, is_text_at}
+use Rattle.ebpf_parsing.specs.Texts.{conflict_fault, conflict_fault_at, is_defined_text, is_text_at}
+use Rattle.ebpf_parsing.specs.PrivateContracts.{is_at}
 
 -- what a test that answers true shows
 pub if_below : (b : Bool) (P Q R : Type 0) → MatchBool b P Q → (P → R) → OnTrue b R

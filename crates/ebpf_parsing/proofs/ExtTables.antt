@@ -10,7 +10,8 @@ use Rattle.ebpf_ext.specs.ExtInfos.{func_info_at, line_info_at, no_func_info, no
 use Rattle.ebpf_ext.specs.ExtReading.{ExtInfo}
 use Rattle.ebpf_ext.specs.declared.ext_infos.FuncSecInfo.{FuncSecInfo}
 use Rattle.ebpf_ext.specs.declared.ext_infos.LineSecInfo.{LineSecInfo}
-use Rattle.ebpf_parsing.specs.Records.{AreFuncsOf, AreLinesOf, func_and_line_info_of}
+use Rattle.ebpf_parsing.specs.Records.{func_and_line_info_of}
+use Rattle.ebpf_parsing.specs.PrivateContracts.{AreFuncsOf, AreLinesOf}
 
 module _ {X : Type 0} (d : X) (M : FinMap text_cmp X) where
   abbrev there : List ℕ → X

@@ -8,7 +8,7 @@ use Rattle.ebpf_elf.specs.RelocationTables.{holds_relocations}
 use Rattle.ebpf_elf.specs.Relocations.{relocation_sections, relocation_sections_in, relocated_section}
 use Rattle.ebpf_elf.specs.Sections.{SectionOf, sections}
 use Rattle.ebpf_elf.specs.SymbolTable.{symbol_table_section}
-use Rattle.ebpf_parsing.specs.EntryRanges.{AreOf, AreOfOneFile}
+use Rattle.ebpf_parsing.specs.PrivateContracts.{AreOf, AreOfOneFile}
 
 pub some_same : {X : Type 0} (x y : X) → Some x ≡ Some y → x ≡ y
 some_same x y e = cc

@@ -5,7 +5,7 @@ use Rattle.std.specs.BTreeMap.{BTreeMap}
 use Rattle.std.specs.Global.{Vec}
 use Rattle.ebpf_elf.specs.Relocations.{relocation_sections, relocated_section}
 use Rattle.ebpf_elf.specs.Sections.{SectionOf}
-use Rattle.ebpf_parsing.specs.FileSymbols.{names_of}
+use Rattle.ebpf_parsing.specs.PrivateContracts.{names_of}
 use Rattle.ebpf_parsing.specs.Groups.{group_at, AreTablesOf}
 use Rattle.ebpf_parsing.specs.Symbols.{SymbolValue, section_symbols, is_in_section}
 

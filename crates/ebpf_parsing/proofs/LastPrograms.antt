@@ -12,7 +12,8 @@ use Rattle.ebpf_base.specs.Keys.{key_cmp, key_total}
 use Rattle.ebpf_parsing.proofs.LastEntries.{equal}
 use Rattle.ebpf_parsing.proofs.Lasts.{has, false_is_not, put_again, Lasts, another, fewer_lasts}
 use Rattle.ebpf_parsing.specs.LastData.{is_index}
-use Rattle.ebpf_parsing.specs.Programs.{is_program_symbol, program_function, program_fault, program_functions, programs_fault, with_key, program_symbol_row}
+use Rattle.ebpf_parsing.specs.Programs.{is_program_symbol, program_function, program_fault, program_functions, programs_fault, with_key}
+use Rattle.ebpf_parsing.specs.PrivateContracts.{program_symbol_row}
 use Rattle.ebpf_parsing.specs.Records.{FuncAndLineInfo}
 use Rattle.ebpf_parsing.specs.Symbols.{SymbolValue}
 use Rattle.ebpf_base.proofs.Walks.{rest_more, kept_more, passed_more, fault_here}

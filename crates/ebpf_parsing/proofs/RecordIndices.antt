@@ -17,7 +17,8 @@ use Rattle.std.proofs.lemmas.List.Sorted.{IsPermutation-refl, IsPermutation-sym,
 use Rattle.std.proofs.lemmas.Map.Keys.{IsDistinct-from_sorted, IsDistinct-IsPermutation}
 use Rattle.ebpf_ext.specs.declared.ext_infos.bpf_func_info.{bpf_func_info}
 use Rattle.ebpf_ext.specs.declared.ext_infos.bpf_line_info.{bpf_line_info}
-use Rattle.ebpf_parsing.specs.Records.{is_func_at, func_from, func_at, func_slot, is_line_in, line_from, line_at, line_slot}
+use Rattle.ebpf_parsing.specs.Records.{is_func_at, func_from, is_line_in, line_from}
+use Rattle.ebpf_parsing.specs.PrivateContracts.{func_at, func_slot, line_at, line_slot}
 use Rattle.ebpf_parsing.specs.RecordsBySlot.{is_at_slot, is_slot_among, is_among_slots, indices_with, RowsBeginAt}
 use Rattle.ebpf_parsing.specs.declared.records_by_slot.RecordIndex.{RecordIndex}
 use Rattle.ebpf_base.proofs.Sorted.{strictly_sorted, same_keys}

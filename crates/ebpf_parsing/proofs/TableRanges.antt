@@ -19,7 +19,8 @@ use Rattle.ebpf_elf.specs.declared.entries.ElfRelocation.{ElfRelocation}
 use Rattle.ebpf_parsing.proofs.FromFile.{some_same}
 use Rattle.ebpf_parsing.proofs.LastEntries.{equal, last_at-append}
 use Rattle.ebpf_parsing.proofs.Lasts.{has, false_is_not, any-append, whatever, none_last, Lasts, another, fewer_lasts}
-use Rattle.ebpf_parsing.specs.EntryRanges.{entry_range_cmp, entry_range_total, entry_range_of, entries_at, lacks_symbol, EntryRangesAreCached, AreOf, table_row}
+use Rattle.ebpf_parsing.specs.EntryRanges.{entry_range_cmp}
+use Rattle.ebpf_parsing.specs.PrivateContracts.{entry_range_total, entry_range_of, entries_at, lacks_symbol, EntryRangesAreCached, AreOf, table_row}
 use Rattle.ebpf_parsing.specs.LastData.{is_index}
 use Rattle.ebpf_parsing.specs.Relocations.{offset_of}
 use Rattle.ebpf_parts.proofs.Tables.{tables_more, tables_none, target_append}

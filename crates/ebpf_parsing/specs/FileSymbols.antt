@@ -28,10 +28,6 @@ symbol_of s = record {
 abbrev pub file_symbols : List ℕ → List SymbolValue
 file_symbols bytes = map symbol_of (symbols bytes)
 
--- the names of symbols
-abbrev pub names_of : List SymbolValue → List (List ℕ)
-names_of symbols = map (λ y. y.name) symbols
-
 -- a name that can't be read
 abbrev pub symbol_fault : SymbolOf → Option ParseError
 symbol_fault s = if is_some (symbol_name s) then None else Some (BtfError InvalidSymbolName)

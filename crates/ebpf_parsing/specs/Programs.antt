@@ -1,9 +1,5 @@
 -- The programs of a Program section, and their functions.
-use Rattle.std.specs.Prelude.{ℕ, ◌+◌, ◌-◌, Bool, not, ◌&&◌, ◌||◌, List, [], ◌∷◌, length, map, filter, Option, Some, None, ◌==◌, nat_lt, slice_range, if◌then◌else◌}
-use Rattle.std.specs.FinMap.{FinMap, empty}
-use Rattle.std.specs.List.{flat_map}
-use Rattle.std.specs.Ordering.{nat_cmp}
-use Rattle.ebpf_base.specs.Keyed.{put_all}
+use Rattle.std.specs.Prelude.{ℕ, ◌+◌, ◌-◌, Bool, not, ◌&&◌, ◌||◌, List, [], ◌∷◌, length, map, filter, Option, Some, None, ◌==◌, nat_lt, slice_range}
 use Rattle.ebpf_base.specs.Faults.{Row, first_in, first_some}
 use Rattle.ebpf_parsing.specs.Records.{FuncAndLineInfo, slot_of, funcs_at, lines_in}
 use Rattle.ebpf_parsing.specs.Symbols.{SymbolValue, is_text_symbol}
@@ -69,11 +65,3 @@ program_of license version s kind y = (y.name, record { license = license; kerne
 abbrev pub programs_of : List ℕ → Option ℕ → SectionValue → List SymbolValue → Option ProgramSection → List (List ℕ × Program)
 programs_of license version s symbols None = []
 programs_of license version s symbols (Some kind) = map (program_of license version s kind) (filter is_program_symbol symbols)
-
--- the number of a program's symbol, by its address
-abbrev pub program_symbol_row : SymbolValue → List (ℕ × ℕ)
-program_symbol_row y = if is_program_symbol y then (y.address, y.index) ∷ [] else []
-
--- the number of the last program's symbol at each address
-abbrev pub last_programs : List SymbolValue → FinMap nat_cmp ℕ
-last_programs symbols = put_all empty (flat_map program_symbol_row symbols)

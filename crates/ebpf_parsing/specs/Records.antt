@@ -1,6 +1,6 @@
 -- The func info and line info of a function: the records of its section in `.BTF.ext` that stand at its slots.
-use Rattle.std.specs.Prelude.{◌≡◌, ℕ, ◌+◌, ◌-◌, ◌/◌, ◌&&◌, Bool, List, map, filter, Option, Some, None, ◌==◌, nat_le, nat_lt, slice_index_or}
-use Rattle.std.specs.FinMap.{FinMap, empty, get}
+use Rattle.std.specs.Prelude.{ℕ, ◌+◌, ◌-◌, ◌/◌, ◌&&◌, Bool, List, map, filter, Option, Some, None, ◌==◌, nat_le, nat_lt}
+use Rattle.std.specs.FinMap.{FinMap, empty}
 use Rattle.ebpf_base.specs.Keys.{text_cmp}
 use Rattle.ebpf_ext.specs.ExtInfos.{func_info_at, line_info_at}
 use Rattle.ebpf_ext.specs.ExtReading.{ExtInfo}
@@ -42,13 +42,6 @@ func_and_line_info_of ext name = record {
   line_size = line_size_of ext;
 }
 
--- a table has at its names the func info or line info of the sections of these names
-pub record AreFuncsOf (infos : FinMap text_cmp FuncSecInfo) (table : FinMap text_cmp FuncSecInfo) : Type 0 where
-  pub are : (name : List ℕ) (funcs : FuncSecInfo) → get table name ≡ Some funcs → funcs ≡ func_info_at infos name
-
-pub record AreLinesOf (infos : FinMap text_cmp LineSecInfo) (table : FinMap text_cmp LineSecInfo) : Type 0 where
-  pub are : (name : List ℕ) (lines : LineSecInfo) → get table name ≡ Some lines → lines ≡ line_info_at infos name
-
 -- the number of the slot that a place in the section falls into; a slot has 8 bytes
 abbrev pub slot_of : ℕ → ℕ
 slot_of place = place / 8
@@ -61,13 +54,6 @@ is_func_at first r = r.insn_off == first
 -- the slot that a record names
 abbrev pub slot_of_func : bpf_func_info → ℕ
 slot_of_func r = r.insn_off
-
--- a record of a list, by its place, and the slot that it names
-abbrev pub func_at : List bpf_func_info → ℕ → bpf_func_info
-func_at rows i = slice_index_or rows i (record { insn_off = 0; type_id = 0 })
-
-abbrev pub func_slot : List bpf_func_info → ℕ → ℕ
-func_slot rows i = (func_at rows i).insn_off
 
 -- a record, its slot counted from another one
 abbrev pub func_from : ℕ → bpf_func_info → bpf_func_info
@@ -84,13 +70,6 @@ is_line_in first count r = nat_le first r.insn_off && nat_lt r.insn_off (first +
 -- the slot that a record names
 abbrev pub slot_of_line : bpf_line_info → ℕ
 slot_of_line r = r.insn_off
-
--- a record of a list, by its place, and the slot that it names
-abbrev pub line_at : List bpf_line_info → ℕ → bpf_line_info
-line_at rows i = slice_index_or rows i (record { insn_off = 0; file_name_off = 0; line_off = 0; line_col = 0 })
-
-abbrev pub line_slot : List bpf_line_info → ℕ → ℕ
-line_slot rows i = (line_at rows i).insn_off
 
 abbrev pub line_from : ℕ → bpf_line_info → bpf_line_info
 line_from base r = record r { insn_off = r.insn_off - base }

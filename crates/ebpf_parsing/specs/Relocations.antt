@@ -4,7 +4,6 @@ use Rattle.std.specs.FinMap.{FinMap, empty}
 use Rattle.std.specs.Ordering.{nat_cmp}
 use Rattle.ebpf_base.specs.Keyed.{put_all}
 use Rattle.ebpf_elf.specs.declared.entries.ElfRelocation.{ElfRelocation}
-use Rattle.ebpf_parts.specs.Sections.{SectionValue}
 
 -- a relocation, by its offset
 abbrev pub offset_of : ElfRelocation → ℕ × ElfRelocation
@@ -18,7 +17,3 @@ relocations_by_offset relocations = put_all empty (map offset_of relocations)
 abbrev pub relocation_table_at : ℕ → List ElfRelocation → List (ℕ × FinMap nat_cmp ElfRelocation)
 relocation_table_at section [] = []
 relocation_table_at section (r ∷ rest) = (section, relocations_by_offset (r ∷ rest)) ∷ []
-
--- a section with these relocations
-abbrev pub with_relocations : List ElfRelocation → SectionValue → SectionValue
-with_relocations list s = record s { relocations = list }

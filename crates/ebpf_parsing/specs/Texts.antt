@@ -14,10 +14,6 @@ use Rattle.ebpf_model.specs.declared.function.Function.{Function}
 abbrev pub is_defined_text : SymbolValue → Bool
 is_defined_text y = is_text_symbol y.kind && y.is_definition
 
--- a symbol at an address
-abbrev pub is_at : ℕ → SymbolValue → Bool
-is_at address y = y.address == address
-
 -- one that names a function there
 abbrev pub is_text_at : ℕ → SymbolValue → Bool
 is_text_at address y = is_defined_text y && y.address == address

@@ -3,7 +3,7 @@
 ghost use Rattle.std.specs.Prelude.{◌≡◌, OnOk, OnErr};
 ghost use Rattle.std.specs.FinMap as map;
 ghost use Rattle.std.specs.Option.{option_copied};
-ghost use Rattle.ebpf_parsing.specs.EntryRanges.{entry_range_of};
+ghost use Rattle.ebpf_parsing.specs.PrivateContracts.{entry_range_of};
 
 use ebpf_elf::ElfRelocationSection;
 use std::alloc::{AllocError, Global};

@@ -16,8 +16,8 @@ ghost use Rattle.ebpf_parsing.specs.OfSection.{fault_in, program_section_faults,
 ghost use Rattle.ebpf_parsing.specs.ObjectTables.{added, object_tables_of, object_tables_from};
 ghost use Rattle.ebpf_parsing.specs.Programs.{programs_of, with_key, program_functions, programs_fault};
 ghost use Rattle.ebpf_parsing.specs.Records.{func_and_line_info_of};
-ghost use Rattle.ebpf_parsing.specs.EntryRanges.{AreOfOneFile};
-ghost use Rattle.ebpf_parsing.specs.Relocations.{relocation_table_at, with_relocations};
+ghost use Rattle.ebpf_parsing.specs.PrivateContracts.{AreOfOneFile, with_relocations};
+ghost use Rattle.ebpf_parsing.specs.Relocations.{relocation_table_at};
 ghost use Rattle.ebpf_parsing.specs.Symbols.{section_symbols};
 ghost use Rattle.ebpf_parsing.specs.Texts.{text_functions, text_fault};
 ghost use Rattle.ebpf_parts.specs.Memory.{is_memory};

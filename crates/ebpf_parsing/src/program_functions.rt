@@ -3,7 +3,8 @@
 ghost use Rattle.std.specs.Prelude.{◌≡◌, ◌+◌, ◌≤◌, ◌∷◌, ◌++◌, [], IfOk, OnOk, IfErr, true, Some, length, map};
 ghost use Rattle.ebpf_base.specs.Faults.{Refuses, first_of};
 ghost use Rattle.ebpf_base.specs.Keyed.{put_all};
-ghost use Rattle.ebpf_parsing.specs.Programs.{is_program_symbol, program_bytes, range_faults, program_function, program_fault, program_functions, programs_fault, programs_of, with_key, last_programs};
+ghost use Rattle.ebpf_parsing.specs.Programs.{is_program_symbol, program_bytes, range_faults, program_function, program_fault, program_functions, programs_fault, programs_of, with_key};
+ghost use Rattle.ebpf_parsing.specs.PrivateContracts.{last_programs};
 ghost use Rattle.ebpf_parts.specs.Memory.{is_memory};
 
 use crate::last_data::is_index;

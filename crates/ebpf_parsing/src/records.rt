@@ -5,7 +5,8 @@ ghost use Rattle.std.specs.Option.{option_copied};
 ghost use Rattle.ebpf_ext.specs.ExtInfos.{no_func_info, no_line_info};
 ghost use Rattle.std.specs.List.{All};
 ghost use Rattle.std.specs.List.Sorted.{IsNonDecreasingBy};
-ghost use Rattle.ebpf_parsing.specs.Records.{FuncAndLineInfo, is_func_at, is_line_in, func_at, func_slot, func_from, line_from, line_at, line_slot, funcs_at, lines_in, slot_of_func, slot_of_line};
+ghost use Rattle.ebpf_parsing.specs.Records.{FuncAndLineInfo, is_func_at, is_line_in, func_from, line_from, funcs_at, lines_in, slot_of_func, slot_of_line};
+ghost use Rattle.ebpf_parsing.specs.PrivateContracts.{func_at, func_slot, line_at, line_slot};
 ghost use Rattle.ebpf_parsing.specs.RecordsBySlot.{is_at_slot, indices_with};
 ghost use Rattle.ebpf_parts.specs.Memory.{is_memory};
 

@@ -2,7 +2,8 @@
 
 ghost use Rattle.std.specs.Prelude.{◌≡◌, IfOk, IfErr, IfSome, true};
 ghost use Rattle.ebpf_declarations.specs.TypesInReading.{types_in_reading};
-ghost use Rattle.ebpf_parsing.specs.Records.{AreFuncsOf, AreLinesOf, FuncAndLineInfo, func_and_line_info_of, func_info_of, line_info_of};
+ghost use Rattle.ebpf_parsing.specs.Records.{FuncAndLineInfo, func_and_line_info_of, func_info_of, line_info_of};
+ghost use Rattle.ebpf_parsing.specs.PrivateContracts.{AreFuncsOf, AreLinesOf};
 ghost use Rattle.ebpf_parts.specs.Memory.{is_memory};
 
 use crate::records::{FuncRecords, LineRecords, SectionRecords};

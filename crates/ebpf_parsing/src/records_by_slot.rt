@@ -6,7 +6,7 @@
 ghost use Rattle.std.specs.Prelude.{◌≡◌, ℕ, IfOk, IfErr, true, filter, map, length};
 ghost use Rattle.std.specs.List.Sorted.{IsNonDecreasingBy, IsPermutation, IsSorted};
 ghost use Rattle.std.specs.Ordering.{nat_cmp};
-ghost use Rattle.ebpf_parsing.specs.Records.{func_slot, line_slot};
+ghost use Rattle.ebpf_parsing.specs.PrivateContracts.{func_slot, line_slot};
 ghost use Rattle.ebpf_parsing.specs.RecordsBySlot.{is_at_slot, is_slot_among, indices_with};
 ghost use Rattle.ebpf_parts.specs.Memory.{is_memory};
 

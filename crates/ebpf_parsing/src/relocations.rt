@@ -6,7 +6,7 @@ ghost use Rattle.std.specs.List.{flat_map};
 ghost use Rattle.ebpf_base.specs.Faults.{Refuses};
 ghost use Rattle.ebpf_base.specs.Keyed.{put_all};
 ghost use Rattle.ebpf_elf.specs.Relocations.{table_entries};
-ghost use Rattle.ebpf_parsing.specs.EntryRanges.{EntryRangesAreCached, AreOfOneFile, lacks_symbol, last_tables};
+ghost use Rattle.ebpf_parsing.specs.PrivateContracts.{EntryRangesAreCached, AreOfOneFile, lacks_symbol, last_tables};
 ghost use Rattle.ebpf_parsing.specs.Groups.{AreTablesOf};
 ghost use Rattle.ebpf_parsing.specs.Relocations.{relocations_by_offset, offset_of};
 ghost use Rattle.ebpf_parts.specs.Memory.{is_memory};

@@ -5,7 +5,8 @@ ghost use Rattle.std.specs.Bool.{MatchBool, OnTrue};
 ghost use Rattle.std.specs.List.{AllAdjacentBelow, HoldsAt, find};
 ghost use Rattle.std.specs.List.Sorted.{IsNonDecreasingBy, IsPartitionPoint};
 ghost use Rattle.ebpf_base.specs.Faults.{Refuses};
-ghost use Rattle.ebpf_parsing.specs.Texts.{conflict_fault, is_at, is_defined_text, is_text_at};
+ghost use Rattle.ebpf_parsing.specs.Texts.{conflict_fault, is_defined_text, is_text_at};
+ghost use Rattle.ebpf_parsing.specs.PrivateContracts.{is_at};
 ghost use Rattle.ebpf_parts.specs.Memory.{is_memory};
 
 use crate::symbols::NamedSymbol;

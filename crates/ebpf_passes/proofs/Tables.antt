@@ -9,7 +9,8 @@ use Rattle.ebpf_base.specs.Keyed.{put_all}
 use Rattle.ebpf_parts.specs.Maps.{section_index_of, symbol_index_of}
 use Rattle.ebpf_passes.specs.declared.map_tables.MapTables.{MapTables}
 use Rattle.ebpf_passes.specs.declared.map_tables.MapTarget.{MapTarget}
-use Rattle.ebpf_passes.specs.Maps.{GivenMap, LentMap, given_map, map_target, at_symbol, tables_of, with_symbol, with_map_target}
+use Rattle.ebpf_passes.specs.Maps.{GivenMap, LentMap, given_map, map_target, at_symbol, tables_of}
+use Rattle.ebpf_passes.specs.PrivateContracts.{with_symbol, with_map_target}
 
 abbrev Table : Type 0
 Table = FinMap nat_cmp MapTarget

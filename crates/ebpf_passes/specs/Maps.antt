@@ -1,6 +1,6 @@
 -- File descriptors of maps in slots.
 use Rattle.std.specs.Prelude.{ℕ, ℤ, pos, negsuc, ◌^◌, ◌+ℤ◌, Bool, true, false, ◌||◌, if◌then◌else◌, nat_lt, List, [], ◌∷◌, map, Option, Some, None, Result, Ok, Err}
-use Rattle.std.specs.FinMap.{FinMap, get, insert, empty}
+use Rattle.std.specs.FinMap.{FinMap, get, empty}
 use Rattle.std.specs.List.{flat_map}
 use Rattle.std.specs.Ordering.{nat_cmp}
 use Rattle.ebpf_base.specs.Faults.{or_else}
@@ -49,19 +49,6 @@ tables_of given = record {
   by_symbol = put_all empty (flat_map (λ m. at_symbol (symbol_index_of m.1) (map_target m)) given);
   by_section = put_all empty (map (λ m. (section_index_of m.1, map_target m)) given);
 }
-
--- the tables with one map more
-abbrev pub with_symbol : FinMap nat_cmp MapTarget → Option ℕ → MapTarget → FinMap nat_cmp MapTarget
-with_symbol table None target = table
-with_symbol table (Some symbol) target = insert table symbol target
-
-abbrev pub with_map_target : MapTables → ℤ → Map → MapTables
-with_map_target tables descriptor m =
-    let target : MapTarget = record { descriptor = descriptor; has_data = has_data (bytes_of m) } in
-    record {
-      by_symbol = with_symbol tables.by_symbol (symbol_index_of m) target;
-      by_section = insert tables.by_section (section_index_of m) target;
-    }
 
 -- what is read to write descriptors
 pub record MapInputs : Type 0 where

@@ -45,12 +45,6 @@ answer_member (Err fault) = Err fault
 unfoldable pub first_fitting : MemberSearch → ℕ → List Member → Result (Option FoundMember) PlaceFault
 first_fitting member_search limit ms = answer_member (run_search member_search limit (view member_search anonymous_levels 0 0 ms))
 
--- a found member lies near, and inside few anonymous ones
-abbrev pub IsSmall : Result Answer PlaceFault → Type 0
-IsSmall (Ok (Found member)) = (member.bits < 2 ^ 39) × (member.inside ≤ anonymous_levels)
-IsSmall (Ok (Absent left)) = Unit {0}
-IsSmall (Err fault) = Unit {0}
-
 abbrev pub IsFoundSmall : Result (Option FoundMember) PlaceFault → Type 0
 IsFoundSmall (Ok (Some member)) = (member.bits < 2 ^ 39) × (member.inside ≤ anonymous_levels)
 IsFoundSmall (Ok None) = Unit {0}

@@ -6,7 +6,8 @@ ghost use Rattle.ebpf_places.specs.FirstMembers.{IsFirstMember};
 ghost use Rattle.ebpf_places.specs.Members.{member_search, members_in};
 ghost use Rattle.ebpf_places.specs.Memory.{MemoryAside, is_memory};
 ghost use Rattle.ebpf_places.specs.MemberViews.{view};
-ghost use Rattle.ebpf_places.specs.Searches.{IsFoundSmall, IsSmall, run_search, search_entries, first_fitting};
+ghost use Rattle.ebpf_places.specs.Searches.{IsFoundSmall, run_search, search_entries, first_fitting};
+ghost use Rattle.ebpf_places.specs.PrivateContracts.{IsSmall};
 
 use crate::fault::PlaceFault;
 use crate::role::{Role, Wanted, role_of};

@@ -5,7 +5,8 @@ use Rattle.std.proofs.lemmas.Bool.Decides.{eqb_tells}
 use Rattle.ebpf_linker.specs.Functions.{Among}
 use Rattle.ebpf_reach.specs.declared.registers.Registers.{Registers}
 use Rattle.ebpf_reach.specs.declared.steps.Step.{Step}
-use Rattle.ebpf_reach.specs.Registers.{IsBelow, least_upper_bound}
+use Rattle.ebpf_reach.specs.Registers.{IsBelow}
+use Rattle.ebpf_reach.specs.PrivateContracts.{least_upper_bound}
 use Rattle.ebpf_reach.specs.Counted.{changes_left}
 use Rattle.ebpf_reach.specs.Reached.{Assignment, IsStateBelow, state_at}
 use Rattle.ebpf_reach.specs.Searched.{TakesIn, work_left}

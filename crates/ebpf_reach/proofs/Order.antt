@@ -3,7 +3,8 @@ use Rattle.std.proofs.Common.{◌≡◌, ◌≢◌, ℕ, zero, suc, ◌<◌, ◌
 use Rattle.std.proofs.lemmas.List.{set_past}
 use Rattle.std.proofs.lemmas.Bool.Decides.{eqb_tells, leb_tells, nat_tests}
 use Rattle.ebpf_reach.specs.declared.registers.Registers.{Registers}
-use Rattle.ebpf_reach.specs.Registers.{IsBelow, known, learned, forgotten, called, common, commons, least_upper_bound}
+use Rattle.ebpf_reach.specs.Registers.{IsBelow, known, learned, forgotten, called}
+use Rattle.ebpf_reach.specs.PrivateContracts.{common, commons, least_upper_bound}
 use Rattle.ebpf_reach.specs.Counted.{numbers_known}
 
 -- what y tells, x tells too

@@ -1,5 +1,5 @@
 -- What is known of the registers where a slot is reached (RFC 9669, section 2.1: a program has r0 to r10).
-use Rattle.std.specs.Prelude.{◌≡◌, ℕ, Option, Some, None, List, [], ◌∷◌, length, replicate, slice_index_or, slice_set, if◌then◌else◌, ◌==◌}
+use Rattle.std.specs.Prelude.{◌≡◌, ℕ, Option, Some, None, length, replicate, slice_index_or, slice_set}
 use Rattle.ebpf_reach.specs.declared.registers.Registers.{Registers}
 
 -- the number that a register is known to hold; none is known of a register that there isn't
@@ -25,17 +25,3 @@ called a = forgotten (forgotten (forgotten (forgotten (forgotten (forgotten a 0)
 pub record IsBelow (a b : Registers) : Type 0 where
   pub as_many : length a.numbers ≡ length b.numbers
   pub numbers : (r n : ℕ) → known b r ≡ Some n → known a r ≡ Some n
-
--- where two paths meet, equal numbers stay
-abbrev pub common : Option ℕ → Option ℕ → Option ℕ
-common None other = None
-common (Some m) None = None
-common (Some m) (Some n) = if m == n then Some m else None
-
-abbrev pub commons : List (Option ℕ) → List (Option ℕ) → List (Option ℕ)
-commons [] ys = []
-commons (x ∷ xs) [] = []
-commons (x ∷ xs) (y ∷ ys) = common x y ∷ commons xs ys
-
-abbrev pub least_upper_bound : Registers → Registers → Registers
-least_upper_bound a b = record { numbers = commons a.numbers b.numbers }

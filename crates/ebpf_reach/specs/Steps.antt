@@ -1,6 +1,5 @@
 -- The steps of a program: from a slot and what is known of the registers there, to which slots, and what is known there.
-use Rattle.std.specs.Option.{option_to_list}
-use Rattle.std.specs.Prelude.{ℕ, ◌<◌, IfSome, ℤ, pos, negsuc, ◌+ℤ◌, Bool, true, false, Option, Some, None, List, [], ◌∷◌, ◌++◌, length, nat_lt, slice_get, if◌then◌else◌, ◌==◌}
+use Rattle.std.specs.Prelude.{ℕ, ℤ, pos, negsuc, ◌+ℤ◌, Bool, true, false, Option, Some, None, List, [], ◌∷◌, ◌++◌, length, nat_lt, slice_get, if◌then◌else◌, ◌==◌}
 use Rattle.ebpf_parts.specs.declared.insn.bpf_insn.{bpf_insn}
 use Rattle.ebpf_parts.specs.Slots.{dst_of, src_of}
 use Rattle.ebpf_linker.specs.Slots.{Flow, Return, PseudoCall, WideLoad, Jump, Branch, Next, flow}
@@ -46,12 +45,3 @@ steps_at slots i a (Some slot) = steps_by_flow slots i slot a (flow slot)
 
 abbrev pub steps : List bpf_insn → ℕ → Registers → List Step
 steps slots i a = steps_at slots i a (slice_get slots i)
-
--- the steps that are given as two at most
-abbrev pub pair_to_list : Option Step × Option Step → List Step
-pair_to_list pair = option_to_list pair.0 ++ option_to_list pair.1
-
--- none of them leaves the program
-pub record AreWithin (slots : List bpf_insn) (pair : Option Step × Option Step) : Type 0 where
-  pub first : IfSome pair.0 (λ step. step.place < length slots)
-  pub second : IfSome pair.1 (λ step. step.place < length slots)

@@ -1,7 +1,8 @@
 //! What is known of the registers where a slot is reached.
 
 ghost use Rattle.std.specs.Prelude.{◌≡◌};
-ghost use Rattle.ebpf_reach.specs.Registers.{called, common, forgotten, known, learned, least_upper_bound, unknown};
+ghost use Rattle.ebpf_reach.specs.Registers.{called, forgotten, known, learned, unknown};
+ghost use Rattle.ebpf_reach.specs.PrivateContracts.{common, least_upper_bound};
 
 /// How many registers a program has: r0 to r10.
 pub const COUNT: usize = 11;

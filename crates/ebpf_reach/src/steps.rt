@@ -4,7 +4,8 @@ ghost use Rattle.std.specs.Prelude.{◌≡◌, ◌+◌, ◌<◌, pos, length, If
 ghost use Rattle.std.specs.Option.{option_to_list};
 ghost use Rattle.ebpf_linker.specs.Slots.{flow, is_branch};
 ghost use Rattle.ebpf_reach.specs.Effects.{decided};
-ghost use Rattle.ebpf_reach.specs.Steps.{AreWithin, next_index, callback, steps_by_flow, target_index, steps_to, pair_to_list, steps, ways};
+ghost use Rattle.ebpf_reach.specs.Steps.{next_index, callback, steps_by_flow, target_index, steps_to, steps, ways};
+ghost use Rattle.ebpf_reach.specs.PrivateContracts.{AreWithin, pair_to_list};
 
 use crate::effects::{after, decided, wide_load_result};
 use crate::registers::Registers;

@@ -8,7 +8,7 @@ use Rattle.ebpf_linker.specs.declared.reference.Target.{Target}
 use Rattle.ebpf_linker.specs.Functions.{SlotReference, Nothing}
 use Rattle.ebpf_linker.specs.Numbered.{of_target, referred, Rises}
 use Rattle.ebpf_parts.specs.declared.insn.bpf_insn.{bpf_insn}
-use Rattle.ebpf_reloc.specs.Numbers.{calls_by, with_call}
+use Rattle.ebpf_reloc.specs.PrivateContracts.{calls_by, with_call}
 
 -- what an optional target refers to
 abbrev pub of_option : Option Target → SlotReference ℕ Fault

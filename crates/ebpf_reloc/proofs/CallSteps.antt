@@ -6,7 +6,7 @@ use Rattle.ebpf_base.proofs.Walks.{rest_more, rest_none}
 use Rattle.ebpf_parts.specs.declared.insn.bpf_insn.{bpf_insn}
 use Rattle.ebpf_model.specs.declared.function.Function.{Function}
 use Rattle.ebpf_reloc.specs.declared.walk.Walk.{Walk}
-use Rattle.ebpf_reloc.specs.Numbers.{calls_by, calls_of, calls_from, with_call}
+use Rattle.ebpf_reloc.specs.PrivateContracts.{calls_by, calls_of, calls_from, with_call}
 use Rattle.ebpf_reloc.specs.SlotTargets.{LinkableValue}
 use Rattle.ebpf_reloc.specs.References.{content_of}
 use Rattle.ebpf_reloc.specs.Walks.{IsBefore}

@@ -16,7 +16,8 @@ use Rattle.ebpf_model.specs.declared.error.RelocationError.TheVariants.{UnknownP
 use Rattle.ebpf_model.specs.declared.function.Function.{Function}
 use Rattle.ebpf_reloc.specs.Linking.{ProgramValue, key_of, with_linked, IsLinked, IsProgramFault, IsProgramRefusal}
 use Rattle.ebpf_model.specs.Memory.{is_memory, is_memory_at}
-use Rattle.ebpf_reloc.specs.Numbers.{function_keys, function_list, number_of_key, key_in}
+use Rattle.ebpf_reloc.specs.Numbers.{function_keys, function_list, key_in}
+use Rattle.ebpf_reloc.specs.PrivateContracts.{number_of_key}
 use Rattle.ebpf_reloc.specs.SlotTargets.{LinkableValue}
 use Rattle.ebpf_model.specs.Keys.{FunctionKey}
 use Rattle.ebpf_reloc.specs.References.{functions_of}

@@ -11,7 +11,8 @@ use Rattle.ebpf_linker.specs.declared.link_map.NumberedLinkMap.{NumberedLinkMap}
 use Rattle.ebpf_linker.specs.declared.reference.Call.{Call}
 use Rattle.ebpf_linker.specs.declared.reference.Fault.{Fault}
 use Rattle.ebpf_linker.specs.Functions.{body}
-use Rattle.ebpf_linker.specs.LinkMap.{CopyOf, copies_from, key_copy, numbered_copy, IsLinkMap, IsLinkMapAnswer}
+use Rattle.ebpf_linker.specs.LinkMap.{CopyOf, copies_from, numbered_copy, IsLinkMap, IsLinkMapAnswer}
+use Rattle.ebpf_linker.specs.PrivateContracts.{key_copy}
 use Rattle.ebpf_linker.specs.Numbered.{body_content, functions}
 use Rattle.ebpf_linker.proofs.Carry.{carried, references_same}
 use Rattle.ebpf_linker.proofs.CarryLinkMap.{map_to}
@@ -19,9 +20,10 @@ use Rattle.ebpf_linker.proofs.Renamed.{AllNumbers, all_numbers, reached_number}
 use Rattle.ebpf_reloc.proofs.Keys.{count_keys, function_at}
 use Rattle.ebpf_reloc.proofs.NumberedKeys.{name_here, numbered}
 use Rattle.ebpf_model.specs.declared.function.Function.{Function}
-use Rattle.ebpf_reloc.specs.LinkMaps.{code_copy, named_copy, IsKeyedLinkMap, IsKeyedLinkMapAnswer, IsLinkMapAt}
+use Rattle.ebpf_reloc.specs.LinkMaps.{code_copy, IsLinkMapAt}
+use Rattle.ebpf_reloc.specs.PrivateContracts.{named_copy, IsKeyedLinkMap, IsKeyedLinkMapAnswer, calls_from}
 use Rattle.ebpf_reloc.specs.declared.link_map.LinkMap.{LinkMap}
-use Rattle.ebpf_reloc.specs.Numbers.{function_keys, function_list, calls_from, key_in, with_function_names}
+use Rattle.ebpf_reloc.specs.Numbers.{function_keys, function_list, key_in, with_function_names}
 use Rattle.ebpf_reloc.specs.SlotTargets.{LinkableValue}
 use Rattle.ebpf_reloc.specs.References.{content_of, functions_of}
 

@@ -20,7 +20,8 @@ use Rattle.ebpf_base.proofs.Sorted.{entries_rise}
 use Rattle.ebpf_base.specs.Keys.{key_cmp, key_total}
 use Rattle.ebpf_reloc.proofs.Searched.{flipped}
 use Rattle.ebpf_model.specs.declared.function.Function.{Function}
-use Rattle.ebpf_reloc.specs.Numbers.{function_keys, function_list, key_in, number_of_key}
+use Rattle.ebpf_reloc.specs.Numbers.{function_keys, function_list, key_in}
+use Rattle.ebpf_reloc.specs.PrivateContracts.{number_of_key}
 
 module _ {K X : Type 0} {R : K → K → Ordering} (o : IsTotalOrder R) where
   -- the value at the key of a place is the one of that place

@@ -27,7 +27,8 @@ use Rattle.ebpf_model.specs.declared.error.RelocationError.TheVariants.{Function
 use Rattle.ebpf_model.specs.declared.function.Function.{Function}
 use Rattle.ebpf_reloc.specs.declared.slot_target.SlotTarget.{SlotTarget}
 use Rattle.ebpf_reloc.specs.declared.slot_target.SlotTarget.TheVariants.{Absent, Unsupported, At}
-use Rattle.ebpf_reloc.specs.Numbers.{function_keys, function_list, number_of_key, numbered_target_by, numbered_target, numbered_target_at, with_call, calls_by, calls_of, calls_from, key_in, function_name, with_function_names}
+use Rattle.ebpf_reloc.specs.Numbers.{function_keys, function_list, key_in, function_name, with_function_names}
+use Rattle.ebpf_reloc.specs.PrivateContracts.{number_of_key, numbered_target_by, numbered_target, numbered_target_at, with_call, calls_by, calls_of, calls_from}
 use Rattle.ebpf_reloc.specs.SlotTargets.{LinkableValue, slot_target_of}
 use Rattle.ebpf_reloc.specs.References.{content_of, function_name_or_empty, name_at, looked_up, slot_reference, reference_of, functions_of}
 

@@ -10,7 +10,7 @@ use Rattle.std.specs.Ordering.{ordering_index, ordering_reverse, eq_by_cmp, is_e
 use Rattle.std.proofs.lemmas.Map.Keys.{Less-from_sorted}
 use Rattle.std.proofs.lemmas.Bool.{cases_lt}
 use Rattle.ebpf_base.specs.Keys.{key_cmp, key_total}
-use Rattle.ebpf_reloc.specs.Numbers.{number_of_key}
+use Rattle.ebpf_reloc.specs.PrivateContracts.{number_of_key}
 
 module _ {K : Type 0} {R : K → K → Ordering} (o : IsTotalOrder R) where
   pub flipped : (a b : K) (r : Ordering) → R a b ≡ r → R b a ≡ ordering_reverse r

@@ -1,8 +1,11 @@
 pub mod SlotTargets
-pub mod Walks
 pub mod References
 pub mod Numbers
 pub mod Linking
 pub mod Laws
 pub mod LinkMaps
 pub mod LinkMapLaws
+
+-- What only private contracts and proofs name.
+pub mod Walks
+pub mod PrivateContracts

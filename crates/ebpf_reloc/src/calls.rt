@@ -2,7 +2,7 @@
 
 ghost use Rattle.std.specs.Prelude.{◌≡◌, ◌+◌, ◌*◌, length, map, IfOk, OnOk};
 ghost use Rattle.std.specs.FinMap.{get};
-ghost use Rattle.ebpf_reloc.specs.Numbers.{numbered_target, calls_of, calls_from};
+ghost use Rattle.ebpf_reloc.specs.PrivateContracts.{numbered_target, calls_of, calls_from};
 ghost use Rattle.ebpf_reloc.specs.SlotTargets.{slot_target_of, found_at, relocation_of, read};
 ghost use Rattle.ebpf_reloc.specs.Walks.{walked_relocations, IsBefore};
 ghost use Rattle.std.specs.List.Sorted.{IsStrictlySortedBy};

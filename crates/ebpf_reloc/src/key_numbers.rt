@@ -4,7 +4,7 @@ ghost use Rattle.std.specs.Prelude.{◌≡◌, IfSome, Some};
 ghost use Rattle.std.proofs.Props.{props};
 ghost use Rattle.std.specs.List.Sorted.{IsStrictlySortedBy};
 ghost use Rattle.ebpf_base.specs.Keys.{key_cmp};
-ghost use Rattle.ebpf_reloc.specs.Numbers.{number_of_key};
+ghost use Rattle.ebpf_reloc.specs.PrivateContracts.{number_of_key};
 
 use crate::numbers::number_of_key;
 use std::cell::Cell;

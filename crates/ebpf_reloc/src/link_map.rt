@@ -1,7 +1,8 @@
 //! What the linked program of a program is made of.
 
 ghost use Rattle.std.specs.Prelude.{◌≡◌, ◌<◌, length, map, IfOk, IfErr, ⊤, MatchBool};
-ghost use Rattle.ebpf_reloc.specs.LinkMaps.{named_copy, IsKeyedLinkMapAnswer, IsLinkMapAt};
+ghost use Rattle.ebpf_reloc.specs.LinkMaps.{IsLinkMapAt};
+ghost use Rattle.ebpf_reloc.specs.PrivateContracts.{named_copy, IsKeyedLinkMapAnswer};
 ghost use Rattle.ebpf_reloc.specs.Linking.{key_of, IsProgramFault, IsProgramRefusal};
 ghost use Rattle.ebpf_model.specs.Memory.{is_memory, is_memory_at, NamesNoneForMemory};
 ghost use Rattle.ebpf_reloc.specs.Numbers.{function_keys, function_list, key_in};

@@ -4,7 +4,8 @@ ghost use Rattle.std.specs.Prelude.{◌≡◌, ◌<◌, length, map, IfOk};
 ghost use Rattle.ebpf_linker.specs.Numbered.{body_content};
 ghost use Rattle.ebpf_linker.specs.Renaming.{answer_named};
 ghost use Rattle.ebpf_linker.specs.Result.{IsLinking};
-ghost use Rattle.ebpf_reloc.specs.Numbers.{function_keys, function_list, calls_from, key_in, function_name, with_function_names};
+ghost use Rattle.ebpf_reloc.specs.Numbers.{function_keys, function_list, key_in, function_name, with_function_names};
+ghost use Rattle.ebpf_reloc.specs.PrivateContracts.{calls_from};
 ghost use Rattle.ebpf_reloc.specs.SlotTargets.{read};
 ghost use Rattle.ebpf_reloc.specs.References.{content_of, functions_of};
 

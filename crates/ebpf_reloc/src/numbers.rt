@@ -3,7 +3,8 @@
 ghost use Rattle.std.specs.Prelude.{◌≡◌, map, IfOk};
 ghost use Rattle.std.specs.List.Sorted.{IsStrictlySortedBy};
 ghost use Rattle.ebpf_base.specs.Keys.{key_cmp};
-ghost use Rattle.ebpf_reloc.specs.Numbers.{function_keys, function_list, number_of_key};
+ghost use Rattle.ebpf_reloc.specs.Numbers.{function_keys, function_list};
+ghost use Rattle.ebpf_reloc.specs.PrivateContracts.{number_of_key};
 
 use ebpf_base::ByKey;
 use ebpf_model::Function;

@@ -1,1 +1,4 @@
+
+
+-- What only private contracts and proofs name.
 pub mod Statuses

@@ -2,7 +2,7 @@ use Rattle.std.proofs.Common.{ap, ◌∙◌}
 use Rattle.std.specs.FinMap.{get}
 use Rattle.std.specs.List.{flat_map}
 use Rattle.ebpf_base.specs.Keys.{lent_bytes}
-use Rattle.ebpf_c.specs.Entries.{entry_if}
+use Rattle.ebpf_c.specs.PrivateContracts.{entry_if}
 use Rattle.ebpf_c.proofs.Named.{all_named}
 use Rattle.ebpf_c.proofs.entries.entries_of.Goals as goal
 

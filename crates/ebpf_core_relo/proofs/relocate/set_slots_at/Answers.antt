@@ -1,7 +1,7 @@
 use Rattle.std.proofs.Common.{◌≡◌, ap, ◌∙◌, subst, sym}
 use Rattle.std.specs.FinMap.{insert}
 use Rattle.std.specs.Option.{OnSome, option_copied_mut}
-use Rattle.ebpf_core_relo.specs.Records.{with_slots_at}
+use Rattle.ebpf_core_relo.specs.PrivateContracts.{with_slots_at}
 use Rattle.ebpf_core_relo.proofs.relocate.set_slots_at.Goals as goal
 
 pub returns : goal.returns

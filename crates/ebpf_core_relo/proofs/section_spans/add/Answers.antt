@@ -1,7 +1,7 @@
 use Rattle.std.proofs.Common.{◌≡◌, ap, ◌∙◌, subst, sym}
 use Rattle.std.specs.FinMap.{insert}
 use Rattle.std.specs.Option.{OnSome, option_copied_mut}
-use Rattle.ebpf_core_relo.specs.RecordFunctions.{with_span}
+use Rattle.ebpf_core_relo.specs.PrivateContracts.{with_span}
 use Rattle.ebpf_core_relo.proofs.section_spans.add.Goals as goal
 
 pub returns-in_ok-push-in-Some : goal.returns-in_ok-push-in-Some

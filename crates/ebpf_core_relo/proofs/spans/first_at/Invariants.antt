@@ -1,5 +1,5 @@
 use Rattle.std.proofs.Common.{◌≡◌, drop}
-use Rattle.ebpf_core_relo.specs.SpanLists.{first_at}
+use Rattle.ebpf_core_relo.specs.PrivateContracts.{first_at}
 use Rattle.ebpf_core_relo.proofs.spans.first_at.Given as goal
 
 -- the first that holds the offset is in the runs that are left

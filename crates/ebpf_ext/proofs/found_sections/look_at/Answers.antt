@@ -2,7 +2,7 @@ use Rattle.std.proofs.Common.{◌≡◌, ◌∙◌, false, not, ap, sym}
 use Rattle.std.specs.Prelude.{◌==◌, is_some}
 use Rattle.std.specs.Cow.{cow_str_bytes}
 use Rattle.std.specs.List.{position}
-use Rattle.ebpf_ext.specs.SectionNames.{with_index}
+use Rattle.ebpf_ext.specs.PrivateContracts.{with_index}
 use Rattle.ebpf_ext.proofs.LastIndices.{long_name, read_name, refused_name}
 use Rattle.ebpf_ext.proofs.found_sections.look_at.Goals as goal
 

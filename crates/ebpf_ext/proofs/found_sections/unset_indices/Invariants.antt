@@ -1,4 +1,4 @@
-use Rattle.ebpf_ext.specs.SectionNames.{AreUnset}
+use Rattle.ebpf_ext.specs.PrivateContracts.{AreUnset}
 use Rattle.ebpf_ext.proofs.found_sections.unset_indices.Given as goal
 
 -- the names so far have no index

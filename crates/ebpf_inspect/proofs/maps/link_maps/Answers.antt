@@ -4,7 +4,7 @@ use Rattle.ebpf_base.specs.Keys.{lent_bytes}
 use Rattle.ebpf_inspect.specs.Named.{AreMaps, OneRefused}
 use Rattle.ebpf_object.proofs.ProgramNames.{all_names}
 use Rattle.ebpf_object.proofs.Staging.{of_error, of_prepared}
-use Rattle.ebpf_object.specs.LinkedPrograms.{program_with}
+use Rattle.ebpf_object.specs.PrivateContracts.{program_with}
 use Rattle.ebpf_object.specs.Prepared.{RefusesPreparing}
 use Rattle.ebpf_object.specs.StageFaults.{Wrapped}
 use Rattle.ebpf_object.specs.declared.prepare_error.PrepareError.TheVariants.{Calls}

@@ -5,7 +5,7 @@ use Rattle.ebpf_base.specs.Keys.{lent_bytes}
 use Rattle.ebpf_inspect.proofs.Gathered.{one_step, one_refused}
 use Rattle.ebpf_inspect.specs.Named.{AreMaps}
 use Rattle.ebpf_object.proofs.Staging.{passed_on}
-use Rattle.ebpf_object.specs.LinkedPrograms.{program_with}
+use Rattle.ebpf_object.specs.PrivateContracts.{program_with}
 use Rattle.ebpf_base.proofs.Walks.{rest_none}
 use Rattle.ebpf_inspect.proofs.maps.maps_named.Goals as goal
 

@@ -3,7 +3,7 @@ use Rattle.std.specs.List.{flat_map}
 use Rattle.ebpf_base.specs.Keys.{lent_bytes}
 use Rattle.ebpf_inspect.specs.Named.{AreMaps, OneRefused}
 use Rattle.ebpf_inspect.specs.declared.maps.NamedMap.{NamedMap}
-use Rattle.ebpf_object.specs.LinkedPrograms.{program_with}
+use Rattle.ebpf_object.specs.PrivateContracts.{program_with}
 use Rattle.ebpf_model.specs.declared.error.EbpfRelocationError.{EbpfRelocationError}
 use Rattle.ebpf_inspect.proofs.maps.maps_named.Given as goal
 

@@ -1,7 +1,7 @@
 use Rattle.std.proofs.Common.{◌≡◌, ◌+◌, ◌<◌, ◌∷◌, length, ap, sym, subst, ◌∙◌, drop, get_or}
 use Rattle.std.specs.Prelude.{option_map}
 use Rattle.ebpf_ksyms.specs.Ids.{finished}
-use Rattle.ebpf_ksyms.specs.Named.{value_named}
+use Rattle.ebpf_ksyms.specs.PrivateContracts.{value_named}
 use Rattle.ebpf_ksyms.proofs.Identities.{more-types}
 use Rattle.ebpf_ksyms.proofs.Values.{drop-here}
 use Rattle.ebpf_ksyms.proofs.ids.ids_in.Goals as goal

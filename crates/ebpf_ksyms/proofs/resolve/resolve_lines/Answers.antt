@@ -7,7 +7,7 @@ use Rattle.ebpf_base.specs.Keys.{lent_bytes}
 use Rattle.ebpf_ksyms.specs.Entries.{externs_from}
 use Rattle.ebpf_ksyms.specs.Externs.{NamedExtern, IsResolutionFault, IsResolved, kernel_ids_of, renewed, wanted_names}
 use Rattle.ebpf_ksyms.specs.Faults.{is_memory}
-use Rattle.ebpf_ksyms.specs.Named.{value_named}
+use Rattle.ebpf_ksyms.specs.PrivateContracts.{value_named}
 use Rattle.ebpf_ksyms.specs.AddressesByLine.{AreRead, StopsAt}
 use Rattle.ebpf_ksyms.specs.TypelessExterns.{known_at, typeless_as, typeless_refused}
 use Rattle.ebpf_ksyms.specs.Typed.{typed_as, typed_refused}

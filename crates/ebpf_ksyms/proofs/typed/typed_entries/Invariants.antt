@@ -3,7 +3,7 @@ use Rattle.std.specs.Option.{option_copied}
 use Rattle.ebpf_base.specs.Faults.{first_some}
 use Rattle.ebpf_ksyms.specs.Externs.{renewed}
 use Rattle.ebpf_ksyms.specs.Ids.{id_at}
-use Rattle.ebpf_ksyms.specs.Named.{value_named}
+use Rattle.ebpf_ksyms.specs.PrivateContracts.{value_named}
 use Rattle.ebpf_ksyms.specs.Typed.{typed_as, typed_refused}
 use Rattle.ebpf_ksyms.proofs.typed.typed_entries.Given as goal
 

@@ -6,7 +6,7 @@ use Rattle.ebpf_base.specs.Keys.{lent_bytes}
 use Rattle.ebpf_ksyms.specs.Externs.{kernel_ids_of, renewed}
 use Rattle.ebpf_ksyms.specs.Faults.{is_memory}
 use Rattle.ebpf_ksyms.specs.Ids.{ids_in}
-use Rattle.ebpf_ksyms.specs.Named.{only_at, value_named}
+use Rattle.ebpf_ksyms.specs.PrivateContracts.{only_at, value_named}
 use Rattle.ebpf_ksyms.specs.Typed.{lookup_names, typed_as, typed_refused}
 use Rattle.ebpf_ksyms.proofs.Outcomes.{same_refused, same_renewed}
 use Rattle.ebpf_ksyms.proofs.typed.with_types.Goals as goal

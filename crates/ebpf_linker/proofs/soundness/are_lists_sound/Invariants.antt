@@ -1,6 +1,6 @@
 use Rattle.std.proofs.Common.{◌≡◌, drop, None}
 use Rattle.std.specs.List.{list_all}
-use Rattle.ebpf_linker.specs.Numbered.{is_list_sound}
+use Rattle.ebpf_linker.specs.PrivateContracts.{is_list_sound}
 use Rattle.ebpf_linker.proofs.soundness.are_lists_sound.Given as goal
 
 -- the tests that are left from here give what all give from the start

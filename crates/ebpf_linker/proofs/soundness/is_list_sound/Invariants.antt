@@ -1,5 +1,5 @@
 use Rattle.std.proofs.Common.{◌≡◌, drop, None}
-use Rattle.ebpf_linker.specs.Numbered.{is_list_sound}
+use Rattle.ebpf_linker.specs.PrivateContracts.{is_list_sound}
 use Rattle.ebpf_linker.proofs.soundness.is_list_sound.Given as goal
 
 -- the tests that are left from here give what all give from the start

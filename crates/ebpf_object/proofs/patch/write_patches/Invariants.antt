@@ -1,6 +1,6 @@
 use Rattle.std.proofs.Common.{◌≡◌, map, drop}
 use Rattle.ebpf_object.specs.Patches.{all_patched}
-use Rattle.ebpf_object.specs.PatchValues.{value_of}
+use Rattle.ebpf_object.specs.PrivateContracts.{value_of}
 use Rattle.ebpf_object.proofs.patch.write_patches.Given as goal
 
 -- what is left to write from here gives what all gives from the start

@@ -1,7 +1,7 @@
 use Rattle.std.proofs.Common.{◌≡◌, ◌++◌, drop}
 use Rattle.std.specs.List.{flat_map}
 use Rattle.ebpf_base.specs.Keys.{lent_bytes}
-use Rattle.ebpf_object.specs.LinkedPrograms.{program_with}
+use Rattle.ebpf_object.specs.PrivateContracts.{program_with}
 use Rattle.ebpf_object.proofs.relocate_calls.programs_named.Given as goal
 
 -- with those of the names that are left, all are there

@@ -14,7 +14,7 @@ use Rattle.ebpf_base.specs.Keys.{text_total}
 use Rattle.ebpf_parsing.proofs.LastData.{DataLasts, same_added}
 use Rattle.ebpf_parsing.proofs.Lasts.{all_lasts, fewer_lasts}
 use Rattle.ebpf_parsing.proofs.FromFile.{all_from}
-use Rattle.ebpf_parsing.specs.EntryRanges.{AreOf}
+use Rattle.ebpf_parsing.specs.PrivateContracts.{AreOf}
 use Rattle.ebpf_parsing.proofs.object_tables.read_by_last.Goals as goal
 use Rattle.ebpf_parts.specs.Memory.{is_memory}
 use Rattle.ebpf_parts.specs.declared.error.ParseError.{ParseError}

@@ -4,7 +4,7 @@ use Rattle.ebpf_parsing.specs.FileContents.{read_fault, sections_fault}
 use Rattle.ebpf_parsing.specs.FileSymbols.{file_symbols}
 use Rattle.ebpf_parsing.specs.ObjectTables.{all_added, object_tables_of}
 use Rattle.ebpf_parsing.proofs.AddedLemmas.{others}
-use Rattle.ebpf_parsing.specs.EntryRanges.{AreOf}
+use Rattle.ebpf_parsing.specs.PrivateContracts.{AreOf}
 use Rattle.ebpf_parsing.proofs.LastData.{DataLasts}
 use Rattle.ebpf_parsing.proofs.object_tables.read_by_last.Given as goal
 use Rattle.ebpf_parts.specs.Sections.{section_of}

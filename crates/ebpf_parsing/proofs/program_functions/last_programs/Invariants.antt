@@ -1,7 +1,7 @@
 use Rattle.std.proofs.Common.{◌≡◌, drop}
 use Rattle.std.specs.List.{flat_map}
 use Rattle.ebpf_base.specs.Keyed.{put_all}
-use Rattle.ebpf_parsing.specs.Programs.{program_symbol_row, last_programs}
+use Rattle.ebpf_parsing.specs.PrivateContracts.{program_symbol_row, last_programs}
 use Rattle.ebpf_parsing.proofs.program_functions.last_programs.Given as goal
 
 -- what is left to do from here is what was to do from the start

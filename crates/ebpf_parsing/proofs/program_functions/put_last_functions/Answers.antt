@@ -5,7 +5,8 @@ use Rattle.std.specs.Prelude.{slice_index_or}
 use Rattle.ebpf_parsing.proofs.LastPrograms.{fewer, program_passed, passed_fault, passed_put, next_fault, next_put}
 use Rattle.ebpf_parsing.proofs.Lasts.{all_lasts}
 use Rattle.ebpf_parsing.specs.LastData.{is_index}
-use Rattle.ebpf_parsing.specs.Programs.{is_program_symbol, program_fault, program_symbol_row}
+use Rattle.ebpf_parsing.specs.Programs.{is_program_symbol, program_fault}
+use Rattle.ebpf_parsing.specs.PrivateContracts.{program_symbol_row}
 use Rattle.ebpf_parsing.proofs.program_functions.put_last_functions.Goals as goal
 
 pub loop-symbol-init : goal.loop-symbol-init

@@ -1,5 +1,6 @@
 use Rattle.std.proofs.Common.{◌≡◌, take, map}
-use Rattle.ebpf_parsing.specs.Records.{func_from, func_at}
+use Rattle.ebpf_parsing.specs.Records.{func_from}
+use Rattle.ebpf_parsing.specs.PrivateContracts.{func_at}
 use Rattle.ebpf_parsing.proofs.records.funcs_from.Given as goal
 
 -- what is kept so far

@@ -1,5 +1,6 @@
 use Rattle.std.proofs.Common.{◌≡◌, take, map}
-use Rattle.ebpf_parsing.specs.Records.{line_from, line_at}
+use Rattle.ebpf_parsing.specs.Records.{line_from}
+use Rattle.ebpf_parsing.specs.PrivateContracts.{line_at}
 use Rattle.ebpf_parsing.proofs.records.lines_from.Given as goal
 
 -- what is kept so far

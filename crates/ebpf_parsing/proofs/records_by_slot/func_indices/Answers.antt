@@ -1,7 +1,7 @@
 use Rattle.std.proofs.Common.{◌+◌, ◌-◌, ◌<◌, ◌++◌, length, map, ap, ◌∙◌}
 use Rattle.std.specs.List.{range_with_len}
 use Rattle.std.proofs.lemmas.List.{get_or_default}
-use Rattle.ebpf_parsing.specs.Records.{func_slot}
+use Rattle.ebpf_parsing.specs.PrivateContracts.{func_slot}
 use Rattle.ebpf_parsing.proofs.RecordIndices.{places_more}
 use Rattle.ebpf_parsing.proofs.records_by_slot.func_indices.Goals as goal
 

@@ -1,6 +1,6 @@
 use Rattle.std.proofs.Common.{◌≡◌, ◌++◌, ◌-◌, length, map}
 use Rattle.std.specs.List.{range_with_len}
-use Rattle.ebpf_parsing.specs.Records.{line_slot}
+use Rattle.ebpf_parsing.specs.PrivateContracts.{line_slot}
 use Rattle.ebpf_parsing.specs.RecordsBySlot.{indices_with}
 use Rattle.ebpf_parsing.proofs.records_by_slot.line_indices.Given as goal
 

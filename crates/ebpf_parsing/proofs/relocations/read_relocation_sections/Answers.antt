@@ -4,7 +4,7 @@ use Rattle.ebpf_elf.specs.Relocations.{relocation_sections, relocated_section}
 use Rattle.ebpf_parsing.proofs.FromFile.{tables_from}
 use Rattle.ebpf_parsing.proofs.Grouped.{target_more}
 use Rattle.ebpf_parsing.proofs.TableRanges.{none_cached}
-use Rattle.ebpf_parsing.specs.EntryRanges.{EntryRangesAreCached, AreOf}
+use Rattle.ebpf_parsing.specs.PrivateContracts.{EntryRangesAreCached, AreOf}
 use Rattle.ebpf_parsing.specs.Groups.{group_at}
 use Rattle.ebpf_parsing.proofs.relocations.read_relocation_sections.Goals as goal
 

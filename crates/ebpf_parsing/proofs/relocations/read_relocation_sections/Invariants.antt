@@ -1,7 +1,7 @@
 use Rattle.std.proofs.Common.{◌≡◌, ◌++◌, ℕ, filter}
 use Rattle.std.specs.Prelude.{◌==◌}
 use Rattle.ebpf_elf.specs.Relocations.{relocation_sections, relocated_section}
-use Rattle.ebpf_parsing.specs.EntryRanges.{EntryRangesAreCached, AreOf}
+use Rattle.ebpf_parsing.specs.PrivateContracts.{EntryRangesAreCached, AreOf}
 use Rattle.ebpf_parsing.specs.Groups.{group_at}
 use Rattle.ebpf_parsing.proofs.relocations.read_relocation_sections.Given as goal
 

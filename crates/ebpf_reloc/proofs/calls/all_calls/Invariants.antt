@@ -1,6 +1,6 @@
 use Rattle.std.proofs.Common.{◌≡◌, ◌++◌, drop, map}
 use Rattle.std.specs.FinMap.{get}
-use Rattle.ebpf_reloc.specs.Numbers.{calls_from}
+use Rattle.ebpf_reloc.specs.PrivateContracts.{calls_from}
 use Rattle.ebpf_reloc.specs.SlotTargets.{read}
 use Rattle.ebpf_reloc.specs.Walks.{walked_relocations, IsBefore}
 use Rattle.ebpf_reloc.proofs.calls.all_calls.Given as goal

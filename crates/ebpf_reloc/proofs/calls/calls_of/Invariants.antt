@@ -1,5 +1,5 @@
 use Rattle.std.proofs.Common.{◌≡◌, ◌+◌, ◌*◌, ◌++◌, drop}
-use Rattle.ebpf_reloc.specs.Numbers.{numbered_target_at, calls_by, calls_of}
+use Rattle.ebpf_reloc.specs.PrivateContracts.{numbered_target_at, calls_by, calls_of}
 use Rattle.ebpf_reloc.specs.SlotTargets.{read}
 use Rattle.ebpf_reloc.specs.Walks.{walked_relocations, IsBefore}
 use Rattle.ebpf_reloc.proofs.calls.calls_of.Given as goal

@@ -1,5 +1,5 @@
 use Rattle.std.proofs.Common.{◌≡◌, map, take}
-use Rattle.ebpf_reloc.specs.LinkMaps.{named_copy}
+use Rattle.ebpf_reloc.specs.PrivateContracts.{named_copy}
 use Rattle.ebpf_reloc.proofs.link_map.named_copies.Given as goal
 
 -- the copies so far, with their names

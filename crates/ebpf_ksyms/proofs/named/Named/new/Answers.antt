@@ -1,5 +1,5 @@
 use Rattle.std.proofs.Common.{◌∙◌}
-use Rattle.ebpf_ksyms.specs.Named.{value_named}
+use Rattle.ebpf_ksyms.specs.PrivateContracts.{value_named}
 use Rattle.ebpf_ksyms.proofs.Values.{named-step, named-end}
 use Rattle.ebpf_ksyms.proofs.named.Named.new.Goals as goal
 

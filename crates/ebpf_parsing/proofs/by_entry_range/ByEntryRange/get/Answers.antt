@@ -1,7 +1,7 @@
 use Rattle.std.proofs.Common.{sym, ◌∙◌, ap}
 use Rattle.std.specs.FinMap.{get}
 use Rattle.ebpf_base.proofs.Maps.{get-view}
-use Rattle.ebpf_parsing.specs.EntryRanges.{entry_range_total}
+use Rattle.ebpf_parsing.specs.PrivateContracts.{entry_range_total}
 use Rattle.ebpf_parsing.proofs.by_entry_range.ByEntryRange.get.Goals as goal
 
 pub returns : goal.returns

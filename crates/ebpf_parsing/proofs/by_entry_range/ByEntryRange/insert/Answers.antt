@@ -2,7 +2,7 @@ use Rattle.std.proofs.Common.{◌∙◌, ap}
 use Rattle.std.specs.FinMap.{insert}
 use Rattle.ebpf_base.proofs.Maps.{one_set}
 use Rattle.ebpf_parsing.proofs.TableRanges.{places_exact}
-use Rattle.ebpf_parsing.specs.EntryRanges.{entry_range_total}
+use Rattle.ebpf_parsing.specs.PrivateContracts.{entry_range_total}
 use Rattle.ebpf_parsing.proofs.by_entry_range.ByEntryRange.insert.Goals as goal
 
 pub returns-clause-ok : goal.returns-clause-ok

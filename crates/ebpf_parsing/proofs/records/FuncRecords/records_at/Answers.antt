@@ -1,5 +1,6 @@
 use Rattle.std.proofs.Common.{◌≡◌, map, filter, sym, ap, ◌∙◌, rules}
-use Rattle.ebpf_parsing.specs.Records.{func_from, func_at, is_func_at}
+use Rattle.ebpf_parsing.specs.Records.{func_from, is_func_at}
+use Rattle.ebpf_parsing.specs.PrivateContracts.{func_at}
 use Rattle.ebpf_parsing.proofs.RecordIndices.{funcs_found}
 use Rattle.ebpf_parsing.proofs.records.FuncRecords.records_at.Goals as goal
 

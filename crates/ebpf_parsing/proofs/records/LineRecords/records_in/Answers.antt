@@ -1,5 +1,6 @@
 use Rattle.std.proofs.Common.{◌≡◌, map, filter, sym, ap, ◌∙◌, rules}
-use Rattle.ebpf_parsing.specs.Records.{line_from, line_at, is_line_in}
+use Rattle.ebpf_parsing.specs.Records.{line_from, is_line_in}
+use Rattle.ebpf_parsing.specs.PrivateContracts.{line_at}
 use Rattle.ebpf_parsing.proofs.RecordIndices.{lines_found}
 use Rattle.ebpf_parsing.proofs.records.LineRecords.records_in.Goals as goal
 

@@ -1,7 +1,7 @@
 use Rattle.std.proofs.Common.{rules, sym, ap, ◌∙◌}
 use Rattle.std.specs.Prelude.{option_map}
 use Rattle.ebpf_base.proofs.Lists.{find-map}
-use Rattle.ebpf_parsing.specs.Texts.{is_at}
+use Rattle.ebpf_parsing.specs.PrivateContracts.{is_at}
 use Rattle.ebpf_parsing.proofs.text_symbols.TextSymbols.at.Goals as goal
 
 pub returns : goal.returns

@@ -1,6 +1,6 @@
 use Rattle.std.proofs.Common.{map, filter, ap, ◌∙◌}
 use Rattle.ebpf_parsing.proofs.ByAddress.{first_at, texts_at}
-use Rattle.ebpf_parsing.specs.Texts.{is_at}
+use Rattle.ebpf_parsing.specs.PrivateContracts.{is_at}
 use Rattle.ebpf_parsing.proofs.text_symbols.TextSymbols.new.Goals as goal
 
 pub check_apart-requires : goal.check_apart-requires

@@ -1,6 +1,6 @@
 use Rattle.std.proofs.Common.{◌≡◌, ℕ, ◌<◌, length}
 use Rattle.std.specs.Prelude.{slice_index_or, None}
-use Rattle.ebpf_reach.specs.Registers.{common}
+use Rattle.ebpf_reach.specs.PrivateContracts.{common}
 use Rattle.ebpf_reach.proofs.registers.Registers.least_upper_bound.Given as goal
 
 -- what the registers so far have in common

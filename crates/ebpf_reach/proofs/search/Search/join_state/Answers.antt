@@ -1,6 +1,6 @@
 use Rattle.std.proofs.Common.{◌≡◌, ◌≢◌, ◌<◌, length, Some, arith, sym, ◌∙◌, ap}
 use Rattle.ebpf_reach.specs.declared.registers.Registers.{Registers}
-use Rattle.ebpf_reach.specs.Registers.{least_upper_bound}
+use Rattle.ebpf_reach.specs.PrivateContracts.{least_upper_bound}
 use Rattle.std.proofs.Common.{set}
 use Rattle.ebpf_reach.proofs.Sameness.{registers_same, registers_apart, on_ok_both}
 use Rattle.ebpf_reach.proofs.Intake.{met_taken, same_taken, taken_as}

@@ -2,7 +2,7 @@ use Rattle.std.proofs.Common.{ℕ, List, map, subst, refl, sym, ap, ◌∙◌, E
 use Rattle.ebpf_linker.specs.Result.{IsLinking}
 use Rattle.ebpf_reloc.proofs.Finished.{is_fault, unless_memory}
 use Rattle.ebpf_reloc.proofs.KeyedLinkMaps.{is_mapped}
-use Rattle.ebpf_reloc.specs.LinkMaps.{named_copy, IsKeyedLinkMapAnswer}
+use Rattle.ebpf_reloc.specs.PrivateContracts.{named_copy, IsKeyedLinkMapAnswer}
 use Rattle.ebpf_model.specs.declared.function.Function.{Function}
 use Rattle.ebpf_model.specs.Memory.{is_memory}
 use Rattle.ebpf_reloc.specs.Numbers.{function_keys, function_list, key_in, with_function_names}

@@ -8,7 +8,8 @@ use Rattle.ebpf_reloc.proofs.Keys.{number_names}
 use Rattle.ebpf_reloc.specs.Linking.{IsProgramFault}
 use Rattle.ebpf_reloc.specs.LinkMaps.{IsLinkMapAt}
 use Rattle.ebpf_model.specs.Memory.{is_memory}
-use Rattle.ebpf_reloc.specs.Numbers.{function_keys, number_of_key}
+use Rattle.ebpf_reloc.specs.Numbers.{function_keys}
+use Rattle.ebpf_reloc.specs.PrivateContracts.{number_of_key}
 use Rattle.ebpf_reloc.specs.SlotTargets.{read}
 use Rattle.ebpf_reloc.proofs.numbered.NumberedFunctions.link_map_at.Goals as goal
 

@@ -7,7 +7,8 @@ use Rattle.ebpf_reloc.proofs.Finished.{no_program}
 use Rattle.ebpf_reloc.proofs.Keys.{number_names}
 use Rattle.ebpf_reloc.specs.Linking.{IsLinked, IsProgramFault}
 use Rattle.ebpf_model.specs.Memory.{is_memory}
-use Rattle.ebpf_reloc.specs.Numbers.{function_keys, number_of_key}
+use Rattle.ebpf_reloc.specs.Numbers.{function_keys}
+use Rattle.ebpf_reloc.specs.PrivateContracts.{number_of_key}
 use Rattle.ebpf_reloc.specs.SlotTargets.{read}
 use Rattle.ebpf_reloc.proofs.numbered.NumberedFunctions.linked_at.Goals as goal
 

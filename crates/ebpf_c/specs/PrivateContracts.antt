@@ -1,0 +1,17 @@
+-- What contracts of private functions name and no public one.
+use Rattle.std.specs.Prelude.{ℕ, List, [], ◌∷◌, Option, Some, None, ◌≡◌, MatchOption}
+use Rattle.std.specs.FinMap.{FinMap, insert}
+use Rattle.ebpf_base.specs.Keys.{text_cmp}
+use Rattle.ebpf_parts.specs.declared.maps.either.Map.{Map}
+use Rattle.ebpf_c.specs.Entries.{value_by_bytes}
+use Rattle.ebpf_c.specs.declared.codes.TheConstants.{DONE, NO_MAP}
+
+-- the thing of a name, where there is one
+abbrev pub entry_if : {V : Type 0} → List ℕ → Option V → List (List ℕ × V)
+entry_if name None = []
+entry_if name (Some v) = (name, v) ∷ []
+
+-- the map of a name is another one, or no map has the name
+abbrev pub IsSet : (Map → Map) → List ℕ → FinMap text_cmp Map → ℕ → FinMap text_cmp Map → Type 0
+IsSet set name before number after =
+    MatchOption (value_by_bytes before name) ((number ≡ NO_MAP) × (after ≡ before)) (λ m. (number ≡ DONE) × (after ≡ insert before name (set m)))

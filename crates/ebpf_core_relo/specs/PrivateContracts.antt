@@ -1,0 +1,60 @@
+-- What contracts of private functions name and no public one.
+use Rattle.std.specs.Prelude.{◌≡◌, ⊤, [], MatchBool, Result, Ok, Err, ℕ, ◌+◌, List, ◌∷◌, ◌++◌, Option, Some, None, ◌-◌, nat_le, if◌then◌else◌}
+use Rattle.ebpf_core.specs.Answers.{without_texts}
+use Rattle.ebpf_core.specs.Memory.{is_memory}
+use Rattle.ebpf_core.specs.declared.error.RelocationError.{RelocationError}
+use Rattle.ebpf_core_relo.specs.declared.error.BtfRelocationError.{BtfRelocationError}
+use Rattle.ebpf_core_relo.specs.Answers.{is_memory_at, without_texts_at}
+use Rattle.std.specs.FinMap.{FinMap, insert}
+use Rattle.std.specs.Ordering.{nat_cmp}
+use Rattle.ebpf_core_relo.specs.declared.spans.Span.{Span}
+use Rattle.ebpf_base.specs.Keys.{key_cmp}
+use Rattle.ebpf_parts.specs.declared.insn.bpf_insn.{bpf_insn}
+use Rattle.ebpf_model.specs.Keys.{FunctionKey}
+use Rattle.ebpf_model.specs.declared.function.Function.{Function}
+use Rattle.std.specs.Option.{option_or}
+use Rattle.ebpf_core_relo.specs.Spans.{span_at}
+
+-- The call leaves what is stated, or answers the stated fault, its texts for people aside, or a want of memory.
+abbrev pub Leaves : {X U : Type 0} → Result U RelocationError → X → Result X RelocationError → Type 0
+Leaves (Ok u) left stated = stated ≡ Ok left
+Leaves (Err e) left stated = MatchBool (is_memory e) ⊤ (stated ≡ Err (without_texts e))
+
+-- what was written stays where the call refuses, a want of memory aside
+abbrev pub StaysRefused : {U X : Type 0} → Result U RelocationError → X → X → Type 0
+StaysRefused (Ok u) before after = Unit {0}
+StaysRefused (Err e) before after = MatchBool (is_memory e) ⊤ (after ≡ before)
+
+-- the same of faults with their sections; a want of memory has no section
+abbrev pub LeavesAt : {X U : Type 0} → Result U BtfRelocationError → X → Result X BtfRelocationError → Type 0
+LeavesAt (Ok u) left stated = stated ≡ Ok left
+LeavesAt (Err e) left stated = MatchBool (is_memory_at e) (e.section ≡ []) (stated ≡ Err (without_texts_at e))
+
+-- The refusal is the stated one, its texts for people aside, or a want of memory, which has no section.
+abbrev pub IsStatedRefusal : BtfRelocationError → BtfRelocationError → Type 0
+IsStatedRefusal e stated = MatchBool (is_memory_at e) (e.section ≡ []) (stated ≡ without_texts_at e)
+
+-- what a table has of a section
+abbrev pub spans_or_none : Option (List Span) → List Span
+spans_or_none None = []
+spans_or_none (Some spans) = spans
+
+-- a table with one more span behind those of its section, by those that are there
+abbrev pub with_span : FinMap nat_cmp (List Span) → ℕ → Span → Option (List Span) → FinMap nat_cmp (List Span)
+with_span m section span None = insert m section (span ∷ [])
+with_span m section span (Some spans) = insert m section (spans ++ span ∷ [])
+
+-- functions of which the one at a key, if it is there, has these slots
+abbrev pub with_slots_at : FinMap key_cmp Function → FunctionKey → List bpf_insn → Option Function → FinMap key_cmp Function
+with_slots_at functions key slots None = functions
+with_slots_at functions key slots (Some f) = insert functions key (record f { instructions = slots })
+
+-- the first span that holds an offset, list by list
+abbrev pub first_at : ℕ → List (List Span) → List Span → Option Span
+first_at offset [] last = span_at offset last
+first_at offset (run ∷ runs) last = option_or (span_at offset run) (first_at offset runs last)
+
+-- a span, where it begins no later than an offset
+abbrev pub if_begun : ℕ → Option Span → Option Span
+if_begun offset None = None
+if_begun offset (Some s) = if nat_le s.start offset then Some s else None

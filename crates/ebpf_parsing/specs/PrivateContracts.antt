@@ -1,0 +1,105 @@
+-- What contracts of private functions name and no public one.
+use Rattle.std.specs.Prelude.{◌≡◌, ℕ, ◌+◌, ◌*◌, Bool, ◌==◌, List, [], ◌∷◌, map, Some, ◌-◌, if◌then◌else◌, slice_index_or}
+use Rattle.std.specs.Cmp.{IsTotalOrder, nat_cmp_total, then_total, on_total}
+use Rattle.std.specs.FinMap.{FinMap, get, empty}
+use Rattle.std.specs.List.{list_any, flat_map, range_with_len}
+use Rattle.ebpf_base.specs.Keyed.{put_all}
+use Rattle.ebpf_base.specs.Keys.{key_total, text_cmp}
+use Rattle.ebpf_elf.specs.File.{ei_data}
+use Rattle.ebpf_elf.specs.RelocationTables.{relocation_size}
+use Rattle.ebpf_elf.specs.Relocations.{relocation_at, entry_count}
+use Rattle.ebpf_elf.specs.Sections.{SectionOf, header}
+use Rattle.ebpf_elf.specs.declared.entries.ElfRelocation.{ElfRelocation}
+use Rattle.ebpf_parsing.specs.EntryRanges.{entry_range_cmp}
+use Rattle.ebpf_elf.specs.Symbols.{symbols}
+use Rattle.ebpf_parsing.specs.Symbols.{SymbolValue}
+use Rattle.std.specs.Ordering.{nat_cmp}
+use Rattle.ebpf_parsing.specs.Programs.{is_program_symbol}
+use Rattle.ebpf_ext.specs.ExtInfos.{func_info_at, line_info_at}
+use Rattle.ebpf_ext.specs.declared.ext_infos.bpf_func_info.{bpf_func_info}
+use Rattle.ebpf_ext.specs.declared.ext_infos.bpf_line_info.{bpf_line_info}
+use Rattle.ebpf_ext.specs.declared.ext_infos.FuncSecInfo.{FuncSecInfo}
+use Rattle.ebpf_ext.specs.declared.ext_infos.LineSecInfo.{LineSecInfo}
+use Rattle.ebpf_parts.specs.Sections.{SectionValue}
+
+abbrev pub EntryRange : Type 0
+EntryRange = (ℕ × ℕ) × ℕ
+
+pub entry_range_total : IsTotalOrder entry_range_cmp
+entry_range_total = then_total (on_total (λ (p : (ℕ × ℕ) × ℕ). p.0) key_total) (on_total (λ (p : (ℕ × ℕ) × ℕ). p.1) nat_cmp_total)
+
+abbrev pub entry_range_of : SectionOf → EntryRange
+entry_range_of s = (((header s).sh_offset, relocation_size (header s).sh_type), entry_count s)
+
+-- the entries at places of a file
+abbrev pub entries_at : List ℕ → EntryRange → List ElfRelocation
+entries_at bytes p = map (λ k. relocation_at (ei_data bytes) bytes (p.0.0 + p.0.1 * k)) (range_with_len 0 p.1)
+
+-- whether one of them names no symbol
+abbrev pub lacks_symbol : List ElfRelocation → Bool
+lacks_symbol list = list_any (λ r. r.symbol_index == 0) list
+
+-- what is cached of entry ranges of a file is so
+abbrev pub EntryRangesAreCached : List ℕ → FinMap entry_range_cmp Bool → Type 0
+EntryRangesAreCached bytes cached = (p : EntryRange) (lacks : Bool) → get cached p ≡ Some lacks → lacks ≡ lacks_symbol (entries_at bytes p)
+
+-- the number of a section of relocations, by its entries' places
+abbrev pub table_row : SectionOf → List (EntryRange × ℕ)
+table_row t = (entry_range_of t, t.index) ∷ []
+
+-- the number of the last one at each
+abbrev pub last_tables : List SectionOf → FinMap entry_range_cmp ℕ
+last_tables tables = put_all empty (flat_map table_row tables)
+
+-- sections of relocations of one file
+abbrev pub AreOf : List ℕ → List SectionOf → Type 0
+AreOf file [] = Unit {0}
+AreOf file (t ∷ rest) = (t.file ≡ file) × AreOf file rest
+
+abbrev pub file_of_tables : List SectionOf → List ℕ
+file_of_tables [] = []
+file_of_tables (t ∷ rest) = t.file
+
+abbrev pub AreOfOneFile : List SectionOf → Type 0
+AreOfOneFile tables = AreOf (file_of_tables tables) tables
+
+-- the names of symbols
+abbrev pub names_of : List SymbolValue → List (List ℕ)
+names_of symbols = map (λ y. y.name) symbols
+
+-- the number of a program's symbol, by its address
+abbrev pub program_symbol_row : SymbolValue → List (ℕ × ℕ)
+program_symbol_row y = if is_program_symbol y then (y.address, y.index) ∷ [] else []
+
+-- the number of the last program's symbol at each address
+abbrev pub last_programs : List SymbolValue → FinMap nat_cmp ℕ
+last_programs symbols = put_all empty (flat_map program_symbol_row symbols)
+
+-- a table has at its names the func info or line info of the sections of these names
+pub record AreFuncsOf (infos : FinMap text_cmp FuncSecInfo) (table : FinMap text_cmp FuncSecInfo) : Type 0 where
+  pub are : (name : List ℕ) (funcs : FuncSecInfo) → get table name ≡ Some funcs → funcs ≡ func_info_at infos name
+
+pub record AreLinesOf (infos : FinMap text_cmp LineSecInfo) (table : FinMap text_cmp LineSecInfo) : Type 0 where
+  pub are : (name : List ℕ) (lines : LineSecInfo) → get table name ≡ Some lines → lines ≡ line_info_at infos name
+
+-- a record of a list, by its place, and the slot that it names
+abbrev pub func_at : List bpf_func_info → ℕ → bpf_func_info
+func_at rows i = slice_index_or rows i (record { insn_off = 0; type_id = 0 })
+
+abbrev pub func_slot : List bpf_func_info → ℕ → ℕ
+func_slot rows i = (func_at rows i).insn_off
+
+-- a record of a list, by its place, and the slot that it names
+abbrev pub line_at : List bpf_line_info → ℕ → bpf_line_info
+line_at rows i = slice_index_or rows i (record { insn_off = 0; file_name_off = 0; line_off = 0; line_col = 0 })
+
+abbrev pub line_slot : List bpf_line_info → ℕ → ℕ
+line_slot rows i = (line_at rows i).insn_off
+
+-- a section with these relocations
+abbrev pub with_relocations : List ElfRelocation → SectionValue → SectionValue
+with_relocations list s = record s { relocations = list }
+
+-- a symbol at an address
+abbrev pub is_at : ℕ → SymbolValue → Bool
+is_at address y = y.address == address

@@ -1,0 +1,76 @@
+-- What contracts of private functions name and no public one.
+use Rattle.std.specs.Prelude.{◌≡◌, ℕ, List, map, Result, Ok, Err, ◌+◌, [], ◌∷◌, Option, Some, None}
+use Rattle.ebpf_linker.specs.declared.link_map.NumberedCopy.{NumberedCopy}
+use Rattle.ebpf_linker.specs.declared.link_map.NumberedLinkMap.{NumberedLinkMap}
+use Rattle.ebpf_linker.specs.declared.reference.Fault.{Fault}
+use Rattle.ebpf_linker.specs.Faults.{LeastFault, checked_references}
+use Rattle.ebpf_linker.specs.LinkMap.{CopyOf, IsLinkMap}
+use Rattle.ebpf_model.specs.declared.function.Function.{Function}
+use Rattle.ebpf_reloc.specs.declared.link_map.CodeCopy.{CodeCopy}
+use Rattle.ebpf_reloc.specs.Numbers.{function_keys, function_list, key_in, function_name, with_function_names}
+use Rattle.ebpf_reloc.specs.SlotTargets.{LinkableValue, slot_target_of}
+use Rattle.ebpf_model.specs.Keys.{FunctionKey}
+use Rattle.ebpf_reloc.specs.References.{functions_of}
+use Rattle.ebpf_reloc.specs.LinkMaps.{code_copy}
+use Rattle.std.specs.List.{position_from}
+use Rattle.std.specs.Ordering.{eq_by_cmp}
+use Rattle.ebpf_base.specs.Keys.{key_cmp}
+use Rattle.ebpf_linker.specs.declared.reference.Call.{Call}
+use Rattle.ebpf_linker.specs.declared.reference.Fault.TheVariants.{UnsupportedTextSymbol, UnknownFunction}
+use Rattle.ebpf_linker.specs.declared.reference.Target.{Target}
+use Rattle.ebpf_linker.specs.declared.reference.Target.TheVariants.{Function as ToFunction, Nowhere}
+use Rattle.ebpf_parts.specs.declared.insn.bpf_insn.{bpf_insn}
+use Rattle.ebpf_reloc.specs.declared.slot_target.SlotTarget.{SlotTarget}
+use Rattle.ebpf_reloc.specs.declared.slot_target.SlotTarget.TheVariants.{Absent, Unsupported, At}
+
+-- a copy, with the key and the name of the function with its number
+abbrev pub named_copy : List FunctionKey → List Function → NumberedCopy → CodeCopy
+named_copy keys functions c = record { key = key_in keys c.function; name = function_name functions c.function; base = c.base; slots = c.slots }
+
+-- the link map of the program with a number, by keys
+pub record IsKeyedLinkMap (parts : LinkableValue) (number : ℕ) (m : NumberedLinkMap) : Type 0 where
+  pub order : List FunctionKey
+  pub copies : List (CopyOf FunctionKey)
+  pub program : IsLinkMap (functions_of parts) (key_in (function_keys parts.functions) number) order copies m.references
+  pub named : map (named_copy (function_keys parts.functions) (function_list parts.functions)) m.copies ≡ map (code_copy parts.functions) copies
+
+-- that link map, or the least fault
+abbrev pub IsKeyedLinkMapAnswer : LinkableValue → ℕ → Result NumberedLinkMap Fault → Type 0
+IsKeyedLinkMapAnswer parts number (Ok m) = IsKeyedLinkMap parts number m
+IsKeyedLinkMapAnswer parts number (Err e) =
+    LeastFault (functions_of parts) (checked_references (functions_of parts) (key_in (function_keys parts.functions) number)) (key_in (function_keys parts.functions) number) (with_function_names (function_list parts.functions) e)
+
+-- the number of a key
+abbrev pub number_of_key : List FunctionKey → FunctionKey → Option ℕ
+number_of_key keys key = position_from (λ k. eq_by_cmp key_cmp key k) 0 keys
+
+abbrev pub numbered_target_by : Option ℕ → ℕ → ℕ → Target
+numbered_target_by None caller address = Nowhere (UnknownFunction address caller)
+numbered_target_by (Some number) caller address = ToFunction number
+
+-- the target of a slot of the function with this number, by what the slot refers to
+abbrev pub numbered_target : List FunctionKey → ℕ → SlotTarget → Option Target
+numbered_target keys caller Absent = None
+numbered_target keys caller (Unsupported index) = Some (Nowhere (UnsupportedTextSymbol index))
+numbered_target keys caller (At section address) = Some (numbered_target_by (number_of_key keys (section, address)) caller address)
+
+abbrev pub numbered_target_at : LinkableValue → List FunctionKey → ℕ → Function → ℕ → bpf_insn → Option Target
+numbered_target_at parts keys caller f i slot = numbered_target keys caller (slot_target_of parts f i slot)
+
+abbrev pub with_call : ℕ → Option Target → List Call → List Call
+with_call i None calls = calls
+with_call i (Some target) calls = record { slot = i; target = target } ∷ calls
+
+-- the calls of slots that are numbered from i on, by where each leads
+abbrev pub calls_by : (ℕ → bpf_insn → Option Target) → ℕ → List bpf_insn → List Call
+calls_by leads i [] = []
+calls_by leads i (slot ∷ slots) = with_call i (leads i slot) (calls_by leads (i + 1) slots)
+
+-- the calls of the function with this number
+abbrev pub calls_of : LinkableValue → List FunctionKey → ℕ → Function → List Call
+calls_of parts keys caller f = calls_by (numbered_target_at parts keys caller f) 0 f.instructions
+
+-- the calls of functions that are numbered from n on
+abbrev pub calls_from : LinkableValue → List FunctionKey → ℕ → List Function → List (List Call)
+calls_from parts keys n [] = []
+calls_from parts keys n (f ∷ fs) = calls_of parts keys n f ∷ calls_from parts keys (n + 1) fs
