@@ -13,7 +13,7 @@ ghost use Rattle.ebpf_parts.specs.declared.reading.Reading.TheVariants.{Stated};
 use crate::arguments::Words;
 use crate::failure::{Failure, report};
 use crate::link::finish;
-use crate::preparation::{all_passes, map_names, with_descriptors, read_types};
+use crate::preparation::{all_passes, map_names, read_types, with_descriptors};
 use crate::report_text::write_report;
 use ebpf_base::Items;
 use ebpf_btf::Btf;

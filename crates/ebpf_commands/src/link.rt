@@ -15,7 +15,7 @@ ghost use Rattle.ebpf_parts.specs.declared.reading.Reading.TheVariants.{Stated};
 
 use crate::arguments::Words;
 use crate::failure::{Failure, report};
-use crate::preparation::{all_passes, map_names, with_descriptors, read_types};
+use crate::preparation::{all_passes, map_names, read_types, with_descriptors};
 use crate::program_text::write_program;
 use ebpf_btf::Btf;
 use ebpf_model::Function;

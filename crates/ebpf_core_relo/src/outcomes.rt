@@ -8,10 +8,10 @@ ghost use Rattle.ebpf_core_relo.specs.Sections.{found_number};
 ghost use Rattle.ebpf_core_relo.specs.declared.record_outcome.RecordResult.TheVariants.{Refused};
 
 use crate::absences::Absences;
+use crate::function_spans::FunctionSpans;
 use crate::memory::{unless_memory, unless_memory_of_types};
 use crate::record_outcome::{RecordOutcome, RecordOutcomes, RecordResult, RecordSlot};
 use crate::records::apply_record;
-use crate::function_spans::FunctionSpans;
 use crate::section_spans::span_in;
 use crate::spans::SLOT;
 use ebpf_base::{ByKey, ByName, Items};
@@ -43,7 +43,11 @@ struct NamedSection {
 
 /// The section whose name stands at an offset.
 #[tactic(auto, unfolding(crate::specs::RecordOutcomes::section_at, ebpf_btf::specs::Strings::text_at))]
-fn section_at(function_spans: &FunctionSpans<'_>, local: &Btf, offset: u32) -> Result<FoundSection, AllocError>
+fn section_at(
+    function_spans: &FunctionSpans<'_>,
+    local: &Btf,
+    offset: u32,
+) -> Result<FoundSection, AllocError>
     ensures { IfOk result (λ found. found_number found ≡ section_at local.now function_spans.now.section_infos.now offset) }
 {
     let name = match local.string_at(offset) {
@@ -60,7 +64,11 @@ fn section_at(function_spans: &FunctionSpans<'_>, local: &Btf, offset: u32) -> R
 }
 
 /// The slot that a record of a section is about.
-fn slot_in(function_spans: &FunctionSpans<'_>, section: usize, relocation: &Relocation) -> Option<RecordSlot>
+fn slot_in(
+    function_spans: &FunctionSpans<'_>,
+    section: usize,
+    relocation: &Relocation,
+) -> Option<RecordSlot>
     ensures { (sides : Sides) → result ≡ slot_in (relocation_inputs sides function_spans.now.functions.now function_spans.now.section_infos.now) (Ok section) relocation.now }
 {
     let offset = relocation.insn_off as usize;
@@ -140,7 +148,15 @@ fn outcome_in(
 {
     match section.found {
         FoundSection::Number(number) => {
-            let result = result_in(alloc, search, absences, function_spans, number, written, relocation)?;
+            let result = result_in(
+                alloc,
+                search,
+                absences,
+                function_spans,
+                number,
+                written,
+                relocation,
+            )?;
             Ok(RecordOutcome {
                 section_name: section.name,
                 number: relocation.number,
@@ -208,7 +224,13 @@ fn add_records(
 {
     for relocation in relocations {
         add_record(
-            alloc, search, absences, function_spans, section, relocation, outcomes,
+            alloc,
+            search,
+            absences,
+            function_spans,
+            section,
+            relocation,
+            outcomes,
         )?;
     }
     Ok(())

@@ -5,8 +5,8 @@ ghost use Rattle.ebpf_declarations.specs.TypesInReading.{types_in_reading};
 ghost use Rattle.ebpf_parsing.specs.Records.{AreFuncsOf, AreLinesOf, FuncAndLineInfo, func_and_line_info_of, funcs_of, lines_of};
 ghost use Rattle.ebpf_parts.specs.Memory.{is_memory};
 
-use crate::records::{FuncRecords, LineRecords, SectionRecords};
 use crate::metadata::FileMetadata;
+use crate::records::{FuncRecords, LineRecords, SectionRecords};
 use ebpf_base::ByName;
 use ebpf_declarations::BtfDefinedMaps;
 use ebpf_ext::{BtfExt, FuncInfo, LineInfo};
