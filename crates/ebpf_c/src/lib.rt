@@ -1,10 +1,8 @@
 //! What C calls.
 #![tactic(auto)]
 
-mod relocating_types;
 mod buffers;
 mod codes;
-mod writing_map_fds;
 mod descriptors;
 mod entries;
 mod externs;
@@ -13,8 +11,8 @@ mod file_fault;
 mod flags;
 mod handle;
 mod info;
-mod linking;
 mod ksyms_refusal;
+mod linking;
 mod list_calls;
 mod listing;
 mod lists;
@@ -32,6 +30,7 @@ mod programs;
 mod read_calls;
 mod reads;
 mod refusal;
+mod relocating_types;
 mod resolving;
 mod sanitizing;
 mod sections;
@@ -40,3 +39,4 @@ mod target_types;
 mod type_fault;
 mod types_refusal;
 mod values;
+mod writing_map_fds;

@@ -3,7 +3,7 @@
 ghost use Rattle.std.specs.Prelude.{◌≡◌};
 
 use crate::variants::{
-    variant_of_type_relocation, variant_of_parsing, variant_of_relocation, variant_of_resolving,
+    variant_of_parsing, variant_of_relocation, variant_of_resolving, variant_of_type_relocation,
     variant_of_types,
 };
 use ebpf_btf::BtfError;

@@ -8,10 +8,10 @@ ghost use Rattle.ebpf_core_relo.specs.Sections.{found_number};
 ghost use Rattle.ebpf_core_relo.specs.declared.record_outcome.RecordResult.TheVariants.{Refused};
 
 use crate::absences::Absences;
+use crate::function_spans::FunctionSpans;
 use crate::memory::{unless_memory, unless_memory_of_types};
 use crate::record_outcome::{RecordOutcome, RecordOutcomes, RecordResult, RecordSlot};
 use crate::records::apply_record;
-use crate::function_spans::FunctionSpans;
 use crate::section_spans::span_in;
 use crate::spans::SLOT;
 use ebpf_base::{ByKey, ByName, Items};
@@ -140,7 +140,15 @@ fn outcome_in(
 {
     match section.found {
         FoundSection::Number(number) => {
-            let result = result_in(alloc, search, absences, function_spans, number, written, relocation)?;
+            let result = result_in(
+                alloc,
+                search,
+                absences,
+                function_spans,
+                number,
+                written,
+                relocation,
+            )?;
             Ok(RecordOutcome {
                 section_name: section.name,
                 number: relocation.number,
@@ -208,7 +216,13 @@ fn add_records(
 {
     for relocation in relocations {
         add_record(
-            alloc, search, absences, function_spans, section, relocation, outcomes,
+            alloc,
+            search,
+            absences,
+            function_spans,
+            section,
+            relocation,
+            outcomes,
         )?;
     }
     Ok(())

@@ -99,7 +99,15 @@ fn put_outcome(
     let outcome = search.outcome(alloc, relocation)?;
     let key = (section, span.address);
     let at = (relocation.insn_off as usize).saturating_sub(span.start) / SLOT;
-    let carrying = carrying_in(alloc, function_spans, written, key, at, relocation.number, &outcome)?;
+    let carrying = carrying_in(
+        alloc,
+        function_spans,
+        written,
+        key,
+        at,
+        relocation.number,
+        &outcome,
+    )?;
     let slots = take_slots(alloc, function_spans, written, key)?;
     let slots = rewritten(slots, at, carrying);
     written.insert(key, slots)?;
@@ -124,7 +132,15 @@ pub fn apply_record(
     let Some(span) = span_in(&function_spans.spans, section, relocation.insn_off as usize) else {
         return Err(RelocationError::FunctionNotFound);
     };
-    put_outcome(alloc, search, function_spans, section, written, relocation, span)
+    put_outcome(
+        alloc,
+        search,
+        function_spans,
+        section,
+        written,
+        relocation,
+        span,
+    )
 }
 
 /// Applies the records of a section in order.

@@ -12,8 +12,8 @@ ghost use Rattle.ebpf_core_relo.specs.PrivateContracts.{IsStatedRefusal, Leaves,
 ghost use Rattle.ebpf_core_relo.specs.Records.{all_applied, named_applied, relocation_inputs, section_applied, slots_written, unnamed_section};
 
 use crate::error::BtfRelocationError;
-use crate::records::apply_records;
 use crate::function_spans::FunctionSpans;
+use crate::records::apply_records;
 use ebpf_base::{ByKey, Items, Text};
 use ebpf_btf::{Btf, BtfError};
 use ebpf_core::{CoreSearch, RelocationError};
@@ -81,7 +81,14 @@ fn apply_named(
         Ok(name) => name,
         Err(error) => return Err(unnamed(alloc, offset, error)),
     };
-    match apply_section(alloc, search, function_spans, written, name.as_str(), records) {
+    match apply_section(
+        alloc,
+        search,
+        function_spans,
+        written,
+        name.as_str(),
+        records,
+    ) {
         Ok(()) => Ok(()),
         Err(error) => Err(answer_in_section(alloc, name.as_str(), error)),
     }

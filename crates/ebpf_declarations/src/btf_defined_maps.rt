@@ -13,10 +13,10 @@ ghost use Rattle.ebpf_parts.specs.Memory.{is_memory};
 
 use crate::distinct_maps::DistinctMaps;
 use crate::error::parse_error;
-use crate::section_maps::all_section_maps;
 use crate::known_structs::KnownStructs;
 use crate::maps::add_entries;
 use crate::named_sections::{NamedSections, datasec_entries_at};
+use crate::section_maps::all_section_maps;
 use ebpf_base::{ByName, Items, Text};
 use ebpf_btf::{Btf, BtfError};
 use ebpf_parts::maps::Map;

@@ -9,8 +9,8 @@ ghost use Rattle.ebpf_declarations.specs.Maps.{struct_definitions};
 ghost use Rattle.ebpf_parts.specs.declared.reading.Reading.{Reading};
 
 use crate::definitions::MapDefinitions;
-use crate::member_values::definitions;
 use crate::map_structs::members_at;
+use crate::member_values::definitions;
 use ebpf_btf::{Btf, BtfError};
 use ebpf_parts::Reading;
 use ebpf_parts::maps::BtfMapDef;

@@ -1,25 +1,25 @@
 //! The extern declarations of an eBPF object in `.ksyms`, and its BTF-defined maps in sections as `.maps`.
 #![tactic(auto)]
 
-mod data_sections;
 mod btf_defined_maps;
+mod data_sections;
 mod definitions;
 mod distinct_maps;
 mod error;
 mod extern_names;
 mod externs;
 mod externs_by_name;
-mod section_maps;
 mod known_structs;
 pub mod laws;
 mod map_member;
-mod member_values;
 mod map_structs;
 mod map_types;
 mod maps;
+mod member_value;
+mod member_values;
 mod named_sections;
 mod placeholders;
-mod member_value;
+mod section_maps;
 
 pub use btf_defined_maps::BtfDefinedMaps;
 pub use error::parse_error;

@@ -8,7 +8,7 @@ ghost use Rattle.std.specs.FinMap.{get};
 
 use crate::data_sections::datasec_entries;
 use ebpf_base::{ByName, Items};
-use ebpf_btf::strings::{near_bytes, first_zero};
+use ebpf_btf::strings::{first_zero, near_bytes};
 use ebpf_btf::{Btf, BtfError, BtfType, DataSecEntry};
 use std::alloc::Global;
 

@@ -75,7 +75,10 @@ fn entries_named<'a>(
 }
 
 /// The externs in the order of the bytes of their names.
-pub fn entries_of(alloc: Global, externs: &ByName<ExternDesc>) -> Result<Vec<NamedExtern<'_>>, AllocError>
+pub fn entries_of(
+    alloc: Global,
+    externs: &ByName<ExternDesc>,
+) -> Result<Vec<NamedExtern<'_>>, AllocError>
     ensures { IfOk result (λ all. all.items ≡ entries externs.now) }
 {
     let names = externs.names(alloc)?;
@@ -98,7 +101,10 @@ pub fn wanted_names<'a>(alloc: Global, all: &[NamedExtern<'a>]) -> Result<Vec<&'
 }
 
 /// Externs as a map.
-pub fn externs_from(alloc: Global, all: &[NamedExtern<'_>]) -> Result<ByName<ExternDesc>, AllocError>
+pub fn externs_from(
+    alloc: Global,
+    all: &[NamedExtern<'_>],
+) -> Result<ByName<ExternDesc>, AllocError>
     ensures { IfOk result (λ externs. externs ≡ externs_from all.now) }
 {
     let mut externs = ByName::new(alloc);

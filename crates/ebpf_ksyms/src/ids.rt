@@ -7,8 +7,8 @@ ghost use Rattle.ebpf_ksyms.specs.PrivateContracts.{value_named, only_at};
 ghost use Rattle.ebpf_ksyms.specs.declared.error.KsymsError.TheVariants.{OutOfMemory};
 
 use crate::error::KsymsError;
-use crate::named::Named;
 use crate::lookup_key::Sort;
+use crate::named::Named;
 use ebpf_btf::{Btf, BtfError, BtfKind, BtfType};
 use std::alloc::Global;
 

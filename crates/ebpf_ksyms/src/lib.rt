@@ -5,13 +5,13 @@ mod entry;
 mod error;
 mod ids;
 mod lines;
+mod lookup_key;
 mod named;
 mod resolve;
-mod typeless;
-mod lookup_key;
 mod source;
 mod text_lines;
 mod typed;
+mod typeless;
 mod words;
 
 pub use error::KsymsError;

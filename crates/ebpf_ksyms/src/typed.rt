@@ -15,8 +15,8 @@ ghost use Rattle.ebpf_ksyms.specs.Typed.{lookup_name, lookup_names, typed_as, ty
 use crate::entry::NamedExtern;
 use crate::error::KsymsError;
 use crate::ids::{Ids, id_at, ids_in};
+use crate::lookup_key::{LookupKey, Sort, lookup_key_of};
 use crate::named::Named;
-use crate::lookup_key::{Sort, LookupKey, lookup_key_of};
 use ebpf_base::Text;
 use ebpf_btf::{Btf, BtfError, BtfType};
 use ebpf_candidates::types_are_compatible;

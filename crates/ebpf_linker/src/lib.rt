@@ -1,14 +1,14 @@
 //! The linker of numbered functions: a program, followed by every function that its references reach.
 #![tactic(auto)]
 
+mod bases;
 mod body;
 mod copies;
 pub mod link_map;
 #[cfg(test)]
-mod machines;
-#[cfg(test)]
 mod link_map_tests;
-mod bases;
+#[cfg(test)]
+mod machines;
 mod program;
 mod records;
 mod reference;

@@ -7,8 +7,8 @@ ghost use Rattle.ebpf_linker.specs.LinkedReferences.{linked_reference, reference
 ghost use Rattle.ebpf_linker.specs.Numbered.{IsWithin, Sound, functions};
 ghost use Rattle.ebpf_linker.specs.Ready.{IsReady};
 
-use crate::body::Body;
 use crate::bases::copy_bases;
+use crate::body::Body;
 use crate::reference::{Call, Fault, Target};
 use crate::search::search;
 use crate::tables::Tables;

@@ -9,7 +9,11 @@ use std::alloc::{AllocError, Global};
 use std::test::Fail;
 
 /// The copies as function@base+slots, and the references as place>base, each with the imm of the linked slot there.
-fn printed(alloc: Global, program: &LinkedProgram, map: &NumberedLinkMap) -> Result<String, AllocError> {
+fn printed(
+    alloc: Global,
+    program: &LinkedProgram,
+    map: &NumberedLinkMap,
+) -> Result<String, AllocError> {
     let mut text = String::new(alloc);
     for copy in map.copies.iter() {
         let part = format!(in alloc; "{}@{}+{} ", copy.function, copy.base, copy.slots)?;

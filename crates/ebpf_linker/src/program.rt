@@ -5,9 +5,9 @@ ghost use Rattle.ebpf_linker.specs.Numbered.{Sound, functions};
 ghost use Rattle.ebpf_linker.specs.Ready.{IsReady};
 ghost use Rattle.ebpf_linker.specs.Result.{IsLinking, IsProgram};
 
+use crate::bases::copy_bases;
 use crate::body::{Body, LinkedProgram};
 use crate::copies::write_copies;
-use crate::bases::copy_bases;
 use crate::records::{count_if, func_records, has_lines, line_records};
 use crate::reference::{Call, Fault};
 use crate::search::search;

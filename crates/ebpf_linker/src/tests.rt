@@ -10,7 +10,10 @@ use std::alloc::{AllocError, Global};
 use std::test::Fail;
 
 /// A linked program: the imm and the registers of each slot, or the fault.
-fn printed(alloc: Global, answer: Option<Result<LinkedProgram, Fault>>) -> Result<String, AllocError> {
+fn printed(
+    alloc: Global,
+    answer: Option<Result<LinkedProgram, Fault>>,
+) -> Result<String, AllocError> {
     let program = match answer {
         Some(Ok(program)) => program,
         Some(Err(fault)) => return format!(in alloc; "{fault:?}"),

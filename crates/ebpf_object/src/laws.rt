@@ -22,8 +22,10 @@ pub use ebpf_parsing::laws::{
     sections_tile, stated_gives_nothing_broad, symbols_stand_at_their_indices,
 };
 pub use ebpf_parts::laws::names_are_read;
-pub use ebpf_passes::laws::{passes_keep_shapes, offsets_add_up};
-pub use ebpf_reloc::laws::{link_maps_refuse_alike, link_maps_match, one_link_map, one_result, plain_slots_stay};
+pub use ebpf_passes::laws::{offsets_add_up, passes_keep_shapes};
+pub use ebpf_reloc::laws::{
+    link_maps_match, link_maps_refuse_alike, one_link_map, one_result, plain_slots_stay,
+};
 
 /// What `Object::patch_map_data` makes of the maps' data, byte by byte: of the variables whose value has a byte for a
 /// place, the one whose name is the greatest in byte order gives it, and each other byte is as before.

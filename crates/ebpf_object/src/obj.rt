@@ -7,6 +7,5 @@ pub use ebpf_btf::{Btf, BtfError, Endianness};
 pub use ebpf_ext::{
     BtfExt, FuncInfo, FuncSecInfo, LineInfo, LineSecInfo, bpf_func_info, bpf_line_info,
 };
-pub use ebpf_model::Program;
+pub use ebpf_model::{ExternDesc, Function, Program, Symbol};
 pub use ebpf_parts::{EbpfSectionKind, ParseError, ProgramSection, Reading, Relocation, Section};
-pub use ebpf_model::{ExternDesc, Function, Symbol};

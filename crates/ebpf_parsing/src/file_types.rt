@@ -39,12 +39,7 @@ fn btf_in(alloc: Global, order: Endianness, bytes: &[u8]) -> Result<Btf, ParseEr
 
 /// What some bytes say of instructions.
 #[tactic(auto, using(crate::proofs::TypeErrors::refused))]
-fn ext_in(
-    alloc: Global,
-    order: Endianness,
-    bytes: &[u8],
-    types: &Btf,
-) -> Result<BtfExt, ParseError>
+fn ext_in(alloc: Global, order: Endianness, bytes: &[u8], types: &Btf) -> Result<BtfExt, ParseError>
     ensures infos { IfOk result (λ infos. result_ok (read_ext order bytes.now types.now.strings) ≡ Some infos) }
     ensures fault { Refuses is_memory result (option_map TypeFault (fault_of (read_ext order bytes.now types.now.strings))) }
 {

@@ -8,8 +8,8 @@ ghost use Rattle.ebpf_parsing.specs.PrivateContracts.{last_programs};
 ghost use Rattle.ebpf_parts.specs.Memory.{is_memory};
 
 use crate::last_data::is_index;
-use crate::records::{SLOT, SectionRecords};
 use crate::metadata::FileMetadata;
+use crate::records::{SLOT, SectionRecords};
 use crate::symbols::NamedSymbol;
 use ebpf_base::{ByKey, ByName, ByOffset, Items, Text};
 use ebpf_elf::SymbolKind;

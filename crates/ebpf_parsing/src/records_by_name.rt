@@ -6,8 +6,8 @@ ghost use Rattle.ebpf_parsing.specs.Records.{FuncAndLineInfo, func_and_line_info
 ghost use Rattle.ebpf_parsing.specs.PrivateContracts.{AreFuncsOf, AreLinesOf};
 ghost use Rattle.ebpf_parts.specs.Memory.{is_memory};
 
-use crate::records::{FuncRecords, LineRecords, SectionRecords};
 use crate::metadata::FileMetadata;
+use crate::records::{FuncRecords, LineRecords, SectionRecords};
 use ebpf_base::ByName;
 use ebpf_declarations::BtfDefinedMaps;
 use ebpf_ext::{BtfExt, FuncInfo, LineInfo};

@@ -111,7 +111,10 @@ pub fn check_targets(tables: &[RelocationTable<'_>]) -> Result<(), ParseError>
 
 /// The number of the last section of relocations whose entries stand at the same places.
 #[tactic(auto, using(crate::proofs::TableRanges::row_more, ebpf_base::proofs::Walks::rest_none))]
-fn last_tables(alloc: Global, tables: &[RelocationTable<'_>]) -> Result<ByEntryRange<usize>, ParseError>
+fn last_tables(
+    alloc: Global,
+    tables: &[RelocationTable<'_>],
+) -> Result<ByEntryRange<usize>, ParseError>
     ensures last { IfOk result (λ last. last ≡ last_tables tables.now) }
     ensures memory { IfErr result (λ e. is_memory e ≡ true) }
 {

@@ -118,7 +118,12 @@ fn load_edit(desc: &ExternDesc, slot: bpf_insn, has_next: bool) -> Result<Edit, 
 }
 
 /// What an extern makes of a slot that refers to it.
-fn declared_extern_edit(desc: &ExternDesc, symbol: usize, slot: bpf_insn, has_next: bool) -> Result<Edit, Fault>
+fn declared_extern_edit(
+    desc: &ExternDesc,
+    symbol: usize,
+    slot: bpf_insn,
+    has_next: bool,
+) -> Result<Edit, Fault>
     ensures { result ≡ declared_extern_edit (Some desc.now) symbol slot has_next }
 {
     match slot.code {

@@ -33,7 +33,13 @@ fn check_function(
     };
     match edits_or_refusal(rule, section_relocations, function) {
         Ok(edits) => Ok(edits),
-        Err(refusal) => Err(refused(alloc, rule.symbols(), section_relocations, function, refusal)),
+        Err(refusal) => Err(refused(
+            alloc,
+            rule.symbols(),
+            section_relocations,
+            function,
+            refusal,
+        )),
     }
 }
 

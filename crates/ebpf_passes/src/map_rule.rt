@@ -52,7 +52,12 @@ fn value_offset(imm: i32, address: u64) -> Option<i32>
 }
 
 /// What a map makes of a slot that refers to it, by the address of the slot's symbol.
-fn target_edit(target: MapTarget, address: u64, slot: bpf_insn, has_next: bool) -> Result<Edit, Fault>
+fn target_edit(
+    target: MapTarget,
+    address: u64,
+    slot: bpf_insn,
+    has_next: bool,
+) -> Result<Edit, Fault>
     ensures { result ≡ target_edit target address slot has_next }
 {
     if !target.has_data {
@@ -62,7 +67,10 @@ fn target_edit(target: MapTarget, address: u64, slot: bpf_insn, has_next: bool) 
         return Err(Fault::InvalidOffset);
     }
     match value_offset(slot.imm, address) {
-        Some(next) => Ok(Edit::Pair(with_source(slot, BPF_PSEUDO_MAP_VALUE, target.descriptor), next)),
+        Some(next) => Ok(Edit::Pair(
+            with_source(slot, BPF_PSEUDO_MAP_VALUE, target.descriptor),
+            next,
+        )),
         None => Err(Fault::MapAddressOverflow),
     }
 }

@@ -23,7 +23,12 @@ pub enum Rule<'a> {
 
 impl<'a> Rule<'a> {
     /// What becomes of a slot with a relocation.
-    pub fn edit(&self, relocation: Relocation, slot: bpf_insn, has_next: bool) -> Result<Edit, Fault>
+    pub fn edit(
+        &self,
+        relocation: Relocation,
+        slot: bpf_insn,
+        has_next: bool,
+    ) -> Result<Edit, Fault>
         ensures { result ≡ rule_edit_of self.now relocation slot has_next }
     {
         match self {

@@ -60,7 +60,12 @@ fn write_one(rule: &Rule<'_>, distance: u64, relocation: Relocation, slots: &mut
 }
 
 /// Writes the relocations of a section into the slots of a function that begins at an offset.
-pub fn write_slots(rule: &Rule<'_>, start: u64, section_relocations: &ByOffset<Relocation>, slots: &mut [bpf_insn])
+pub fn write_slots(
+    rule: &Rule<'_>,
+    start: u64,
+    section_relocations: &ByOffset<Relocation>,
+    slots: &mut [bpf_insn],
+)
     ensures { slots.new ≡ slots_after (edit_at (rule_edit_of rule.now) section_relocations.now start (length slots.old)) slots.old }
 {
     for (offset, relocation) in section_relocations.from_offset(start) {

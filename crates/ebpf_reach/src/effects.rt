@@ -83,7 +83,11 @@ fn moved(slot: bpf_insn, y: u64) -> Option<u64>
     ensures { result ≡ moved slot y }
 {
     if slot.off == 0 {
-        return Some(if class(slot) == ALU { y % 4294967296 } else { y });
+        return Some(if class(slot) == ALU {
+            y % 4294967296
+        } else {
+            y
+        });
     }
     if !takes_register(slot) {
         return None;

@@ -36,7 +36,11 @@ fn slot_target_of(
 }
 
 /// The target of a slot of the function with this number, by what it refers to.
-fn numbered_target(numbers: &KeyNumbers<'_>, caller: usize, slot_target: SlotTarget) -> Option<Target>
+fn numbered_target(
+    numbers: &KeyNumbers<'_>,
+    caller: usize,
+    slot_target: SlotTarget,
+) -> Option<Target>
     ensures { result ≡ numbered_target numbers.now.keys.now caller slot_target }
 {
     let (section, address) = match slot_target {

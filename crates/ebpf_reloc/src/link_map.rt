@@ -14,9 +14,9 @@ use crate::numbered::{NumberedFunctions, function_name, with_function_names};
 use crate::numbers::number_of_key;
 use ebpf_base::{Items, Text};
 use ebpf_linker::Fault;
-use ebpf_model::{EbpfRelocationError, Function, RelocationError};
 pub use ebpf_linker::link_map::Reference;
 use ebpf_linker::link_map::{NumberedCopy, NumberedLinkMap, link_map};
+use ebpf_model::{EbpfRelocationError, Function, RelocationError};
 use std::alloc::{AllocError, Global};
 
 /// A copy of a function in a linked program.

@@ -100,7 +100,11 @@ impl<'a> NumberedFunctions<'a> {
 }
 
 /// The name of the function with a number.
-pub fn function_name(alloc: Global, functions: &[&Function], number: usize) -> Result<Text, AllocError>
+pub fn function_name(
+    alloc: Global,
+    functions: &[&Function],
+    number: usize,
+) -> Result<Text, AllocError>
     ensures { IfOk result (λ name. name ≡ function_name (map (λ f. f.now) functions.now) number) }
 {
     match functions.get(number) {

@@ -89,7 +89,11 @@ impl<'a> Walk<'a> {
     {
         let mut ahead = all_from(section_relocations, start);
         let next = take_first(&mut ahead);
-        Walk { section_relocations, next, ahead }
+        Walk {
+            section_relocations,
+            next,
+            ahead,
+        }
     }
 
     /// Passes the next relocation, which stands before an offset.

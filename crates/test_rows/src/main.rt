@@ -1,14 +1,13 @@
 //! Rows over all crates: reads cases of files, and prints what each of their actions gives.
 #![tactic(auto)]
 
-mod types_relocated;
 mod changes;
 mod declared;
-mod linked;
 mod extern_words;
 mod externs_written;
-mod lines;
 mod fds_written;
+mod lines;
+mod linked;
 mod maps;
 mod names;
 mod objects;
@@ -22,6 +21,7 @@ mod sanitized;
 mod slots;
 mod symbols;
 mod tables;
+mod types_relocated;
 
 use crate::outcomes::ObjectOutcomes;
 use std::io;

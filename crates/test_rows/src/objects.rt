@@ -1,14 +1,14 @@
 //! Actions on an object.
 
-use crate::types_relocated::types_relocated;
 use crate::declared::put_types;
-use crate::linked::linked;
 use crate::externs_written::externs_written;
 use crate::fds_written::fds_written;
+use crate::linked::linked;
 use crate::patched::patched;
 use crate::resolved::resolved;
 use crate::sanitized::sanitized;
 use crate::tables::put_table;
+use crate::types_relocated::types_relocated;
 use ebpf_object::Object;
 use ebpf_object::obj::Reading;
 use std::alloc::{AllocError, Global};

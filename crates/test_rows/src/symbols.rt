@@ -5,13 +5,13 @@ mod answers;
 mod file;
 mod given;
 
-use ebpf_model::ExternDesc;
 use self::answers::{Question, TypedExterns};
 use self::file::File;
 use self::given::externs_by;
 use ebpf_base::ByName;
 use ebpf_btf::Btf;
 use ebpf_ksyms::TextLines;
+use ebpf_model::ExternDesc;
 use std::alloc::{AllocError, Global};
 use std::io::ErrorKind;
 use test_cases::{Action, FailingReader, Files, front, no_action, shown, tally_each};

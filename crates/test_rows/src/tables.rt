@@ -1,8 +1,8 @@
 //! The tables of an object, line by line.
 
 use crate::declared::{put_btf_defined_maps, put_types};
-use crate::linked::put_slots;
 use crate::lines::{Line, put_lines, put_numbers};
+use crate::linked::put_slots;
 use crate::maps::put_map_ids;
 use crate::records::{put_records, put_type_relocations};
 use ebpf_base::{ByIndex, ByKey, ByOffset, BySection};

@@ -55,7 +55,11 @@ fn relocate_types(alloc: Global, object: &mut Object, types: &Btf) -> Result<Str
 }
 
 /// The same, and the slots then.
-fn types_relocated_to(alloc: Global, object: &mut Object, types: &Btf) -> Result<String, AllocError> {
+fn types_relocated_to(
+    alloc: Global,
+    object: &mut Object,
+    types: &Btf,
+) -> Result<String, AllocError> {
     let answer = relocate_types(alloc, object, types)?;
     with_slots(alloc, answer, object)
 }
