@@ -13,7 +13,7 @@ use Rattle.ebpf_linker.specs.declared.reference.Target.TheVariants.{Function, No
 use Rattle.ebpf_linker.specs.declared.reference.Call.{Call}
 use Rattle.ebpf_linker.specs.Functions.{References, or_empty}
 use Rattle.ebpf_linker.specs.Faults.{checked_references, checked, func_info_agrees}
-use Rattle.ebpf_linker.specs.Numbered.{of_target, referred, calls_at, functions, body_content, option_content, Rises, IsWithin, Sound}
+use Rattle.ebpf_linker.specs.Numbered.{of_target, referred, calls_at, functions_by_number, body_content, option_content, Rises, IsWithin, Sound}
 use Rattle.ebpf_linker.specs.PrivateContracts.{content_in}
 use Rattle.ebpf_linker.specs.Answer.{Finds}
 use Rattle.ebpf_linker.specs.Steps.{checked_target, checked_call, checked_calls}
@@ -23,7 +23,7 @@ module _ (B : List Body) (p : ℕ) where
   target_within : (n : ℕ) (t : Target) → IsWithin n t → IsWithin n (checked_target B p t)
   target_within n (Nowhere e) h = h
   target_within n (Function k) h =
-      elim (cases_Bool (func_info_agrees (functions B []) p k)) [ inl e ↦ rw e h | inr e ↦ rw e tt ]
+      elim (cases_Bool (func_info_agrees (functions_by_number B []) p k)) [ inl e ↦ rw e h | inr e ↦ rw e tt ]
 
   rises_seen : (low : ℕ) (cs : List Call) → Rises low cs → Rises low (map (checked_call B p) cs)
   rises_seen low [] h = tt
@@ -49,16 +49,16 @@ module _ (B : List Body) (p : ℕ) where
             subst (λ (u : Call). IsWithin n u.target) e (target_within n d.target (all_at n (calls_at C k) i d (sound.within k) is));
       }
 
-  of_seen : (t : Target) → of_target (checked_target B p t) ≡ checked (functions B []) p (of_target t)
+  of_seen : (t : Target) → of_target (checked_target B p t) ≡ checked (functions_by_number B []) p (of_target t)
   of_seen (Nowhere e) = refl
-  of_seen (Function k) = elim (cases_Bool (func_info_agrees (functions B []) p k)) [ inl e ↦ rw e refl | inr e ↦ rw e refl ]
+  of_seen (Function k) = elim (cases_Bool (func_info_agrees (functions_by_number B []) p k)) [ inl e ↦ rw e refl | inr e ↦ rw e refl ]
 
-  referred_seen : (cs : List Call) (x : ℕ) → referred (map (checked_call B p) cs) x ≡ checked (functions B []) p (referred cs x)
+  referred_seen : (cs : List Call) (x : ℕ) → referred (map (checked_call B p) cs) x ≡ checked (functions_by_number B []) p (referred cs x)
   referred_seen [] x = refl
   referred_seen (c ∷ cs) x = elim (cases_Bool (c.slot == x)) [ inl e ↦ rw e (of_seen c.target) | inr e ↦ rw e (referred_seen cs x) ]
 
   -- what the search follows is what linking does
-  pub same_refs : (C : List (Vec Call Global)) → refs (checked_calls B C p) ≡ checked_references (functions B C) p
+  pub same_refs : (C : List (Vec Call Global)) → refs (checked_calls B C p) ≡ checked_references (functions_by_number B C) p
   same_refs C = fun_ext (λ (k : ℕ). fun_ext (λ (x : ℕ). referred_seen (calls_at C k) x))
 
 -- what function k is, read from its list
@@ -66,5 +66,5 @@ pub content_read : (B : List Body) (k : ℕ) (d : Body) → k < length B → con
 content_read B k d lt = ap (λ (u : Option Body). or_empty (option_content u)) (slice_get-get_or B k d lt)
 
 -- what the search answers of the checked references holds of those of linking
-pub finds : (B : List Body) (C : List (Vec Call Global)) (p : ℕ) (answer : Result (Vec ℕ Global) Fault) → Finds (functions B C) (refs (checked_calls B C p)) p answer → Finds (functions B C) (checked_references (functions B C) p) p answer
-finds B C p answer h = subst (λ (R : References ℕ Fault). Finds (functions B C) R p answer) (same_refs B p C) h
+pub finds : (B : List Body) (C : List (Vec Call Global)) (p : ℕ) (answer : Result (Vec ℕ Global) Fault) → Finds (functions_by_number B C) (refs (checked_calls B C p)) p answer → Finds (functions_by_number B C) (checked_references (functions_by_number B C) p) p answer
+finds B C p answer h = subst (λ (R : References ℕ Fault). Finds (functions_by_number B C) R p answer) (same_refs B p C) h

@@ -19,7 +19,7 @@ use Rattle.ebpf_linker.specs.LinkedSlots.{body_at, with_bases}
 use Rattle.ebpf_linker.specs.LinkMap.{CopyOf, copies_from, IsReference, AreReferences, IsLinkMap, numbered_copy}
 use Rattle.ebpf_linker.specs.PrivateContracts.{PlacesRise}
 use Rattle.ebpf_linker.specs.LinkedReferences.{linked_reference_at, linked_reference, with_linked_reference, references_of_copy, references_of_copies}
-use Rattle.ebpf_linker.specs.Numbered.{of_target, referred, calls_at, functions, Rises, Sound}
+use Rattle.ebpf_linker.specs.Numbered.{of_target, referred, calls_at, functions_by_number, Rises, Sound}
 use Rattle.ebpf_linker.specs.Ready.{IsReady}
 use Rattle.ebpf_linker.proofs.Held.{at_index}
 use Rattle.ebpf_linker.proofs.OneResult.{one_begin}
@@ -128,7 +128,7 @@ module _ (B : List Body) (C : List (Vec Call Global)) (bases : List ℕ) (sound 
   record From (base : ℕ) (ks : List ℕ) (r : Reference) : Type 0 where
     k : ℕ
     b : ℕ
-    begins : BeginsAt (functions B C) ks k b
+    begins : BeginsAt (functions_by_number B C) ks k b
     i : ℕ
     s : bpf_insn
     slot : slice_get (body_at B k) i ≡ Some s
@@ -176,7 +176,7 @@ module _ (B : List Body) (C : List (Vec Call Global)) (bases : List ℕ) (sound 
         | inr b ↦ from_later base k ks r (all_from (base + length (body_at B k)) ks r b)
       ]
 
-  all_to : (base : ℕ) (ks : List ℕ) (k b i m : ℕ) (s : bpf_insn) → BeginsAt (functions B C) ks k b → slice_get (body_at B k) i ≡ Some s → referred (calls_at C k) i ≡ Names m → Among (references_of_copies B C bases base ks) (record { place = base + b + i; base = slice_index bases m; is_call = is_pseudo_call s })
+  all_to : (base : ℕ) (ks : List ℕ) (k b i m : ℕ) (s : bpf_insn) → BeginsAt (functions_by_number B C) ks k b → slice_get (body_at B k) i ≡ Some s → referred (calls_at C k) i ≡ Names m → Among (references_of_copies B C bases base ks) (record { place = base + b + i; base = slice_index bases m; is_call = is_pseudo_call s })
   all_to base [] k b i m s begins at names = absurd begins
   all_to base (n ∷ ks) k b i m s (inl h) at names =
       let place : base + i ≡ base + b + i = omega (arith, h.1) in
@@ -200,7 +200,7 @@ module _ (B : List Body) (C : List (Vec Call Global)) (bases : List ℕ) (sound 
 
 module _ (B : List Body) (C : List (Vec Call Global)) where
   -- the copies don't depend on the references
-  same_copies : (base : ℕ) (ks : List ℕ) → copies_from (functions B []) base ks ≡ copies_from (functions B C) base ks
+  same_copies : (base : ℕ) (ks : List ℕ) → copies_from (functions_by_number B []) base ks ≡ copies_from (functions_by_number B C) base ks
   same_copies base [] = refl
   same_copies base (k ∷ ks) = ap (λ (u : List (CopyOf ℕ)). record { key = k; base = base; slots = length (body_at B k) } ∷ u) (same_copies (base + length (body_at B k)) ks)
 
@@ -209,19 +209,19 @@ module _ (B : List Body) (C : List (Vec Call Global)) where
 
   module _ (p : ℕ) (ks bases : List ℕ) (ready : IsReady B C p ks) (before : List ℕ) (count : length before ≡ length B) (places : bases ≡ with_bases B (length (body_at B p)) before ks) (sound : Sound (length B) C) where
     -- the bases are the places at which the copies begin
-    begins_there : (m : ℕ) → Among ks m → (c : ℕ) × BeginsAt (functions B C) ks m c × (slice_index bases m ≡ length (body_at B p) + c)
+    begins_there : (m : ℕ) → Among ks m → (c : ℕ) × BeginsAt (functions_by_number B C) ks m c × (slice_index bases m ≡ length (body_at B p) + c)
     begins_there m a =
         let within : (n : ℕ) → Among ks n → n < length before = λ n b. let lt = all_in B C p ks n ready.copies b in omega (arith, lt, count) in
         let (c, begins, e) = base_of_index B C (length (body_at B p)) before ks m ready.found.order.once within a in
         (c, begins, ap (λ (u : List ℕ). slice_index u m) places ∙ e)
 
-    order : IsOrder (functions B C).reference p ks
-    order = plain (functions B C) p ks ready.found.order
+    order : IsOrder (functions_by_number B C).reference p ks
+    order = plain (functions_by_number B C) p ks ready.found.order
 
-    is_reference : (r : Reference) → From B C bases sound.rises 0 (p ∷ ks) r → IsReference (functions B C) p ks r
+    is_reference : (r : Reference) → From B C bases sound.rises 0 (p ∷ ks) r → IsReference (functions_by_number B C) p ks r
     is_reference r h =
         let some : referred (calls_at C h.k) h.i ≢ Nothing = λ (z : referred (calls_at C h.k) h.i ≡ Nothing). let names = h.names in cc in
-        let (m, names, a) = order.resolved h.k h.i (begins_among (functions B C) (p ∷ ks) h.k h.b h.begins) some in
+        let (m, names, a) = order.resolved h.k h.i (begins_among (functions_by_number B C) (p ∷ ks) h.k h.b h.begins) some in
         let same : m ≡ h.m = same_name (referred (calls_at C h.k) h.i) m h.m names h.names in
         let (c, reaches, e) = begins_there h.m (subst (Among ks) same a) in
         record {
@@ -240,16 +240,16 @@ module _ (B : List Body) (C : List (Vec Call Global)) where
           is_call = h.is_call;
         }
 
-    is_linked_reference : (r : Reference) → IsReference (functions B C) p ks r → Among (references_of_copies B C bases 0 (p ∷ ks)) r
+    is_linked_reference : (r : Reference) → IsReference (functions_by_number B C) p ks r → Among (references_of_copies B C bases 0 (p ∷ ks)) r
     is_linked_reference r h =
-        let (c, reaches, e) = begins_there h.m (begins_among (functions B C) ks h.m h.c h.reaches) in
-        let same : c ≡ h.c = one_begin (functions B C) ks h.m c h.c order.once reaches h.reaches in
+        let (c, reaches, e) = begins_there h.m (begins_among (functions_by_number B C) ks h.m h.c h.reaches) in
+        let same : c ≡ h.c = one_begin (functions_by_number B C) ks h.m c h.c order.once reaches h.reaches in
         let place : 0 + h.b + h.i ≡ r.place = omega (arith, h.place) in
         let base : slice_index bases h.m ≡ r.base = e ∙ ap (λ (n : ℕ). length (body_at B p) + n) same ∙ sym h.base in
         let is : record { place = 0 + h.b + h.i; base = slice_index bases h.m; is_call = is_pseudo_call h.s } ≡ r = λ j. record { place = place j; base = base j; is_call = sym h.is_call j } in
         subst (Among (references_of_copies B C bases 0 (p ∷ ks))) is (all_to B C bases sound.rises 0 (p ∷ ks) h.k h.b h.i h.m h.s h.begins h.slot h.names)
 
-    pub are_references : AreReferences (functions B C) p ks (references_of_copies B C bases 0 (p ∷ ks))
+    pub are_references : AreReferences (functions_by_number B C) p ks (references_of_copies B C bases 0 (p ∷ ks))
     are_references = record {
       sound = λ r a. is_reference r (all_from B C bases sound.rises 0 (p ∷ ks) r a);
       complete = λ r h. is_linked_reference r h;
@@ -257,15 +257,15 @@ module _ (B : List Body) (C : List (Vec Call Global)) where
     }
 
     -- the link map
-    pub is_link_map : (copies : List NumberedCopy) (references : List Reference) → copies ≡ map numbered_copy (copies_from (functions B []) 0 (p ∷ ks)) → references ≡ references_of_copies B C bases 0 (p ∷ ks) → (x : List ℕ) × (cs : List (CopyOf ℕ)) × IsLinkMap (functions B C) p x cs references × (copies ≡ map numbered_copy cs)
+    pub is_link_map : (copies : List NumberedCopy) (references : List Reference) → copies ≡ map numbered_copy (copies_from (functions_by_number B []) 0 (p ∷ ks)) → references ≡ references_of_copies B C bases 0 (p ∷ ks) → (x : List ℕ) × (cs : List (CopyOf ℕ)) × IsLinkMap (functions_by_number B C) p x cs references × (copies ≡ map numbered_copy cs)
     is_link_map copies references are_copies are_linked_references = (
       ks,
-      copies_from (functions B C) 0 (p ∷ ks),
+      copies_from (functions_by_number B C) 0 (p ∷ ks),
       record {
         order = order;
         functions = λ k a. content_some B C p k (all_in B C p ks k ready.copies a);
         copies = refl;
-        references = subst (AreReferences (functions B C) p ks) (sym are_linked_references) are_references;
+        references = subst (AreReferences (functions_by_number B C) p ks) (sym are_linked_references) are_references;
         faultless = ready.found.faultless;
       },
       are_copies ∙ ap (map numbered_copy) (same_copies 0 (p ∷ ks)),

@@ -13,7 +13,7 @@ use Rattle.ebpf_linker.specs.Functions.{Nothing, Names, FunctionContent, Among, 
 use Rattle.ebpf_linker.specs.Faults.{checked_references, append_fault, has_some}
 use Rattle.ebpf_linker.specs.Answer.{IsOrder, IsFound, Finds}
 use Rattle.ebpf_linker.specs.LinkedSlots.{body_at, with_bases, linked_copies, bodies_slot_count, Fit}
-use Rattle.ebpf_linker.specs.Numbered.{of_target, referred, calls_at, functions, option_content, IsWithin, Sound}
+use Rattle.ebpf_linker.specs.Numbered.{of_target, referred, calls_at, functions_by_number, option_content, IsWithin, Sound}
 use Rattle.ebpf_linker.specs.Records.{linked_func_info, linked_line_info, has_lines, count_if}
 use Rattle.ebpf_linker.specs.Ready.{IsReady}
 use Rattle.ebpf_linker.specs.Result.{IsProgram}
@@ -57,10 +57,10 @@ tail_is l p ks e = rw e (take_whole (length (p ∷ ks) - 1) ks (omega arith))
 
 module _ (B : List Body) (C : List (Vec Call Global)) (p : ℕ) where
   -- the functions of an order are functions
-  order_within : (ks : List ℕ) → Sound (length B) C → p < length B → IsOrder (functions B C).reference p ks → (k : ℕ) → Among (p ∷ ks) k → k < length B
+  order_within : (ks : List ℕ) → Sound (length B) C → p < length B → IsOrder (functions_by_number B C).reference p ks → (k : ℕ) → Among (p ∷ ks) k → k < length B
   order_within ks sound lt order k (inl e) = subst (λ (u : ℕ). u < length B) e lt
   order_within ks sound lt order k (inr a) =
-      let R = (functions B C).reference in
+      let R = (functions_by_number B C).reference in
       let r = order.reached k a in
       let l = walk_last R p r.0 r.1 r.2 r.3 in
       let some : referred (calls_at C (last_key_or p l.keys)) l.slot ≢ Nothing = λ (z : referred (calls_at C (last_key_or p l.keys)) l.slot ≡ Nothing). cc (l.leads) in
@@ -69,29 +69,29 @@ module _ (B : List Body) (C : List (Vec Call Global)) (p : ℕ) where
       let inside = all_at B p (length B) (calls_at C (last_key_or p l.keys)) i.index i.call (sound.within (last_key_or p l.keys)) i.at in
       subst (λ (u : ℕ). u < length B) end (target_within (length B) i.call.target l.key inside (sym i.is ∙ l.leads))
 
-  fit_all : (ks : List ℕ) (b : ℕ) → ((j k : ℕ) → slice_get ks j ≡ Some k → append_fault (functions B C) k (b + total (functions B C) (take j ks)) ≡ None) → Fit B b ks
+  fit_all : (ks : List ℕ) (b : ℕ) → ((j k : ℕ) → slice_get ks j ≡ Some k → append_fault (functions_by_number B C) k (b + total (functions_by_number B C) (take j ks)) ≡ None) → Fit B b ks
   fit_all [] b h = tt
   fit_all (k ∷ ks) b h = (
-    (let z : b + 0 ≡ b = omega arith in subst (λ (u : ℕ). append_fault (functions B C) k u ≡ None) z (h 0 k refl)),
+    (let z : b + 0 ≡ b = omega arith in subst (λ (u : ℕ). append_fault (functions_by_number B C) k u ≡ None) z (h 0 k refl)),
     fit_all ks (b + length (body_at B k)) (λ j m at.
-        let z : b + (length (body_at B k) + total (functions B C) (take j ks)) ≡ b + length (body_at B k) + total (functions B C) (take j ks) = omega arith in
-        subst (λ (u : ℕ). append_fault (functions B C) m u ≡ None) z (h (suc j) m at)),
+        let z : b + (length (body_at B k) + total (functions_by_number B C) (take j ks)) ≡ b + length (body_at B k) + total (functions_by_number B C) (take j ks) = omega arith in
+        subst (λ (u : ℕ). append_fault (functions_by_number B C) m u ≡ None) z (h (suc j) m at)),
   )
 
-  short : (ks : List ℕ) → Sound (length B) C → IsFound (functions B C) (checked_references (functions B C) p) p ks → (k : ℕ) → 0 < length (calls_at C k) → Among (p ∷ ks) k → bodies_slot_count B (p ∷ ks) ≤ 2147483647
+  short : (ks : List ℕ) → Sound (length B) C → IsFound (functions_by_number B C) (checked_references (functions_by_number B C) p) p ks → (k : ℕ) → 0 < length (calls_at C k) → Among (p ∷ ks) k → bodies_slot_count B (p ∷ ks) ≤ 2147483647
   short ks sound found k lt a =
       let (c, at) = some_at (calls_at C k) lt in
       let is = (at_index (calls_at C k) 0 0 c (sound.rises k) at).1 in
-      let order = plain (functions B C) p ks found.order in
+      let order = plain (functions_by_number B C) p ks found.order in
       let some : referred (calls_at C k) c.slot ≢ Nothing = λ (z : referred (calls_at C k) c.slot ≡ Nothing). of_some c.target (sym is ∙ z) in
       let (m, names, b) = order.resolved k c.slot a some in
       let room = found.room m b in
       let size = size_same B C (p ∷ ks) in
       omega (arith, room, size)
 
-  pub ready : (ks : List ℕ) → Sound (length B) C → p < length B → IsFound (functions B C) (checked_references (functions B C) p) p ks → IsReady B C p ks
+  pub ready : (ks : List ℕ) → Sound (length B) C → p < length B → IsFound (functions_by_number B C) (checked_references (functions_by_number B C) p) p ks → IsReady B C p ks
   ready ks sound lt found =
-      let order = plain (functions B C) p ks found.order in
+      let order = plain (functions_by_number B C) p ks found.order in
       let within = order_within ks sound lt order in
       record {
         found = found;
@@ -107,13 +107,13 @@ module _ (B : List Body) (C : List (Vec Call Global)) (p : ℕ) where
   all_in (m ∷ ks) k h (inl e) = subst (λ (u : ℕ). u < length B) e (All-get_or (λ (u : ℕ). u < length B) (m ∷ ks) 0 0 (omega arith) h)
   all_in (m ∷ ks) k h (inr a) = all_in ks k (λ i d lt. h (suc i) d (omega arith)) a
 
-  pub content_some : (k : ℕ) → k < length B → (c : FunctionContent) × ((functions B C).content k ≡ Some c)
+  pub content_some : (k : ℕ) → k < length B → (c : FunctionContent) × ((functions_by_number B C).content k ≡ Some c)
   content_some k lt = let (b, at) = get_body B k lt in (_, ap option_content at)
 
   -- the program that was written
-  pub is_program : (ks : List ℕ) (bases : List ℕ) (l : LinkedProgram) → IsReady B C p ks → (before : List ℕ) → length before ≡ length B → bases ≡ with_bases B (length (body_at B p)) before ks → l.slots ≡ linked_copies B C bases 0 (p ∷ ks) → l.func_info ≡ linked_func_info (functions B C) p ks → l.line_info ≡ linked_line_info (functions B C) p ks → l.func_count ≡ count_if (has_some ks) l.func_info → l.line_count ≡ count_if (has_lines (functions B C) ks) l.line_info → IsProgram (functions B C) p ks l
+  pub is_program : (ks : List ℕ) (bases : List ℕ) (l : LinkedProgram) → IsReady B C p ks → (before : List ℕ) → length before ≡ length B → bases ≡ with_bases B (length (body_at B p)) before ks → l.slots ≡ linked_copies B C bases 0 (p ∷ ks) → l.func_info ≡ linked_func_info (functions_by_number B C) p ks → l.line_info ≡ linked_line_info (functions_by_number B C) p ks → l.func_count ≡ count_if (has_some ks) l.func_info → l.line_count ≡ count_if (has_lines (functions_by_number B C) ks) l.line_info → IsProgram (functions_by_number B C) p ks l
   is_program ks bases l h before count places slots funcs lines func_count line_count =
-      let F = functions B C in
+      let F = functions_by_number B C in
       let order = plain F p ks h.found.order in
       let within : (m : ℕ) → Among ks m → m < length B = λ m a. all_in ks m h.copies a in
       let linked = is_linked B C p ks l.slots bases order within before count places slots in
@@ -133,8 +133,8 @@ module _ (B : List Body) (C : List (Vec Call Global)) (p : ℕ) where
       }
 
 -- the functions that were found, as the search answers them
-pub ready_of : (B : List Body) (C : List (Vec Call Global)) (p : ℕ) (answer : Result (Vec ℕ Global) Fault) (v : Vec ℕ Global) (o : List ℕ) → Sound (length B) C → p < length B → Finds (functions B C) (checked_references (functions B C) p) p answer → answer ≡ Ok v → o ≡ v.items → IsReady B C p (take (length o - 1) (drop 1 o)) × (o ≡ p ∷ take (length o - 1) (drop 1 o))
+pub ready_of : (B : List Body) (C : List (Vec Call Global)) (p : ℕ) (answer : Result (Vec ℕ Global) Fault) (v : Vec ℕ Global) (o : List ℕ) → Sound (length B) C → p < length B → Finds (functions_by_number B C) (checked_references (functions_by_number B C) p) p answer → answer ≡ Ok v → o ≡ v.items → IsReady B C p (take (length o - 1) (drop 1 o)) × (o ≡ p ∷ take (length o - 1) (drop 1 o))
 ready_of B C p answer v o sound lt found is same =
-    let (ks, e, h) = subst (Finds (functions B C) (checked_references (functions B C) p) p) is found in
+    let (ks, e, h) = subst (Finds (functions_by_number B C) (checked_references (functions_by_number B C) p) p) is found in
     let t = tail_is o p ks (same ∙ e) in
     (subst (IsReady B C p) (sym t) (ready B C p ks sound lt h), same ∙ e ∙ ap (λ (u : List ℕ). p ∷ u) (sym t))

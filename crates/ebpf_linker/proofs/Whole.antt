@@ -8,7 +8,7 @@ use Rattle.ebpf_linker.specs.declared.reference.Call.{Call}
 use Rattle.ebpf_linker.specs.declared.body.Body.{Body}
 use Rattle.ebpf_linker.specs.Slots.{relinked}
 use Rattle.ebpf_linker.specs.Functions.{SlotReference, Nothing, Faulty, Names, Among, Distinct, total, BeginsAt, Becomes, Linked}
-use Rattle.ebpf_linker.specs.Numbered.{referred, calls_at, functions}
+use Rattle.ebpf_linker.specs.Numbered.{referred, calls_at, functions_by_number}
 use Rattle.ebpf_linker.specs.Answer.{IsOrder}
 use Rattle.ebpf_linker.specs.LinkedSlots.{linked_slot, body_at, copied_slots, linked_copies, with_bases, bodies_slot_count}
 use Rattle.ebpf_linker.proofs.Visits.{begins_among}
@@ -38,7 +38,7 @@ copied_get bases cs place j n m (y ∷ s) (suc i) x en em e = copied_get bases c
 
 module _ (B : List Body) (C : List (Vec Call Global)) where
   -- the slots of the copies
-  linked_copies_get : (bases ks : List ℕ) (k place b i n : ℕ) (x : bpf_insn) → BeginsAt (functions B C) ks k b → slice_get (body_at B k) i ≡ Some x → n ≡ place + b + i → slice_get (linked_copies B C bases place ks) (b + i) ≡ Some (linked_slot bases n (referred (calls_at C k) i) x)
+  linked_copies_get : (bases ks : List ℕ) (k place b i n : ℕ) (x : bpf_insn) → BeginsAt (functions_by_number B C) ks k b → slice_get (body_at B k) i ≡ Some x → n ≡ place + b + i → slice_get (linked_copies B C bases place ks) (b + i) ≡ Some (linked_slot bases n (referred (calls_at C k) i) x)
   linked_copies_get bases [] k place b i n x h e en = absurd h
   linked_copies_get bases (m ∷ ks) k place b i n x (inl h) e en =
       let z : b + i ≡ i = omega (arith, h.1) in
@@ -49,7 +49,7 @@ module _ (B : List Body) (C : List (Vec Call Global)) where
       get_right (copied_slots bases (calls_at C m) place 0 (body_at B m)) (linked_copies B C bases (place + length (body_at B m)) ks) (b + i) (c + i) (omega arith)
       ∙ linked_copies_get bases ks k (place + length (body_at B m)) c i n x h e (omega arith)
 
-  pub size_same : (ks : List ℕ) → total (functions B C) ks ≡ bodies_slot_count B ks
+  pub size_same : (ks : List ℕ) → total (functions_by_number B C) ks ≡ bodies_slot_count B ks
   size_same [] = refl
   size_same (k ∷ ks) = omega (arith, size_same ks)
 
@@ -65,7 +65,7 @@ module _ (B : List Body) (C : List (Vec Call Global)) where
       let ne : k ≢ m = λ (e : k ≡ m). apart (inl (sym e)) in
       bases_other (end + length (body_at B m)) (slice_set bases m end) ks k (λ a. apart (inr a)) ∙ get_or-set_other bases m k end 0 ne
 
-  pub base_of_index : (end : ℕ) (bases ks : List ℕ) (k : ℕ) → Distinct ks → ((m : ℕ) → Among ks m → m < length bases) → Among ks k → (c : ℕ) × BeginsAt (functions B C) ks k c × (slice_index (with_bases B end bases ks) k ≡ end + c)
+  pub base_of_index : (end : ℕ) (bases ks : List ℕ) (k : ℕ) → Distinct ks → ((m : ℕ) → Among ks m → m < length bases) → Among ks k → (c : ℕ) × BeginsAt (functions_by_number B C) ks k c × (slice_index (with_bases B end bases ks) k ≡ end + c)
   base_of_index end bases [] k once within a = absurd a
   base_of_index end bases (m ∷ ks) k once within (inl e) =
       let other = bases_other (end + length (body_at B m)) (slice_set bases m end) ks m once.0 in
@@ -76,7 +76,7 @@ module _ (B : List Body) (C : List (Vec Call Global)) where
       let (c, begins, is) = base_of_index (end + length (body_at B m)) (slice_set bases m end) ks k once.1 within' a in
       (length (body_at B m) + c, inr (c, omega arith, begins), is ∙ (let z : end + length (body_at B m) + c ≡ end + (length (body_at B m) + c) = omega arith in z))
 
-  becomes_at : (p : ℕ) (ks : List ℕ) (bases : List ℕ) (place : ℕ) (r : SlotReference ℕ Fault) (s : bpf_insn) → ((m : ℕ) → Among ks m → (c : ℕ) × BeginsAt (functions B C) ks m c × (slice_index bases m ≡ length (body_at B p) + c)) → (r ≢ Nothing → (m : ℕ) × (r ≡ Names m) × Among ks m) → Becomes (functions B C) p ks place r s (linked_slot bases place r s)
+  becomes_at : (p : ℕ) (ks : List ℕ) (bases : List ℕ) (place : ℕ) (r : SlotReference ℕ Fault) (s : bpf_insn) → ((m : ℕ) → Among ks m → (c : ℕ) × BeginsAt (functions_by_number B C) ks m c × (slice_index bases m ≡ length (body_at B p) + c)) → (r ≢ Nothing → (m : ℕ) × (r ≡ Names m) × Among ks m) → Becomes (functions_by_number B C) p ks place r s (linked_slot bases place r s)
   becomes_at p ks bases place Nothing s at resolved = refl
   becomes_at p ks bases place (Faulty e) s at resolved =
       let ne : ◌≢◌ {A = SlotReference ℕ Fault} (Faulty e) Nothing = λ (z : ◌≡◌ {A = SlotReference ℕ Fault} (Faulty e) Nothing). cc in
@@ -88,7 +88,7 @@ module _ (B : List Body) (C : List (Vec Call Global)) where
       let (c, begins, is) = at k (subst (Among ks) (sym same) r.2) in
       (c, begins, ap (λ (u : ℕ). relinked s (pos u -ℤ pos (place + 1))) (is))
 
-  pub is_linked : (p : ℕ) (ks : List ℕ) (out : List bpf_insn) (bases : List ℕ) → IsOrder (functions B C).reference p ks → ((m : ℕ) → Among ks m → m < length B) → (before : List ℕ) → length before ≡ length B → bases ≡ with_bases B (length (body_at B p)) before ks → out ≡ linked_copies B C bases 0 (p ∷ ks) → Linked (functions B C) p ks out
+  pub is_linked : (p : ℕ) (ks : List ℕ) (out : List bpf_insn) (bases : List ℕ) → IsOrder (functions_by_number B C).reference p ks → ((m : ℕ) → Among ks m → m < length B) → (before : List ℕ) → length before ≡ length B → bases ≡ with_bases B (length (body_at B p)) before ks → out ≡ linked_copies B C bases 0 (p ∷ ks) → Linked (functions_by_number B C) p ks out
   is_linked p ks out bases order within before count places is =
       record {
         once = order.once;
@@ -99,9 +99,9 @@ module _ (B : List Body) (C : List (Vec Call Global)) where
         slots = λ k b i s begins at.
             let at' = at in
             let within' : (m : ℕ) → Among ks m → m < length before = λ m h. let lt = within m h in omega (arith, lt, count) in
-            let found : (m : ℕ) → Among ks m → (c : ℕ) × BeginsAt (functions B C) ks m c × (slice_index bases m ≡ length (body_at B p) + c) = λ m h. let (c, g, e) = base_of_index (length (body_at B p)) before ks m order.once within' h in (c, g, ap (λ (u : List ℕ). slice_index u m) places ∙ e) in (
+            let found : (m : ℕ) → Among ks m → (c : ℕ) × BeginsAt (functions_by_number B C) ks m c × (slice_index bases m ≡ length (body_at B p) + c) = λ m h. let (c, g, e) = base_of_index (length (body_at B p)) before ks m order.once within' h in (c, g, ap (λ (u : List ℕ). slice_index u m) places ∙ e) in (
               linked_slot bases (b + i) (referred (calls_at C k) i) s,
               ap (λ (u : List bpf_insn). slice_get u (b + i)) is ∙ linked_copies_get bases (p ∷ ks) k 0 b i (b + i) s begins at' (omega arith),
-              becomes_at p ks bases (b + i) (referred (calls_at C k) i) s found (λ some. order.resolved k i (begins_among (functions B C) (p ∷ ks) k b begins) some),
+              becomes_at p ks bases (b + i) (referred (calls_at C k) i) s found (λ some. order.resolved k i (begins_among (functions_by_number B C) (p ∷ ks) k b begins) some),
             );
       }

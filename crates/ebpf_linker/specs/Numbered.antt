@@ -34,8 +34,8 @@ option_content None = None
 option_content (Some b) = Some (body_content b)
 
 -- functions by their numbers, with these bodies and these references
-abbrev pub functions : List Body → List (Vec Call Global) → Functions ℕ Fault
-functions B C = record {
+abbrev pub functions_by_number : List Body → List (Vec Call Global) → Functions ℕ Fault
+functions_by_number B C = record {
   content = λ k. option_content (slice_get B k);
   reference = λ k x. referred (calls_at C k) x;
   mismatch = λ k. FunctionInfoMismatch k;

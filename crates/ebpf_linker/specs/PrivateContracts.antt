@@ -11,7 +11,7 @@ use Rattle.ebpf_linker.specs.declared.body.Body.{Body}
 use Rattle.ebpf_linker.specs.declared.reference.Target.{Target}
 use Rattle.ebpf_linker.specs.declared.reference.Target.TheVariants.{Function, Nowhere}
 use Rattle.ebpf_linker.specs.declared.reference.Call.{Call}
-use Rattle.ebpf_linker.specs.Numbered.{option_content, functions}
+use Rattle.ebpf_linker.specs.Numbered.{option_content, functions_by_number}
 
 -- a line record that stands before the first one, or past 32 bits where the function begins at a base
 abbrev pub is_stray : ℕ → ℕ → bpf_line_info → Bool

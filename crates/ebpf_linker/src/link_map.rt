@@ -4,7 +4,7 @@ ghost use Rattle.std.specs.Prelude.{◌≡◌, ℕ, ◌+◌, ◌<◌, ◌≤◌,
 ghost use Rattle.ebpf_linker.specs.LinkedSlots.{Fit, body_at};
 ghost use Rattle.ebpf_linker.specs.LinkMap.{copies_from, numbered_copy, IsLinkMapAnswer, IsNumberedLinkMap};
 ghost use Rattle.ebpf_linker.specs.LinkedReferences.{linked_reference, references_of_copy, references_of_copies};
-ghost use Rattle.ebpf_linker.specs.Numbered.{IsWithin, Sound, functions};
+ghost use Rattle.ebpf_linker.specs.Numbered.{IsWithin, Sound, functions_by_number};
 ghost use Rattle.ebpf_linker.specs.Ready.{IsReady};
 
 use crate::bases::copy_bases;
@@ -57,7 +57,7 @@ fn copies_of(
     requires start { start < length bodies.now }
     requires reached { All (λ k. k < length bodies.now) reached.now }
     requires fit { Fit bodies.now (length (body_at bodies.now start)) reached.now }
-    ensures { IfOk result (λ copies. copies.items ≡ map numbered_copy (copies_from (functions bodies.now []) 0 (start ∷ reached.now))) }
+    ensures { IfOk result (λ copies. copies.items ≡ map numbered_copy (copies_from (functions_by_number bodies.now []) 0 (start ∷ reached.now))) }
 {
     let mut copies = Vec::new(alloc);
     let mut end = bodies[start].slots.len();
@@ -163,7 +163,7 @@ fn link_map_of(
     requires calls { length calls.now ≡ length bodies.now }
     requires sound { Sound (length bodies.now) calls.now }
     requires ready { IsReady bodies.now calls.now start reached.now }
-    ensures { IfOk result (λ m. IsNumberedLinkMap (functions bodies.now calls.now) start m) }
+    ensures { IfOk result (λ m. IsNumberedLinkMap (functions_by_number bodies.now calls.now) start m) }
 {
     let bases = copy_bases(alloc, tables, bodies, bodies[start].slots.len(), reached)?;
     let copies = copies_of(alloc, bodies, start, reached)?;
@@ -192,7 +192,7 @@ pub fn link_map(
     requires start { start < length bodies.now }
     requires calls { length calls.now ≡ length bodies.now }
     requires sound { Sound (length bodies.now) calls.now }
-    ensures { IfOk result (λ answer. IsLinkMapAnswer (functions bodies.now calls.now) start answer) }
+    ensures { IfOk result (λ answer. IsLinkMapAnswer (functions_by_number bodies.now calls.now) start answer) }
 {
     let order = match search(alloc, tables, bodies, calls, start)? {
         Ok(order) => order,

@@ -1,7 +1,7 @@
 //! Linking a program.
 
 ghost use Rattle.std.specs.Prelude.{◌≡◌, ℕ, ◌+◌, ◌<◌, ◌∷◌, length, IfOk, All};
-ghost use Rattle.ebpf_linker.specs.Numbered.{Sound, functions};
+ghost use Rattle.ebpf_linker.specs.Numbered.{Sound, functions_by_number};
 ghost use Rattle.ebpf_linker.specs.Ready.{IsReady};
 ghost use Rattle.ebpf_linker.specs.Result.{IsLinking, IsProgram};
 
@@ -41,7 +41,7 @@ fn assemble(
     requires sound { Sound (length bodies.now) calls.now }
     requires ready { IsReady bodies.now calls.now start copies.now }
     requires order { order.now ≡ start ∷ copies.now }
-    ensures { IfOk result (λ program. IsProgram (functions bodies.now calls.now) start copies.now program) }
+    ensures { IfOk result (λ program. IsProgram (functions_by_number bodies.now calls.now) start copies.now program) }
 {
     let bases = copy_bases(alloc, tables, bodies, bodies[start].slots.len(), copies)?;
     let size = bodies_slot_count(bodies, &bases, start, copies);
@@ -79,7 +79,7 @@ pub fn link(
     requires start { start < length bodies.now }
     requires calls { length calls.now ≡ length bodies.now }
     requires sound { Sound (length bodies.now) calls.now }
-    ensures { IfOk result (λ answer. IsLinking (functions bodies.now calls.now) start answer) }
+    ensures { IfOk result (λ answer. IsLinking (functions_by_number bodies.now calls.now) start answer) }
 {
     let order = match search(alloc, tables, bodies, calls, start)? {
         Ok(order) => order,

@@ -4,7 +4,7 @@ ghost use Rattle.std.specs.Prelude.{◌≡◌, ℕ, ◌+◌, ◌<◌, ◌≤◌,
 ghost use Rattle.ebpf_linker.specs.Faults.{first_line};
 ghost use Rattle.ebpf_linker.specs.PrivateContracts.{has_stray, is_stray};
 ghost use Rattle.ebpf_linker.specs.LinkedSlots.{Fit, body_at};
-ghost use Rattle.ebpf_linker.specs.Numbered.{functions};
+ghost use Rattle.ebpf_linker.specs.Numbered.{functions_by_number};
 ghost use Rattle.ebpf_linker.specs.Records.{func_moved, line_moved, linked_func_info, linked_line_info, has_lines, count_if};
 
 use crate::body::Body;
@@ -69,7 +69,7 @@ pub fn func_records(
     requires start { start < length bodies.now }
     requires copies { All (λ k. k < length bodies.now) copies.now }
     requires fit { Fit bodies.now (length (body_at bodies.now start)) copies.now }
-    ensures { IfOk result (λ out. out.items ≡ linked_func_info (functions bodies.now []) start copies.now) }
+    ensures { IfOk result (λ out. out.items ≡ linked_func_info (functions_by_number bodies.now []) start copies.now) }
 {
     let mut out = Vec::new(alloc);
     out.extend_from_slice(bodies[start].func_info)?;
@@ -91,7 +91,7 @@ pub fn line_records(
     requires start { start < length bodies.now }
     requires copies { All (λ k. k < length bodies.now) copies.now }
     requires fit { Fit bodies.now (length (body_at bodies.now start)) copies.now }
-    ensures { IfOk result (λ out. out.items ≡ linked_line_info (functions bodies.now []) start copies.now) }
+    ensures { IfOk result (λ out. out.items ≡ linked_line_info (functions_by_number bodies.now []) start copies.now) }
 {
     let mut out = Vec::new(alloc);
     out.extend_from_slice(bodies[start].line_info)?;
@@ -106,7 +106,7 @@ pub fn line_records(
 /// Whether one of these functions has records on lines.
 pub fn has_lines(bodies: &[Body<'_>], copies: &[usize]) -> bool
     requires { All (λ k. k < length bodies.now) copies.now }
-    ensures { result ≡ has_lines (functions bodies.now []) copies.now }
+    ensures { result ≡ has_lines (functions_by_number bodies.now []) copies.now }
 {
     for copy in copies {
         if !bodies[*copy].line_info.is_empty() {

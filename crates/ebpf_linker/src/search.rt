@@ -5,7 +5,7 @@ ghost use Rattle.ebpf_linker.specs.Answer.{Finds};
 ghost use Rattle.ebpf_linker.specs.Faults.{checked_references, append_fault};
 ghost use Rattle.ebpf_linker.specs.PrivateContracts.{content_fault, has_stray, is_stray, content_in};
 ghost use Rattle.ebpf_linker.specs.Functions.{Among};
-ghost use Rattle.ebpf_linker.specs.Numbered.{Sound, IsWithin, body_content, functions};
+ghost use Rattle.ebpf_linker.specs.Numbered.{Sound, IsWithin, body_content, functions_by_number};
 ghost use Rattle.ebpf_linker.specs.Steps.{Advanced, Entered, search_at, checked_calls, checked_target};
 ghost use Rattle.ebpf_linker.specs.declared.reference.Fault.TheVariants.{ProgramTooLong, InvalidLineInfo};
 
@@ -101,7 +101,7 @@ impl Progress {
     ) -> Result<Option<Fault>, AllocError>
         requires callee { callee < length bodies.now }
         requires flags { length self.old.is_found.items ≡ length bodies.now }
-        ensures { IfOk result (λ fault. Entered (functions bodies.now []) top (search_at self.old.order.items self.old.is_found.items self.old.work_list.items self.old.used) (search_at self.new.order.items self.new.is_found.items self.new.work_list.items self.new.used) fault callee) }
+        ensures { IfOk result (λ fault. Entered (functions_by_number bodies.now []) top (search_at self.old.order.items self.old.is_found.items self.old.work_list.items self.old.used) (search_at self.new.order.items self.new.is_found.items self.new.work_list.items self.new.used) fault callee) }
     {
         let body = &bodies[callee];
         if let Some(fault) = append_fault(body, self.used, callee) {
@@ -133,7 +133,7 @@ impl Progress {
         requires sound { Sound (length bodies.now) calls.now }
         requires function { top.function < length bodies.now }
         requires flags { length self.old.is_found.items ≡ length bodies.now }
-        ensures { IfOk result (λ fault. Advanced (functions bodies.now calls.now) (checked_calls bodies.now calls.now start) top (search_at self.old.order.items self.old.is_found.items self.old.work_list.items self.old.used) (search_at self.new.order.items self.new.is_found.items self.new.work_list.items self.new.used) fault) }
+        ensures { IfOk result (λ fault. Advanced (functions_by_number bodies.now calls.now) (checked_calls bodies.now calls.now start) top (search_at self.old.order.items self.old.is_found.items self.old.work_list.items self.old.used) (search_at self.new.order.items self.new.is_found.items self.new.work_list.items self.new.used) fault) }
     {
         let list = &calls[top.function];
         let Some(call) = list.get(top.next) else {
@@ -183,7 +183,7 @@ pub fn search(
     requires start { start < length bodies.now }
     requires calls { length calls.now ≡ length bodies.now }
     requires sound { Sound (length bodies.now) calls.now }
-    ensures { IfOk result (λ answer. Finds (functions bodies.now calls.now) (checked_references (functions bodies.now calls.now) start) start answer) }
+    ensures { IfOk result (λ answer. Finds (functions_by_number bodies.now calls.now) (checked_references (functions_by_number bodies.now calls.now) start) start answer) }
 {
     let mut order = Vec::new(alloc);
     order.push(start)?;

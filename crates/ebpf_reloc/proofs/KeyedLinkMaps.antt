@@ -13,7 +13,7 @@ use Rattle.ebpf_linker.specs.declared.reference.Fault.{Fault}
 use Rattle.ebpf_linker.specs.Functions.{body}
 use Rattle.ebpf_linker.specs.LinkMap.{CopyOf, copies_from, numbered_copy, IsLinkMap, IsLinkMapAnswer}
 use Rattle.ebpf_linker.specs.PrivateContracts.{key_copy}
-use Rattle.ebpf_linker.specs.Numbered.{body_content, functions}
+use Rattle.ebpf_linker.specs.Numbered.{body_content, functions_by_number}
 use Rattle.ebpf_linker.proofs.Carry.{carried, references_same}
 use Rattle.ebpf_linker.proofs.CarryLinkMap.{map_to}
 use Rattle.ebpf_linker.proofs.Renamed.{AllNumbers, all_numbers, reached_number}
@@ -58,22 +58,22 @@ module _ (parts : LinkableValue) where
     IsNumber m = m < length keys
 
     -- the copies of functions with numbers have their names
-    names_same : (base : ℕ) (ms : List ℕ) → AllNumbers IsNumber ms → map (named_copy keys fs) (map numbered_copy (copies_from (functions B C) base ms)) ≡ map (code_copy parts.functions) (map (key_copy (key_in keys)) (copies_from (functions B C) base ms))
+    names_same : (base : ℕ) (ms : List ℕ) → AllNumbers IsNumber ms → map (named_copy keys fs) (map numbered_copy (copies_from (functions_by_number B C) base ms)) ≡ map (code_copy parts.functions) (map (key_copy (key_in keys)) (copies_from (functions_by_number B C) base ms))
     names_same base [] all = refl
     names_same base (m ∷ ms) all =
         let name = name_here parts B C bodies calls m all.0 in
-        let rest = names_same (base + length (body (functions B C) m)) ms all.1 in
-        λ i. record { key = key_in keys m; name = sym name i; base = base; slots = length (body (functions B C) m) } ∷ rest i
+        let rest = names_same (base + length (body (functions_by_number B C) m)) ms all.1 in
+        λ i. record { key = key_in keys m; name = sym name i; base = base; slots = length (body (functions_by_number B C) m) } ∷ rest i
 
-    keyed_link_map : (number : ℕ) (m : NumberedLinkMap) → number < length keys → IsLinkMapAnswer {E = Fault} (functions B C) number (Ok m) → IsKeyedLinkMap parts number m
+    keyed_link_map : (number : ℕ) (m : NumberedLinkMap) → number < length keys → IsLinkMapAnswer {E = Fault} (functions_by_number B C) number (Ok m) → IsKeyedLinkMap parts number m
     keyed_link_map number m lt (ks, cs, h, are) =
         let num = numbered parts B C bodies calls in
-        let same = references_same (functions B C) (functions_of parts) IsNumber (key_in keys) (with_function_names fs) num in
-        let all = all_numbers IsNumber (key_in keys) ks (λ k a. reached_number (functions B C).reference (functions_of parts).reference IsNumber (key_in keys) (with_function_names fs) same number k lt (h.order.reached k a)) in
+        let same = references_same (functions_by_number B C) (functions_of parts) IsNumber (key_in keys) (with_function_names fs) num in
+        let all = all_numbers IsNumber (key_in keys) ks (λ k a. reached_number (functions_by_number B C).reference (functions_of parts).reference IsNumber (key_in keys) (with_function_names fs) same number k lt (h.order.reached k a)) in
         record {
           order = map (key_in keys) ks;
           copies = map (key_copy (key_in keys)) cs;
-          program = map_to (functions B C) (functions_of parts) IsNumber (key_in keys) (with_function_names fs) num number ks cs m.references lt h;
+          program = map_to (functions_by_number B C) (functions_of parts) IsNumber (key_in keys) (with_function_names fs) num number ks cs m.references lt h;
           named = ap (map (named_copy keys fs)) are
               ∙ ap (λ (u : List (CopyOf ℕ)). map (named_copy keys fs) (map numbered_copy u)) h.copies
               ∙ names_same 0 (number ∷ ks) (lt, all)
@@ -81,7 +81,7 @@ module _ (parts : LinkableValue) where
         }
 
     -- what is found by number, is found by key
-    pub mapped_by_key : (number : ℕ) → number < length keys → (r : Result (Result NumberedLinkMap Fault) AllocError) → IfOk r (λ answer. IsLinkMapAnswer (functions B C) number answer) → IfOk r (λ answer. IsKeyedLinkMapAnswer parts number answer)
+    pub mapped_by_key : (number : ℕ) → number < length keys → (r : Result (Result NumberedLinkMap Fault) AllocError) → IfOk r (λ answer. IsLinkMapAnswer (functions_by_number B C) number answer) → IfOk r (λ answer. IsKeyedLinkMapAnswer parts number answer)
     mapped_by_key number lt (Ok (Ok m)) h = keyed_link_map number m lt h
-    mapped_by_key number lt (Ok (Err e)) h = carried (functions B C) (functions_of parts) IsNumber (key_in keys) (with_function_names fs) (numbered parts B C bodies calls) number lt (Err e) h
+    mapped_by_key number lt (Ok (Err e)) h = carried (functions_by_number B C) (functions_of parts) IsNumber (key_in keys) (with_function_names fs) (numbered parts B C bodies calls) number lt (Err e) h
     mapped_by_key number lt (Err e) h = tt

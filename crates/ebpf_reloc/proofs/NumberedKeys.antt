@@ -14,7 +14,7 @@ use Rattle.ebpf_linker.specs.declared.reference.Fault.{Fault}
 use Rattle.ebpf_linker.specs.declared.reference.Target.{Target}
 use Rattle.ebpf_linker.specs.declared.reference.Target.TheVariants.{Function as ToFunction, Nowhere}
 use Rattle.ebpf_linker.specs.Functions.{Names}
-use Rattle.ebpf_linker.specs.Numbered.{of_target, referred, calls_or_empty, calls_at, body_content, option_content, functions, Rises, IsWithin, Sound}
+use Rattle.ebpf_linker.specs.Numbered.{of_target, referred, calls_or_empty, calls_at, body_content, option_content, functions_by_number, Rises, IsWithin, Sound}
 use Rattle.ebpf_linker.specs.declared.body.LinkedProgram.{LinkedProgram}
 use Rattle.ebpf_linker.specs.Renaming.{answer_named}
 use Rattle.ebpf_linker.proofs.Numbering.{renamed, Numbers}
@@ -136,7 +136,7 @@ module _ (parts : LinkableValue) where
     reference_here m i (Some f) at = same_slot m i f (ap function_name_or_empty at) (slice_get f.instructions i) ∙ ap (renamed (key_in keys) (with_function_names fs)) (sym (referred_at (numbered_target_at parts keys m f) f.instructions i))
 
     -- the functions by number are the functions by key
-    pub numbered : Numbers (functions B C) (functions_of parts) (λ m. m < length keys) (key_in keys) (with_function_names fs)
+    pub numbered : Numbers (functions_by_number B C) (functions_of parts) (λ m. m < length keys) (key_in keys) (with_function_names fs)
     numbered = record {
       content = λ m lt. ap (option_map content_of) (function_here m lt) ∙ sym (content_here m);
       reference = λ m i lt. ap (λ f. reference_of parts f i) (function_here m lt) ∙ reference_here m i (slice_get fs m) refl ∙ ap (λ cs. renamed (key_in keys) (with_function_names fs) (referred cs i)) (sym (calls_of_all m));
@@ -161,7 +161,7 @@ module _ (parts : LinkableValue) where
     count_calls = sym (length-map C (λ (v : Vec Call Global). v.items)) ∙ ap length calls ∙ length_calls fs 0 ∙ count_functions ∙ sym count_bodies
 
     -- what linking gives by number, it gives by key
-    pub linked_by_key : (number : ℕ) → number < length keys → (r : Result (Result LinkedProgram Fault) AllocError) → IfOk r (λ answer. IsLinking (functions B C) number answer)
+    pub linked_by_key : (number : ℕ) → number < length keys → (r : Result (Result LinkedProgram Fault) AllocError) → IfOk r (λ answer. IsLinking (functions_by_number B C) number answer)
         → IfOk r (λ answer. IsLinking (functions_of parts) (key_in keys number) (answer_named (with_function_names fs) answer))
-    linked_by_key number lt (Ok answer) h = carried (functions B C) (functions_of parts) (λ m. m < length keys) (key_in keys) (with_function_names fs) numbered number lt answer h
+    linked_by_key number lt (Ok answer) h = carried (functions_by_number B C) (functions_of parts) (λ m. m < length keys) (key_in keys) (with_function_names fs) numbered number lt answer h
     linked_by_key number lt (Err e) h = tt

@@ -1,7 +1,7 @@
 use Rattle.std.proofs.Common.{◌≡◌, ℕ, Bool, length, ap, sym, ◌∙◌, subst}
 use Rattle.ebpf_linker.specs.Faults.{has_some}
 use Rattle.ebpf_linker.specs.LinkedSlots.{with_bases, linked_copies}
-use Rattle.ebpf_linker.specs.Numbered.{functions}
+use Rattle.ebpf_linker.specs.Numbered.{functions_by_number}
 use Rattle.ebpf_linker.specs.Records.{count_if, has_lines}
 use Rattle.ebpf_linker.proofs.BasesInOrder.{length-with_bases, body_read, no_body}
 use Rattle.ebpf_linker.proofs.RecordWalks.{some_if}
@@ -33,4 +33,4 @@ returns c =
     (c.from_vec-2.ensures ∙ c.in_ok-func_info.ensures)
     (c.from_vec-3.ensures ∙ c.in_ok-line_info.ensures)
     (c.count_if-func_count.ensures ∙ ap (λ (b : Bool). count_if b c.deref-3.result.now) (sym some) ∙ ap (count_if (has_some ks)) (c.deref-3.ensures.value ∙ sym c.from_vec-2.ensures))
-    (c.count_if-line_count.ensures ∙ ap (λ (b : Bool). count_if b c.deref-4.result.now) c.has_lines.ensures ∙ ap (count_if (has_lines (functions B C) ks)) (c.deref-4.ensures.value ∙ sym c.from_vec-3.ensures))
+    (c.count_if-line_count.ensures ∙ ap (λ (b : Bool). count_if b c.deref-4.result.now) c.has_lines.ensures ∙ ap (count_if (has_lines (functions_by_number B C) ks)) (c.deref-4.ensures.value ∙ sym c.from_vec-3.ensures))

@@ -1,11 +1,11 @@
 use Rattle.std.proofs.Common.{◌≡◌, ◌++◌, [], drop}
 use Rattle.ebpf_linker.specs.LinkedSlots.{Fit}
-use Rattle.ebpf_linker.specs.Numbered.{functions}
+use Rattle.ebpf_linker.specs.Numbered.{functions_by_number}
 use Rattle.ebpf_linker.specs.Records.{line_records, linked_line_info}
 use Rattle.ebpf_linker.proofs.records.line_records.Given as goal
 
 abbrev pub invariant-loop-copy : goal.invariant-loop-copy
 invariant-loop-copy l = record {
-  whole : l.out.items ++ line_records (functions l.bodies []) l.base (drop l.copy-index l.copies) ≡ linked_line_info (functions l.bodies []) l.start l.copies;
+  whole : l.out.items ++ line_records (functions_by_number l.bodies []) l.base (drop l.copy-index l.copies) ≡ linked_line_info (functions_by_number l.bodies []) l.start l.copies;
   fit : Fit l.bodies l.base (drop l.copy-index l.copies);
 }

@@ -4,7 +4,7 @@ use Rattle.std.specs.declared.alloc.Global.{Global}
 use Rattle.ebpf_linker.specs.declared.reference.Fault.{Fault}
 use Rattle.ebpf_linker.specs.declared.search.Open.{Open}
 use Rattle.ebpf_linker.specs.Functions.{FunctionContent, Among}
-use Rattle.ebpf_linker.specs.Numbered.{functions}
+use Rattle.ebpf_linker.specs.Numbered.{functions_by_number}
 use Rattle.ebpf_linker.specs.Steps.{Advanced, Search, search_at, checked_calls, call_target}
 use Rattle.ebpf_linker.proofs.Searched.{State, advanced, started}
 use Rattle.ebpf_linker.proofs.Counted.{counted, refused, found_all, counted_first}
@@ -23,7 +23,7 @@ loop-top-init c =
     let fs : c.in_ok-is_found.is_found.items ≡ replicate (length B) false = search rules in
     record {
       state = started (length B) (checked_calls B C c.args.start) c.args.start _ _ _ c.requires.start o fs s;
-      counted = counted_first (functions B C) c.args.start _ c.push.new.self.items o (ap (λ (u : FunctionContent). length u.slots) (sym (content_read B c.args.start _ c.requires.start)));
+      counted = counted_first (functions_by_number B C) c.args.start _ c.push.new.self.items o (ap (λ (u : FunctionContent). length u.slots) (sym (content_read B c.args.start _ c.requires.start)));
     }
 
 pub finish-order-requires-clause-within : goal.finish-order-requires-clause-within
@@ -31,7 +31,7 @@ finish-order-requires-clause-within c =
     let B = c.args.bodies.now in
     let C = c.args.calls.now in
     let p = c.args.start in
-    let F = functions B C in
+    let F = functions_by_number B C in
     let s = search_at c.loop-top.progress.order.items c.loop-top.progress.is_found.items c.pop.new.self.items c.loop-top.progress.used in
     let t = search_at c.advance.new.self.order.items c.advance.new.self.is_found.items c.advance.new.self.work_list.items c.advance.new.self.used in
     let top = c.in-Some.top in
@@ -44,7 +44,7 @@ finish-order-requires-clause-marked c =
     let B = c.args.bodies.now in
     let C = c.args.calls.now in
     let p = c.args.start in
-    let F = functions B C in
+    let F = functions_by_number B C in
     let s = search_at c.loop-top.progress.order.items c.loop-top.progress.is_found.items c.pop.new.self.items c.loop-top.progress.used in
     let t = search_at c.advance.new.self.order.items c.advance.new.self.is_found.items c.advance.new.self.work_list.items c.advance.new.self.used in
     let top = c.in-Some.top in
@@ -63,7 +63,7 @@ returns-in-Some-step c =
     let B = c.args.bodies.now in
     let C = c.args.calls.now in
     let p = c.args.start in
-    let F = functions B C in
+    let F = functions_by_number B C in
     let s = search_at c.loop-top.progress.order.items c.loop-top.progress.is_found.items c.pop.new.self.items c.loop-top.progress.used in
     let t = search_at c.advance.new.self.order.items c.advance.new.self.is_found.items c.advance.new.self.work_list.items c.advance.new.self.used in
     let top = c.in-Some.top in
@@ -76,7 +76,7 @@ loop-top-smaller c =
     let B = c.args.bodies.now in
     let C = c.args.calls.now in
     let p = c.args.start in
-    let F = functions B C in
+    let F = functions_by_number B C in
     let s = search_at c.loop-top.progress.order.items c.loop-top.progress.is_found.items c.pop.new.self.items c.loop-top.progress.used in
     let t = search_at c.advance.new.self.order.items c.advance.new.self.is_found.items c.advance.new.self.work_list.items c.advance.new.self.used in
     let top = c.in-Some.top in
@@ -89,7 +89,7 @@ loop-top-preserved c =
     let B = c.args.bodies.now in
     let C = c.args.calls.now in
     let p = c.args.start in
-    let F = functions B C in
+    let F = functions_by_number B C in
     let s = search_at c.loop-top.progress.order.items c.loop-top.progress.is_found.items c.pop.new.self.items c.loop-top.progress.used in
     let t = search_at c.advance.new.self.order.items c.advance.new.self.is_found.items c.advance.new.self.work_list.items c.advance.new.self.used in
     let top = c.in-Some.top in
@@ -106,5 +106,5 @@ returns c =
     let C = c.args.calls.now in
     let p = c.args.start in
     let empty : length c.loop-top.progress.work_list.items ≡ 0 = omega (arith, c.loop-top.progress.work_list.ok.0, c.in_default.ensures.cases.0) in
-    let (ks, is, is_found) = found_all (functions B C) (length B) (checked_calls B C p) p c.loop-top.progress.order.items c.loop-top.progress.is_found.items c.loop-top.progress.work_list.items c.loop-top.progress.used empty c.loop-top.invariant.state c.loop-top.invariant.counted in
+    let (ks, is, is_found) = found_all (functions_by_number B C) (length B) (checked_calls B C p) p c.loop-top.progress.order.items c.loop-top.progress.is_found.items c.loop-top.progress.work_list.items c.loop-top.progress.used empty c.loop-top.invariant.state c.loop-top.invariant.counted in
     finds B C p (Ok c.finish.result) (ks, ap (λ (v : Vec ℕ Global). v.items) c.finish.ensures ∙ is, is_found)

@@ -1,4 +1,4 @@
-use Rattle.ebpf_linker.specs.Numbered.{functions}
+use Rattle.ebpf_linker.specs.Numbered.{functions_by_number}
 use Rattle.ebpf_linker.specs.Steps.{checked_calls, search_at}
 use Rattle.ebpf_linker.proofs.Searched.{State}
 use Rattle.ebpf_linker.proofs.Counted.{Counted}
@@ -9,7 +9,7 @@ use Rattle.ebpf_linker.proofs.search.search.Given as goal
 abbrev pub invariant-loop-top : goal.invariant-loop-top
 invariant-loop-top l = record {
   state : State (length l.bodies) (checked_calls l.bodies l.calls l.start) l.start l.progress.order.items l.progress.is_found.items l.progress.work_list.items;
-  counted : Counted (functions l.bodies l.calls) l.progress.order.items l.progress.used;
+  counted : Counted (functions_by_number l.bodies l.calls) l.progress.order.items l.progress.used;
 }
 
 abbrev pub decreases-loop-top : goal.decreases-loop-top
