@@ -11,7 +11,8 @@ use Rattle.ebpf_linker.specs.declared.reference.Call.{Call}
 use Rattle.ebpf_linker.specs.declared.reference.Fault.TheVariants.{ProgramTooLong, InvalidLineInfo}
 use Rattle.std.proofs.lemmas.Option.{slice_get_read}
 use Rattle.ebpf_linker.specs.Functions.{FunctionContent, Among}
-use Rattle.ebpf_linker.specs.PrivateContracts.{content_fault, has_stray, content_in}
+use Rattle.ebpf_linker.specs.Faults.{content_fault, has_stray}
+use Rattle.ebpf_linker.specs.PrivateContracts.{content_in}
 use Rattle.ebpf_linker.specs.Numbered.{calls_at, calls_or_empty}
 use Rattle.ebpf_linker.specs.LinkedSlots.{body_at, with_bases, bodies_slot_count, copied_slots, linked_copies, Fit}
 use Rattle.ebpf_linker.proofs.Checked.{content_read}

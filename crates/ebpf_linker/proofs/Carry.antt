@@ -10,7 +10,7 @@ use Rattle.ebpf_linker.specs.Slots.{relinked}
 use Rattle.ebpf_linker.specs.Functions.{SlotReference, Nothing, Faulty, Names, References, Functions, FunctionContent, or_empty, content_at, body, Among, Distinct, last_key_or, total, BeginsAt, Becomes, Linked}
 use Rattle.ebpf_linker.specs.Order.{KeyPath}
 use Rattle.ebpf_linker.specs.Faults.{same, has_some, func_info_agrees, checked, checked_references, append_fault, Base, FaultStandsAt, Faultless, LeastFault, first_line}
-use Rattle.ebpf_linker.specs.PrivateContracts.{content_fault}
+use Rattle.ebpf_linker.specs.Faults.{content_fault}
 use Rattle.ebpf_linker.specs.Records.{func_moved, line_moved, func_records, line_records, linked_func_info, linked_line_info, has_lines, count_if}
 use Rattle.ebpf_linker.specs.Result.{IsProgram, IsLinking}
 use Rattle.ebpf_linker.specs.Renaming.{answer_named}

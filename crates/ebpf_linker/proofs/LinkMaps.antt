@@ -17,7 +17,7 @@ use Rattle.ebpf_linker.specs.Functions.{SlotReference, Nothing, Names, Among, Be
 use Rattle.ebpf_linker.specs.Answer.{IsOrder}
 use Rattle.ebpf_linker.specs.LinkedSlots.{body_at, with_bases}
 use Rattle.ebpf_linker.specs.LinkMap.{CopyOf, copies_from, IsReference, AreReferences, IsLinkMap, numbered_copy}
-use Rattle.ebpf_linker.specs.PrivateContracts.{PlacesRise}
+use Rattle.ebpf_linker.specs.LinkMap.{PlacesRise}
 use Rattle.ebpf_linker.specs.LinkedReferences.{linked_reference_at, linked_reference, with_linked_reference, references_of_copy, references_of_copies}
 use Rattle.ebpf_linker.specs.Numbered.{of_target, referred, calls_at, functions_by_number, Rises, Sound}
 use Rattle.ebpf_linker.specs.Ready.{IsReady}

@@ -4,7 +4,7 @@ use Rattle.std.specs.Prelude.{nat_lt, nat_le, ◌||◌}
 use Rattle.std.specs.List.{list_any}
 use Rattle.std.proofs.lemmas.Bool.{ltb-false, leb-false}
 use Rattle.ebpf_ext.specs.declared.ext_infos.bpf_line_info.{bpf_line_info}
-use Rattle.ebpf_linker.specs.PrivateContracts.{is_stray}
+use Rattle.ebpf_linker.specs.Faults.{is_stray}
 
 or_false : (b c : Bool) → (b || c) ≡ false → (b ≡ false) × (c ≡ false)
 or_false true c e = cc

@@ -6,7 +6,7 @@ use Rattle.ebpf_linker.specs.declared.body.LinkedProgram.{LinkedProgram}
 use Rattle.ebpf_linker.specs.declared.link_map.Reference.{Reference}
 use Rattle.ebpf_linker.specs.Functions.{SlotReference as Refers, Functions, body, Among, BeginsAt, Becomes, total}
 use Rattle.ebpf_linker.specs.LinkMap.{CopyOf, copies_from, AreReferences, IsLinkMap}
-use Rattle.ebpf_linker.specs.PrivateContracts.{PlacesRise}
+use Rattle.ebpf_linker.specs.LinkMap.{PlacesRise}
 use Rattle.ebpf_linker.specs.LinkMapLaws.{Lands, copied_slot_count}
 use Rattle.ebpf_linker.specs.Result.{IsProgram}
 use Rattle.ebpf_linker.proofs.OneResult.{one_order, one_begin}

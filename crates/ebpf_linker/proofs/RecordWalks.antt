@@ -7,7 +7,8 @@ use Rattle.ebpf_ext.specs.declared.ext_infos.bpf_line_info.{bpf_line_info}
 use Rattle.ebpf_linker.specs.declared.body.Body.{Body}
 use Rattle.ebpf_linker.specs.Functions.{FunctionContent}
 use Rattle.ebpf_linker.specs.Faults.{has_some, first_line}
-use Rattle.ebpf_linker.specs.PrivateContracts.{has_stray, content_in}
+use Rattle.ebpf_linker.specs.Faults.{has_stray}
+use Rattle.ebpf_linker.specs.PrivateContracts.{content_in}
 use Rattle.ebpf_linker.specs.LinkedSlots.{Fit}
 use Rattle.ebpf_linker.specs.declared.reference.Fault.TheVariants.{ProgramTooLong, InvalidLineInfo}
 use Rattle.ebpf_linker.specs.Numbered.{functions_by_number}

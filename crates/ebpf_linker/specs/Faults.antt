@@ -1,7 +1,9 @@
 -- What may be wrong with linking a program, where it stands, and which of it is the least.
-use Rattle.std.specs.Prelude.{◌≡◌, ℕ, ◌+◌, ◌-◌, Bool, true, false, not, if◌then◌else◌, ◌⊎◌, List, [], ◌∷◌, ◌++◌, Option, Some}
+use Rattle.std.specs.Prelude.{◌≡◌, ℕ, ◌+◌, ◌-◌, ◌^◌, Bool, true, false, not, ◌||◌, if◌then◌else◌, nat_lt, nat_le, ◌⊎◌, List, [], ◌∷◌, ◌++◌, length, Option, Some}
+use Rattle.std.specs.List.{list_any}
+use Rattle.ebpf_base.specs.Faults.{first_of}
 use Rattle.ebpf_ext.specs.declared.ext_infos.bpf_line_info.{bpf_line_info}
-use Rattle.ebpf_linker.specs.Functions.{SlotReference, Nothing, Faulty, Names, References, Functions, content_at, Among, Distinct, total}
+use Rattle.ebpf_linker.specs.Functions.{SlotReference, Nothing, Faulty, Names, References, FunctionContent, Functions, content_at, Among, Distinct, total}
 use Rattle.ebpf_linker.specs.Order.{Before, KeyPath, HasReferenceFault}
 
 abbrev pub same : Bool → Bool → Bool
@@ -16,6 +18,19 @@ has_some (x ∷ xs) = true
 abbrev pub first_line : List bpf_line_info → ℕ
 first_line [] = 0
 first_line (line ∷ lines) = line.insn_off
+
+-- a line record that stands before the first one, or past 32 bits where the function begins at a base
+abbrev pub is_stray : ℕ → ℕ → bpf_line_info → Bool
+is_stray first base line = nat_lt line.insn_off first || nat_le (2 ^ 32) (line.insn_off - first + base)
+
+abbrev pub has_stray : ℕ → List bpf_line_info → Bool
+has_stray base lines = list_any (is_stray (first_line lines) base) lines
+
+-- why a function can't have a copy at a base: the program would have more than 2,147,483,647 slots, or a line record
+-- can't be moved
+abbrev pub content_fault : {E : Type 0} → FunctionContent → ℕ → E → E → Option E
+content_fault c base too_long stray_line =
+    first_of ((nat_lt 2147483647 (base + length c.slots), too_long) ∷ (has_stray base c.line_info, stray_line) ∷ [])
 
 module _ {K E : Type 0} where
   -- both or neither of two functions have records on functions

@@ -9,9 +9,9 @@ pub mod Result
 pub mod Renaming
 pub mod LinkMap
 pub mod LinkMapLaws
+pub mod Answer
 
 -- What only private contracts and proofs name.
-pub mod Answer
 pub mod LinkedSlots
 pub mod Ready
 pub mod Steps

@@ -1,5 +1,5 @@
 -- What a linked program is made of: the copies of functions, and the references between them.
-use Rattle.std.specs.Prelude.{◌≡◌, ℕ, ◌+◌, List, [], ◌∷◌, length, map, Some, slice_get, Result, Ok, Err}
+use Rattle.std.specs.Prelude.{◌≡◌, ℕ, ◌+◌, ◌≤◌, List, [], ◌∷◌, length, map, Some, slice_get, Result, Ok, Err}
 use Rattle.ebpf_parts.specs.declared.insn.bpf_insn.{bpf_insn}
 use Rattle.ebpf_parts.specs.Slots.{is_pseudo_call}
 use Rattle.ebpf_linker.specs.Functions.{Names, FunctionContent, Functions, body, Among, BeginsAt}
@@ -14,6 +14,11 @@ pub record CopyOf (K : Type 0) : Type 0 where
   pub key : K
   pub base : ℕ
   pub slots : ℕ
+
+-- places from low on, each above the one before
+abbrev pub PlacesRise : ℕ → List Reference → Type 0
+PlacesRise low [] = Unit {0}
+PlacesRise low (r ∷ rs) = (low ≤ r.place) × PlacesRise (r.place + 1) rs
 
 module _ {K E : Type 0} where
   -- copies of these functions, one after the other, the first at a base
@@ -52,6 +57,10 @@ module _ {K E : Type 0} where
     pub copies : cs ≡ copies_from F 0 (p ∷ ks)
     pub references : AreReferences F p ks rs
     pub faultless : Faultless F (checked_references F p) p
+
+-- a copy by another name of its function
+abbrev pub key_copy : {M K : Type 0} → (M → K) → CopyOf M → CopyOf K
+key_copy key c = record { key = key c.key; base = c.base; slots = c.slots }
 
 -- a copy with the number of its function
 abbrev pub numbered_copy : CopyOf ℕ → NumberedCopy

@@ -8,7 +8,8 @@ use Rattle.ebpf_linker.specs.declared.reference.Fault.TheVariants.{ProgramTooLon
 use Rattle.ebpf_linker.specs.declared.reference.Call.{Call}
 use Rattle.ebpf_linker.specs.Slots.{relinked}
 use Rattle.ebpf_linker.specs.Functions.{SlotReference, Nothing, Faulty, Names}
-use Rattle.ebpf_linker.specs.PrivateContracts.{content_fault, content_in}
+use Rattle.ebpf_linker.specs.Faults.{content_fault}
+use Rattle.ebpf_linker.specs.PrivateContracts.{content_in}
 use Rattle.ebpf_linker.specs.Numbered.{referred, calls_at}
 
 -- the slots of function k

@@ -2,7 +2,7 @@
 
 ghost use Rattle.std.specs.Prelude.{◌≡◌, ℕ, ◌+◌, ◌<◌, ◌≤◌, ◌^◌, ◌++◌, List, [], length, map, false, IfOk, OnOk, All};
 ghost use Rattle.ebpf_linker.specs.Faults.{first_line};
-ghost use Rattle.ebpf_linker.specs.PrivateContracts.{has_stray, is_stray};
+ghost use Rattle.ebpf_linker.specs.Faults.{has_stray, is_stray};
 ghost use Rattle.ebpf_linker.specs.LinkedSlots.{Fit, body_at};
 ghost use Rattle.ebpf_linker.specs.Numbered.{functions_by_number};
 ghost use Rattle.ebpf_linker.specs.Records.{func_moved, line_moved, linked_func_info, linked_line_info, has_lines, count_if};

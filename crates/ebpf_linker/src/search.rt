@@ -3,7 +3,8 @@
 ghost use Rattle.std.specs.Prelude.{◌≡◌, ℕ, ◌+◌, ◌<◌, ◌≤◌, length, [], IfOk, Some, All, true, false, slice_index_or};
 ghost use Rattle.ebpf_linker.specs.Answer.{Finds};
 ghost use Rattle.ebpf_linker.specs.Faults.{checked_references, append_fault};
-ghost use Rattle.ebpf_linker.specs.PrivateContracts.{content_fault, has_stray, is_stray, content_in};
+ghost use Rattle.ebpf_linker.specs.Faults.{content_fault, has_stray, is_stray};
+ghost use Rattle.ebpf_linker.specs.PrivateContracts.{content_in};
 ghost use Rattle.ebpf_linker.specs.Functions.{Among};
 ghost use Rattle.ebpf_linker.specs.Numbered.{Sound, IsWithin, body_content, functions_by_number};
 ghost use Rattle.ebpf_linker.specs.Steps.{Advanced, Entered, search_at, checked_calls, checked_target};
