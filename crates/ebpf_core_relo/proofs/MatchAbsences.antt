@@ -190,7 +190,7 @@ module _ (local target : TypeInfo) (local_id : ℕ) (steps : List Step) (place :
           of_step (place_of local target other (take (last ids).steps steps)) by (ap (step_absence target (place_of local target other (take (last ids).steps steps))) (sym is) ∙ e)
       by_place (inr past) =
           let all : (last ids).steps ≡ length steps = omega (arith, comes.within) in
-          let never : true ≡ false = sym comes.there ∙ ap (leads local target steps other) all ∙ none comes.place other comes.at in cc
+          let never : true ≡ false = sym comes.there ∙ ap (leads local target steps other) all ∙ none comes.index other comes.at in cc
 
 pub no_value_is_of_matches : NoValueIsOfMatches
 unfolding field_absence matches
