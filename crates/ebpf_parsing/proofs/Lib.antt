@@ -6,7 +6,7 @@ pub mod KeptRelocations
 pub mod Offsets
 pub mod ExtTables
 pub mod TextLemmas
-pub mod EntryRange
+pub mod RecordIndices
 pub mod Tiles
 pub mod TypeErrors
 pub mod Walked
