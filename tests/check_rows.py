@@ -12,6 +12,8 @@ import tempfile
 from dataclasses import dataclass
 from pathlib import Path
 
+from checked import absences, walks
+
 TOP = Path(__file__).parents[1]
 EXAMPLE = TOP / "examples" / "check"
 WATCH = TOP / "crates" / "example_library" / "data"
@@ -366,7 +368,8 @@ def main():
         rows = Rows(program, Path(folder))
         shutil.copy(EXAMPLE / "memdrop.o", folder)
         shutil.copytree(EXAMPLE / "btf", Path(folder) / "btf")
-        for run in [example, as_json, kernels, unread, files, lacks, names, words, closed_output]:
+        own = [example, as_json, kernels, unread, files, lacks, names, words, closed_output]
+        for run in [*own, *absences.ROWS, *walks.ROWS]:
             run(rows)
     for failure in rows.failures:
         print(failure)
