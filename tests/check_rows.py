@@ -12,7 +12,7 @@ import tempfile
 from dataclasses import dataclass
 from pathlib import Path
 
-from checked import absences, functions, lacking, walks
+from checked import absences, functions, lacking, telling, walks
 
 TOP = Path(__file__).parents[1]
 EXAMPLE = TOP / "examples" / "check"
@@ -369,7 +369,7 @@ def main():
         shutil.copy(EXAMPLE / "memdrop.o", folder)
         shutil.copytree(EXAMPLE / "btf", Path(folder) / "btf")
         own = [example, as_json, kernels, unread, files, lacks, names, words, closed_output]
-        for run in [*own, *absences.ROWS, *walks.ROWS, *functions.ROWS, *lacking.ROWS]:
+        for run in [*own, *absences.ROWS, *walks.ROWS, *functions.ROWS, *lacking.ROWS, *telling.ROWS]:
             run(rows)
     for failure in rows.failures:
         print(failure)

@@ -2,8 +2,8 @@
 import struct
 from dataclasses import dataclass
 
-from rows.btf import btf
-from rows.core_sides import EXISTS, LOAD, MOVE, OFFSET, S, type_parts
+from rows.btf import Strings, btf, ext, type_words, with_strings
+from rows.core_sides import EXISTS, LOAD, MOVE, OFFSET, S
 from rows.elf import CALL32, EXIT, FUNCTION, LOAD64, NOTHING, OBJECT, PROGBITS, File, slot
 
 # The binding of symbols without a section.
@@ -117,10 +117,25 @@ class Parts:
         self.functions.append((each.name, each.section, start, at - start))
 
 
-def object_of(functions, types=S, externs=None, maps=None):
-    """An object of functions with types. `externs` has bindings by names, `maps` types of maps by names."""
+def type_parts(types, records, lines):
+    """`.BTF` with types, and `.BTF.ext` with records by sections, and with lines of the section `kprobe/p`, each a place in
+    bytes, a file and a number."""
+    strings = Strings()
+    numbers = type_words(types, strings)
+    asked = [16]
+    for section, entries in records.items():
+        asked += [strings.offset(section), len(entries)]
+        asked += [word for at, kind, held, access in entries for word in (at, held, strings.offset(access), kind)]
+    lined = [16, strings.offset("kprobe/p"), len(lines)] if lines else []
+    lined += [word for at, file, line in lines for word in (at, strings.offset(file), 0, line << 10)]
+    return with_strings(numbers, strings.data), ext(lines=lined, relocations=asked)
+
+
+def object_of(functions, types=S, externs=None, maps=None, lines=()):
+    """An object of functions with types. `externs` has bindings by names, `maps` types of maps by names, `lines` lines of
+    the section `kprobe/p`."""
     parts = Parts(functions)
-    held, said = type_parts(types, *parts.records.items())
+    held, said = type_parts(types, parts.records, lines)
     file = File()
     numbers = {name: 3 + at for at, name in enumerate(parts.sections)}
     symbols = {}
