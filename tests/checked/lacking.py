@@ -115,6 +115,10 @@ def map_types(rows):
     one_kernel(rows, "two maps", using("n", "m", "n", m=9, n=8), kernel, both)
     unreached = object_of([program(ZERO, OVER(2), address(1, "m"), EXIT)], maps={"m": 9})
     one_kernel(rows, "a map that isn't reached", unreached, kernel, [found("map m  <map_type>  no map type 9", "p slot 2")])
+    zeros = object_of([program(address(1, "v"), address(2, "m"), EXIT)], maps={"m": 1}, zeros="v")
+    one_kernel(rows, "a map of data", zeros, kernel)
+    breaks = [found("map .bss  <map_type>  no map type 2", "p slot 0")]
+    one_kernel(rows, "a map of data that isn't there", zeros, btf(enum_of("bpf_map_type", ("BPF_MAP_TYPE_HASH", 1))), breaks)
     second = program(move(0, 0), EXIT, section="kprobe/q", name="q")
     one = object_of([program(address(1, "m"), EXIT), second], maps={"m": 9})
     breaks = [found("map m  <map_type>  no map type 9", "p slot 0")]

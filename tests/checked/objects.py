@@ -4,7 +4,7 @@ from dataclasses import dataclass
 
 from rows.btf import Strings, btf, ext, type_words, with_strings
 from rows.core_sides import EXISTS, LOAD, MOVE, OFFSET, S
-from rows.elf import CALL32, EXIT, FUNCTION, LOAD64, NOTHING, OBJECT, PROGBITS, File, slot
+from rows.elf import CALL32, EXIT, FUNCTION, LOAD64, NOBITS, NOTHING, OBJECT, PROGBITS, File, slot
 
 # The binding of symbols without a section.
 GLOBAL, WEAK = 0x10, 0x20
@@ -131,9 +131,9 @@ def type_parts(types, records, lines):
     return with_strings(numbers, strings.data), ext(lines=lined, relocations=asked)
 
 
-def object_of(functions, types=S, externs=None, maps=None, lines=()):
+def object_of(functions, types=S, externs=None, maps=None, lines=(), zeros=None):
     """An object of functions with types. `externs` has bindings by names, `maps` types of maps by names, `lines` lines of
-    the section `kprobe/p`."""
+    the section `kprobe/p`; `zeros` is the name of a variable of eight bytes in `.bss`."""
     parts = Parts(functions)
     held, said = type_parts(types, parts.records, lines)
     file = File()
@@ -142,6 +142,8 @@ def object_of(functions, types=S, externs=None, maps=None, lines=()):
     for name, data in parts.sections.items():
         file.code(name, data)
     file.data(".BTF", held).data(".BTF.ext", said)
+    if zeros:
+        file.section(".bss", NOBITS, 3, b"", size=8)
     if maps:
         file.section("maps", PROGBITS, 3, b"".join(struct.pack("<5I", of, 4, 4, 1, 0) for of in maps.values()))
     for name, section, start, size in parts.functions:
@@ -152,7 +154,10 @@ def object_of(functions, types=S, externs=None, maps=None, lines=()):
         file.symbol(name, binding, 0, 0, 0)
     for at, name in enumerate(maps or {}):
         symbols[name] = len(symbols) + 1
-        file.symbol(name, OBJECT, len(numbers) + 5, 20 * at, 20)
+        file.symbol(name, OBJECT, len(numbers) + (6 if zeros else 5), 20 * at, 20)
+    if zeros:
+        symbols[zeros] = len(symbols) + 1
+        file.symbol(zeros, OBJECT, len(numbers) + 5, 0, 8)
     for section, entries in parts.references.items():
         file.relocations(numbers[section], [(at, symbols[name], kind) for at, name, kind in entries])
     return file.bytes()

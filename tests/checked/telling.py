@@ -1,5 +1,6 @@
 """How it is told: programs that count, source lines, values that change, settings, several kernels, JSON and the status."""
 import json
+import subprocess
 
 from checked.objects import (
     GLOBAL,
@@ -21,10 +22,11 @@ from checked.objects import (
     object_of,
     one_kernel,
     program,
+    told,
 )
 from rows.btf import INT, btf, datasec, integer, pointer, struct_of, ty, variable
 from rows.core_sides import INT_4, MOVE, OFFSET, S, SIZE, TYPE_SIZE, VARIANT_VALUE, enum_of
-from rows.elf import EXIT, slot
+from rows.elf import BIG, EXIT, FUNCTION, File, slot
 
 FINE = program(move(0, 0), EXIT)
 
@@ -249,4 +251,44 @@ def whole_json(rows):
     rows.expect("all of JSON: read back", json.loads(ran.stdout), wanted)
 
 
-ROWS = [marked, source_lines, changed, settings, kernels, statuses, refused_linking, whole_json]
+def names(rows):
+    """Names of types and programs that would speak to a terminal, or are no text."""
+    size = Asks(MOVE, TYPE_SIZE, 1, "0")
+    shown = lambda name, program="p": [found(f"struct {name}  <type_size>  no such type (a module's?)", f"{program} slot 0")]
+    speaks = object_of([program(size, EXIT)], [struct_of("s\x1b\u202e\x9b\\", 4)])
+    one_kernel(rows, "a type's name that speaks", speaks, LACKS_B, shown(r"s\x1b\xe2\x80\xae\xc2\x9b\x5c"))
+    no_text = object_of([program(size, EXIT)], [struct_of("s??", 4)]).replace(b"s??", b"s\xff\xfe")
+    one_kernel(rows, "a type's name that is no text", no_text, LACKS_B, shown("s\ufffd\ufffd"))
+    called = object_of([program(size, EXIT, name="p\n\x7f")], [struct_of("t", 4)])
+    one_kernel(rows, "a program's name that speaks", called, LACKS_B, shown("t", r"p\x0a\x7f"))
+    ran = rows.run("check", "object", "kernel", "--json")
+    rows.expect("a program's name that speaks: in JSON", json.loads(ran.stdout)["kernels"][0]["breaks"], ["p\n\x7f"])
+    rows.expect("a program's name that speaks: written", r"p\u000a\u007f" in ran.stdout, True)
+    one_kernel(rows, "no name", object_of([program(size, EXIT)], [struct_of("", 4)]), LACKS_B, shown("<anon>"))
+
+
+def unusual_files(rows):
+    """Files that state no size, an object without types, and one of the other byte order with code."""
+    data = object_of([program(GONE, EXIT)])
+    out = told(1, 1, [found(NO_B, "p slot 0")])
+    rows.write("object", data)
+    rows.write("kernel", LACKS_B)
+    for piped in ["object", "kernel"]:
+        path = "/dev/stdin"
+        given = [path if name == piped else name for name in ["object", "kernel"]]
+        content = data if piped == "object" else LACKS_B
+        ran = subprocess.run([rows.program, "check", *given], cwd=rows.folder, input=content, capture_output=True, timeout=120)
+        wanted = out.replace("object: ", f"{path}: ") if piped == "object" else out.replace("  kernel\n", f"  {path}\n", 1)
+        rows.expect(f"a pipe as {piped}", (ran.returncode, ran.stdout.decode(), ran.stderr), (1, wanted, b""))
+    typeless = File().code("fentry/x", helper(9) + EXIT).symbol("p", FUNCTION, 3, 0, 16).bytes()
+    kernel = btf(enum_of("bpf_func_id", ("BPF_FUNC_one", 1)))
+    breaks = [
+        found("fentry/x  <attach>  no such type x (a module's?)", "p"),
+        found("helper 9  <helper>  no such helper function", "p slot 0"),
+    ]
+    one_kernel(rows, "an object without types", typeless, kernel, breaks)
+    rows.write("big", File(BIG).code("kprobe/p", EXIT).symbol("p", FUNCTION, 3, 0, 8).bytes())
+    ran = rows.row("an object of the other byte order", ["check", "big", "kernel"], 1, "", "ebpf: big: the file is big-endian and has code")
+
+
+ROWS = [names, unusual_files, marked, source_lines, changed, settings, kernels, statuses, refused_linking, whole_json]
