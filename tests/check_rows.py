@@ -109,7 +109,12 @@ class Rows:
 
     def run(self, *words):
         return subprocess.run(
-            [self.program, *words], cwd=self.folder, stdin=subprocess.DEVNULL, capture_output=True, text=True, timeout=120
+            [self.program, *words],
+            cwd=self.folder,
+            stdin=subprocess.DEVNULL,
+            capture_output=True,
+            encoding="utf-8",
+            timeout=120,
         )
 
     def expect(self, name, found, wanted):
@@ -370,11 +375,14 @@ def main():
         shutil.copytree(EXAMPLE / "btf", Path(folder) / "btf")
         own = [example, as_json, kernels, unread, files, lacks, names, words, closed_output]
         for run in [*own, *absences.ROWS, *walks.ROWS, *functions.ROWS, *lacking.ROWS, *telling.ROWS]:
-            run(rows)
+            try:
+                run(rows)
+            except Exception as error:
+                rows.failures.append(f"{run.__name__}: {error!r}")
     for failure in rows.failures:
         print(failure)
     print(f"{rows.passed} passed, {len(rows.failures)} failed")
-    return 1 if rows.failures else 0
+    return 1 if rows.failures or not rows.passed else 0
 
 
 if __name__ == "__main__":

@@ -47,6 +47,7 @@ S_SIZE = (TYPE_SIZE, FIELDS, "0"), "struct s  <type_size>"
 S_ID = (TARGET_ID, FIELDS, "0"), "struct s  <target_type_id>"
 NAME_SIZE = (TYPE_SIZE, NAME, "0"), "typedef name  <type_size>"
 NAME_ID = (TARGET_ID, NAME, "0"), "typedef name  <target_type_id>"
+E_ID = (TARGET_ID, VARIANTS, "0"), "enum e  <target_type_id>"
 B = (VARIANT_VALUE, VARIANTS, "1"), "enum e.B  <enumval_value>"
 
 NO_TYPE, OTHER_TYPE = "no such type (a module's?)", "a type of another kind"
@@ -76,7 +77,7 @@ ABSENT = [
     ("the size of no struct", S_SIZE, [], NO_TYPE),
     ("the id of no struct", S_ID, [], NO_TYPE),
     ("no enumeration of the name", B, [], NO_TYPE),
-    ("an enumeration of 64 bits alone", ((TARGET_ID, VARIANTS, "0"), "enum e  <target_type_id>"), [enum64_of("e", ("A", 0))], NO_TYPE),
+    ("an enumeration of 64 bits alone", E_ID, [enum64_of("e", ("A", 0))], NO_TYPE),
     ("no member of the name", A, [named(("b", NUMBER))], NO_MEMBER),
     ("no members", A, [struct_of("s", 0)], NO_MEMBER),
     ("no member on the way", X, [LACKS_I], NO_MEMBER),
@@ -149,7 +150,8 @@ def refusals(rows):
     kernel = btf(*START, LACKS_X)
     with_a = btf(*START, named(("a", NUMBER), ("i", WITHOUT_X)))
     guarded = [found("struct s.i.x  <byte_off>  no such member", "p slot 1")]
-    one_kernel(rows, "a record behind a refused one", object_of([at_exit], LOCAL), with_a, [found(line, "p slot 0")], guarded)
+    refused = [found(line, "p slot 0")]
+    one_kernel(rows, "a record behind a refused one", object_of([at_exit], LOCAL), with_a, refused, guarded)
     both = [
         found("struct s.a  <byte_off>  no such member", "p slot 0"),
         found("struct s.i.x  <byte_off>  no such member", "p slot 1"),

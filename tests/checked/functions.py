@@ -21,6 +21,8 @@ from rows.elf import EXIT
 LOOP = helper(181)
 ZERO, OVER_CALL = move(6, 0), jump(JEQ, 6, 0, 1)
 F = function("f", move(0, 0), GONE, EXIT)
+# Its third slot asks, where neither r1 nor r6 is known to be 0.
+TAKER = function("f", jump(JEQ, 1, 0, 2), OVER_CALL, GONE, EXIT)
 
 
 def called(*code):
@@ -38,9 +40,10 @@ def calls(rows):
     one_kernel(rows, "a function that is called twice", called(call("f"), call("f"), EXIT), LACKS_B, twice)
     own = program(ZERO, move(1, 0), call("f"), OVER_CALL, GONE, jump(JEQ, 1, 0, 1), GONE, EXIT)
     both = object_of([own, function("f", EXIT)])
-    one_kernel(rows, "numbers over a call of a function", both, LACKS_B, [found(NO_B, "p slot 6")], [found(NO_B, "p slot 4")])
+    breaks, kept = [found(NO_B, "p slot 6")], [found(NO_B, "p slot 4")]
+    one_kernel(rows, "numbers over a call of a function", both, LACKS_B, breaks, kept)
     # It begins with nothing known, whatever it is called with.
-    taker = object_of([program(move(1, 0), ZERO, call("f"), EXIT), function("f", jump(JEQ, 1, 0, 2), OVER_CALL, GONE, EXIT)])
+    taker = object_of([program(move(1, 0), ZERO, call("f"), EXIT), TAKER])
     one_kernel(rows, "a function's arguments", taker, LACKS_B, [found(NO_B, "p slot 6 (f+2)")])
     chain = object_of([program(call("f"), EXIT), function("f", call("g"), EXIT), function("g", GONE, EXIT)])
     one_kernel(rows, "a function that a function calls", chain, LACKS_B, [found(NO_B, "p slot 4 (g+0)")])
@@ -60,7 +63,7 @@ def callbacks(rows):
     one_kernel(rows, "a callback, where all is there", by_loop, HAS_B)
     guarded = called(ZERO, jump(JEQ, 6, 0, 3), address(2, "f"), LOOP, EXIT)
     one_kernel(rows, "a callback behind a jump", guarded, LACKS_B, guarded=[found(NO_B, "p slot 7 (f+1)")])
-    taker = object_of([program(ZERO, move(1, 0), address(2, "f"), LOOP, EXIT), function("f", jump(JEQ, 1, 0, 2), OVER_CALL, GONE, EXIT)])
+    taker = object_of([program(ZERO, move(1, 0), address(2, "f"), LOOP, EXIT), TAKER])
     one_kernel(rows, "a callback's arguments", taker, LACKS_B, [found(NO_B, "p slot 8 (f+2)")])
     own = program(ZERO, address(2, "f"), LOOP, OVER_CALL, GONE, jump(JEQ, 2, 0, 1), GONE, EXIT)
     numbers = object_of([own, function("f", EXIT)])
@@ -69,6 +72,18 @@ def callbacks(rows):
     # The address itself is no number.
     address_alone = object_of([program(address(2, "f"), jump(JEQ, 2, 0, 1), GONE, EXIT), function("f", EXIT)])
     one_kernel(rows, "a callback's address", address_alone, LACKS_B, [found(NO_B, "p slot 3")])
+
+
+def neighbours(rows):
+    """Programs of one section, of which each has its own slots, and a program that calls another."""
+    first, second = program(move(0, 0), GONE, EXIT), program(move(0, 0), move(1, 0), GONE, EXIT, name="q")
+    breaks = [found(NO_B, "p slot 1", "q slot 2")]
+    one_kernel(rows, "two programs of a section", object_of([first, second]), LACKS_B, breaks, breaking=2, count=2)
+    turned = object_of([second, program(move(0, 0), EXIT)])
+    one_kernel(rows, "one of two programs of a section", turned, LACKS_B, [found(NO_B, "q slot 2")], count=2)
+    caller = program(call("p"), EXIT, section="kprobe/q", name="q")
+    breaks = [found(NO_B, "p slot 1", "q slot 3 (p+1)")]
+    one_kernel(rows, "a program that calls another", object_of([first, caller]), LACKS_B, breaks, breaking=2, count=2)
 
 
 def shared(rows):
@@ -83,7 +98,8 @@ def shared(rows):
     one_kernel(rows, "the one that guards it", both, LACKS_B, guarded=[in_q], words=["--program", "q"])
     also = program(call("f"), EXIT, section="kprobe/q", name="q")
     breaks = [found(NO_B, "p slot 3 (f+1)", "q slot 3 (f+1)")]
-    one_kernel(rows, "a shared function, reached in both", object_of([reaches, also, F]), LACKS_B, breaks, breaking=2, count=2)
+    both = object_of([reaches, also, F])
+    one_kernel(rows, "a shared function, reached in both", both, LACKS_B, breaks, breaking=2, count=2)
 
 
-ROWS = [calls, callbacks, shared]
+ROWS = [calls, callbacks, neighbours, shared]

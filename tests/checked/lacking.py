@@ -54,6 +54,38 @@ def externs(rows):
     one_kernel(rows, "a function that isn't reached", unreached, NEITHER, [NO_F], breaking=2, count=2)
 
 
+def extern_names(rows):
+    """A function is looked up by what stands before three underscores, a variable by its whole name."""
+    function = [INT, prototype(1), function_type("f___2", 2), datasec(".ksyms", 3)]
+    calls = object_of([program(call("f___2"), EXIT)], function, {"f___2": GLOBAL})
+    absent = [found("f___2  <ksym>  no such function (a module's?)")]
+    one_kernel(rows, "a function of a flavor", calls, HAS_BOTH)
+    one_kernel(rows, "a function of a flavor, absent", calls, NEITHER, absent)
+    itself = btf(INT, prototype(1), function_type("f___2", 2))
+    one_kernel(rows, "a function of a flavor that is the kernel's", calls, itself, absent)
+    flavored = [INT, variable("v___2", 1), datasec(".ksyms", 2)]
+    loads = object_of([program(address(1, "v___2"), EXIT)], flavored, {"v___2": GLOBAL})
+    absent = [found("v___2  <ksym>  no such variable (a module's?)")]
+    one_kernel(rows, "a variable with underscores", loads, btf(INT, variable("v___2", 1)))
+    one_kernel(rows, "a variable with underscores, absent", loads, HAS_BOTH, absent)
+
+
+def other_externs(rows):
+    """One that nobody uses has to be there too; of one without a type nothing is said, and it is no known number."""
+    unused = object_of([program(move(0, 0), EXIT)], FUNCTION, {"f": GLOBAL})
+    one_kernel(rows, "a function that nobody calls", unused, NEITHER, [NO_F])
+    one_kernel(rows, "a weak function that nobody calls", object_of([program(EXIT)], FUNCTION, {"f": WEAK}), NEITHER)
+    untyped = [INT, variable("v", 0), datasec(".ksyms", 2)]
+    either = program(address(1, "v"), jump(JEQ, 1, 0, 2), helper(8), EXIT, helper(9), EXIT)
+    kernel = btf(INT, enum_of("bpf_func_id", ("BPF_FUNC_one", 1)))
+    breaks = [found(f"helper {number}  <helper>  no such helper function", f"p slot {at}") for number, at in [(8, 3), (9, 5)]]
+    for binding in [GLOBAL, WEAK]:
+        loads = object_of([program(address(1, "v"), EXIT)], untyped, {"v": binding})
+        one_kernel(rows, "a variable without a type", loads, NEITHER)
+        asks = object_of([either], untyped, {"v": binding})
+        one_kernel(rows, "a variable without a type that is asked for", asks, kernel, breaks)
+
+
 def weak_externs(rows):
     """A weak one that is absent has the address 0, and breaks where it is called."""
     called = object_of([program(call("f"), EXIT)], FUNCTION, {"f": WEAK})
@@ -88,7 +120,8 @@ def helpers(rows):
     one_kernel(rows, "a helper twice", calling(9, 9), kernel, [found(no(9), "p slot 0", "p slot 1")])
     one_kernel(rows, "the number at the end", calling(3), kernel, [found(no(3), "p slot 0")])
     one_kernel(rows, "helpers without the enumeration", calling(1, 9), btf(INT))
-    one_kernel(rows, "helpers beside an enumeration of 64 bits", calling(9), btf(enum64_of("bpf_func_id", ("BPF_FUNC_one", 1))))
+    other = btf(enum64_of("bpf_func_id", ("BPF_FUNC_one", 1)))
+    one_kernel(rows, "helpers beside an enumeration of 64 bits", calling(9), other)
     one_kernel(rows, "helpers of an empty enumeration", calling(1), btf(enum_of("bpf_func_id")), [found(no(1), "p slot 0")])
     first = btf(enum_of("bpf_func_id", ("BPF_FUNC_one", 1)), enum_of("bpf_func_id", ("BPF_FUNC_two", 2)))
     one_kernel(rows, "helpers of the second enumeration", calling(1, 2), first, [found(no(2), "p slot 1")])
@@ -107,22 +140,21 @@ def map_types(rows):
     kernel = btf(enum_of("bpf_map_type", ("BPF_MAP_TYPE_HASH", 1), ("BPF_MAP_TYPE_ARRAY", 2), ("__MAX_BPF_MAP_TYPE", 3)))
     using = lambda *names, **maps: object_of([program(*(address(1, name) for name in names), EXIT)], maps=maps)
     one_kernel(rows, "a map's type that is there", using("m", m=1), kernel)
-    one_kernel(rows, "a map's type that isn't", using("m", m=9), kernel, [found("map m  <map_type>  no map type 9", "p slot 0")])
-    one_kernel(rows, "the number of types", using("m", m=3), kernel, [found("map m  <map_type>  no map type 3", "p slot 0")])
+    no = lambda name, number, slot: found(f"map {name}  <map_type>  no map type {number}", f"p slot {slot}")
+    one_kernel(rows, "a map's type that isn't", using("m", m=9), kernel, [no("m", 9, 0)])
+    one_kernel(rows, "the number of types", using("m", m=3), kernel, [no("m", 3, 0)])
     one_kernel(rows, "a map that no program uses", using("m", m=1, n=9), kernel)
     one_kernel(rows, "maps without the enumeration", using("m", m=9), btf(INT))
-    both = [found("map m  <map_type>  no map type 9", "p slot 2"), found("map n  <map_type>  no map type 8", "p slot 0")]
-    one_kernel(rows, "two maps", using("n", "m", "n", m=9, n=8), kernel, both)
+    one_kernel(rows, "two maps", using("n", "m", "n", m=9, n=8), kernel, [no("m", 9, 2), no("n", 8, 0)])
     unreached = object_of([program(ZERO, OVER(2), address(1, "m"), EXIT)], maps={"m": 9})
-    one_kernel(rows, "a map that isn't reached", unreached, kernel, [found("map m  <map_type>  no map type 9", "p slot 2")])
+    one_kernel(rows, "a map that isn't reached", unreached, kernel, [no("m", 9, 2)])
     zeros = object_of([program(address(1, "v"), address(2, "m"), EXIT)], maps={"m": 1}, zeros="v")
     one_kernel(rows, "a map of data", zeros, kernel)
-    breaks = [found("map .bss  <map_type>  no map type 2", "p slot 0")]
-    one_kernel(rows, "a map of data that isn't there", zeros, btf(enum_of("bpf_map_type", ("BPF_MAP_TYPE_HASH", 1))), breaks)
+    without_arrays = btf(enum_of("bpf_map_type", ("BPF_MAP_TYPE_HASH", 1)))
+    one_kernel(rows, "a map of data that isn't there", zeros, without_arrays, [no(".bss", 2, 0)])
     second = program(move(0, 0), EXIT, section="kprobe/q", name="q")
     one = object_of([program(address(1, "m"), EXIT), second], maps={"m": 9})
-    breaks = [found("map m  <map_type>  no map type 9", "p slot 0")]
-    one_kernel(rows, "a map that one program uses", one, kernel, breaks, count=2)
+    one_kernel(rows, "a map that one program uses", one, kernel, [no("m", 9, 0)], count=2)
 
 
 # Sections, and the name of the type that their programs are attached to, with whether it is a TYPEDEF.
@@ -174,4 +206,4 @@ def attached(rows):
     one_kernel(rows, "two programs of one section", shared, NEITHER, breaks, breaking=2, count=2)
 
 
-ROWS = [externs, weak_externs, helpers, map_types, attached]
+ROWS = [externs, extern_names, other_externs, weak_externs, helpers, map_types, attached]

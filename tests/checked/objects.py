@@ -4,7 +4,7 @@ from dataclasses import dataclass
 
 from rows.btf import Strings, btf, ext, type_words, with_strings
 from rows.core_sides import EXISTS, LOAD, MOVE, OFFSET, S
-from rows.elf import CALL32, EXIT, FUNCTION, LOAD64, NOBITS, NOTHING, OBJECT, PROGBITS, File, slot
+from rows.elf import CALL32, FUNCTION, LOAD64, NOBITS, NOTHING, OBJECT, PROGBITS, File, slot
 
 # The binding of symbols without a section.
 GLOBAL, WEAK = 0x10, 0x20
@@ -197,6 +197,3 @@ def one_kernel(rows, name, data, kernel, breaks=(), guarded=(), more="", breakin
     rows.write("kernel", kernel)
     out = told(breaking, count, breaks, guarded, more)
     rows.row(name, ["check", "object", "kernel", *words], 1 if breaking else 0, out)
-
-
-

@@ -85,7 +85,8 @@ E_A = Asks(MOVE, VARIANT_VALUE, 1, "0")
 
 def changed_value(name, own, *values):
     """What is told of a value: the object's own, and those of kernels."""
-    return "".join(f"{text}\n" for text in ["CHANGED (written; nothing to do)", f"  {name}  {own} in the object", *(f"    {value}" for value in values)])
+    lines = ["CHANGED (written; nothing to do)", f"  {name}  {own} in the object", *(f"    {value}" for value in values)]
+    return "".join(f"{line}\n" for line in lines)
 
 
 def changed(rows):
@@ -98,8 +99,10 @@ def changed(rows):
     one_kernel(rows, "the same value", values, btf(enum_of("e", ("B", 4), ("A", 5))))
     one_kernel(rows, "the same value, and all is told", values, btf(enum_of("e", ("A", 5))), words=["--all"])
     unsigned = lambda size: ty("", INT, size, 8 * size)
-    local = [unsigned(4), struct_of("i", 4, ("x", 1, 0)), pointer(0), struct_of("s", 24, ("a", 1, 0), ("i", 2, 64), ("p", 3, 128))]
-    kernel = btf(unsigned(8), struct_of("i", 16, ("x", 1, 0)), pointer(0), struct_of("s", 48, ("a", 1, 128), ("i", 2, 192), ("p", 3, 0)))
+    own, other = struct_of("i", 4, ("x", 1, 0)), struct_of("i", 16, ("x", 1, 0))
+    local = [unsigned(4), own, pointer(0), struct_of("s", 24, ("a", 1, 0), ("i", 2, 64), ("p", 3, 128))]
+    moved = struct_of("s", 48, ("a", 1, 128), ("i", 2, 192), ("p", 3, 0))
+    kernel = btf(unsigned(8), other, pointer(0), moved)
     asking = lambda *question: object_of([program(Asks(MOVE, *question), EXIT)], local)
     told = changed_value("struct s.a  <byte_sz>", 4, "8 on kernel")
     one_kernel(rows, "a number's size", asking(SIZE, 4, "0:0"), kernel, more=told)
@@ -117,7 +120,8 @@ def changed(rows):
     for kernel, value in {"one": 7, "two": 5, "three": 7, "four": 6}.items():
         rows.write(kernel, btf(enum_of("e", ("A", value))))
     out = "".join(f"ok      1/1 programs  {kernel}\n" for kernel in ["one", "two", "three", "four"])
-    out += "\n" + changed_value(name, 5, "6 on four", "7 on one, three") + "\nobject: ok on 4 of 4 kernels, 1 of 1 programs\n"
+    told = changed_value(name, 5, "6 on four", "7 on one, three")
+    out += f"\n{told}\nobject: ok on 4 of 4 kernels, 1 of 1 programs\n"
     rows.row("values of several kernels", ["check", "object", "one", "two", "three", "four"], 0, out)
 
 
@@ -132,13 +136,15 @@ def settings(rows):
     one_kernel(rows, "settings", object_of([program(*asks, EXIT)], SETTINGS, externs), LACKS_B, more=wanted)
     either = program(*asks, jump(JEQ, 1, 0, 2), helper(8), EXIT, helper(9), EXIT)
     kernel = btf(enum_of("bpf_func_id", ("BPF_FUNC_one", 1)))
-    breaks = [found(f"helper {number}  <helper>  no such helper function", f"p slot {slot}") for number, slot in [(8, 5), (9, 7)]]
+    no = lambda number, slot: found(f"helper {number}  <helper>  no such helper function", f"p slot {slot}")
+    breaks = [no(8, 5), no(9, 7)]
     one_kernel(rows, "what a setting decides", object_of([either], SETTINGS, externs), kernel, breaks, more=wanted)
 
 
 def kernels(rows):
     """Findings on some kernels alone."""
-    rows.write("object", object_of([program(GONE, EXIT), program(IS_THERE, jump(JEQ, 1, 0, 1), GONE, EXIT, section="kprobe/q", name="q")]))
+    guards = program(IS_THERE, jump(JEQ, 1, 0, 1), GONE, EXIT, section="kprobe/q", name="q")
+    rows.write("object", object_of([program(GONE, EXIT), guards]))
     rows.write("lacks", LACKS_B)
     rows.write("has", HAS_B)
     out = f"""breaks  1/2 programs  lacks
@@ -177,7 +183,11 @@ def statuses(rows):
     rows.write("has", HAS_B)
     rows.write("untyped", b"no types")
     sentence = "ebpf: untyped: neither BTF nor an ELF file"
-    lines = {"lacks": "breaks  1/1 programs  lacks", "has": "ok      1/1 programs  has", "untyped": "unread  -/1 programs  untyped"}
+    lines = {
+        "lacks": "breaks  1/1 programs  lacks",
+        "has": "ok      1/1 programs  has",
+        "untyped": "unread  -/1 programs  untyped",
+    }
     last = {
         ("has",): (0, "ok on 1 of 1 kernels, 1 of 1 programs"),
         ("lacks",): (1, "breaks on 1 of 1 kernels, 1 of 1 programs"),
@@ -193,8 +203,8 @@ def statuses(rows):
         out = "".join(lines[each] + "\n" for each in given) + f"\n{breaks}object: {summary}\n"
         said = sentence if "untyped" in given else ""
         rows.row(f"the status on {given}", ["check", "object", *given], status, out, said)
-        told = json.loads(rows.row(f"the status on {given}, JSON", ["check", "object", *given, "--json"], status, err=said).stdout)
-        rows.expect(f"the status on {given}: in JSON", told["status"], status)
+        ran = rows.row(f"the status on {given}, JSON", ["check", "object", *given, "--json"], status, err=said)
+        rows.expect(f"the status on {given}: in JSON", json.loads(ran.stdout)["status"], status)
     rows.write("cut", b"\x7fELF\x02\x01")
     for given in [["cut", "has"], ["cut", "has", "--json"]]:
         ran = rows.run("check", *given)
@@ -228,11 +238,13 @@ def whole_json(rows):
     rows.write("lacks", btf(INT_4, struct_of("s", 4, ("a", 1, 0)), enum_of("e", ("A", 2**32 - 2), signed=1)))
     rows.write("itself", btf(*types[:3]))
     rows.write("bad\n\"", b"no types")
-    ran = rows.row("all of JSON", ["check", "object", "lacks", "bad\n\"", "itself", "--json"], 2, err='ebpf: bad\\x0a": neither BTF nor an ELF file')
+    said = 'ebpf: bad\\x0a": neither BTF nor an ELF file'
+    ran = rows.row("all of JSON", ["check", "object", "lacks", "bad\n\"", "itself", "--json"], 2, err=said)
     rows.expect("all of JSON: one line", ran.stdout.count("\n"), 1)
     asked = {"name": "struct s.b", "kind": "byte_off", "reason": "no such member", "kernels": ["lacks"]}
     inside = {"program": "p", "slot": 6, "function": "f", "function_slot": 1, "kernels": ["lacks"]}
     own = {"program": "p", "slot": 3, "file": "/src/y.c", "line": 9, "kernels": ["lacks"]}
+    values = [{"value": -2, "kernels": ["lacks"]}]
     wanted = {
         "version": 1,
         "file": "object",
@@ -245,7 +257,7 @@ def whole_json(rows):
         ],
         "breaks": [{**asked, "places": [inside]}],
         "guarded": [{**asked, "places": [own]}],
-        "changed": [{"name": "enum e.A", "kind": "enumval_value", "own": 5, "values": [{"value": -2, "kernels": ["lacks"]}]}],
+        "changed": [{"name": "enum e.A", "kind": "enumval_value", "own": 5, "values": values}],
         "wanted": ["CONFIG_HZ"],
     }
     rows.expect("all of JSON: read back", json.loads(ran.stdout), wanted)
@@ -277,7 +289,8 @@ def unusual_files(rows):
         path = "/dev/stdin"
         given = [path if name == piped else name for name in ["object", "kernel"]]
         content = data if piped == "object" else LACKS_B
-        ran = subprocess.run([rows.program, "check", *given], cwd=rows.folder, input=content, capture_output=True, timeout=120)
+        words = [rows.program, "check", *given]
+        ran = subprocess.run(words, cwd=rows.folder, input=content, capture_output=True, timeout=120)
         wanted = out.replace("object: ", f"{path}: ") if piped == "object" else out.replace("  kernel\n", f"  {path}\n", 1)
         rows.expect(f"a pipe as {piped}", (ran.returncode, ran.stdout.decode(), ran.stderr), (1, wanted, b""))
     typeless = File().code("fentry/x", helper(9) + EXIT).symbol("p", FUNCTION, 3, 0, 16).bytes()
@@ -288,7 +301,8 @@ def unusual_files(rows):
     ]
     one_kernel(rows, "an object without types", typeless, kernel, breaks)
     rows.write("big", File(BIG).code("kprobe/p", EXIT).symbol("p", FUNCTION, 3, 0, 8).bytes())
-    ran = rows.row("an object of the other byte order", ["check", "big", "kernel"], 1, "", "ebpf: big: the file is big-endian and has code")
+    said = "ebpf: big: the file is big-endian and has code"
+    rows.row("an object of the other byte order", ["check", "big", "kernel"], 1, "", said)
 
 
 ROWS = [names, unusual_files, marked, source_lines, changed, settings, kernels, statuses, refused_linking, whole_json]

@@ -3,26 +3,23 @@ program of its own, and what is reached of it is read from JSON."""
 import json
 
 from checked.objects import (
-    EXIT,
     GONE,
     IS_THERE,
     JEQ,
     JNE,
-    LACKS_B,
-    HAS_B,
-    Code,
     Asks,
+    Code,
     go,
     gone_at,
     helper,
     jump,
     move,
     object_of,
-    slot,
     wide,
 )
 from rows.btf import btf, struct_of
-from rows.core_sides import INT_4, MOVE, S, VARIANT_EXISTS, VARIANT_VALUE, TYPE_EXISTS, enum_of
+from rows.core_sides import INT_4, MOVE, S, TYPE_EXISTS, VARIANT_EXISTS, VARIANT_VALUE, enum_of
+from rows.elf import EXIT, slot
 
 # r6 is kept over calls; r1 holds what the program is called with, which isn't known.
 ONE, SIX, SEVEN, EIGHT = 1, 6, 7, 8
@@ -44,7 +41,8 @@ def jump_by_register(operation, register, other, by, width=64):
     return slot(operation << 4 | (0xD if width == 64 else 0xE), register | other << 4, by)
 
 
-COMPARED = {"JEQ": 1, "JGT": 2, "JGE": 3, "JSET": 4, "JNE": 5, "JSGT": 6, "JSGE": 7, "JLT": 10, "JLE": 11, "JSLT": 12, "JSLE": 13}
+COMPARED = {"JEQ": 1, "JGT": 2, "JGE": 3, "JSET": 4, "JNE": 5, "JSGT": 6, "JSGE": 7}
+COMPARED |= {"JLT": 10, "JLE": 11, "JSLT": 12, "JSLE": 13}
 
 # Two numbers, and the jumps that are taken by them, of 64 and of 32 bits.
 COMPARISONS = [
@@ -159,7 +157,8 @@ def unknown_numbers():
     yield "an argument less itself", [slot(0x1F, 0x11), jump(JEQ, ONE, 0, 2), *BOTH], BOTH_WAYS
     yield "a number that is moved over an argument", [moved(SIX, ONE), zero, jump(JEQ, SIX, 0, 2), *BOTH], TAKEN
     # Adds to memory and loads what was there; compares and exchanges with r0.
-    yield "a number that memory is exchanged with", [zero, slot(0xDB, 0x6A, -8, 0xE1), jump(JEQ, SIX, 0, 2), *BOTH], BOTH_WAYS
+    exchanged = [zero, slot(0xDB, 0x6A, -8, 0xE1), jump(JEQ, SIX, 0, 2), *BOTH]
+    yield "a number that memory is exchanged with", exchanged, BOTH_WAYS
     swapped = [move(0, 0), slot(0xDB, 0x6A, -8, 0xF1), jump(JEQ, 0, 0, 2), *BOTH]
     yield "a number that memory is compared with", swapped, BOTH_WAYS
     yield "arithmetic of no operation", [zero, slot(0xE7, SIX), jump(JEQ, SIX, 0, 2), *BOTH], BOTH_WAYS
@@ -290,6 +289,7 @@ def told_of(cases):
         out += f"object: ok on 1 of 1 kernels, {len(held)} of {len(held)} programs\n"
         rows.row(f"{cases.__name__}, where all is there", ["check", "object", "itself"], 0, out)
 
+    run.__name__ = cases.__name__
     return run
 
 
