@@ -96,6 +96,11 @@ def changed(rows):
     one_kernel(rows, "another value", values, btf(enum_of("e", ("A", 7))), more=changed_value(name, 5, "7 on kernel"))
     negative = btf(enum_of("e", ("A", 2**32 - 1), signed=1))
     one_kernel(rows, "a negative value", values, negative, more=changed_value(name, 5, "-1 on kernel"))
+    large = btf(enum_of("e", ("A", 2**32 - 1)))
+    one_kernel(rows, "a large value", values, large, more=changed_value(name, 5, "4294967295 on kernel"))
+    below = object_of([program(E_A, EXIT)], [enum_of("e", ("A", 2**32 - 5), signed=1)])
+    told = changed_value(name, -5, "5 on kernel")
+    one_kernel(rows, "a value that was negative", below, btf(enum_of("e", ("A", 5))), more=told)
     one_kernel(rows, "the same value", values, btf(enum_of("e", ("B", 4), ("A", 5))))
     one_kernel(rows, "the same value, and all is told", values, btf(enum_of("e", ("A", 5))), words=["--all"])
     unsigned = lambda size: ty("", INT, size, 8 * size)
@@ -303,6 +308,19 @@ def unusual_files(rows):
     rows.write("big", File(BIG).code("kprobe/p", EXIT).symbol("p", FUNCTION, 3, 0, 8).bytes())
     said = "ebpf: big: the file is big-endian and has code"
     rows.row("an object of the other byte order", ["check", "big", "kernel"], 1, "", said)
+    rows.write("matches", object_of([program(Asks(MOVE, 12, 2, "0"), EXIT)]))
+    said = "ebpf: matches: a CO-RE relocation has kind 12, and the known ones are 0 to 11"
+    rows.row("an object with a record of no kind", ["check", "matches", "kernel"], 1, "", said)
+    (rows.folder / "empty_folder").mkdir()
+    said = "ebpf: empty_folder: Is a directory (os error 21)"
+    rows.row("a folder as the object", ["check", "empty_folder", "kernel"], 2, "", said)
+    (rows.folder / "links").mkdir()
+    (rows.folder / "links" / "1").symlink_to("../kernel")
+    (rows.folder / "links" / "2").symlink_to("nowhere")
+    said = "ebpf: links/2: No such file or directory (os error 2)"
+    ran = rows.row("links in a folder", ["check", "object", "links"], 2, err=said)
+    lines = ["breaks  1/1 programs  links/1", "unread  -/1 programs  links/2"]
+    rows.expect("links in a folder: lines", ran.stdout.split("\n")[:2], lines)
 
 
 ROWS = [names, unusual_files, marked, source_lines, changed, settings, kernels, statuses, refused_linking, whole_json]
