@@ -12,6 +12,8 @@ import tempfile
 from dataclasses import dataclass
 from pathlib import Path
 
+from checked import absences, functions, lacking, telling, walks
+
 TOP = Path(__file__).parents[1]
 EXAMPLE = TOP / "examples" / "check"
 WATCH = TOP / "crates" / "example_library" / "data"
@@ -107,7 +109,12 @@ class Rows:
 
     def run(self, *words):
         return subprocess.run(
-            [self.program, *words], cwd=self.folder, stdin=subprocess.DEVNULL, capture_output=True, text=True, timeout=120
+            [self.program, *words],
+            cwd=self.folder,
+            stdin=subprocess.DEVNULL,
+            capture_output=True,
+            encoding="utf-8",
+            timeout=120,
         )
 
     def expect(self, name, found, wanted):
@@ -366,12 +373,16 @@ def main():
         rows = Rows(program, Path(folder))
         shutil.copy(EXAMPLE / "memdrop.o", folder)
         shutil.copytree(EXAMPLE / "btf", Path(folder) / "btf")
-        for run in [example, as_json, kernels, unread, files, lacks, names, words, closed_output]:
-            run(rows)
+        own = [example, as_json, kernels, unread, files, lacks, names, words, closed_output]
+        for run in [*own, *absences.ROWS, *walks.ROWS, *functions.ROWS, *lacking.ROWS, *telling.ROWS]:
+            try:
+                run(rows)
+            except Exception as error:
+                rows.failures.append(f"{run.__name__}: {error!r}")
     for failure in rows.failures:
         print(failure)
     print(f"{rows.passed} passed, {len(rows.failures)} failed")
-    return 1 if rows.failures else 0
+    return 1 if rows.failures or not rows.passed else 0
 
 
 if __name__ == "__main__":

@@ -1,0 +1,1 @@
+"""What `ebpf check` has to print of objects and kernels' types that are made here."""
