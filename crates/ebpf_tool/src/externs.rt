@@ -126,7 +126,8 @@ fn answer_of(
     }
 }
 
-/// Notes an extern that a kernel lacks; how it is written.
+/// Notes an extern that a kernel lacks; how it is written. A weak one may be lacking, but types that can't be read refuse
+/// the object all the same.
 fn lack(
     alloc: Global,
     lacking: &mut Vec<Lacking>,
@@ -134,7 +135,7 @@ fn lack(
     known: ExternDesc,
     answer: &Answer,
 ) -> Result<ExternDesc, AllocError> {
-    if known.is_weak {
+    if known.is_weak && !matches!(answer, Answer::Unreadable(_)) {
         return Ok(left_out(known));
     }
     lacking.push(Lacking {

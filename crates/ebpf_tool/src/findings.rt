@@ -31,6 +31,8 @@ pub struct Topic {
     pub line: u32,
     /// Why.
     pub reason: String,
+    /// Whether its values have a sign: those of an enumeration that the object states so.
+    pub is_signed: bool,
 }
 
 /// A place in a linked program. Contracts say nothing of it.

@@ -1,7 +1,6 @@
 //! What `ebpf check --json` prints.
 
 use crate::findings::{At, Found, Location, Rank, Topic};
-use crate::kinds::Kind;
 use crate::names::Quoted;
 use crate::session::{Answer, KernelAnswer, Session};
 use ebpf_base::Text;
@@ -150,9 +149,9 @@ fn write_found<W: Write>(
     write!(out, "}}")
 }
 
-/// Writes a value. That of an enumerator has a sign.
-fn write_value<W: Write>(out: &mut W, kind: Kind, value: u64) -> io::Result<()> {
-    if kind == Kind::EnumeratorValue {
+/// Writes a value, which may have a sign.
+fn write_value<W: Write>(out: &mut W, is_signed: bool, value: u64) -> io::Result<()> {
+    if is_signed {
         let value = value.cast_signed();
         return write!(out, "{value}");
     }
@@ -163,7 +162,7 @@ fn write_value<W: Write>(out: &mut W, kind: Kind, value: u64) -> io::Result<()> 
 fn write_values<W: Write>(
     out: &mut W,
     session: &Session,
-    kind: Kind,
+    is_signed: bool,
     values: &BTreeMap<u64, Vec<usize>>,
 ) -> io::Result<()> {
     let mut is_first = true;
@@ -172,7 +171,7 @@ fn write_values<W: Write>(
         separate(out, is_first)?;
         is_first = false;
         write!(out, "{{\"value\":")?;
-        write_value(out, kind, *value)?;
+        write_value(out, is_signed, *value)?;
         write!(out, ",")?;
         write_names(out, session, kernels)?;
         write!(out, "}}")?;
@@ -190,10 +189,10 @@ fn write_changed<W: Write>(
     write_topic(out, topic)?;
     if let Some(own) = found.own {
         write!(out, "\"own\":")?;
-        write_value(out, topic.kind, own)?;
+        write_value(out, topic.is_signed, own)?;
         write!(out, ",")?;
     }
-    write_values(out, session, topic.kind, &found.values)?;
+    write_values(out, session, topic.is_signed, &found.values)?;
     write!(out, "}}")
 }
 

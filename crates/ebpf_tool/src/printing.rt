@@ -169,12 +169,12 @@ fn write_values<W: Write>(
     out: &mut W,
     session: &Session,
     manner: Manner,
-    kind: Kind,
+    is_signed: bool,
     values: &BTreeMap<u64, Vec<usize>>,
 ) -> io::Result<()> {
     for (value, kernels) in values.iter() {
         write!(out, "    ")?;
-        write_value(out, kind, *value)?;
+        write_value(out, is_signed, *value)?;
         write!(out, " on ")?;
         write_names(out, session, manner, kernels)?;
         writeln!(out, "")?;
@@ -182,9 +182,9 @@ fn write_values<W: Write>(
     Ok(())
 }
 
-/// Writes a value. That of an enumerator has a sign.
-fn write_value<W: Write>(out: &mut W, kind: Kind, value: u64) -> io::Result<()> {
-    if kind == Kind::EnumeratorValue {
+/// Writes a value, which may have a sign.
+fn write_value<W: Write>(out: &mut W, is_signed: bool, value: u64) -> io::Result<()> {
+    if is_signed {
         let value = value.cast_signed();
         return write!(out, "{value}");
     }
@@ -206,10 +206,10 @@ fn write_changed<W: Write>(
         write!(out, "<{kind}>  ")?;
     }
     if let Some(own) = found.own {
-        write_value(out, topic.kind, own)?;
+        write_value(out, topic.is_signed, own)?;
     }
     writeln!(out, " in the object")?;
-    write_values(out, session, manner, topic.kind, &found.values)
+    write_values(out, session, manner, topic.is_signed, &found.values)
 }
 
 /// The line over the findings of a rank.

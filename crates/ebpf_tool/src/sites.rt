@@ -11,6 +11,7 @@ use crate::record_names::record_name;
 use crate::verdict::{Answers, topic_of};
 use ebpf_btf::Btf;
 use ebpf_core_relo::{Absence, RecordResult, RelocationError};
+use ebpf_ext::{Relocation, RelocationKind};
 use ebpf_parts::insn::bpf_insn;
 use ebpf_parts::insn::opcodes::{ALU, ALU64, LD};
 use ebpf_reloc::CodeCopy;
@@ -128,6 +129,7 @@ fn record_topic(
         file,
         line,
         reason,
+        is_signed: false,
     })
 }
 
@@ -195,6 +197,15 @@ fn judge_refused(
     Ok(true)
 }
 
+/// Whether a record asks for an enumerator of an enumeration whose values have a sign.
+fn has_sign(local: &Btf, relocation: &Relocation) -> bool {
+    let is_value = relocation.kind == RelocationKind::EnumVariantValue;
+    match local.resolved_type(relocation.type_id) {
+        Ok(ty) => is_value && ty.is_signed(),
+        Err(_) => false,
+    }
+}
+
 /// Notes a value that is another one than the object's own.
 fn note_value(
     alloc: Global,
@@ -217,6 +228,7 @@ fn note_value(
         file: String::new(alloc),
         line: 0,
         reason: String::new(alloc),
+        is_signed: has_sign(local, &record.relocation),
     };
     findings.add_changed(topic, answers.kernel, own, value)
 }

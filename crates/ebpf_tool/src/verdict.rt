@@ -36,6 +36,7 @@ pub fn topic_of(alloc: Global, name: String, kind: Kind, reason: String) -> Topi
         file: String::new(alloc),
         line: 0,
         reason,
+        is_signed: false,
     }
 }
 
