@@ -92,6 +92,9 @@ def weak_externs(rows):
     one_kernel(rows, "a weak function that is called", called, NEITHER, [found(CALLED, "p slot 0")])
     one_kernel(rows, "a weak function that is there", called, HAS_BOTH)
     one_kernel(rows, "a weak function of another signature", called, OTHERS, [found(CALLED, "p slot 0")])
+    unread = btf(INT, function_type("f", 99))
+    refused = [found("f  <ksym>  there is no BTF type 99")]
+    one_kernel(rows, "a weak function of no type", called, unread, refused)
     guarded = object_of([program(address(1, "f"), jump(JEQ, 1, 0, 1), call("f"), EXIT)], FUNCTION, {"f": WEAK})
     one_kernel(rows, "a weak function behind a question", guarded, NEITHER)
     turned = object_of([program(address(1, "f"), jump(5, 1, 0, 1), call("f"), EXIT)], FUNCTION, {"f": WEAK})

@@ -23,9 +23,10 @@ from checked.objects import (
     one_kernel,
     program,
     told,
+    wide,
 )
 from rows.btf import INT, btf, datasec, integer, pointer, struct_of, ty, variable
-from rows.core_sides import INT_4, MOVE, OFFSET, S, SIZE, TYPE_SIZE, VARIANT_VALUE, enum_of
+from rows.core_sides import INT_4, MOVE, OFFSET, S, SIZE, TYPE_SIZE, VARIANT_VALUE, enum64_of, enum_of
 from rows.elf import BIG, EXIT, FUNCTION, File, slot
 
 FINE = program(move(0, 0), EXIT)
@@ -98,6 +99,11 @@ def changed(rows):
     one_kernel(rows, "a negative value", values, negative, more=changed_value(name, 5, "-1 on kernel"))
     large = btf(enum_of("e", ("A", 2**32 - 1)))
     one_kernel(rows, "a large value", values, large, more=changed_value(name, 5, "4294967295 on kernel"))
+    of_64_bits = lambda value, signed: enum64_of("e", ("A", value), signed=signed)
+    for signed, shown in [(0, 2**64 - 1), (1, -1)]:
+        own = object_of([program(Asks(wide(1, 5), VARIANT_VALUE, 1, "0"), EXIT)], [of_64_bits(5, signed)])
+        told = changed_value("enum64 e.A", 5, f"{shown} on kernel")
+        one_kernel(rows, "a value of 64 bits", own, btf(of_64_bits(2**64 - 1, signed)), more=told)
     below = object_of([program(E_A, EXIT)], [enum_of("e", ("A", 2**32 - 5), signed=1)])
     told = changed_value(name, -5, "5 on kernel")
     one_kernel(rows, "a value that was negative", below, btf(enum_of("e", ("A", 5))), more=told)

@@ -31,7 +31,7 @@ pub struct Topic {
     pub line: u32,
     /// Why.
     pub reason: String,
-    /// Whether its values have a sign: those of an enumeration that the object states so.
+    /// Whether its values are shown with a sign.
     pub is_signed: bool,
 }
 

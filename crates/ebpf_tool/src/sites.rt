@@ -9,7 +9,7 @@ use crate::loaded::Record;
 use crate::map_uses::MapUse;
 use crate::record_names::record_name;
 use crate::verdict::{Answers, topic_of};
-use ebpf_btf::Btf;
+use ebpf_btf::{Btf, BtfKind};
 use ebpf_core_relo::{Absence, RecordResult, RelocationError};
 use ebpf_ext::{Relocation, RelocationKind};
 use ebpf_parts::insn::bpf_insn;
@@ -197,12 +197,15 @@ fn judge_refused(
     Ok(true)
 }
 
-/// Whether a record asks for an enumerator of an enumeration whose values have a sign.
+/// Whether the values of a record are shown with a sign: those of enumerators, but for enumerations of 64 bits that the
+/// object states to have none.
 fn has_sign(local: &Btf, relocation: &Relocation) -> bool {
-    let is_value = relocation.kind == RelocationKind::EnumVariantValue;
+    if relocation.kind != RelocationKind::EnumVariantValue {
+        return false;
+    }
     match local.resolved_type(relocation.type_id) {
-        Ok(ty) => is_value && ty.is_signed(),
-        Err(_) => false,
+        Ok(ty) => ty.is_signed() || ty.kind() != BtfKind::Enum64,
+        Err(_) => true,
     }
 }
 
