@@ -5,13 +5,13 @@
  *
  * Prints a line for each fault, and at the end 'N passed, M failed'.
  */
-#include "guarded.h"
+#include "checked.h"
 #include "listed.h"
 #include <pthread.h>
 
-static size_t passed, failed;
+size_t passed, failed;
 
-static void count(int holds, const char *of, const char *what, int line)
+void count_check(int holds, const char *of, const char *what, int line)
 {
 	if (holds)
 		passed++;
@@ -20,9 +20,7 @@ static void count(int holds, const char *of, const char *what, int line)
 	failed += !holds;
 }
 
-#define CHECK(of, holds) count(holds, of, #holds, __LINE__)
-
-static struct ebpf_handle opened(const struct guarded *file)
+struct ebpf_handle opened(const struct guarded *file)
 {
 	struct ebpf_handle handle = EBPF_CLOSED_HANDLE;
 	size_t len = 0;
@@ -431,6 +429,7 @@ int main(int words, char **word)
 	check_lists(&files[2], "on_enter", ".data");
 	check_handles(&files[0]);
 	check_changes(&files[1]);
+	check_values_by_rows(&files[1]);
 	check_number_names();
 	given = &files[2];
 	check_threads();

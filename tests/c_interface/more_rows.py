@@ -141,6 +141,38 @@ def changes():
     yield CallsRow("a value of a variable", (COUNTER, b"", b""), value, has_value)
 
 
+def many_values():
+    """Values of several variables: `a` has the four bytes of `.data`, and `b` the last two."""
+
+    def answers(name, action, answer, data, file=None):
+        def judge(lines):
+            found = [line.rpartition(" ")[2] for line in lines if line.startswith("map .data ")]
+            return None if lines[1] == answer and found == [data] else f"{lines} in place of {answer}, {data}"
+
+        files = (file or values.variables(), b"", b"")
+        return CallsRow(name, files, ["open", f"values{action}", "listed"], judge)
+
+    still = "00000000"
+    return [
+        answers("no values", "", "values 0", still),
+        answers("values of two variables", "=b:must:090a,a:must:01020304", "values 0", "0102090a"),
+        answers("a later row over an earlier one", "=b:must:0102,b:must:0304", "values 0", "00000304"),
+        answers("a later row over one of another size", "=b:must:01,b:must:0304", "values 0", "00000304"),
+        answers("a later row of another size", "=b:must:0304,a:must:01020304,b:must:01", "values 150 b", still),
+        answers("a later row that may", "=c:must:01,c:may:01,b:must:0304", "values 0", "00000304"),
+        answers("a later row that must", "=c:may:01,b:must:0304,c:must:01", "values 151 c", still),
+        answers("a value of another size", "=a:must:01020304,b:must:09", "values 150 b", still),
+        answers("a value past the data", "=past:must:0102,a:must:01020304", "values 150 past", still),
+        answers("a value without a map", "=a:must:01020304,other:must:01020304", "values 152", still),
+        # by names, not by rows
+        answers("the first fault", "=past:must:0102,c:must:01", "values 151 c", still),
+        answers("a name that is no text", "=a:must:01020304,\udcff:must:0304", "values 6", still),
+        answers("no text before other faults", "=c:must:01,\udcff:must:0304", "values 6", still),
+        answers("a value of no bytes", "=b:must:,a:must:01020304", "values 150 b", still),
+        CallsRow("values of a closed handle", (b"", b"", b""), ["values=\udcff:must:01"], ["values 3"]),
+    ]
+
+
 def names():
     """Each number of the header has a name of its own, and no other number has one."""
     known = builds.numbers_of_header()
@@ -168,4 +200,4 @@ def sections_of_programs():
 
 
 def rows():
-    return [*names(), *kinds(), *broad_kinds(), *broad_files(), *sections_of_programs(), *small_object(), *numbers(), *unchanged(), *changes()]
+    return [*names(), *kinds(), *broad_kinds(), *broad_files(), *sections_of_programs(), *small_object(), *numbers(), *unchanged(), *changes(), *many_values()]

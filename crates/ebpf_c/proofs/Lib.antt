@@ -8,3 +8,4 @@ pub mod OneValue
 pub mod Refusing
 pub mod Rows
 pub mod Texts
+pub mod ValueRows

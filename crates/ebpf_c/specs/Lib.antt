@@ -21,6 +21,6 @@ pub mod Refusal
 pub mod SectionRows
 pub mod Settings
 pub mod TargetTypes
-
+pub mod Values
 -- What only private contracts and proofs name.
 pub mod PrivateContracts

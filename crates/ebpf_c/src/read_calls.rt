@@ -10,7 +10,9 @@ use crate::codes::{CLOSED, DONE, MEMORY};
 use crate::entries::entries_of;
 use crate::handle::ebpf_handle;
 use crate::info::{ebpf_object_info, info_of};
-use crate::reads::{read_func_infos, read_line_infos, read_map_data, read_section_name, read_slots};
+use crate::reads::{
+    read_func_infos, read_line_infos, read_map_data, read_section_name, read_slots,
+};
 use ebpf_ext::{bpf_func_info, bpf_line_info};
 use ebpf_object::Object;
 use ebpf_parts::insn::bpf_insn;
@@ -78,7 +80,11 @@ fn write_section(
     let Ok(sections) = entries_of(alloc, &object.section_infos) else {
         return MEMORY;
     };
-    write_list(read_section_name(&object.programs, &sections, name), text, len)
+    write_list(
+        read_section_name(&object.programs, &sections, name),
+        text,
+        len,
+    )
 }
 
 /// Writes the name of the section of the program with a name, and its length: 0 where no named section has the number of

@@ -1,6 +1,6 @@
 //! An object.
 use crate::error::Error;
-use crate::raw::{self, Counts, Descriptor, FuncInfo, Handle, Insn, LineInfo};
+use crate::raw::{self, Counts, Descriptor, FuncInfo, Handle, Insn, LineInfo, Value};
 use crate::rows::{Extern, Map, Program, Row, Section};
 use std::cell::UnsafeCell;
 
@@ -46,6 +46,23 @@ fn map_fds(maps: &[(&str, i32)]) -> (Vec<Descriptor>, String) {
         text.push_str(name);
     }
     (rows, text)
+}
+
+/// Names and values one after the other, and a row for each.
+fn value_rows(values: &[(&str, &[u8], bool)]) -> (Vec<Value>, String, Vec<u8>) {
+    let (mut rows, mut text, mut bytes) = (Vec::new(), String::new(), Vec::new());
+    for (name, value, must_exist) in values {
+        rows.push(Value {
+            name_at: text.len(),
+            name_len: name.len(),
+            value_at: bytes.len(),
+            value_len: value.len(),
+            must_exist: (*must_exist).into(),
+        });
+        text.push_str(name);
+        bytes.extend_from_slice(value);
+    }
+    (rows, text, bytes)
 }
 
 /// A call that may say what its refusal is about.
@@ -270,6 +287,30 @@ impl Object {
                     value.as_ptr(),
                     value.len(),
                     must_exist.into(),
+                    about,
+                    room,
+                    len,
+                )
+            }
+        })
+    }
+
+    /// Writes the values of many variables, all or none: of each its name, its value, and whether the object has to have
+    /// it. Of equal names the last counts. Many calls of `set_value` take longer, since each makes a table of all names.
+    pub fn set_values(&mut self, values: &[(&str, &[u8], bool)]) -> Result<(), Error> {
+        let handle = self.handle.get_mut();
+        let (rows, text, bytes) = value_rows(values);
+        telling(|about, room, len| {
+            // SAFETY: an `Object` is open, and the slices are borrowed for the call.
+            unsafe {
+                raw::ebpf_set_values(
+                    handle,
+                    rows.as_ptr(),
+                    rows.len(),
+                    text.as_ptr(),
+                    text.len(),
+                    bytes.as_ptr(),
+                    bytes.len(),
                     about,
                     room,
                     len,

@@ -22,6 +22,16 @@ pub struct Descriptor {
     pub descriptor: i32,
 }
 
+/// `struct ebpf_value`.
+#[repr(C)]
+pub struct Value {
+    pub name_at: usize,
+    pub name_len: usize,
+    pub value_at: usize,
+    pub value_len: usize,
+    pub must_exist: u32,
+}
+
 /// `struct ebpf_info`.
 #[repr(C)]
 #[derive(Clone, Copy, Default)]
@@ -224,6 +234,18 @@ extern "C" {
         value: *const u8,
         value_len: usize,
         must_exist: u32,
+        about: *mut u8,
+        about_room: usize,
+        about_len: *mut usize,
+    ) -> u32;
+    pub fn ebpf_set_values(
+        handle: *mut Handle,
+        rows: *const Value,
+        rows_len: usize,
+        text: *const u8,
+        text_len: usize,
+        bytes: *const u8,
+        bytes_len: usize,
         about: *mut u8,
         about_room: usize,
         about_len: *mut usize,

@@ -67,6 +67,26 @@ fn map_fds_are_written() {
 }
 
 #[test]
+fn values_are_written_all_or_none() {
+    let mut object = Object::open(&file("test_rows/data/counter.o")).expect("an object");
+    let (first, second) = (1u32.to_le_bytes(), 42u32.to_le_bytes());
+    object
+        .set_values(&[
+            ("wanted", &first, true),
+            ("none", &[1], false),
+            ("wanted", &second, true),
+        ])
+        .expect("variables");
+    assert_eq!(object.map_data(".rodata").expect("data"), [42, 0, 0, 0]);
+    let refused = object
+        .set_values(&[("wanted", &first, true), ("none", &[1], true)])
+        .expect_err("no variable");
+    assert!(matches!(&refused, Error::Parse(refusal) if refusal.number == 151));
+    assert_eq!(object.map_data(".rodata").expect("data"), [42, 0, 0, 0]);
+    object.set_values(&[]).expect("nothing");
+}
+
+#[test]
 fn refusals_have_names() {
     let refused = Object::open(b"no object").err().expect("a refusal");
     assert!(matches!(&refused, Error::Parse(refusal) if refusal.number == 100 && refusal.about.is_none()));
