@@ -497,6 +497,16 @@ uint32_t ebpf_prepare(const uint8_t *file, size_t file_len, const uint8_t *types
 		      const uint8_t *symbols, size_t symbols_len, struct ebpf_handle *handle, char *about,
 		      size_t about_room, size_t *about_len);
 
+/*
+ * Runs the same passes over the object that the handle holds, whose values and sizes may be set before; so maps can be
+ * made as ebpf_maps lists them, and the same object prepared with their descriptors. The rows' names are looked at first,
+ * then the types are read. After a refusal the object is as it was. Numbers: 2, 3, 6, 200 to 299, .., 600 to 699.
+ */
+uint32_t ebpf_prepare_handle(struct ebpf_handle *handle, const uint8_t *types, size_t types_len,
+			     const struct ebpf_descriptor *rows, size_t rows_len, const char *text, size_t text_len,
+			     const uint8_t *symbols, size_t symbols_len, char *about, size_t about_room,
+			     size_t *about_len);
+
 #ifdef __cplusplus
 }
 #endif

@@ -335,6 +335,12 @@ static void check_changes(const struct guarded *file)
 	CHECK("ebpf_resolve_externs",
 	      ebpf_resolve_externs(&closed, none.at, 0, none.at, 0, text, 0, &len) == EBPF_CLOSED);
 	CHECK("ebpf_relocate_externs", ebpf_relocate_externs(&closed, text, 0, &len) == EBPF_CLOSED);
+	CHECK("ebpf_prepare_handle", ebpf_prepare_handle(&closed, none.at, 0, &row, 1, "a", 1, none.at, 0, text, 0,
+							 &len) == EBPF_CLOSED);
+	CHECK("ebpf_prepare_handle", ebpf_prepare_handle(&object, none.at, 0, &row, 1, "a", 1, none.at, 0, text, 0,
+							 &len) == EBPF_BAD_NAME);
+	CHECK("ebpf_prepare_handle", ebpf_prepare_handle(&object, value, 8, &row, 0, "a", 1, none.at, 0, text, 0,
+							 &len) == EBPF_TYPES_READ);
 	ebpf_close(&object);
 	release(&none);
 }
@@ -387,6 +393,10 @@ static void *prepare(void *to)
 		if (ebpf_prepare(given[0].at, given[0].size, given[1].at, given[1].size, rows, count, text, len,
 				 given[2].at, given[2].size, &object, (char *)none.at, 0, &found) != EBPF_DONE)
 			return "ebpf_prepare refuses";
+	if (ebpf_open(given[0].at, given[0].size, &object, (char *)none.at, 0, &found) != EBPF_DONE ||
+	    ebpf_prepare_handle(&object, given[1].at, given[1].size, rows, count, text, len, given[2].at, given[2].size,
+				(char *)none.at, 0, &found) != EBPF_DONE)
+		return "ebpf_prepare_handle refuses";
 	if (ebpf_slots(&object, "on_enter", 8, to, 1024, &found) != EBPF_DONE || !found)
 		return "no slots";
 	ebpf_close(&object);

@@ -4,7 +4,8 @@
  * usage: calls [-m] OBJECT TYPES SYMBOLS ACTION..      an empty file of types is none
  *
  * An action is a name, and words behind `=` with colons between them where it asks for some:
- *	open prepare clone types maps maps=NAME:N,.. resolve externs calls value=NAME:must|may:DIGITS entries=NAME:N
+ *	open prepare prepare_handle prepare_handle=NAME:N,.. clone types maps maps=NAME:N,.. resolve externs calls
+ *	value=NAME:must|may:DIGITS entries=NAME:N
  *	values=NAME:must|may:DIGITS,.. size=NAME:N sanitize=N
  *	                                     change what the handle holds, and print `NAME NUMBER ABOUT`
  *	programs named listed declared sections info slots records     list what it holds
@@ -66,7 +67,7 @@ static void give_map_fds(const char *name, char *rest)
 	memset(&given, 0, sizeof(given));
 	if (prepares)
 		ebpf_open(file.at, file.len, &held, about, sizeof(about), &about_len);
-	if (!strcmp(name, "maps") && rest)
+	if (!prepares && rest)
 		read_map_fds(rest);
 	else if (prepares && held.at)
 		given.count = number_maps(&held, &given.rows, &given.text, &given.text_len);
@@ -147,6 +148,9 @@ static uint32_t change(const char *name, char *rest)
 	if (!strcmp(name, "prepare"))
 		return ebpf_prepare(file.at, file.len, types.at, types.len, given.rows, given.count, given.text,
 				    given.text_len, symbols.at, symbols.len, &object, about, sizeof(about), &about_len);
+	if (!strcmp(name, "prepare_handle"))
+		return ebpf_prepare_handle(&object, types.at, types.len, given.rows, given.count, given.text,
+					   given.text_len, symbols.at, symbols.len, about, sizeof(about), &about_len);
 	if (!strcmp(name, "clone"))
 		return copy();
 	if (!strcmp(name, "types"))
@@ -283,7 +287,7 @@ static void act(char *word, int is_marked)
 
 	if (lists(name))
 		return;
-	if (!strcmp(name, "maps") || !strcmp(name, "prepare"))
+	if (!strcmp(name, "maps") || !strcmp(name, "prepare") || !strcmp(name, "prepare_handle"))
 		give_map_fds(name, rest);
 	if (is_marked) {
 		printf("before:\n");

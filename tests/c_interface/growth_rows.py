@@ -16,7 +16,7 @@ class GrowthRow(Row):
     def __init__(self, program, name, files, *actions, answer="0"):
         super().__init__(f"growths: {name}", program, "-m", *files, *actions)
         self.answer = answer
-        self.may_do_without = actions[-1] in ("open", "open_broad", "prepare")
+        self.may_do_without = actions[-1] in ("open", "open_broad", "prepare", "prepare_handle")
 
     def ample_fault(self, ample):
         parts = Parts(ample.out)
@@ -54,6 +54,9 @@ def rows(program):
         GrowthRow(program, "ebpf_prepare, the small object", (SMALL, b"", b""), "prepare"),
         GrowthRow(program, "ebpf_prepare, counter.o", (COUNTER, TASKS, b""), "prepare"),
         GrowthRow(program, "ebpf_prepare, references.o", ALL, "prepare"),
+        GrowthRow(program, "ebpf_prepare_handle, the small object", (SMALL, b"", b""), "open", "prepare_handle"),
+        GrowthRow(program, "ebpf_prepare_handle, counter.o", (COUNTER, TASKS, b""), "open", "prepare_handle"),
+        GrowthRow(program, "ebpf_prepare_handle, references.o", ALL, "open", "prepare_handle"),
         GrowthRow(program, "ebpf_relocate_types, counter.o", (COUNTER, TASKS, b""), "open", "types"),
         GrowthRow(program, "ebpf_set_value", (COUNTER, b"", b""), "open", value),
         GrowthRow(program, "ebpf_set_values", (COUNTER, b"", b""), "open", many),

@@ -1,4 +1,5 @@
 pub mod HandleWords
+pub mod HeldPasses
 pub mod LooseWords
 pub mod Named
 pub mod NamedMaps

@@ -14,6 +14,7 @@ pub mod Numbers
 pub mod Opened
 pub mod Passes
 pub mod Preparing
+pub mod PreparingHeld
 pub mod ProgramKinds
 pub mod ProgramRows
 pub mod Reads

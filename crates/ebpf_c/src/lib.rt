@@ -25,6 +25,7 @@ mod opening;
 mod parse_refusal;
 mod prepare_refusal;
 mod preparing;
+mod preparing_held;
 mod program_kind;
 mod programs;
 mod read_calls;

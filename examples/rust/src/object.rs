@@ -150,6 +150,32 @@ impl Object {
         })
     }
 
+    /// Runs all passes over this object, with what was set on it. Where that is refused it is as it was.
+    pub fn prepare_in_place(&mut self, target: &Target<'_>) -> Result<(), Error> {
+        let handle = self.handle.get_mut();
+        let (rows, text) = map_fds(target.maps);
+        let (types, symbols) = (target.types, target.symbols);
+        telling(|about, room, len| {
+            // SAFETY: an `Object` is open, and the slices are borrowed for the call.
+            unsafe {
+                raw::ebpf_prepare_handle(
+                    handle,
+                    types.as_ptr(),
+                    types.len(),
+                    rows.as_ptr(),
+                    rows.len(),
+                    text.as_ptr(),
+                    text.len(),
+                    symbols.as_ptr(),
+                    symbols.len(),
+                    about,
+                    room,
+                    len,
+                )
+            }
+        })
+    }
+
     /// A copy that later calls on this one leave as it is.
     pub fn try_clone(&self) -> Result<Object, Error> {
         let mut handle = Handle {

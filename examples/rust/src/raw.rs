@@ -299,4 +299,18 @@ extern "C" {
         about_room: usize,
         about_len: *mut usize,
     ) -> u32;
+    pub fn ebpf_prepare_handle(
+        handle: *mut Handle,
+        types: *const u8,
+        types_len: usize,
+        rows: *const Descriptor,
+        rows_len: usize,
+        text: *const u8,
+        text_len: usize,
+        symbols: *const u8,
+        symbols_len: usize,
+        about: *mut u8,
+        about_room: usize,
+        about_len: *mut usize,
+    ) -> u32;
 }

@@ -37,6 +37,29 @@ fn one_call_does_all() {
 }
 
 #[test]
+fn an_object_is_prepared_with_its_values() {
+    let mut object = Object::open(&file("test_rows/data/counter.o")).expect("an object");
+    object
+        .set_value("wanted", &42u32.to_le_bytes(), true)
+        .expect("a variable");
+    let before = object.slots("on_packet").expect("slots");
+    let target = Target {
+        maps: &[("counts", 5)],
+        ..Target::default()
+    };
+    let refused = object.prepare_in_place(&target).expect_err("maps without descriptors");
+    assert!(matches!(refused, Error::Maps(_)));
+    assert_eq!(object.slots("on_packet").expect("slots"), before);
+    let target = Target {
+        maps: &[("counts", 5), (".bss", 6), (".rodata", 7), ("tables", 8)],
+        ..Target::default()
+    };
+    object.prepare_in_place(&target).expect("prepared");
+    assert_ne!(object.slots("on_packet").expect("slots"), before);
+    assert_eq!(object.map_data(".rodata").expect("data"), [42, 0, 0, 0]);
+}
+
+#[test]
 fn map_fds_are_written() {
     let mut object = Object::open(&file("test_rows/data/counter.o")).expect("an object");
     let maps = object.maps().expect("maps");
