@@ -42,6 +42,11 @@
 extern "C" {
 #endif
 
+/* The version of this interface, 0.1.0, as major * 1000000 + minor * 1000 + patch; ebpf_version_number gives the library's. */
+#define EBPF_VERSION_NUMBER 1000
+
+uint32_t ebpf_version_number(void);
+
 /* ---- numbers of answers; they stay as they are, and new ones get numbers that were free */
 
 enum ebpf_number {
@@ -52,6 +57,7 @@ enum ebpf_number {
 	EBPF_NO_PROGRAM = 4, /* no program has the name */
 	EBPF_NO_MAP = 5,     /* no map has the name */
 	EBPF_BAD_NAME = 6,   /* a name that is given is no UTF-8, or a row's name is not inside the text beside it */
+	EBPF_BAD_VALUE = 7,  /* a row's value is not inside the bytes beside it */
 
 	/* 100 to 199: the file can't be parsed, or an object can't be changed by values */
 	EBPF_PARSE_FILE = 100,	  /* + ebpf_file_fault: the file is no ELF64 object */
@@ -214,6 +220,9 @@ uint32_t ebpf_info(struct ebpf_handle *handle, struct ebpf_info *info);
 
 /* The license, without its zero byte. *len is its length. Numbers: 1, 3. */
 uint32_t ebpf_license(struct ebpf_handle *handle, char *text, size_t room, size_t *len);
+
+/* *states is 1 where the file has a section `license`, 0 where it has none: the license is then the default GPL. Numbers: 3. */
+uint32_t ebpf_states_license(struct ebpf_handle *handle, uint32_t *states);
 
 /*
  * How many rows a list has, and how many bytes its text. In the text stand the names one after the other, each with a
@@ -416,6 +425,24 @@ uint32_t ebpf_line_infos(struct ebpf_handle *handle, const char *name, size_t na
 uint32_t ebpf_set_value(struct ebpf_handle *handle, const char *name, size_t name_len, const uint8_t *value,
 			size_t value_len, uint32_t must_exist, char *about, size_t about_room, size_t *about_len);
 
+/* A variable's name and its value, places in the text and in the bytes that are given beside the rows. */
+struct ebpf_value {
+	size_t name_at, name_len;
+	size_t value_at, value_len;
+	uint32_t must_exist; /* 0: the row is passed over where no symbol has the name */
+};
+
+/*
+ * Writes the values of many variables, each as ebpf_set_value does. Of rows of one name the last counts; where variables
+ * share bytes the one with the greater name counts. A row whose name is no UTF-8, or not inside the text, is refused
+ * first, then one whose value is not inside the bytes, then the first fault in byte order of the names; after a refusal
+ * nothing is written. The table of the variables' names is made once for all rows: each ebpf_set_value makes it anew, so
+ * 1,000 of those cost 1,000 tables. Numbers: 2, 3, 6, 7, 150 to 152.
+ */
+uint32_t ebpf_set_values(struct ebpf_handle *handle, const struct ebpf_value *rows, size_t rows_len, const char *text,
+			 size_t text_len, const uint8_t *bytes, size_t bytes_len, char *about, size_t about_room,
+			 size_t *about_len);
+
 /* Sets how many entries a map holds at most. Numbers: 3, 5. */
 uint32_t ebpf_set_max_entries(struct ebpf_handle *handle, const char *name, size_t name_len, uint32_t entries);
 
@@ -477,6 +504,16 @@ uint32_t ebpf_prepare(const uint8_t *file, size_t file_len, const uint8_t *types
 		      const struct ebpf_descriptor *rows, size_t rows_len, const char *text, size_t text_len,
 		      const uint8_t *symbols, size_t symbols_len, struct ebpf_handle *handle, char *about,
 		      size_t about_room, size_t *about_len);
+
+/*
+ * Runs the same passes over the object that the handle holds, whose values and sizes may be set before; so maps can be
+ * made as ebpf_maps lists them, and the same object prepared with their descriptors. The rows' names are looked at first,
+ * then the types are read. After a refusal the object is as it was. Numbers: 2, 3, 6, 200 to 299, .., 600 to 699.
+ */
+uint32_t ebpf_prepare_handle(struct ebpf_handle *handle, const uint8_t *types, size_t types_len,
+			     const struct ebpf_descriptor *rows, size_t rows_len, const char *text, size_t text_len,
+			     const uint8_t *symbols, size_t symbols_len, char *about, size_t about_room,
+			     size_t *about_len);
 
 #ifdef __cplusplus
 }

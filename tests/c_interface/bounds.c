@@ -5,13 +5,13 @@
  *
  * Prints a line for each fault, and at the end 'N passed, M failed'.
  */
-#include "guarded.h"
+#include "checked.h"
 #include "listed.h"
 #include <pthread.h>
 
-static size_t passed, failed;
+size_t passed, failed;
 
-static void count(int holds, const char *of, const char *what, int line)
+void count_check(int holds, const char *of, const char *what, int line)
 {
 	if (holds)
 		passed++;
@@ -20,9 +20,7 @@ static void count(int holds, const char *of, const char *what, int line)
 	failed += !holds;
 }
 
-#define CHECK(of, holds) count(holds, of, #holds, __LINE__)
-
-static struct ebpf_handle opened(const struct guarded *file)
+struct ebpf_handle opened(const struct guarded *file)
 {
 	struct ebpf_handle handle = EBPF_CLOSED_HANDLE;
 	size_t len = 0;
@@ -337,6 +335,12 @@ static void check_changes(const struct guarded *file)
 	CHECK("ebpf_resolve_externs",
 	      ebpf_resolve_externs(&closed, none.at, 0, none.at, 0, text, 0, &len) == EBPF_CLOSED);
 	CHECK("ebpf_relocate_externs", ebpf_relocate_externs(&closed, text, 0, &len) == EBPF_CLOSED);
+	CHECK("ebpf_prepare_handle", ebpf_prepare_handle(&closed, none.at, 0, &row, 1, "a", 1, none.at, 0, text, 0,
+							 &len) == EBPF_CLOSED);
+	CHECK("ebpf_prepare_handle", ebpf_prepare_handle(&object, none.at, 0, &row, 1, "a", 1, none.at, 0, text, 0,
+							 &len) == EBPF_BAD_NAME);
+	CHECK("ebpf_prepare_handle", ebpf_prepare_handle(&object, value, 8, &row, 0, "a", 1, none.at, 0, text, 0,
+							 &len) == EBPF_TYPES_READ);
 	ebpf_close(&object);
 	release(&none);
 }
@@ -372,6 +376,18 @@ static void check_number_names(void)
 	}
 }
 
+/* ---- small facts */
+
+static void check_license(const struct guarded *file, uint32_t wanted)
+{
+	struct ebpf_handle object = opened(file), closed = EBPF_CLOSED_HANDLE;
+	uint32_t states = 77;
+
+	CHECK("ebpf_states_license", ebpf_states_license(&closed, &states) == EBPF_CLOSED && states == 77);
+	CHECK("ebpf_states_license", ebpf_states_license(&object, &states) == EBPF_DONE && states == wanted);
+	ebpf_close(&object);
+}
+
 /* ---- the passes, over input that can't be written, and four threads with a handle each */
 
 static const struct guarded *given; /* a file, a kernel's types, its symbols */
@@ -389,6 +405,10 @@ static void *prepare(void *to)
 		if (ebpf_prepare(given[0].at, given[0].size, given[1].at, given[1].size, rows, count, text, len,
 				 given[2].at, given[2].size, &object, (char *)none.at, 0, &found) != EBPF_DONE)
 			return "ebpf_prepare refuses";
+	if (ebpf_open(given[0].at, given[0].size, &object, (char *)none.at, 0, &found) != EBPF_DONE ||
+	    ebpf_prepare_handle(&object, given[1].at, given[1].size, rows, count, text, len, given[2].at, given[2].size,
+				(char *)none.at, 0, &found) != EBPF_DONE)
+		return "ebpf_prepare_handle refuses";
 	if (ebpf_slots(&object, "on_enter", 8, to, 1024, &found) != EBPF_DONE || !found)
 		return "no slots";
 	ebpf_close(&object);
@@ -431,7 +451,11 @@ int main(int words, char **word)
 	check_lists(&files[2], "on_enter", ".data");
 	check_handles(&files[0]);
 	check_changes(&files[1]);
+	check_values_by_rows(&files[1]);
 	check_number_names();
+	check_license(&files[0], 0);
+	check_license(&files[1], 1);
+	CHECK("ebpf_version_number", ebpf_version_number() == EBPF_VERSION_NUMBER);
 	given = &files[2];
 	check_threads();
 	printf("%zu passed, %zu failed\n", passed, failed);

@@ -16,7 +16,7 @@ SANITIZED = ["-g", "-fsanitize=address,undefined", "-fno-sanitize-recover=all"]
 # Programs with their sources.
 PROGRAMS = {
     "calls": [HERE / "calls.c", HERE / "listed.c"],
-    "bounds": [HERE / "bounds.c", HERE / "listed.c"],
+    "bounds": [HERE / "bounds.c", HERE / "bounds_values.c", HERE / "listed.c"],
     "loader": [EXAMPLES / "loader.c"],
 }
 

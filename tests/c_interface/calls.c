@@ -4,8 +4,10 @@
  * usage: calls [-m] OBJECT TYPES SYMBOLS ACTION..      an empty file of types is none
  *
  * An action is a name, and words behind `=` with colons between them where it asks for some:
- *	open prepare clone types maps maps=NAME:N,.. resolve externs calls value=NAME:must|may:DIGITS entries=NAME:N
- *	size=NAME:N sanitize=N               change what the handle holds, and print `NAME NUMBER ABOUT`
+ *	open prepare prepare_handle prepare_handle=NAME:N,.. clone types maps maps=NAME:N,.. resolve externs calls
+ *	value=NAME:must|may:DIGITS entries=NAME:N
+ *	values=NAME:must|may:DIGITS,.. size=NAME:N sanitize=N
+ *	                                     change what the handle holds, and print `NAME NUMBER ABOUT`
  *	programs named listed declared sections info slots records     list what it holds
  *	ask=CALL ask=CALL:NAME               asks one of the calls that list, with ample room, and prints its number
  *	names                                lists the numbers that have a name
@@ -65,7 +67,7 @@ static void give_map_fds(const char *name, char *rest)
 	memset(&given, 0, sizeof(given));
 	if (prepares)
 		ebpf_open(file.at, file.len, &held, about, sizeof(about), &about_len);
-	if (!strcmp(name, "maps") && rest)
+	if (!prepares && rest)
 		read_map_fds(rest);
 	else if (prepares && held.at)
 		given.count = number_maps(&held, &given.rows, &given.text, &given.text_len);
@@ -78,16 +80,49 @@ static void give_map_fds(const char *name, char *rest)
 	ebpf_close(&held);
 }
 
+/* The bytes of hexadecimal digits, as many as there is room for. */
+static size_t read_digits(const char *digits, uint8_t *to, size_t room)
+{
+	size_t len = 0;
+
+	while (len < room && sscanf(digits + 2 * len, "%2hhx", &to[len]) == 1)
+		len++;
+	return len;
+}
+
 static uint32_t set_value(char *rest)
 {
 	char *name = cut(&rest, ':'), *must = cut(&rest, ':');
 	uint8_t value[64] = { 0 };
-	size_t len = 0;
+	size_t len = read_digits(rest, value, sizeof(value));
 
-	while (len < sizeof(value) && sscanf(rest + 2 * len, "%2hhx", &value[len]) == 1)
-		len++;
 	return ebpf_set_value(&object, name, strlen(name), value, len, !strcmp(must, "must"), about, sizeof(about),
 			      &about_len);
+}
+
+/* The values NAME:must|may:DIGITS,.. as rows; the bytes end with the digits. */
+static uint32_t set_values(char *rest)
+{
+	size_t room = rest ? strlen(rest) : 0, count = 0, text_len = 0, bytes_len = 0;
+	struct ebpf_value *rows = zeros(room, sizeof(*rows));
+	char *text = zeros(room, 1);
+	uint8_t *bytes = zeros(room, 1);
+	uint32_t number;
+
+	while (rest) {
+		char *row = cut(&rest, ','), *name = cut(&row, ':'), *must = cut(&row, ':');
+		size_t len = read_digits(row, bytes + bytes_len, room - bytes_len);
+
+		rows[count++] = (struct ebpf_value){ text_len, strlen(name), bytes_len, len, !strcmp(must, "must") };
+		memcpy(text + text_len, name, strlen(name));
+		text_len += strlen(name);
+		bytes_len += len;
+	}
+	number = ebpf_set_values(&object, rows, count, text, text_len, bytes, bytes_len, about, sizeof(about), &about_len);
+	free(rows);
+	free(text);
+	free(bytes);
+	return number;
 }
 
 static uint32_t copy(void)
@@ -113,6 +148,9 @@ static uint32_t change(const char *name, char *rest)
 	if (!strcmp(name, "prepare"))
 		return ebpf_prepare(file.at, file.len, types.at, types.len, given.rows, given.count, given.text,
 				    given.text_len, symbols.at, symbols.len, &object, about, sizeof(about), &about_len);
+	if (!strcmp(name, "prepare_handle"))
+		return ebpf_prepare_handle(&object, types.at, types.len, given.rows, given.count, given.text,
+					   given.text_len, symbols.at, symbols.len, about, sizeof(about), &about_len);
 	if (!strcmp(name, "clone"))
 		return copy();
 	if (!strcmp(name, "types"))
@@ -129,6 +167,8 @@ static uint32_t change(const char *name, char *rest)
 		return ebpf_relocate_calls(&object, about, sizeof(about), &about_len);
 	if (!strcmp(name, "value"))
 		return set_value(rest);
+	if (!strcmp(name, "values"))
+		return set_values(rest);
 	if (!strcmp(name, "sanitize"))
 		return ebpf_sanitize(&object, (uint32_t)strtoul(rest, NULL, 0));
 	map = cut(&rest, ':');
@@ -247,7 +287,7 @@ static void act(char *word, int is_marked)
 
 	if (lists(name))
 		return;
-	if (!strcmp(name, "maps") || !strcmp(name, "prepare"))
+	if (!strcmp(name, "maps") || !strcmp(name, "prepare") || !strcmp(name, "prepare_handle"))
 		give_map_fds(name, rest);
 	if (is_marked) {
 		printf("before:\n");

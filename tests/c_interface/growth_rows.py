@@ -16,7 +16,7 @@ class GrowthRow(Row):
     def __init__(self, program, name, files, *actions, answer="0"):
         super().__init__(f"growths: {name}", program, "-m", *files, *actions)
         self.answer = answer
-        self.may_do_without = actions[-1] in ("open", "open_broad", "prepare")
+        self.may_do_without = actions[-1] in ("open", "open_broad", "prepare", "prepare_handle")
 
     def ample_fault(self, ample):
         parts = Parts(ample.out)
@@ -43,6 +43,7 @@ def rows(program):
     passes = ["open", "types", "maps", "resolve", "externs", "calls"]
     opened = [("the small object", SMALL), ("two calls", two), ("counter.o", COUNTER), ("references.o", REFERENCES)]
     value = "value=wanted:must:2a000000"
+    many = "values=wanted:must:2a000000,seen:must:0102030405060708,other:may:01,wanted:must:2b000000"
     found = [GrowthRow(program, f"ebpf_open, {name}", (data, b"", b""), "open") for name, data in opened]
     broad = [*opened, ("no kind", no_kind)]
     found += [GrowthRow(program, f"ebpf_open_broad, {name}", (data, b"", b""), "open_broad") for name, data in broad]
@@ -53,8 +54,13 @@ def rows(program):
         GrowthRow(program, "ebpf_prepare, the small object", (SMALL, b"", b""), "prepare"),
         GrowthRow(program, "ebpf_prepare, counter.o", (COUNTER, TASKS, b""), "prepare"),
         GrowthRow(program, "ebpf_prepare, references.o", ALL, "prepare"),
+        GrowthRow(program, "ebpf_prepare_handle, the small object", (SMALL, b"", b""), "open", "prepare_handle"),
+        GrowthRow(program, "ebpf_prepare_handle, counter.o", (COUNTER, TASKS, b""), "open", "prepare_handle"),
+        GrowthRow(program, "ebpf_prepare_handle, references.o", ALL, "open", "prepare_handle"),
         GrowthRow(program, "ebpf_relocate_types, counter.o", (COUNTER, TASKS, b""), "open", "types"),
         GrowthRow(program, "ebpf_set_value", (COUNTER, b"", b""), "open", value),
+        GrowthRow(program, "ebpf_set_values", (COUNTER, b"", b""), "open", many),
+        GrowthRow(program, "ebpf_set_values, no variable", (COUNTER, b"", b""), "open", f"{many},no:must:2a", answer="151 no"),
         GrowthRow(program, "no variable", (COUNTER, b"", b""), "open", "value=no:must:2a", answer="151 no"),
         GrowthRow(program, "ebpf_set_max_entries", (COUNTER, b"", b""), "open", "entries=counts:9"),
         GrowthRow(program, "ebpf_set_value_size", (COUNTER, b"", b""), "open", "size=counts:9"),

@@ -141,6 +141,81 @@ def changes():
     yield CallsRow("a value of a variable", (COUNTER, b"", b""), value, has_value)
 
 
+def many_values():
+    """Values of several variables: `a` has the four bytes of `.data`, and `b` the last two."""
+
+    def answers(name, action, answer, data, file=None):
+        def judge(lines):
+            found = [line.rpartition(" ")[2] for line in lines if line.startswith("map .data ")]
+            return None if lines[1] == answer and found == [data] else f"{lines} in place of {answer}, {data}"
+
+        files = (file or values.variables(), b"", b"")
+        return CallsRow(name, files, ["open", f"values{action}", "listed"], judge)
+
+    still = "00000000"
+    return [
+        answers("no values", "", "values 0", still),
+        answers("values of two variables", "=b:must:090a,a:must:01020304", "values 0", "0102090a"),
+        answers("a later row over an earlier one", "=b:must:0102,b:must:0304", "values 0", "00000304"),
+        answers("a later row over one of another size", "=b:must:01,b:must:0304", "values 0", "00000304"),
+        answers("a later row of another size", "=b:must:0304,a:must:01020304,b:must:01", "values 150 b", still),
+        answers("a later row that may", "=c:must:01,c:may:01,b:must:0304", "values 0", "00000304"),
+        answers("a later row that must", "=c:may:01,b:must:0304,c:must:01", "values 151 c", still),
+        answers("a value of another size", "=a:must:01020304,b:must:09", "values 150 b", still),
+        answers("a value past the data", "=past:must:0102,a:must:01020304", "values 150 past", still),
+        answers("a value without a map", "=a:must:01020304,other:must:01020304", "values 152", still),
+        # by names, not by rows
+        answers("the first fault", "=past:must:0102,c:must:01", "values 151 c", still),
+        answers("a name that is no text", "=a:must:01020304,\udcff:must:0304", "values 6", still),
+        answers("no text before other faults", "=c:must:01,\udcff:must:0304", "values 6", still),
+        answers("a value of no bytes", "=b:must:,a:must:01020304", "values 150 b", still),
+        CallsRow("values of a closed handle", (b"", b"", b""), ["values=\udcff:must:01"], ["values 3"]),
+    ]
+
+
+def prepared_handles():
+    """What is prepared behind a handle is what a file's bytes give in one call, and what the passes give one by one."""
+    shows = ["info", "programs", "listed", "declared", "sections", "slots", "records"]
+    passes = ["types", "maps", "resolve", "externs", "calls"]
+    counter = COUNTER, TASKS, b""
+    value = "value=wanted:must:2a000000"
+
+    def listed_behind(lines, answer):
+        """What is listed behind an answer, up to the next file."""
+        rest = lines[lines.index(answer) + 1 :] if answer in lines else []
+        return rest[: rest.index("open 0")] if "open 0" in rest else rest
+
+    def is_as_prepared(lines):
+        first, second = listed_behind(lines, "prepare 0"), listed_behind(lines, "prepare_handle 0")
+        return None if first == second and len(first) > 6 else f"{lines[:6]}: another object"
+
+    def is_as_passes(lines):
+        first, second = listed_behind(lines, "calls 0"), listed_behind(lines, "prepare_handle 0")
+        has_value = any(line.startswith("map .rodata ") and line.endswith(" data 2a000000") for line in second)
+        return None if first == second and has_value else f"{lines[:6]}: another object"
+
+    for name, files in [("counter", counter), ("references", (REFERENCES, KERNEL, LINES))]:
+        actions = ["prepare", *shows, "open", "prepare_handle", *shows]
+        yield CallsRow(f"a handle prepared as a file: {name}", files, actions, is_as_prepared)
+    actions = ["open", value, *passes, *shows, "open", value, "prepare_handle", *shows]
+    yield CallsRow("a handle prepared with a value", counter, actions, is_as_passes)
+    refused = [
+        ("types that can't be read", (COUNTER, b"types", b""), "prepare_handle", "prepare_handle 200"),
+        ("names before types", (COUNTER, b"types", b""), "prepare_handle=\udcff:1", "prepare_handle 6"),
+        ("a map without a descriptor", counter, "prepare_handle=counts:1", None),
+        ("no function in the kernel", (function_of("f", GLOBAL), KERNEL, b""), "prepare_handle", "prepare_handle 408 f"),
+    ]
+    for name, files, action, answer in refused:
+
+        def stays(lines, answer=answer):
+            at = next(number for number, line in enumerate(lines) if line.startswith("prepare_handle "))
+            right = lines[at] == answer if answer else lines[at].startswith("prepare_handle 30")
+            return None if right and at > 1 and lines[1:at] == lines[at + 1 :] else f"{lines[at]}: another answer or object"
+
+        yield CallsRow(f"a handle not prepared: {name}", files, ["open", *shows, action, *shows], stays)
+    yield CallsRow("a closed handle isn't prepared", (b"", b"types", b""), ["prepare_handle=\udcff:1"], ["prepare_handle 3"])
+
+
 def names():
     """Each number of the header has a name of its own, and no other number has one."""
     known = builds.numbers_of_header()
@@ -168,4 +243,4 @@ def sections_of_programs():
 
 
 def rows():
-    return [*names(), *kinds(), *broad_kinds(), *broad_files(), *sections_of_programs(), *small_object(), *numbers(), *unchanged(), *changes()]
+    return [*names(), *kinds(), *broad_kinds(), *broad_files(), *sections_of_programs(), *small_object(), *numbers(), *unchanged(), *changes(), *many_values(), *prepared_handles()]

@@ -1,4 +1,5 @@
 pub mod HandleWords
+pub mod HeldPasses
 pub mod LooseWords
 pub mod Named
 pub mod NamedMaps
@@ -8,3 +9,4 @@ pub mod OneValue
 pub mod Refusing
 pub mod Rows
 pub mod Texts
+pub mod ValueRows

@@ -14,6 +14,7 @@ pub mod Numbers
 pub mod Opened
 pub mod Passes
 pub mod Preparing
+pub mod PreparingHeld
 pub mod ProgramKinds
 pub mod ProgramRows
 pub mod Reads
@@ -21,6 +22,6 @@ pub mod Refusal
 pub mod SectionRows
 pub mod Settings
 pub mod TargetTypes
-
+pub mod Values
 -- What only private contracts and proofs name.
 pub mod PrivateContracts

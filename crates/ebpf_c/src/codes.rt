@@ -14,3 +14,5 @@ pub const NO_PROGRAM: u32 = 4;
 pub const NO_MAP: u32 = 5;
 /// A name is no text, or is not inside the text that it is said to stand in.
 pub const BAD_NAME: u32 = 6;
+/// A value is not inside the bytes that it is said to stand in.
+pub const BAD_VALUE: u32 = 7;

@@ -30,7 +30,7 @@ pub fn text_of(bytes: &[u8]) -> Option<&str>
 }
 
 /// The name at a place of a text, where it is inside and is itself a text.
-fn name_in(text: &[u8], at: usize, count: usize) -> Option<&str>
+pub fn name_in(text: &[u8], at: usize, count: usize) -> Option<&str>
     ensures { option_copied result ≡ name_in text.now at count }
 {
     let Some(end) = at.checked_add(count) else {

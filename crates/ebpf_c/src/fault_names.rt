@@ -10,6 +10,7 @@ pub fn general_name(place: u32) -> &'static [u8] {
         4 => b"NoProgram",
         5 => b"NoMap",
         6 => b"BadName",
+        7 => b"BadValue",
         _ => b"",
     }
 }

@@ -18,7 +18,7 @@ use ebpf_object::prepare::{Steps, SymbolText, prepare};
 use std::alloc::Global;
 
 /// All passes, types where a kernel's are known.
-fn all_passes<'a>(kernel: Option<&'a Btf>, descriptors: &'a [(&'a str, i32)]) -> Steps<'a>
+pub fn all_passes<'a>(kernel: Option<&'a Btf>, descriptors: &'a [(&'a str, i32)]) -> Steps<'a>
     ensures { chosen result ≡ record { target = option_copied kernel.entry; descriptors = Some (map descriptor_of descriptors.now); kernel = Some (option_copied kernel.entry); externs = true; calls = true } }
 {
     Steps {

@@ -2,15 +2,19 @@
 
 ghost use Rattle.std.specs.Prelude.{◌≡◌, MatchOption};
 ghost use Rattle.ebpf_c.specs.Answers.{answer, count_after, filled, or_memory};
-ghost use Rattle.ebpf_c.specs.Info.{info_of};
+ghost use Rattle.ebpf_c.specs.Flags.{flag};
+ghost use Rattle.ebpf_c.specs.Info.{info_of, states_license};
 ghost use Rattle.ebpf_c.specs.Reads.{read_func_infos, read_license, read_line_infos, read_map_data, of_open, read_section_name, read_slots};
 
 use crate::buffers::write_list;
 use crate::codes::{CLOSED, DONE, MEMORY};
 use crate::entries::entries_of;
+use crate::flags::flag;
 use crate::handle::ebpf_handle;
 use crate::info::{ebpf_object_info, info_of};
-use crate::reads::{read_func_infos, read_line_infos, read_map_data, read_section_name, read_slots};
+use crate::reads::{
+    read_func_infos, read_line_infos, read_map_data, read_section_name, read_slots,
+};
 use ebpf_ext::{bpf_func_info, bpf_line_info};
 use ebpf_object::Object;
 use ebpf_parts::insn::bpf_insn;
@@ -63,6 +67,28 @@ pub extern "C" fn ebpf_license(
     number
 }
 
+/// Says whether the file states the license: 1 or 0. Else the license is the default.
+///
+/// # Answers
+///
+/// 0; 3, and `states` is then as it was.
+#[unsafe(no_mangle)]
+pub extern "C" fn ebpf_states_license(
+    alloc: Global,
+    handle: &mut ebpf_handle,
+    states: &mut u32,
+) -> u32
+    ensures stays { handle.new.object ≡ handle.old.object }
+    ensures states { MatchOption handle.old.object ((result ≡ CLOSED) × (states.new ≡ states.old)) (λ o. (result ≡ DONE) × (states.new ≡ flag (states_license o))) }
+{
+    let Some(object) = handle.take(alloc) else {
+        return CLOSED;
+    };
+    *states = flag(object.states_license());
+    handle.put(alloc, object);
+    DONE
+}
+
 /// Writes the name of a program's section, as `ebpf_program_section` does.
 fn write_section(
     alloc: Global,
@@ -78,7 +104,11 @@ fn write_section(
     let Ok(sections) = entries_of(alloc, &object.section_infos) else {
         return MEMORY;
     };
-    write_list(read_section_name(&object.programs, &sections, name), text, len)
+    write_list(
+        read_section_name(&object.programs, &sections, name),
+        text,
+        len,
+    )
 }
 
 /// Writes the name of the section of the program with a name, and its length: 0 where no named section has the number of

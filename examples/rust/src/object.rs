@@ -1,6 +1,6 @@
 //! An object.
 use crate::error::Error;
-use crate::raw::{self, Counts, Descriptor, FuncInfo, Handle, Insn, LineInfo};
+use crate::raw::{self, Counts, Descriptor, FuncInfo, Handle, Insn, LineInfo, Value};
 use crate::rows::{Extern, Map, Program, Row, Section};
 use std::cell::UnsafeCell;
 
@@ -46,6 +46,30 @@ fn map_fds(maps: &[(&str, i32)]) -> (Vec<Descriptor>, String) {
         text.push_str(name);
     }
     (rows, text)
+}
+
+/// Names and values one after the other, and a row for each.
+fn value_rows(values: &[(&str, &[u8], bool)]) -> (Vec<Value>, String, Vec<u8>) {
+    let (mut rows, mut text, mut bytes) = (Vec::new(), String::new(), Vec::new());
+    for (name, value, must_exist) in values {
+        rows.push(Value {
+            name_at: text.len(),
+            name_len: name.len(),
+            value_at: bytes.len(),
+            value_len: value.len(),
+            must_exist: (*must_exist).into(),
+        });
+        text.push_str(name);
+        bytes.extend_from_slice(value);
+    }
+    (rows, text, bytes)
+}
+
+/// The version of the interface: major, minor and patch.
+pub fn version() -> (u32, u32, u32) {
+    // SAFETY: the call is given nothing.
+    let number = unsafe { raw::ebpf_version_number() };
+    (number / 1_000_000, number / 1_000 % 1_000, number % 1_000)
 }
 
 /// A call that may say what its refusal is about.
@@ -133,6 +157,32 @@ impl Object {
         })
     }
 
+    /// Runs all passes over this object, with what was set on it. Where that is refused it is as it was.
+    pub fn prepare_in_place(&mut self, target: &Target<'_>) -> Result<(), Error> {
+        let handle = self.handle.get_mut();
+        let (rows, text) = map_fds(target.maps);
+        let (types, symbols) = (target.types, target.symbols);
+        telling(|about, room, len| {
+            // SAFETY: an `Object` is open, and the slices are borrowed for the call.
+            unsafe {
+                raw::ebpf_prepare_handle(
+                    handle,
+                    types.as_ptr(),
+                    types.len(),
+                    rows.as_ptr(),
+                    rows.len(),
+                    text.as_ptr(),
+                    text.len(),
+                    symbols.as_ptr(),
+                    symbols.len(),
+                    about,
+                    room,
+                    len,
+                )
+            }
+        })
+    }
+
     /// A copy that later calls on this one leave as it is.
     pub fn try_clone(&self) -> Result<Object, Error> {
         let mut handle = Handle {
@@ -163,6 +213,14 @@ impl Object {
     pub fn license(&self) -> Result<Vec<u8>, Error> {
         // SAFETY: an `Object` is open, and the buffer is ours.
         filled(|text, room, len| unsafe { raw::ebpf_license(self.handle.get(), text, room, len) })
+    }
+
+    /// Whether the file states the license; else it is the default.
+    pub fn states_license(&self) -> Result<bool, Error> {
+        let mut states = 0;
+        // SAFETY: an `Object` is open.
+        plain(unsafe { raw::ebpf_states_license(self.handle.get(), &mut states) })?;
+        Ok(states != 0)
     }
 
     fn listed<R: Row>(&self, list: List<R>) -> Result<Vec<R::Value>, Error> {
@@ -270,6 +328,30 @@ impl Object {
                     value.as_ptr(),
                     value.len(),
                     must_exist.into(),
+                    about,
+                    room,
+                    len,
+                )
+            }
+        })
+    }
+
+    /// Writes the values of many variables, all or none: of each its name, its value, and whether the object has to have
+    /// it. Of equal names the last counts. Many calls of `set_value` take longer, since each makes a table of all names.
+    pub fn set_values(&mut self, values: &[(&str, &[u8], bool)]) -> Result<(), Error> {
+        let handle = self.handle.get_mut();
+        let (rows, text, bytes) = value_rows(values);
+        telling(|about, room, len| {
+            // SAFETY: an `Object` is open, and the slices are borrowed for the call.
+            unsafe {
+                raw::ebpf_set_values(
+                    handle,
+                    rows.as_ptr(),
+                    rows.len(),
+                    text.as_ptr(),
+                    text.len(),
+                    bytes.as_ptr(),
+                    bytes.len(),
                     about,
                     room,
                     len,

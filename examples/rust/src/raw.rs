@@ -22,6 +22,16 @@ pub struct Descriptor {
     pub descriptor: i32,
 }
 
+/// `struct ebpf_value`.
+#[repr(C)]
+pub struct Value {
+    pub name_at: usize,
+    pub name_len: usize,
+    pub value_at: usize,
+    pub value_len: usize,
+    pub must_exist: u32,
+}
+
 /// `struct ebpf_info`.
 #[repr(C)]
 #[derive(Clone, Copy, Default)]
@@ -132,6 +142,7 @@ pub struct LineInfo {
 }
 
 extern "C" {
+    pub fn ebpf_version_number() -> u32;
     pub fn ebpf_number_name(number: u32, text: *mut u8, room: usize, len: *mut usize) -> u32;
     pub fn ebpf_open(
         file: *const u8,
@@ -145,6 +156,7 @@ extern "C" {
     pub fn ebpf_close(handle: *mut Handle);
     pub fn ebpf_info(handle: *mut Handle, info: *mut Info) -> u32;
     pub fn ebpf_license(handle: *mut Handle, text: *mut u8, room: usize, len: *mut usize) -> u32;
+    pub fn ebpf_states_license(handle: *mut Handle, states: *mut u32) -> u32;
     pub fn ebpf_programs(
         handle: *mut Handle,
         rows: *mut Program,
@@ -228,6 +240,18 @@ extern "C" {
         about_room: usize,
         about_len: *mut usize,
     ) -> u32;
+    pub fn ebpf_set_values(
+        handle: *mut Handle,
+        rows: *const Value,
+        rows_len: usize,
+        text: *const u8,
+        text_len: usize,
+        bytes: *const u8,
+        bytes_len: usize,
+        about: *mut u8,
+        about_room: usize,
+        about_len: *mut usize,
+    ) -> u32;
     pub fn ebpf_set_max_entries(handle: *mut Handle, name: *const u8, name_len: usize, entries: u32) -> u32;
     pub fn ebpf_set_value_size(handle: *mut Handle, name: *const u8, name_len: usize, size: u32) -> u32;
     pub fn ebpf_sanitize(handle: *mut Handle, has_newer: u32) -> u32;
@@ -273,6 +297,20 @@ extern "C" {
         symbols: *const u8,
         symbols_len: usize,
         handle: *mut Handle,
+        about: *mut u8,
+        about_room: usize,
+        about_len: *mut usize,
+    ) -> u32;
+    pub fn ebpf_prepare_handle(
+        handle: *mut Handle,
+        types: *const u8,
+        types_len: usize,
+        rows: *const Descriptor,
+        rows_len: usize,
+        text: *const u8,
+        text_len: usize,
+        symbols: *const u8,
+        symbols_len: usize,
         about: *mut u8,
         about_room: usize,
         about_len: *mut usize,

@@ -1,5 +1,5 @@
 //! The wrapper over files of the repository.
-use ebpf_c_wrapper::{Error, Object, Target};
+use ebpf_c_wrapper::{version, Error, Object, Target};
 use std::path::PathBuf;
 
 fn file(name: &str) -> Vec<u8> {
@@ -34,6 +34,37 @@ fn one_call_does_all() {
     let object = Object::prepare(&file("ebpf_link/data/call.o"), &target).expect("prepared");
     assert_eq!(object.slots("p").expect("slots").len(), 3);
     assert_eq!(object.license().expect("a license"), b"GPL");
+    assert!(!object.states_license().expect("no section license"));
+}
+
+#[test]
+fn an_object_is_prepared_with_its_values() {
+    let mut object = Object::open(&file("test_rows/data/counter.o")).expect("an object");
+    object
+        .set_value("wanted", &42u32.to_le_bytes(), true)
+        .expect("a variable");
+    let before = object.slots("on_packet").expect("slots");
+    let target = Target {
+        maps: &[("counts", 5)],
+        ..Target::default()
+    };
+    let refused = object.prepare_in_place(&target).expect_err("maps without descriptors");
+    assert!(matches!(refused, Error::Maps(_)));
+    assert_eq!(object.slots("on_packet").expect("slots"), before);
+    let target = Target {
+        maps: &[("counts", 5), (".bss", 6), (".rodata", 7), ("tables", 8)],
+        ..Target::default()
+    };
+    object.prepare_in_place(&target).expect("prepared");
+    assert_ne!(object.slots("on_packet").expect("slots"), before);
+    assert_eq!(object.map_data(".rodata").expect("data"), [42, 0, 0, 0]);
+}
+
+#[test]
+fn the_version_is_told() {
+    assert_eq!(version(), (0, 1, 0));
+    let object = Object::open(&file("test_rows/data/counter.o")).expect("an object");
+    assert!(object.states_license().expect("a section license"));
 }
 
 #[test]
@@ -64,6 +95,26 @@ fn map_fds_are_written() {
             .count(),
         1
     );
+}
+
+#[test]
+fn values_are_written_all_or_none() {
+    let mut object = Object::open(&file("test_rows/data/counter.o")).expect("an object");
+    let (first, second) = (1u32.to_le_bytes(), 42u32.to_le_bytes());
+    object
+        .set_values(&[
+            ("wanted", &first, true),
+            ("none", &[1], false),
+            ("wanted", &second, true),
+        ])
+        .expect("variables");
+    assert_eq!(object.map_data(".rodata").expect("data"), [42, 0, 0, 0]);
+    let refused = object
+        .set_values(&[("wanted", &first, true), ("none", &[1], true)])
+        .expect_err("no variable");
+    assert!(matches!(&refused, Error::Parse(refusal) if refusal.number == 151));
+    assert_eq!(object.map_data(".rodata").expect("data"), [42, 0, 0, 0]);
+    object.set_values(&[]).expect("nothing");
 }
 
 #[test]
