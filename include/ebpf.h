@@ -42,6 +42,11 @@
 extern "C" {
 #endif
 
+/* The version of this interface, 0.1.0, as major * 1000000 + minor * 1000 + patch; ebpf_version_number gives the library's. */
+#define EBPF_VERSION_NUMBER 1000
+
+uint32_t ebpf_version_number(void);
+
 /* ---- numbers of answers; they stay as they are, and new ones get numbers that were free */
 
 enum ebpf_number {
@@ -215,6 +220,9 @@ uint32_t ebpf_info(struct ebpf_handle *handle, struct ebpf_info *info);
 
 /* The license, without its zero byte. *len is its length. Numbers: 1, 3. */
 uint32_t ebpf_license(struct ebpf_handle *handle, char *text, size_t room, size_t *len);
+
+/* *states is 1 where the file has a section `license`, 0 where it has none: the license is then the default GPL. Numbers: 3. */
+uint32_t ebpf_states_license(struct ebpf_handle *handle, uint32_t *states);
 
 /*
  * How many rows a list has, and how many bytes its text. In the text stand the names one after the other, each with a

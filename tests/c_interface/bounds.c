@@ -376,6 +376,18 @@ static void check_number_names(void)
 	}
 }
 
+/* ---- small facts */
+
+static void check_license(const struct guarded *file, uint32_t wanted)
+{
+	struct ebpf_handle object = opened(file), closed = EBPF_CLOSED_HANDLE;
+	uint32_t states = 77;
+
+	CHECK("ebpf_states_license", ebpf_states_license(&closed, &states) == EBPF_CLOSED && states == 77);
+	CHECK("ebpf_states_license", ebpf_states_license(&object, &states) == EBPF_DONE && states == wanted);
+	ebpf_close(&object);
+}
+
 /* ---- the passes, over input that can't be written, and four threads with a handle each */
 
 static const struct guarded *given; /* a file, a kernel's types, its symbols */
@@ -441,6 +453,9 @@ int main(int words, char **word)
 	check_changes(&files[1]);
 	check_values_by_rows(&files[1]);
 	check_number_names();
+	check_license(&files[0], 0);
+	check_license(&files[1], 1);
+	CHECK("ebpf_version_number", ebpf_version_number() == EBPF_VERSION_NUMBER);
 	given = &files[2];
 	check_threads();
 	printf("%zu passed, %zu failed\n", passed, failed);

@@ -1,5 +1,6 @@
 -- What an object is, in numbers.
-use Rattle.std.specs.Prelude.{Bool, true, false, is_some}
+use Rattle.std.specs.Prelude.{Bool, true, false, is_some, codes}
+use Rattle.std.specs.FinMap.{contains_key}
 use Rattle.ebpf_base.specs.declared.endianness.Endianness.{Endianness}
 use Rattle.ebpf_base.specs.declared.endianness.Endianness.TheVariants.{Little, Big}
 use Rattle.ebpf_object.specs.TypedExterns.{has_typed}
@@ -21,3 +22,7 @@ info_of o = record {
   has_relocations = flag (has_relocations o.btf_ext);
   has_typed_externs = flag (has_typed o.btf o.externs);
 }
+
+-- the file has a section `license`; else the license is the default
+abbrev pub states_license : Object → Bool
+states_license o = contains_key o.section_infos (codes "license")

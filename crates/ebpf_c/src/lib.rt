@@ -42,4 +42,5 @@ mod type_fault;
 mod types_refusal;
 mod value_rows;
 mod values;
+mod version;
 mod writing_map_fds;

@@ -2,12 +2,14 @@
 
 ghost use Rattle.std.specs.Prelude.{◌≡◌, MatchOption};
 ghost use Rattle.ebpf_c.specs.Answers.{answer, count_after, filled, or_memory};
-ghost use Rattle.ebpf_c.specs.Info.{info_of};
+ghost use Rattle.ebpf_c.specs.Flags.{flag};
+ghost use Rattle.ebpf_c.specs.Info.{info_of, states_license};
 ghost use Rattle.ebpf_c.specs.Reads.{read_func_infos, read_license, read_line_infos, read_map_data, of_open, read_section_name, read_slots};
 
 use crate::buffers::write_list;
 use crate::codes::{CLOSED, DONE, MEMORY};
 use crate::entries::entries_of;
+use crate::flags::flag;
 use crate::handle::ebpf_handle;
 use crate::info::{ebpf_object_info, info_of};
 use crate::reads::{
@@ -63,6 +65,28 @@ pub extern "C" fn ebpf_license(
     let number = write_list(Ok(object.license.as_slice()), text, len);
     handle.put(alloc, object);
     number
+}
+
+/// Says whether the file states the license: 1 or 0. Else the license is the default.
+///
+/// # Answers
+///
+/// 0; 3, and `states` is then as it was.
+#[unsafe(no_mangle)]
+pub extern "C" fn ebpf_states_license(
+    alloc: Global,
+    handle: &mut ebpf_handle,
+    states: &mut u32,
+) -> u32
+    ensures stays { handle.new.object ≡ handle.old.object }
+    ensures states { MatchOption handle.old.object ((result ≡ CLOSED) × (states.new ≡ states.old)) (λ o. (result ≡ DONE) × (states.new ≡ flag (states_license o))) }
+{
+    let Some(object) = handle.take(alloc) else {
+        return CLOSED;
+    };
+    *states = flag(object.states_license());
+    handle.put(alloc, object);
+    DONE
 }
 
 /// Writes the name of a program's section, as `ebpf_program_section` does.

@@ -5,6 +5,6 @@ mod raw;
 mod rows;
 
 pub use error::{Error, Refusal};
-pub use object::{Info, Object, Target};
+pub use object::{version, Info, Object, Target};
 pub use raw::{FuncInfo, Insn, LineInfo, MapShape};
 pub use rows::{Extern, Map, Program, Section};

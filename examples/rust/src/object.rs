@@ -65,6 +65,13 @@ fn value_rows(values: &[(&str, &[u8], bool)]) -> (Vec<Value>, String, Vec<u8>) {
     (rows, text, bytes)
 }
 
+/// The version of the interface: major, minor and patch.
+pub fn version() -> (u32, u32, u32) {
+    // SAFETY: the call is given nothing.
+    let number = unsafe { raw::ebpf_version_number() };
+    (number / 1_000_000, number / 1_000 % 1_000, number % 1_000)
+}
+
 /// A call that may say what its refusal is about.
 fn telling(call: impl FnOnce(*mut u8, usize, *mut usize) -> u32) -> Result<(), Error> {
     let (mut about, mut len) = ([0u8; ABOUT], 0);
@@ -206,6 +213,14 @@ impl Object {
     pub fn license(&self) -> Result<Vec<u8>, Error> {
         // SAFETY: an `Object` is open, and the buffer is ours.
         filled(|text, room, len| unsafe { raw::ebpf_license(self.handle.get(), text, room, len) })
+    }
+
+    /// Whether the file states the license; else it is the default.
+    pub fn states_license(&self) -> Result<bool, Error> {
+        let mut states = 0;
+        // SAFETY: an `Object` is open.
+        plain(unsafe { raw::ebpf_states_license(self.handle.get(), &mut states) })?;
+        Ok(states != 0)
     }
 
     fn listed<R: Row>(&self, list: List<R>) -> Result<Vec<R::Value>, Error> {

@@ -142,6 +142,7 @@ pub struct LineInfo {
 }
 
 extern "C" {
+    pub fn ebpf_version_number() -> u32;
     pub fn ebpf_number_name(number: u32, text: *mut u8, room: usize, len: *mut usize) -> u32;
     pub fn ebpf_open(
         file: *const u8,
@@ -155,6 +156,7 @@ extern "C" {
     pub fn ebpf_close(handle: *mut Handle);
     pub fn ebpf_info(handle: *mut Handle, info: *mut Info) -> u32;
     pub fn ebpf_license(handle: *mut Handle, text: *mut u8, room: usize, len: *mut usize) -> u32;
+    pub fn ebpf_states_license(handle: *mut Handle, states: *mut u32) -> u32;
     pub fn ebpf_programs(
         handle: *mut Handle,
         rows: *mut Program,

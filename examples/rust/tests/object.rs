@@ -1,5 +1,5 @@
 //! The wrapper over files of the repository.
-use ebpf_c_wrapper::{Error, Object, Target};
+use ebpf_c_wrapper::{version, Error, Object, Target};
 use std::path::PathBuf;
 
 fn file(name: &str) -> Vec<u8> {
@@ -34,6 +34,7 @@ fn one_call_does_all() {
     let object = Object::prepare(&file("ebpf_link/data/call.o"), &target).expect("prepared");
     assert_eq!(object.slots("p").expect("slots").len(), 3);
     assert_eq!(object.license().expect("a license"), b"GPL");
+    assert!(!object.states_license().expect("no section license"));
 }
 
 #[test]
@@ -57,6 +58,13 @@ fn an_object_is_prepared_with_its_values() {
     object.prepare_in_place(&target).expect("prepared");
     assert_ne!(object.slots("on_packet").expect("slots"), before);
     assert_eq!(object.map_data(".rodata").expect("data"), [42, 0, 0, 0]);
+}
+
+#[test]
+fn the_version_is_told() {
+    assert_eq!(version(), (0, 1, 0));
+    let object = Object::open(&file("test_rows/data/counter.o")).expect("an object");
+    assert!(object.states_license().expect("a section license"));
 }
 
 #[test]
