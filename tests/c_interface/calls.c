@@ -100,29 +100,26 @@ static uint32_t set_value(char *rest)
 			      &about_len);
 }
 
-/* The values NAME:must|may:DIGITS,.. as rows; the bytes end with the digits. */
+/* The values NAME:must|may:DIGITS,.. as rows. Nothing is allocated here, where growths may be refused. */
 static uint32_t set_values(char *rest)
 {
-	size_t room = rest ? strlen(rest) : 0, count = 0, text_len = 0, bytes_len = 0;
-	struct ebpf_value *rows = zeros(room, sizeof(*rows));
-	char *text = zeros(room, 1);
-	uint8_t *bytes = zeros(room, 1);
-	uint32_t number;
+	static struct ebpf_value rows[64];
+	static char text[4096];
+	static uint8_t bytes[4096];
+	size_t count = 0, text_len = 0, bytes_len = 0;
 
-	while (rest) {
+	if (rest && strlen(rest) > sizeof(text))
+		errx(3, "values are too long");
+	while (rest && count < sizeof(rows) / sizeof(*rows)) {
 		char *row = cut(&rest, ','), *name = cut(&row, ':'), *must = cut(&row, ':');
-		size_t len = read_digits(row, bytes + bytes_len, room - bytes_len);
+		size_t len = read_digits(row, bytes + bytes_len, sizeof(bytes) - bytes_len);
 
 		rows[count++] = (struct ebpf_value){ text_len, strlen(name), bytes_len, len, !strcmp(must, "must") };
 		memcpy(text + text_len, name, strlen(name));
 		text_len += strlen(name);
 		bytes_len += len;
 	}
-	number = ebpf_set_values(&object, rows, count, text, text_len, bytes, bytes_len, about, sizeof(about), &about_len);
-	free(rows);
-	free(text);
-	free(bytes);
-	return number;
+	return ebpf_set_values(&object, rows, count, text, text_len, bytes, bytes_len, about, sizeof(about), &about_len);
 }
 
 static uint32_t copy(void)
