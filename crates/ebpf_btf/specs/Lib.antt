@@ -10,6 +10,5 @@ pub mod Strings
 pub mod TypeInfo
 pub mod Types
 pub mod Variants
-
 -- What only private contracts and proofs name.
 pub mod PrivateContracts

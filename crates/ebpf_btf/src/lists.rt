@@ -2,10 +2,10 @@
 
 ghost use Rattle.ebpf_btf.specs.Format.{member_at, enum_at, enum64_at, param_at, entry_at};
 
-use ebpf_base::Endianness;
 use crate::members::{BtfEnum, BtfEnum64, BtfMember, BtfParam, DataSecEntry};
-use ebpf_base::numbers::read_u32;
 use crate::rows::Row;
+use ebpf_base::Endianness;
+use ebpf_base::numbers::read_u32;
 
 impl Row for BtfMember {
     ghost least = { 12 };

@@ -10,12 +10,11 @@ ghost use Rattle.ebpf_btf.specs.declared.error.BtfError.TheVariants.{InvalidType
 ghost use Rattle.ebpf_btf.specs.declared.types.BtfType.TheVariants.{Unknown};
 
 use crate::btf::Btf;
-use ebpf_base::Endianness;
 use crate::error::BtfError;
-use ebpf_base::numbers::{read_u16, read_u32};
 use crate::read_type::read_type;
 use crate::types::BtfType;
-use ebpf_base::Items;
+use ebpf_base::numbers::{read_u16, read_u32};
+use ebpf_base::{Endianness, Items};
 use std::alloc::Global;
 
 /// What `.BTF` begins with.

@@ -10,14 +10,14 @@ ghost use Rattle.ebpf_btf.specs.PrivateContracts.{has_list, is_head};
 ghost use Rattle.ebpf_btf.specs.Reading.{type_before};
 ghost use Rattle.ebpf_btf.specs.declared.error.BtfError.TheVariants.{InvalidTypeInfo};
 
-use ebpf_base::Endianness;
 use crate::error::BtfError;
 use crate::fallback::UnionFallback;
 use crate::kind::BtfKind;
-use ebpf_base::numbers::read_u32;
 use crate::rows::read_rows;
 use crate::types::BtfType;
 use crate::union_members::UnionMembers;
+use ebpf_base::Endianness;
+use ebpf_base::numbers::read_u32;
 use std::alloc::{AllocError, Global};
 
 /// The length in bytes of the words that each type begins with: name, info, size or type.

@@ -4,8 +4,7 @@ ghost use Rattle.std.specs.Prelude.{◌≡◌, ◌+◌, ◌*◌, ◌<◌, ◌≤
 ghost use Rattle.ebpf_btf.specs.Format.{items_at};
 ghost use Rattle.ebpf_base.specs.declared.endianness.Endianness.{Endianness};
 
-use ebpf_base::Endianness;
-use ebpf_base::Items;
+use ebpf_base::{Endianness, Items};
 use std::alloc::{AllocError, Global};
 
 /// What is read of a row of bytes.

@@ -1,13 +1,13 @@
 //! The types of a kernel that may stand for one of an object: those of its name, and whether they are compatible.
 #![tactic(auto)]
 
+mod anonymous;
 mod compatible_fields;
 mod compatible_types;
 mod id_union;
 mod kinds;
 pub mod laws;
 mod name_looks;
-mod anonymous;
 mod pair;
 mod type_index;
 mod type_names;

@@ -10,11 +10,11 @@ ghost use Rattle.ebpf_btf.specs.Types.{kind_number};
 ghost use Rattle.ebpf_btf.specs.declared.error.BtfError.TheVariants.{OutOfMemory};
 ghost use Rattle.ebpf_btf.specs.declared.kind.BtfKind.{BtfKind};
 
+use crate::anonymous::{AnonymousTypes, add_anonymous, no_anonymous_types};
 use crate::id_union::union;
 use crate::kinds::{KINDS, kind_number};
-use crate::anonymous::{AnonymousTypes, add_anonymous, no_anonymous_types};
 use crate::type_names::TypeNames;
-use crate::type_row::{TypeRow, type_key_hash, order_of_rows, row_range};
+use crate::type_row::{TypeRow, order_of_rows, row_range, type_key_hash};
 use crate::unreadable::{UnreadableName, UnreadableNames, keep_first, lower};
 use ebpf_btf::{Btf, BtfError, BtfKind, essential_name};
 use std::alloc::{AllocError, Global};

@@ -110,7 +110,12 @@ fn member_extent(
 }
 
 /// What a kind asks of a member.
-fn member_number(kind: RelocationKind, is_signed: bool, bits: u32, extent: Extent) -> Result<u64, BtfError>
+fn member_number(
+    kind: RelocationKind,
+    is_signed: bool,
+    bits: u32,
+    extent: Extent,
+) -> Result<u64, BtfError>
     requires low { extent.start * 8 ≤ bits }
     requires narrow { extent.width < 2 ^ 36 }
     ensures { result ≡ member_number kind is_signed bits extent }

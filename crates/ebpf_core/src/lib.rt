@@ -14,8 +14,8 @@ mod local_walk;
 mod matches;
 mod outcome;
 mod paths;
-mod search;
 mod relocation_basis;
+mod search;
 mod values;
 mod wording;
 

@@ -142,7 +142,8 @@ pub fn matches_among(
 {
     let mut matches = Items::new(alloc);
     for candidate in candidates {
-        let Some(found) = found_at_candidate(alloc, local, target, local_id, path, *candidate)? else {
+        let Some(found) = found_at_candidate(alloc, local, target, local_id, path, *candidate)?
+        else {
             continue;
         };
         matches.push(Match {

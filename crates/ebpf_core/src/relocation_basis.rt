@@ -31,6 +31,7 @@ pub fn basis_of(kind: RelocationKind) -> RelocationBasis
         | RelocationKind::TypeIdTarget
         | RelocationKind::TypeExists
         | RelocationKind::TypeSize => RelocationBasis::WholeType,
-        RelocationKind::EnumVariantExists | RelocationKind::EnumVariantValue => RelocationBasis::Variant,
+        RelocationKind::EnumVariantExists | RelocationKind::EnumVariantValue =>
+            RelocationBasis::Variant,
     }
 }

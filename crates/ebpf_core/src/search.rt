@@ -166,7 +166,11 @@ impl<'a> CoreSearch<'a> {
     }
 
     /// What a record comes to: the outcome that is cached, or what a search finds.
-    fn cached_outcome(&mut self, alloc: Global, relocation: &Relocation) -> Result<Outcome, RelocationError>
+    fn cached_outcome(
+        &mut self,
+        alloc: Global,
+        relocation: &Relocation,
+    ) -> Result<Outcome, RelocationError>
         ensures outcome { Tells result (outcome_of self.old.local self.old.target relocation.now) }
         ensures stays { self.new ≡ self.old }
     {

@@ -88,7 +88,10 @@ fn match_value(
             found.candidate,
             type_value(target, kind, found.candidate)?,
         )),
-        Found::Variant { value } => Ok(match_of_number(found.candidate, variant_value(kind, value))),
+        Found::Variant { value } => Ok(match_of_number(
+            found.candidate,
+            variant_value(kind, value),
+        )),
         Found::Field { place } => Ok(field_in(target, kind, found.candidate, place)),
     }
 }

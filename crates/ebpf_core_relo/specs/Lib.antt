@@ -12,7 +12,6 @@ pub mod Refused
 pub mod SlotOutcomes
 pub mod Spans
 pub mod SpanLists
-
 -- What only private contracts and proofs name.
 pub mod Carrying
 pub mod Sections

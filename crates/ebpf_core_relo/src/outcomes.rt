@@ -43,7 +43,11 @@ struct NamedSection {
 
 /// The section whose name stands at an offset.
 #[tactic(auto, unfolding(crate::specs::RecordOutcomes::section_number_at, ebpf_btf::specs::Strings::text_at))]
-fn section_number_at(function_spans: &FunctionSpans<'_>, local: &Btf, offset: u32) -> Result<FoundSection, AllocError>
+fn section_number_at(
+    function_spans: &FunctionSpans<'_>,
+    local: &Btf,
+    offset: u32,
+) -> Result<FoundSection, AllocError>
     ensures { IfOk result (λ found. found_number found ≡ section_number_at local.now function_spans.now.section_infos.now offset) }
 {
     let name = match local.string_at(offset) {
@@ -60,7 +64,11 @@ fn section_number_at(function_spans: &FunctionSpans<'_>, local: &Btf, offset: u3
 }
 
 /// The slot that a record of a section is about.
-fn slot_of_record(function_spans: &FunctionSpans<'_>, section: usize, relocation: &Relocation) -> Option<RecordSlot>
+fn slot_of_record(
+    function_spans: &FunctionSpans<'_>,
+    section: usize,
+    relocation: &Relocation,
+) -> Option<RecordSlot>
     ensures { (sides : Sides) → result ≡ slot_of_record (relocation_inputs sides function_spans.now.functions.now function_spans.now.section_infos.now) (Ok section) relocation.now }
 {
     let offset = relocation.insn_off as usize;

@@ -7,7 +7,6 @@ pub mod MapMembers
 pub mod Maps
 pub mod Placeholders
 pub mod MemberValues
-
 -- What only private contracts and proofs name.
 pub mod NamedSections
 pub mod KnownStructs

@@ -9,6 +9,5 @@ pub mod Sections
 pub mod Symbols
 pub mod Relocations
 pub mod Left
-
 -- What only private contracts and proofs name.
 pub mod Layout

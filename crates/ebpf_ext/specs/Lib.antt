@@ -4,7 +4,6 @@ pub mod ExtReading
 pub mod ExtSpelling
 pub mod RelocationKinds
 pub mod SectionNames
-
 -- What only private contracts and proofs name.
 pub mod CopiedNames
 pub mod PrivateContracts

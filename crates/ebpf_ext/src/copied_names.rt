@@ -4,7 +4,7 @@ ghost use Rattle.std.specs.Prelude.{◌≡◌, ◌++◌, length, IfOk, IfSome};
 ghost use Rattle.ebpf_ext.specs.CopiedNames.{with_offsets, AreCopied, IsCopied};
 
 use ebpf_base::Items;
-use ebpf_btf::strings::{near_bytes, first_zero};
+use ebpf_btf::strings::{first_zero, near_bytes};
 use std::alloc::{AllocError, Global};
 
 /// What is reserved for the name of a section in bytes.

@@ -10,12 +10,15 @@ ghost use Rattle.ebpf_ext.specs.PrivateContracts.{with_index, section_at, IsInde
 use crate::sections_by_name::last_named;
 use ebpf_base::ByName;
 use ebpf_btf::BtfError;
-use ebpf_btf::strings::{near_bytes, read_text, first_zero};
+use ebpf_btf::strings::{first_zero, near_bytes, read_text};
 use std::alloc::{AllocError, Global};
 use std::marker::Model;
 
 /// These names, each without an index, and the length of the longest.
-fn unset_indices(alloc: Global, names: &[&str]) -> Result<(ByName<Option<usize>>, usize), AllocError>
+fn unset_indices(
+    alloc: Global,
+    names: &[&str],
+) -> Result<(ByName<Option<usize>>, usize), AllocError>
     ensures { IfOk result (λ s. AreUnset s.1 s.0) }
 {
     let mut indices = ByName::new(alloc);

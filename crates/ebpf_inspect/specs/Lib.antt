@@ -1,4 +1,3 @@
 pub mod Inspected
-
 -- What only private contracts and proofs name.
 pub mod Named

@@ -10,7 +10,6 @@ pub mod LookupKeyValue
 pub mod Sources
 pub mod TextLines
 pub mod Texts
-
 -- What only private contracts and proofs name.
 pub mod Entries
 pub mod Ids

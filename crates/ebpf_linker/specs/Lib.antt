@@ -10,7 +10,6 @@ pub mod Renaming
 pub mod LinkMap
 pub mod LinkMapLaws
 pub mod Answer
-
 -- What only private contracts and proofs name.
 pub mod LinkedSlots
 pub mod Ready

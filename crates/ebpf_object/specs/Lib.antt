@@ -21,7 +21,6 @@ pub mod Chain
 pub mod BothReadings
 pub mod Headline
 pub mod NamedPrograms
-
 -- What only private contracts and proofs name.
 pub mod MapNames
 pub mod SectionNames

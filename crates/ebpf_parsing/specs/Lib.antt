@@ -19,7 +19,6 @@ pub mod FileContents
 pub mod TiledSections
 pub mod TableKeys
 pub mod Readings
-
 -- What only private contracts and proofs name.
 pub mod Groups
 pub mod RecordsBySlot

@@ -108,7 +108,10 @@ fn indices_of(alloc: Global, places: &[RecordIndex]) -> Result<Vec<usize>, Parse
 
 /// The indices of records on functions.
 #[tactic(auto, using(crate::proofs::RecordIndices::places_start, crate::proofs::RecordIndices::places_none))]
-pub fn func_indices(alloc: Global, records: &[bpf_func_info]) -> Result<Vec<RecordIndex>, ParseError>
+pub fn func_indices(
+    alloc: Global,
+    records: &[bpf_func_info],
+) -> Result<Vec<RecordIndex>, ParseError>
     ensures places { IfOk result (λ places. places.items ≡ indices_with (func_slot records.now) (length records.now)) }
     ensures memory { IfErr result (λ e. is_memory e ≡ true) }
 {
@@ -122,7 +125,10 @@ pub fn func_indices(alloc: Global, records: &[bpf_func_info]) -> Result<Vec<Reco
 
 /// The indices of records on lines.
 #[tactic(auto, using(crate::proofs::RecordIndices::places_start, crate::proofs::RecordIndices::places_none))]
-pub fn line_indices(alloc: Global, records: &[bpf_line_info]) -> Result<Vec<RecordIndex>, ParseError>
+pub fn line_indices(
+    alloc: Global,
+    records: &[bpf_line_info],
+) -> Result<Vec<RecordIndex>, ParseError>
     ensures places { IfOk result (λ places. places.items ≡ indices_with (line_slot records.now) (length records.now)) }
     ensures memory { IfErr result (λ e. is_memory e ≡ true) }
 {

@@ -5,7 +5,6 @@ pub mod Maps
 pub mod Passes
 pub mod Relocated
 pub mod Shapes
-
 -- What only private contracts and proofs name.
 pub mod Rules
 pub mod InPlaceEdits

@@ -7,6 +7,5 @@ pub mod Memory
 pub mod Paths
 pub mod Places
 pub mod Searches
-
 -- What only private contracts and proofs name.
 pub mod PrivateContracts

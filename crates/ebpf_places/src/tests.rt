@@ -68,7 +68,10 @@ fn path_to_a(alloc: Global) -> Result<Vec<Step>, AllocError> {
     Ok(path)
 }
 
-fn debug_text(alloc: Global, outcome: Result<Option<Place>, PlaceFault>) -> Result<String, AllocError> {
+fn debug_text(
+    alloc: Global,
+    outcome: Result<Option<Place>, PlaceFault>,
+) -> Result<String, AllocError> {
     format!(in alloc; "{outcome:?}")
 }
 

@@ -309,7 +309,10 @@ fn leaves(rt: HostRuntime) -> Result<(), Fail> {
         reached_text(rt.alloc(), &[slot(0x06, 0, 0, 0), exit()])?.as_str(),
         "11"
     );
-    assert_eq!(rt; reached_text(rt.alloc(), &[slot(0x18, 0, 0, 0)])?.as_str(), "1");
+    assert_eq!(rt;
+        reached_text(rt.alloc(), &[slot(0x18, 0, 0, 0)])?.as_str(),
+        "1"
+    );
     Ok(())
 }
 

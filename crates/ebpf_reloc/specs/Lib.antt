@@ -5,7 +5,6 @@ pub mod Linking
 pub mod Laws
 pub mod LinkMaps
 pub mod LinkMapLaws
-
 -- What only private contracts and proofs name.
 pub mod Walks
 pub mod PrivateContracts

@@ -91,7 +91,12 @@ fn write_line<W: Write>(out: &mut W, line: &Option<(Text, u32)>) -> io::Result<(
 }
 
 /// Writes a place.
-fn write_place<W: Write>(out: &mut W, session: &Session, at: At, place: &Location) -> io::Result<()> {
+fn write_place<W: Write>(
+    out: &mut W,
+    session: &Session,
+    at: At,
+    place: &Location,
+) -> io::Result<()> {
     let name = match session.loaded.programs.get(at.0) {
         Some(program) => program.name.as_str(),
         None => "",

@@ -94,7 +94,12 @@ fn write_on<W: Write>(
 }
 
 /// Writes the program of a place, its slot and the function that the slot was copied from.
-fn write_slot<W: Write>(out: &mut W, session: &Session, at: At, place: &Location) -> io::Result<()> {
+fn write_slot<W: Write>(
+    out: &mut W,
+    session: &Session,
+    at: At,
+    place: &Location,
+) -> io::Result<()> {
     if let Some(program) = session.loaded.programs.get(at.0) {
         let name = Shown(program.name.as_str());
         write!(out, "{name}")?;

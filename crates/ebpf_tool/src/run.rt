@@ -9,7 +9,7 @@ use crate::names::Shown;
 use crate::printing::{Manner, write_findings, write_kernel};
 use crate::programs::{counting, unknown_name};
 use crate::session::{Answer, Session};
-use crate::words::{Command, CheckWords, WordsError, read_words};
+use crate::words::{CheckWords, Command, WordsError, read_words};
 use ebpf_base::Text;
 use ebpf_object::obj::ExplainedParse;
 use ebpf_parts::ParseError;

@@ -4,7 +4,7 @@ use crate::kinds::kind_of;
 use ebpf_btf::{Btf, BtfError, BtfMember, BtfType};
 use std::alloc::{AllocError, Global};
 use std::borrow::CowStr;
-use test_cases::{Action, beside_copy, no_action, value_or_error, shown};
+use test_cases::{Action, beside_copy, no_action, shown, value_or_error};
 
 /// A text, or why it can't be read.
 pub fn text_of(

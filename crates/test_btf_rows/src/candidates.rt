@@ -4,7 +4,7 @@ use crate::kinds::kind_of;
 use ebpf_btf::{Btf, BtfKind};
 use ebpf_candidates::TypeIndex;
 use std::alloc::{AllocError, Global};
-use test_cases::{Action, no_action, value_or_error, shown};
+use test_cases::{Action, no_action, shown, value_or_error};
 
 /// The ids of a kind and a name.
 fn listed(

@@ -2,7 +2,7 @@
 
 use ebpf_btf::{Btf, Endianness};
 use std::alloc::{AllocError, Global};
-use test_cases::{Action, Files, changed, front, value_or_error, tally_each};
+use test_cases::{Action, Files, changed, front, tally_each, value_or_error};
 
 /// How many types bytes have, or why they can't be read.
 fn count(alloc: Global, bytes: &[u8]) -> Result<String, AllocError> {

@@ -3,7 +3,7 @@
 use ebpf_btf::{Btf, BtfError, Endianness};
 use ebpf_candidates::{fields_are_compatible, types_are_compatible};
 use std::alloc::{AllocError, Global};
-use test_cases::{Action, Files, no_action, value_or_error, shown};
+use test_cases::{Action, Files, no_action, shown, value_or_error};
 
 /// Whether two types fit.
 fn fit(
@@ -45,7 +45,10 @@ fn of_both(
 ) -> Result<String, AllocError> {
     let of_fields = action.name.ends_with("fields");
     match (action.small_number(0), action.small_number(1)) {
-        (Some(one), Some(other)) => value_or_error(alloc, fit(of_fields, local, one, target, other)),
+        (Some(one), Some(other)) => value_or_error(
+            alloc,
+            fit(of_fields, local, one, target, other),
+        ),
         (Some(one), None) => with_each(alloc, of_fields, local, one, target),
         _ => no_action(alloc),
     }

@@ -25,7 +25,7 @@ mod tally;
 mod task;
 
 pub use action::{Action, no_action};
-pub use answers::{beside_copy, value_or_error, shown, shown_line};
+pub use answers::{beside_copy, shown, shown_line, value_or_error};
 pub use changes::{changed, front};
 pub use failing_reader::FailingReader;
 pub use files::{Files, Rise};
