@@ -6,3 +6,4 @@ pub mod Keys
 pub mod Mapped
 pub mod Numbers
 pub mod EntriesFrom
+pub mod Results

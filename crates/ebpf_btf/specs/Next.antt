@@ -1,4 +1,4 @@
--- What follows an answer.
+-- What follows an option, and what an answer lends.
 use denote.Ref.{Bor}
 use Rattle.std.specs.Prelude.{Option, Some, None, Result, Ok, Err}
 use Rattle.ebpf_btf.specs.declared.error.BtfError.{BtfError}
@@ -7,11 +7,6 @@ use Rattle.ebpf_btf.specs.declared.error.BtfError.{BtfError}
 abbrev pub if_some : {A X : Type 0} → Option A → (A → X) → X → X
 if_some None next other = other
 if_some (Some x) next other = next x
-
--- what follows an answer that is no fault
-abbrev pub if_ok : {A X : Type 0} → Result A BtfError → (A → Result X BtfError) → Result X BtfError
-if_ok (Ok x) next = next x
-if_ok (Err e) next = Err e
 
 -- the value that an answer lends
 abbrev pub lent : {A : Type 0} → Result (Bor A) BtfError → Result A BtfError

@@ -13,7 +13,8 @@ use Rattle.ebpf_candidates.specs.declared.pair.Pair.{Pair}
 use Rattle.ebpf_btf.specs.declared.types.BtfType.{BtfType}
 use Rattle.ebpf_candidates.specs.Comparisons.{Comparison, compared_from, inner_alike, if_alike, is_alike, params_alike, parts_alike}
 use Rattle.ebpf_candidates.specs.Compatibility.{shallow_alike, first_end, found_from, inner_pair, inner_pairs, pair_of, pairs_or_none, params_of}
-use Rattle.ebpf_btf.specs.Next.{if_ok, if_some}
+use Rattle.ebpf_base.specs.Results.{if_ok}
+use Rattle.ebpf_btf.specs.Next.{if_some}
 use Rattle.ebpf_btf.specs.Steps.{resolved_type}
 
 abbrev Found : Type 0

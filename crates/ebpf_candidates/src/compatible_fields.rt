@@ -5,7 +5,7 @@ ghost use Rattle.ebpf_base.specs.Faults.{Gives};
 ghost use Rattle.ebpf_candidates.specs.Compatibility.{are_named_alike, element, fields_compatible, is_composite, names_fit, types_fit};
 ghost use Rattle.ebpf_btf.specs.EssentialNames.{essential_name};
 ghost use Rattle.ebpf_btf.specs.Memory.{is_memory};
-ghost use Rattle.ebpf_btf.specs.Next.{if_ok};
+ghost use Rattle.ebpf_base.specs.Results.{if_ok};
 ghost use Rattle.ebpf_btf.specs.Strings.{type_name};
 
 use crate::pair::{Pair, both, both_begin_at_0, same_kind};

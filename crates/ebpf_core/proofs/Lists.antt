@@ -4,7 +4,8 @@ use Rattle.std.specs.Prelude.{slice_index_or, option_map}
 use Rattle.std.proofs.Math.Seq.{drop-cons}
 use Rattle.std.proofs.lemmas.List.{drop_all}
 use Rattle.ebpf_core.specs.AccessStrings.{all_of}
-use Rattle.ebpf_core.specs.Answers.{each, if_ok}
+use Rattle.ebpf_base.specs.Results.{if_ok}
+use Rattle.ebpf_core.specs.Answers.{each}
 
 -- what is left from a member on
 pub rest_more : {X : Type 0} (xs : List X) (i : ℕ) (x : X) → i < length xs → x ≡ slice_index_or xs i x → drop i xs ≡ x ∷ drop (i + 1) xs

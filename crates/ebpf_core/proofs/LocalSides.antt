@@ -7,7 +7,8 @@ use Rattle.ebpf_btf.specs.declared.error.BtfError.{BtfError as TypeError}
 use Rattle.ebpf_btf.specs.declared.types.BtfType.{BtfType}
 use Rattle.ebpf_ext.specs.declared.relocation.Relocation.{Relocation}
 use Rattle.ebpf_core.specs.AccessStrings.{access_parts}
-use Rattle.ebpf_core.specs.Answers.{if_ok, of_types}
+use Rattle.ebpf_base.specs.Results.{if_ok}
+use Rattle.ebpf_core.specs.Answers.{of_types}
 use Rattle.ebpf_core.specs.LocalPaths.{field_path, local_path, part_step, path_for, spot_at_element, variant_path, spot_after}
 use Rattle.ebpf_core.specs.LocalSides.{FieldLeads, NoPart, NoRoot, NoField, ToField, IsRead, LocalPathLeads, OfType, NoType, OfVariant, OfField, LocalSideIs, NoLocalType, NoName, NoString, NoParts, NotResolved, NoPath, Led, PartsLead, Arrived, Refused, Onward}
 use Rattle.ebpf_core.specs.RelocationBases.{basis_of}

@@ -7,7 +7,8 @@ use Rattle.ebpf_core.specs.declared.matches.Found.{Found}
 use Rattle.ebpf_core.specs.declared.matches.Match.{Match}
 use Rattle.ebpf_core.specs.declared.paths.NamedPath.{NamedPath}
 use Rattle.std.specs.Result.{IsErrAnd}
-use Rattle.ebpf_core.specs.Answers.{Tells, each, if_ok, without_texts}
+use Rattle.ebpf_base.specs.Results.{if_ok}
+use Rattle.ebpf_core.specs.Answers.{Tells, each, without_texts}
 use Rattle.ebpf_core.specs.Matches.{found_at_candidate, match_in, match_of, matches}
 use Rattle.ebpf_core.proofs.Lists.{onto, number_more, onto_push, rest_none}
 use Rattle.ebpf_core.proofs.Refusals.{refused_by}

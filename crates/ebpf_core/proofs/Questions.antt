@@ -20,7 +20,8 @@ use Rattle.ebpf_ext.specs.RelocationKinds.{relocation_kind, relocation_kind_numb
 use Rattle.ebpf_ext.specs.declared.relocation.Relocation.{Relocation}
 use Rattle.ebpf_ext.specs.declared.relocation.RelocationKind.{RelocationKind}
 use Rattle.ebpf_core.specs.AccessStrings.{access_parts}
-use Rattle.ebpf_core.specs.Answers.{each, if_ok, of_types}
+use Rattle.ebpf_base.specs.Results.{if_ok}
+use Rattle.ebpf_core.specs.Answers.{each, of_types}
 use Rattle.ebpf_core.specs.Questions.{OutcomesAreCached, Question, question_of, question_cmp}
 use Rattle.ebpf_core.specs.Fields.{field_value}
 use Rattle.ebpf_core.specs.Laws.{OutcomesRestOnQuestions}

@@ -6,7 +6,8 @@ use Rattle.ebpf_base.specs.Faults.{Gives}
 use Rattle.ebpf_btf.specs.Memory as types
 use Rattle.ebpf_btf.specs.declared.error.BtfError.{BtfError as TypeError}
 use Rattle.ebpf_core.specs.declared.error.RelocationError.{RelocationError}
-use Rattle.ebpf_core.specs.Answers.{Tells, TellsSo, of_type_error, of_types, if_ok, without_texts}
+use Rattle.ebpf_base.specs.Results.{if_ok}
+use Rattle.ebpf_core.specs.Answers.{Tells, TellsSo, of_type_error, of_types, without_texts}
 use Rattle.ebpf_core.specs.Matches.{by_place}
 use Rattle.ebpf_core.specs.Memory.{is_memory}
 use Rattle.ebpf_core.specs.declared.matches.Found.{Found}

@@ -6,7 +6,8 @@ use Rattle.std.proofs.lemmas.Option.{same_Some}
 use Rattle.ebpf_btf.specs.TypeInfo.{TypeInfo}
 use Rattle.ebpf_btf.specs.declared.error.BtfError.{BtfError as TypeError}
 use Rattle.ebpf_ext.specs.declared.relocation.Relocation.{Relocation}
-use Rattle.ebpf_core.specs.Answers.{FirstFails, Tells, each, if_ok, of_types, without_texts}
+use Rattle.ebpf_base.specs.Results.{if_ok}
+use Rattle.ebpf_core.specs.Answers.{FirstFails, Tells, each, of_types, without_texts}
 use Rattle.ebpf_core.specs.LocalPaths.{local_path}
 use Rattle.ebpf_core.specs.LocalSides.{LocalSideIs}
 use Rattle.ebpf_core.specs.Matches.{found_at_candidate, match_in, match_of, matches, type_name_at}

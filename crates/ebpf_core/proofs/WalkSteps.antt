@@ -6,7 +6,8 @@ use Rattle.ebpf_core.specs.declared.error.RelocationError.{RelocationError}
 use Rattle.ebpf_core.specs.declared.local_walk.LocalSpot.{LocalSpot}
 use Rattle.ebpf_core.specs.declared.values.MatchValue.{MatchValue}
 use Rattle.std.specs.Result.{IsErrAnd}
-use Rattle.ebpf_core.specs.Answers.{Tells, if_ok, of_types}
+use Rattle.ebpf_base.specs.Results.{if_ok}
+use Rattle.ebpf_core.specs.Answers.{Tells, of_types}
 use Rattle.ebpf_core.specs.LocalPaths.{part_step, spot_after}
 use Rattle.ebpf_core.specs.Matches.{type_name_at}
 use Rattle.ebpf_core.specs.Outcomes.{values_agree, differing_names}

@@ -1,5 +1,6 @@
 -- Answers, and how they are stated: an error without the texts in it that are for people to read.
 use Rattle.std.specs.Prelude.{◌≡◌, ℕ, ◌<◌, true, List, [], ◌∷◌, ⊤, MatchBool, Some, Result, Ok, Err, is_ok, slice_get, if◌then◌else◌}
+use Rattle.ebpf_base.specs.Results.{if_ok}
 use Rattle.ebpf_btf.specs.declared.error.BtfError.{BtfError}
 use Rattle.ebpf_btf.specs.Memory as types
 use Rattle.ebpf_core.specs.declared.error.RelocationError.{RelocationError}
@@ -31,11 +32,6 @@ of_type_error e = if types.is_memory e then errors.OutOfMemory else errors.BtfEr
 abbrev pub of_types : {X : Type 0} → Result X BtfError → Result X RelocationError
 of_types (Ok x) = Ok x
 of_types (Err e) = Err (errors.BtfError e)
-
--- what follows an answer that is no fault
-abbrev pub if_ok : {A X E : Type 0} → Result A E → (A → Result X E) → Result X E
-if_ok (Ok x) next = next x
-if_ok (Err e) next = Err e
 
 -- the answers for all members of a list, or the first fault among them
 abbrev pub each : {A X E : Type 0} → (A → Result X E) → List A → Result (List X) E

@@ -22,7 +22,7 @@ use Rattle.ebpf_core.specs.declared.field.LoadedField.{LoadedField}
 use Rattle.ebpf_places.specs.declared.places.Place.{Place}
 use Rattle.ebpf_places.specs.declared.places.PlaceEnd.{PlaceEnd}
 use Rattle.ebpf_places.specs.declared.places.PlaceEnd.TheVariants.{Element, Member}
-use Rattle.ebpf_core.specs.Answers.{if_ok}
+use Rattle.ebpf_base.specs.Results.{if_ok}
 use Rattle.ebpf_core.specs.Containers.{bit_field_extent, plain_extent}
 
 -- what a load goes by: whether the field's type is a pointer, or an integer without a sign

@@ -27,7 +27,8 @@ use Rattle.ebpf_places.specs.declared.places.PlaceEnd.TheVariants.{Element, Memb
 use Rattle.ebpf_places.specs.declared.steps.Step.{Step}
 use Rattle.ebpf_places.specs.declared.steps.Step.TheVariants.{Name, Index}
 use Rattle.ebpf_core.specs.AccessStrings.{access_parts}
-use Rattle.ebpf_core.specs.Answers.{if_ok, of_types}
+use Rattle.ebpf_base.specs.Results.{if_ok}
+use Rattle.ebpf_core.specs.Answers.{of_types}
 use Rattle.ebpf_core.specs.RelocationBases.{basis_of}
 
 -- ---- the faults

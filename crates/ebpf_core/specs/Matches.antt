@@ -20,7 +20,8 @@ use Rattle.ebpf_places.specs.declared.fault.PlaceFault.{PlaceFault}
 use Rattle.ebpf_places.specs.declared.fault.PlaceFault.TheVariants.{NestingLevel, Btf}
 use Rattle.ebpf_places.specs.declared.places.Place.{Place}
 use Rattle.ebpf_places.specs.Places.{place_of}
-use Rattle.ebpf_core.specs.Answers.{each, if_ok, of_types}
+use Rattle.ebpf_base.specs.Results.{if_ok}
+use Rattle.ebpf_core.specs.Answers.{each, of_types}
 
 -- the name of the type with an id
 abbrev pub type_name_at : TypeInfo → ℕ → Result (List ℕ) TypeError

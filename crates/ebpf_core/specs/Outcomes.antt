@@ -23,7 +23,8 @@ use Rattle.ebpf_core.specs.declared.matches.Found.TheVariants as found
 use Rattle.ebpf_core.specs.declared.matches.Match.{Match}
 use Rattle.ebpf_core.specs.declared.outcome.Outcome.{Outcome}
 use Rattle.ebpf_core.specs.declared.values.MatchValue.{MatchValue}
-use Rattle.ebpf_core.specs.Answers.{each, if_ok, of_types}
+use Rattle.ebpf_base.specs.Results.{if_ok}
+use Rattle.ebpf_core.specs.Answers.{each, of_types}
 use Rattle.ebpf_core.specs.Fields.{field_value}
 use Rattle.ebpf_core.specs.LocalPaths.{wrong_kind}
 use Rattle.ebpf_core.specs.Matches.{matches, type_name_at}

@@ -15,7 +15,8 @@ use Rattle.ebpf_btf.specs.Types.{is_kind, kind_of}
 use Rattle.ebpf_btf.specs.Variants.{variants_of}
 use Rattle.ebpf_core.specs.declared.error.RelocationError.{RelocationError}
 use Rattle.ebpf_core.specs.declared.outcome.Outcome.{Outcome}
-use Rattle.ebpf_core.specs.Answers.{if_ok, of_types}
+use Rattle.ebpf_base.specs.Results.{if_ok}
+use Rattle.ebpf_core.specs.Answers.{of_types}
 use Rattle.ebpf_core.specs.LocalPaths.{local_path}
 use Rattle.ebpf_core.specs.Outcomes.{outcome_among}
 

@@ -1,7 +1,8 @@
 //! Records over the types of a kernel, one after the other.
 
 ghost use Rattle.std.specs.Prelude.{◌≡◌, IfErr, MatchBool, Ok, ⊤};
-ghost use Rattle.ebpf_core.specs.Answers.{Tells, if_ok, of_types, without_texts};
+ghost use Rattle.ebpf_base.specs.Results.{if_ok};
+ghost use Rattle.ebpf_core.specs.Answers.{Tells, of_types, without_texts};
 ghost use Rattle.ebpf_core.specs.Questions.{question_of};
 ghost use Rattle.ebpf_core.specs.Memory.{is_memory};
 ghost use Rattle.ebpf_core.specs.Outcomes.{outcome_among};

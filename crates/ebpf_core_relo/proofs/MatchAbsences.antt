@@ -15,7 +15,8 @@ use Rattle.ebpf_places.specs.declared.places.Place.{Place}
 use Rattle.ebpf_places.specs.declared.steps.Step.{Step}
 use Rattle.ebpf_places.specs.declared.steps.Step.TheVariants.{Name, Index}
 use Rattle.ebpf_core.proofs.Questions.{outcomes_rest_on_questions}
-use Rattle.ebpf_core.specs.Answers.{each, if_ok, of_types}
+use Rattle.ebpf_base.specs.Results.{if_ok}
+use Rattle.ebpf_core.specs.Answers.{each, of_types}
 use Rattle.ebpf_core.specs.LocalPaths.{local_path}
 use Rattle.ebpf_core.specs.Matches.{by_place, found_at_candidate, match_in, match_of, matches, type_name_at}
 use Rattle.ebpf_core.specs.Outcomes.{outcome_among}

@@ -8,7 +8,8 @@ use Rattle.std.specs.Str.{bytes_eq}
 use Rattle.std.proofs.lemmas.Bool.{ltb-true}
 use Rattle.std.proofs.lemmas.List.Folds.{list_all-append, list_any-append}
 use Rattle.ebpf_btf.specs.Steps.{resolved, type_at}
-use Rattle.ebpf_btf.specs.Next as types
+use Rattle.ebpf_base.specs.Results.{if_ok}
+use Rattle.ebpf_btf.specs.Next.{if_some}
 use Rattle.ebpf_btf.specs.Strings.{is_text, text_at}
 use Rattle.ebpf_btf.specs.TypeInfo.{TypeInfo}
 use Rattle.ebpf_btf.specs.Types.{members_of}
@@ -108,7 +109,7 @@ module _ (local target : TypeInfo) (name : List ℕ) (local_type : ℕ) where
     by_same same = if same then by_fit (fields_compatible local local_type target m.btf_type) else Ok Other
 
     abbrev by_text : Result (List ℕ) BtfError → Result Role PlaceFault
-    by_text t = if_read (types.if_ok t (λ read. Ok (bytes_eq read name))) by_same
+    by_text t = if_read (if_ok t (λ read. Ok (bytes_eq read name))) by_same
 
     quiet_role : quiet (what inside m) ≡ true → RoleIs inside m
     quiet_role calm = named (nat_eq m.name_offset 0) refl calm
@@ -218,10 +219,10 @@ module _ (local target : TypeInfo) (name : List ℕ) (local_type : ℕ) where
     in_is o there = ap (λ p. option_map_or (λ t. members_from id t 0 (spans_or_none t)) p []) there
 
     at_is : (o : Option BtfType) → slice_get target.types id ≡ o
-        → members_of_id target type_id ≡ unwrap_or (option_and_then members_of (result_ok (types.if_some o (λ t. Ok t) (Err (UnknownBtfType id))))) []
+        → members_of_id target type_id ≡ unwrap_or (option_and_then members_of (result_ok (if_some o (λ t. Ok t) (Err (UnknownBtfType id))))) []
     at_is o there =
-        ap (λ r. unwrap_or (option_and_then members_of (result_ok (types.if_ok r (type_at target.types)))) []) leads
-        ∙ ap (λ p. unwrap_or (option_and_then members_of (result_ok (types.if_some p (λ t. Ok t) (Err (UnknownBtfType id))))) []) there
+        ap (λ r. unwrap_or (option_and_then members_of (result_ok (if_ok r (type_at target.types)))) []) leads
+        ∙ ap (λ p. unwrap_or (option_and_then members_of (result_ok (if_some p (λ t. Ok t) (Err (UnknownBtfType id))))) []) there
 
     -- the members of a type, where those of each list are told
     members_told : (levels inside bits : ℕ)

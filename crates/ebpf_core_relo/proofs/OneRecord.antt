@@ -10,7 +10,7 @@ use Rattle.ebpf_base.proofs.Maps.{key_exact}
 use Rattle.ebpf_base.specs.Keys.{key_cmp, key_total}
 use Rattle.ebpf_btf.specs.Next.{if_some}
 use Rattle.ebpf_ext.specs.declared.relocation.Relocation.{Relocation}
-use Rattle.ebpf_core.specs.Answers.{if_ok}
+use Rattle.ebpf_base.specs.Results.{if_ok}
 use Rattle.ebpf_core.specs.Searches.{outcome_of}
 use Rattle.ebpf_core.specs.declared.error.RelocationError.TheVariants.{FunctionNotFound}
 use Rattle.ebpf_core.specs.declared.outcome.Outcome.{Outcome}

@@ -8,7 +8,7 @@ use Rattle.ebpf_btf.specs.Strings.{text_at}
 use Rattle.ebpf_btf.specs.declared.error.BtfError.{BtfError as TypeError}
 use Rattle.ebpf_ext.specs.declared.relocation.Relocation.{Relocation}
 use Rattle.ebpf_core.proofs.Refused.{outcome_first, outcome_refuses, same_err}
-use Rattle.ebpf_core.specs.Answers.{if_ok}
+use Rattle.ebpf_base.specs.Results.{if_ok}
 use Rattle.ebpf_core.specs.Searches.{outcome_of}
 use Rattle.ebpf_core.specs.declared.error.RelocationError.{RelocationError}
 use Rattle.ebpf_core.specs.declared.error.RelocationError.TheVariants as errors

@@ -8,7 +8,8 @@ use Rattle.std.proofs.lemmas.Cmp.{eq_by_cmp_equiv}
 use Rattle.std.proofs.lemmas.Option.{slice_get_within}
 use Rattle.ebpf_base.proofs.TextMaps.{text_exact}
 use Rattle.ebpf_base.specs.Keys.{text_cmp, text_total}
-use Rattle.ebpf_btf.specs.Next.{if_some, if_ok}
+use Rattle.ebpf_base.specs.Results.{if_ok}
+use Rattle.ebpf_btf.specs.Next.{if_some}
 use Rattle.ebpf_btf.specs.Steps.{type_at, resolved}
 use Rattle.ebpf_btf.specs.Strings.{text_at, type_name}
 use Rattle.ebpf_btf.specs.TypeInfo.{TypeInfo}

@@ -5,7 +5,8 @@ use Rattle.std.specs.List.{flat_map}
 use Rattle.ebpf_base.proofs.Faults.{both_None}
 use Rattle.ebpf_base.specs.Faults.{first_some, fault_of, or_else}
 use Rattle.ebpf_btf.proofs.Looks.{resolved_here}
-use Rattle.ebpf_btf.specs.Next.{if_some, if_ok}
+use Rattle.ebpf_base.specs.Results.{if_ok}
+use Rattle.ebpf_btf.specs.Next.{if_some}
 use Rattle.ebpf_btf.specs.Steps.{type_at, modifier_type_id, resolved}
 use Rattle.ebpf_btf.specs.Strings.{type_name}
 use Rattle.ebpf_btf.specs.TypeInfo.{TypeInfo}

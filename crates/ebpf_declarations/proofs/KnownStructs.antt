@@ -5,7 +5,8 @@ use Rattle.std.specs.BTreeMap.{BTreeMap, get, is_at, Updates}
 use Rattle.std.specs.Ordering.{nat_cmp}
 use Rattle.std.proofs.lemmas.Bool.Decides.{nat_tests}
 use Rattle.std.proofs.Common.{arith}
-use Rattle.ebpf_btf.specs.Next.{if_some, if_ok}
+use Rattle.ebpf_base.specs.Results.{if_ok}
+use Rattle.ebpf_btf.specs.Next.{if_some}
 use Rattle.ebpf_btf.specs.TypeInfo.{TypeInfo}
 use Rattle.ebpf_btf.specs.Types.{array_of}
 use Rattle.ebpf_btf.specs.Steps.{type_at}

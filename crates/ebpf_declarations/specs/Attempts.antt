@@ -1,7 +1,7 @@
 -- Answers one after the other, of which the first fault ends all.
 use Rattle.std.specs.Prelude.{List, [], ◌∷◌, Result, Ok, Err}
 use Rattle.ebpf_btf.specs.declared.error.BtfError.{BtfError}
-use Rattle.ebpf_btf.specs.Next.{if_ok}
+use Rattle.ebpf_base.specs.Results.{if_ok}
 
 -- what an answer gives to a list
 abbrev pub given : {X E : Type 0} → Result X E → List X

@@ -9,7 +9,8 @@ use Rattle.ebpf_btf.specs.declared.error.BtfError.TheVariants.{InvalidInfo}
 use Rattle.ebpf_ext.specs.ExtFormat.{section_end, info_sec_fault}
 use Rattle.ebpf_ext.specs.ExtReading.{checked_section, sections_from}
 use Rattle.ebpf_btf.specs.Memory.{is_memory}
-use Rattle.ebpf_btf.specs.Next.{if_ok, if_some}
+use Rattle.ebpf_base.specs.Results.{if_ok}
+use Rattle.ebpf_btf.specs.Next.{if_some}
 
 -- ---- a section ends after its offset and not past the end
 

@@ -15,7 +15,8 @@ use Rattle.ebpf_ext.specs.ExtFormat.{ext_header_fault, func_part, line_part, par
 use Rattle.ebpf_ext.specs.ExtReading.{ExtInfo, named_func_info, func_sections, named_line_info, line_sections, read_ext, core_relo_sections, section_core_relos, checked_section, sections_from, part_sections}
 use Rattle.ebpf_ext.specs.ExtSpelling.{AreSectionsAt, IsPart, IsSectionAt, SpellsExt}
 use Rattle.ebpf_btf.specs.Memory.{is_memory}
-use Rattle.ebpf_btf.specs.Next.{if_ok, if_some}
+use Rattle.ebpf_base.specs.Results.{if_ok}
+use Rattle.ebpf_btf.specs.Next.{if_some}
 use Rattle.ebpf_ext.proofs.ExtSections.{section_advances}
 
 -- ---- one section

@@ -6,7 +6,7 @@ use Rattle.ebpf_btf.specs.declared.error.BtfError.{BtfError}
 use Rattle.ebpf_ext.specs.ExtFormat.{all_ok, core_relo_at, core_relos_at}
 use Rattle.ebpf_ext.specs.PrivateContracts.{prepended}
 use Rattle.ebpf_btf.specs.Memory.{is_memory}
-use Rattle.ebpf_btf.specs.Next.{if_ok}
+use Rattle.ebpf_base.specs.Results.{if_ok}
 
 after_none : {X : Type 0} (r : Result (List X) BtfError) → prepended [] r ≡ r
 after_none (Ok xs) = refl

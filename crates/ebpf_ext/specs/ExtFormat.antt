@@ -15,7 +15,8 @@ use Rattle.ebpf_ext.specs.declared.relocation.Relocation.{Relocation}
 use Rattle.ebpf_btf.specs.Format.{items_at, word}
 use Rattle.ebpf_btf.specs.Reading.{header_length, magic}
 use Rattle.ebpf_ext.specs.RelocationKinds.{relocation_kind}
-use Rattle.ebpf_btf.specs.Next.{if_some, if_ok}
+use Rattle.ebpf_base.specs.Results.{if_ok}
+use Rattle.ebpf_btf.specs.Next.{if_some}
 
 -- ---- the header; offsets count from its end
 

@@ -10,7 +10,8 @@ use Rattle.ebpf_ext.specs.declared.ext_infos.FuncSecInfo.{FuncSecInfo}
 use Rattle.ebpf_ext.specs.declared.ext_infos.LineSecInfo.{LineSecInfo}
 use Rattle.ebpf_ext.specs.declared.relocation.Relocation.{Relocation}
 use Rattle.ebpf_ext.specs.ExtFormat.{ext_header_fault, func_part, line_part, core_relo_part, part_fault, record_size, sections_start, sections_end, sec_name_off_at, num_info_at, section_end, info_sec_fault, func_infos, line_infos, core_relos_at}
-use Rattle.ebpf_btf.specs.Next.{if_some, if_ok}
+use Rattle.ebpf_base.specs.Results.{if_ok}
+use Rattle.ebpf_btf.specs.Next.{if_some}
 use Rattle.ebpf_btf.specs.Strings.{text_at}
 
 -- ---- one section, and the offset after it; its own faults come first, then those of its records

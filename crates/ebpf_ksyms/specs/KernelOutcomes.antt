@@ -3,7 +3,7 @@ use Rattle.std.specs.Prelude.{ℕ, Bool, true, false, List, Option, Some, None, 
 use Rattle.ebpf_base.specs.Faults.{fault_of}
 use Rattle.ebpf_candidates.specs.Compatibility.{types_compatible}
 use Rattle.ebpf_btf.specs.EssentialNames.{essential_name}
-use Rattle.ebpf_btf.specs.Next.{if_ok}
+use Rattle.ebpf_base.specs.Results.{if_ok}
 use Rattle.ebpf_btf.specs.Steps.{resolved, type_at}
 use Rattle.ebpf_btf.specs.Strings.{id_of_name}
 use Rattle.ebpf_btf.specs.TypeInfo.{TypeInfo}

@@ -8,7 +8,8 @@ use Rattle.std.proofs.lemmas.Map.Lookups.{exact_unsigned}
 use Rattle.ebpf_base.specs.Keys.{text_cmp, key_cmp, key_total}
 use Rattle.ebpf_base.proofs.Keyed.{later_text_stands, later_number_stands, later_key_stands}
 use Rattle.ebpf_base.proofs.TextMaps.{text_exact}
-use Rattle.ebpf_btf.specs.Next.{if_some, if_ok}
+use Rattle.ebpf_base.specs.Results.{if_ok}
+use Rattle.ebpf_btf.specs.Next.{if_some}
 use Rattle.ebpf_btf.specs.Steps.{type_at, resolved}
 use Rattle.ebpf_btf.specs.Strings.{type_name}
 use Rattle.ebpf_btf.specs.TypeInfo.{TypeInfo}
