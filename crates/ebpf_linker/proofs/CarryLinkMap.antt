@@ -7,7 +7,7 @@ use Rattle.ebpf_linker.specs.Functions.{Nothing, Names, Functions, FunctionConte
 use Rattle.ebpf_linker.specs.Answer.{IsOrder}
 use Rattle.ebpf_linker.specs.Faults.{checked_references}
 use Rattle.ebpf_linker.specs.LinkMap.{CopyOf, copies_from, IsReference, AreReferences, IsLinkMap}
-use Rattle.ebpf_linker.specs.LinkMap.{key_copy}
+use Rattle.ebpf_linker.specs.PrivateContracts.{key_copy}
 use Rattle.ebpf_linker.proofs.Numbering.{renamed, Numbers}
 use Rattle.ebpf_linker.proofs.Renamed.{AllNumbers, number_at, all_numbers, among_to, among_from, last_to, distinct_to, names_from, reached_number, walk_to, walk_from, in_order_to}
 use Rattle.ebpf_linker.proofs.Visits.{begins_among}

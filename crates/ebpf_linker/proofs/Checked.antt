@@ -15,7 +15,7 @@ use Rattle.ebpf_linker.specs.Functions.{References, or_empty}
 use Rattle.ebpf_linker.specs.Faults.{checked_references, checked, func_info_agrees}
 use Rattle.ebpf_linker.specs.Numbered.{of_target, referred, calls_at, functions_by_number, body_content, option_content, Rises, IsWithin, Sound}
 use Rattle.ebpf_linker.specs.PrivateContracts.{content_in}
-use Rattle.ebpf_linker.specs.Answer.{Finds}
+use Rattle.ebpf_linker.specs.Found.{Finds}
 use Rattle.ebpf_linker.specs.Steps.{checked_target, checked_call, checked_calls}
 use Rattle.ebpf_linker.proofs.Following.{refs, AreSorted}
 

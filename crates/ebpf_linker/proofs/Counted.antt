@@ -13,7 +13,8 @@ use Rattle.ebpf_linker.specs.declared.search.Open.{Open}
 use Rattle.ebpf_linker.specs.Functions.{Nothing, Names, Functions, Among, Walk, last_key_or, total, body}
 use Rattle.ebpf_linker.specs.Order.{Before, KeyPath}
 use Rattle.ebpf_linker.specs.Faults.{Base, CopyFault, FaultStandsAt, Faultless, LeastFault, append_fault}
-use Rattle.ebpf_linker.specs.Answer.{IsOrder, IsFound}
+use Rattle.ebpf_linker.specs.Answer.{IsOrder}
+use Rattle.ebpf_linker.specs.Found.{IsFound}
 use Rattle.ebpf_linker.specs.Numbered.{of_target}
 use Rattle.ebpf_linker.specs.Steps.{Search, opened, StepTo, call_target}
 use Rattle.ebpf_linker.proofs.Following.{refs, AreSorted, rising}

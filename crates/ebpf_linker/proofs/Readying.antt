@@ -11,7 +11,8 @@ use Rattle.ebpf_linker.specs.declared.reference.Target.TheVariants.{Function, No
 use Rattle.ebpf_linker.specs.declared.reference.Call.{Call}
 use Rattle.ebpf_linker.specs.Functions.{Nothing, Names, FunctionContent, Among, last_key_or, total}
 use Rattle.ebpf_linker.specs.Faults.{checked_references, append_fault, has_some}
-use Rattle.ebpf_linker.specs.Answer.{IsOrder, IsFound, Finds}
+use Rattle.ebpf_linker.specs.Answer.{IsOrder}
+use Rattle.ebpf_linker.specs.Found.{IsFound, Finds}
 use Rattle.ebpf_linker.specs.LinkedSlots.{body_at, with_bases, linked_copies, bodies_slot_count, Fit}
 use Rattle.ebpf_linker.specs.Numbered.{of_target, referred, calls_at, functions_by_number, option_content, IsWithin, Sound}
 use Rattle.ebpf_linker.specs.Records.{linked_func_info, linked_line_info, has_lines, count_if}

@@ -1,10 +1,7 @@
--- What the search for functions answers.
-use Rattle.std.specs.Prelude.{◌≡◌, ◌≢◌, ℕ, ◌≤◌, List, ◌∷◌, take, Some, None, slice_get, Vec, Result, Ok, Err}
-use Rattle.std.specs.declared.alloc.Global.{Global}
-use Rattle.ebpf_linker.specs.declared.reference.Fault.{Fault}
-use Rattle.ebpf_linker.specs.Functions.{Nothing, Names, References, Functions, Among, Distinct, Reached, total}
+-- The order of the functions that a program reaches.
+use Rattle.std.specs.Prelude.{◌≡◌, ◌≢◌, ℕ, List, ◌∷◌}
+use Rattle.ebpf_linker.specs.Functions.{Nothing, Names, References, Among, Distinct, Reached}
 use Rattle.ebpf_linker.specs.Order.{InKeyPathOrder}
-use Rattle.ebpf_linker.specs.Faults.{append_fault, Faultless, LeastFault}
 
 -- each reached function once, in the order of their key paths
 pub record IsOrder {K E : Type 0} (R : References K E) (p : K) (ks : List K) : Type 0 where
@@ -13,14 +10,3 @@ pub record IsOrder {K E : Type 0} (R : References K E) (p : K) (ks : List K) : T
   pub complete : (k : K) → Reached R p k → Among ks k
   pub resolved : (k : K) (x : ℕ) → Among (p ∷ ks) k → R k x ≢ Nothing → (m : K) × (R k x ≡ Names m) × Among ks m
   pub order : InKeyPathOrder R p ks
-
--- an order of functions for which no fault stands, with which the program is not too long
-pub record IsFound {K E : Type 0} (F : Functions K E) (R : References K E) (p : K) (ks : List K) : Type 0 where
-  pub order : IsOrder R p ks
-  pub faultless : Faultless F R p
-  pub fits : (j : ℕ) (k : K) → slice_get ks j ≡ Some k → append_fault F k (total F (p ∷ take j ks)) ≡ None
-  pub room : (k : K) → Among ks k → total F (p ∷ ks) ≤ 2147483647
-
-abbrev pub Finds : Functions ℕ Fault → References ℕ Fault → ℕ → Result (Vec ℕ Global) Fault → Type 0
-Finds F R p (Ok v) = (ks : List ℕ) × (v.items ≡ p ∷ ks) × IsFound F R p ks
-Finds F R p (Err e) = LeastFault F R p e

@@ -11,6 +11,7 @@ pub mod LinkMap
 pub mod LinkMapLaws
 pub mod Answer
 -- What only private contracts and proofs name.
+pub mod Found
 pub mod LinkedSlots
 pub mod Ready
 pub mod Steps

@@ -58,10 +58,6 @@ module _ {K E : Type 0} where
     pub references : AreReferences F p ks rs
     pub faultless : Faultless F (checked_references F p) p
 
--- a copy by another name of its function
-abbrev pub key_copy : {M K : Type 0} → (M → K) → CopyOf M → CopyOf K
-key_copy key c = record { key = key c.key; base = c.base; slots = c.slots }
-
 -- a copy with the number of its function
 abbrev pub numbered_copy : CopyOf ℕ → NumberedCopy
 numbered_copy c = record { function = c.key; base = c.base; slots = c.slots }

@@ -1,10 +1,11 @@
--- What contracts of private functions name and no public one.
+-- What private contracts and proofs name and no public contract.
 use Rattle.std.specs.Prelude.{ℕ, Bool, true, nat_lt, ◌&&◌, List, [], ◌∷◌, Option, Some, None, slice_get}
 use Rattle.ebpf_linker.specs.declared.body.Body.{Body}
 use Rattle.ebpf_linker.specs.declared.reference.Target.{Target}
 use Rattle.ebpf_linker.specs.declared.reference.Target.TheVariants.{Function, Nowhere}
 use Rattle.ebpf_linker.specs.declared.reference.Call.{Call}
 use Rattle.ebpf_linker.specs.Functions.{FunctionContent, or_empty}
+use Rattle.ebpf_linker.specs.LinkMap.{CopyOf}
 use Rattle.ebpf_linker.specs.Numbered.{option_content}
 
 -- what function k is
@@ -23,3 +24,7 @@ is_above (Some before) slot = nat_lt before slot
 abbrev pub is_list_sound : ℕ → Option ℕ → List Call → Bool
 is_list_sound n before [] = true
 is_list_sound n before (c ∷ cs) = (is_above before c.slot && is_within n c.target) && is_list_sound n (Some c.slot) cs
+
+-- a copy by another name of its function
+abbrev pub key_copy : {M K : Type 0} → (M → K) → CopyOf M → CopyOf K
+key_copy key c = record { key = key c.key; base = c.base; slots = c.slots }

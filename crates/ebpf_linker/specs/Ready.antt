@@ -5,7 +5,7 @@ use Rattle.ebpf_linker.specs.declared.body.Body.{Body}
 use Rattle.ebpf_linker.specs.declared.reference.Call.{Call}
 use Rattle.ebpf_linker.specs.Functions.{Among}
 use Rattle.ebpf_linker.specs.Faults.{checked_references}
-use Rattle.ebpf_linker.specs.Answer.{IsFound}
+use Rattle.ebpf_linker.specs.Found.{IsFound}
 use Rattle.ebpf_linker.specs.LinkedSlots.{Fit, body_at, bodies_slot_count}
 use Rattle.ebpf_linker.specs.Numbered.{calls_at, functions_by_number}
 

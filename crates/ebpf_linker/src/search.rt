@@ -1,7 +1,7 @@
 //! The order in which functions are copied, or why they can't be.
 
 ghost use Rattle.std.specs.Prelude.{◌≡◌, ℕ, ◌+◌, ◌<◌, ◌≤◌, length, [], IfOk, Some, All, true, false, slice_index_or};
-ghost use Rattle.ebpf_linker.specs.Answer.{Finds};
+ghost use Rattle.ebpf_linker.specs.Found.{Finds};
 ghost use Rattle.ebpf_linker.specs.Faults.{checked_references, append_fault};
 ghost use Rattle.ebpf_linker.specs.Faults.{content_fault, has_stray, is_stray};
 ghost use Rattle.ebpf_linker.specs.PrivateContracts.{content_in};

@@ -12,7 +12,7 @@ use Rattle.ebpf_linker.specs.declared.reference.Call.{Call}
 use Rattle.ebpf_linker.specs.declared.reference.Fault.{Fault}
 use Rattle.ebpf_linker.specs.Functions.{body}
 use Rattle.ebpf_linker.specs.LinkMap.{CopyOf, copies_from, numbered_copy, IsLinkMap, IsLinkMapAnswer}
-use Rattle.ebpf_linker.specs.LinkMap.{key_copy}
+use Rattle.ebpf_linker.specs.PrivateContracts.{key_copy}
 use Rattle.ebpf_linker.specs.Numbered.{body_content, functions_by_number}
 use Rattle.ebpf_linker.proofs.Carry.{carried, references_same}
 use Rattle.ebpf_linker.proofs.CarryLinkMap.{map_to}
