@@ -89,6 +89,8 @@ def run_rows(crate):
             outcome.passed += 1
         else:
             outcome.failures.append(f"{crate}: row {number}:\n  wanted: {want}\n  given:  {gave}")
+    if not outcome.failures and ran.stdout != (folder / "stdout").read_text():
+        outcome.failures.append(f"{crate}: blank lines differ")
     status = int((folder / "status").read_text()) if (folder / "status").exists() else 0
     if ran.returncode != status:
         outcome.failures.append(f"{crate}: its program ended with status {ran.returncode}, not {status}:\n{last_lines(ran)}")

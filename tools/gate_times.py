@@ -97,12 +97,12 @@ def phase_of(it):
 
 
 def by_crate(seen):
-    """Seconds by crate and phase, the most memory by crate, when its proof began and ended, and the edits' own seconds."""
-    seconds, most, spans, edits = defaultdict(lambda: defaultdict(float)), defaultdict(int), {}, {}
+    """Seconds and most memory by crate and phase, when its proof began and ended, and the edits' own seconds."""
+    seconds, most, spans, edits = defaultdict(lambda: defaultdict(float)), defaultdict(lambda: defaultdict(int)), {}, {}
     tried = defaultdict(list)
     for it in sorted(seen.values(), key=lambda it: it.began):
         name, phase = it.after("--crate-name"), phase_of(it)
-        most[name] = max(most[name], it.most)
+        most[name][phase] = max(most[name][phase], it.most)
         if phase == "edits":
             tried[name].append(it.seconds)
             continue
@@ -164,26 +164,37 @@ def chain(spans, libraries):
     return max((up_to(name) for name in libraries), key=lambda chain: chain[0])
 
 
-def table(seconds, most, reading):
-    """The lines of the table."""
+def table(seconds, reading):
+    """The lines of the table of seconds."""
     for name, took in reading.items():
         seconds[name]["reading"] = took
-    yield "| crate | " + " | ".join(PHASES) + " | sum | MB |"
-    yield "|---" * (len(PHASES) + 3) + "|"
+    yield "| crate | " + " | ".join(PHASES) + " | sum |"
+    yield "|---" * (len(PHASES) + 2) + "|"
     total = defaultdict(float)
     for name in sorted(seconds, key=lambda it: -sum(took for phase, took in seconds[it].items() if phase != "reading")):
         row = [seconds[name][phase] for phase in PHASES]
         for phase, took in zip(PHASES, row):
             total[phase] += took
-        yield f"| `{name}` | " + " | ".join(f"{took:.0f}" if took else "" for took in row) + f" | {sum(row[1:]):.0f} | {most[name] // 1_000_000} |"
+        yield f"| `{name}` | " + " | ".join(f"{took:.0f}" if took else "" for took in row) + f" | {sum(row[1:]):.0f} |"
     row = [total[phase] for phase in PHASES]
-    yield "| all | " + " | ".join(f"{took:.0f}" for took in row) + f" | {sum(row[1:]):.0f} | |"
+    yield "| all | " + " | ".join(f"{took:.0f}" for took in row) + f" | {sum(row[1:]):.0f} |"
+
+
+def memory_table(most):
+    """The lines of the table of memory."""
+    phases = [phase for phase in PHASES if phase not in ("reading", "second proof")]
+    yield "| crate, MB | " + " | ".join(phases) + " |"
+    yield "|---" * (len(phases) + 1) + "|"
+    for name in sorted(most, key=lambda it: -max(most[it].values())):
+        yield f"| `{name}` | " + " | ".join(f"{most[name][phase] // 1_000_000}" if most[name][phase] else "" for phase in phases) + " |"
 
 
 def report(seen, parts, whole, shows_edits):
     """The lines of the report: crates, parts, the longest chain. The whole is the command's line of the table of parts."""
     seconds, most, spans, edits = by_crate(seen)
-    yield from table(seconds, most, reading_seconds(seen))
+    yield from table(seconds, reading_seconds(seen))
+    yield ""
+    yield from memory_table(most)
     yield ""
     yield "| part | processor minutes | minutes |"
     yield "|---|---|---|"
