@@ -1,7 +1,9 @@
--- What is promised of a finished object: after parsing and then the passes types, maps, externs, calls, each at most
--- once and with Ok, every program is its function followed by every function its references reach, each once; under every
--- list of branch decisions it visits the separate functions' slots in the same order; and every slot that one type
--- relocation alone writes carries its kind's value for the same named path in the target.
+-- What is promised of a finished object:
+--
+-- After `parse` and then the passes types, maps, externs, calls, each at most once and with Ok, every program is its
+-- function followed by every function its references reach, each once; under every list of branch decisions it visits the
+-- separate functions' slots in the same order; and every slot that one type relocation alone writes carries its kind's
+-- value for the same named path in the target.
 --
 -- The program's own function stands once more where a reference names it. Visits hold where each reference of the program
 -- and of the functions that it reaches stands on a pseudo call or on a wide load, as long as the separate run hasn't left

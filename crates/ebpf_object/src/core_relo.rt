@@ -9,3 +9,4 @@ pub use ebpf_core_relo::{
     RelocationError,
 };
 pub use ebpf_ext::{Relocation, RelocationKind};
+pub use ebpf_places::{Place, PlaceEnd, Step};
