@@ -282,19 +282,22 @@ enum ebpf_program_flag {
 
 struct ebpf_program {
 	size_t name_at, name_len; /* its name's place in the text */
-	size_t section;		  /* the number of its section */
+	size_t section;		  /* the index of its section */
 	uint64_t address;	  /* its address there, as its symbol states it */
 	size_t slots;		  /* how many slots it has as it stands, linked or not */
 	uint32_t kind;		  /* enum ebpf_program_kind */
 	uint32_t flags;		  /* of enum ebpf_program_flag, added up */
-	uint32_t program_type;	  /* the kernel's enum bpf_prog_type */
+	uint32_t program_type;	  /* the kernel's enum bpf_prog_type; 0 where neither name nor kind says one */
 	uint32_t attach_type;	  /* the kernel's enum bpf_attach_type, else EBPF_NO_ATTACH_TYPE */
 };
 
 /*
  * Lists the programs: a row each, their names one after the other in text. Where loaders know the name of a program's
- * section (libbpf's Program Types and ELF Sections; a `?` before it is taken off), the name says flags, program type and
- * attach type; else its kind does. Numbers: 1, 2, 3.
+ * section (libbpf's Program Types and ELF Sections; a `?` before it is taken off), the name says flags (but EBPF_MULTI,
+ * which the kind says), program type and attach type: so of an EBPF_KIND_OTHER too, as `tc` or `struct_ops/x`. Else its
+ * kind says them, as that of `xdp/cpumap/x`; EBPF_KIND_OTHER then says none: flags 0, program type 0 and
+ * EBPF_NO_ATTACH_TYPE. ebpf_program_section gives the name; where it gives none, as of the earlier of two sections with
+ * one name, the kind alone counts. Numbers: 1, 2, 3.
  */
 uint32_t ebpf_programs(struct ebpf_handle *handle, struct ebpf_program *rows, size_t rows_room, char *text,
 		       size_t text_room, struct ebpf_counts *counts);
@@ -324,7 +327,7 @@ struct ebpf_map_shape {
 
 struct ebpf_map {
 	size_t name_at, name_len; /* its name's place in the text */
-	size_t section;		  /* the number of its section */
+	size_t section;		  /* the index of its section */
 	size_t data_len;	  /* how many bytes of data it begins with */
 	uint32_t section_kind;	  /* enum ebpf_section_kind */
 	uint32_t has_inner;	  /* 1 or 0: whether `inner` says something */
@@ -364,7 +367,7 @@ uint32_t ebpf_program_section(struct ebpf_handle *handle, const char *name, size
 
 struct ebpf_section {
 	size_t name_at, name_len; /* its name's place in the text */
-	size_t number;
+	size_t number;		  /* its index in the file, as in the rows of programs and maps */
 };
 
 /*
@@ -378,7 +381,7 @@ uint32_t ebpf_sections(struct ebpf_handle *handle, struct ebpf_section *rows, si
  * ---- what a loader hands to the kernel, laid out as its own structs
  *
  * The object's own types are read and never written as bytes, so no call gives a .BTF: a loader that hands the kernel
- * records on functions and lines takes the section from the file, and completes its data sections.
+ * func info and line info takes the section from the file, and completes its data sections.
  */
 
 /* struct bpf_insn */
@@ -419,7 +422,7 @@ uint32_t ebpf_line_infos(struct ebpf_handle *handle, const char *name, size_t na
 
 /*
  * Writes the value of a variable into the data of the map that holds it. Of symbols with the name the one with the
- * greatest number counts. Where there is none, `must_exist` 0 leaves all as it is, with the number 0. A name that is no
+ * greatest index counts. Where there is none, `must_exist` 0 leaves all as it is, with the number 0. A name that is no
  * UTF-8 is refused before all other faults of the value. Numbers: 2, 3, 6, 150 to 152.
  */
 uint32_t ebpf_set_value(struct ebpf_handle *handle, const char *name, size_t name_len, const uint8_t *value,

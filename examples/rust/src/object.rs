@@ -299,7 +299,7 @@ impl Object {
         })
     }
 
-    /// What is said of a program's functions, by slot.
+    /// A program's func info, by slot.
     pub fn func_infos(&self, program: &str) -> Result<Vec<FuncInfo>, Error> {
         // SAFETY: an `Object` is open, the name is borrowed for the call, and the buffer is ours.
         filled(|rows, room, count| unsafe {
@@ -307,7 +307,7 @@ impl Object {
         })
     }
 
-    /// What is said of a program's lines, by slot.
+    /// A program's line info, by slot.
     pub fn line_infos(&self, program: &str) -> Result<Vec<LineInfo>, Error> {
         // SAFETY: an `Object` is open, the name is borrowed for the call, and the buffer is ours.
         filled(|rows, room, count| unsafe {

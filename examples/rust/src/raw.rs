@@ -59,7 +59,7 @@ pub struct Program {
     pub attach_type: u32,
 }
 
-/// `struct ebpf_map_shape`: what is said of a map; each number as `BPF_MAP_CREATE` takes it.
+/// `struct ebpf_map_shape`: the attributes of a map; each number as `BPF_MAP_CREATE` takes it.
 #[repr(C)]
 #[derive(Clone, Copy, Debug, Default, PartialEq, Eq)]
 pub struct MapShape {

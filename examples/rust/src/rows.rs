@@ -5,7 +5,7 @@ use crate::raw::{self, MapShape};
 #[derive(Clone, Debug, PartialEq, Eq)]
 pub struct Program {
     pub name: String,
-    /// The number of its section, and its address there.
+    /// The index of its section, and its address there.
     pub section: usize,
     pub address: u64,
     /// How many slots it has as it stands.
