@@ -74,7 +74,7 @@ ADVICE = {
     "obj::ParseError::InvalidSymbol": "`readelf -s` shows the symbol's address and size",
     "obj::ParseError::InvalidMapDefinition": "the map needs 20 bytes or more and pinning 0 or 1; a variable's section fewer than 4 GiB",
     "obj::ParseError::InvalidGlobalData": "give a value of the variable's size; where that is right, the symbol passes its section's data",
-    "obj::ParseError::SymbolNotFound": "a variable of that name is not in the object, or a map that types declare has no symbol in its section: don't strip symbols",
+    "obj::ParseError::SymbolNotFound": "a variable of that name is not in the object, or a BTF-defined map has no symbol in its section: don't strip symbols",
     "obj::ParseError::MapNotFound": "the symbol is no variable in a section of data (0: it is in no section)",
     "obj::ParseError::MapSymbolNameNotFound": "never given",
     "obj::ParseError::NoSymbolsForSection": "don't strip symbols",

@@ -451,7 +451,7 @@ def pointers(count):
 
 
 def asking_pointers(count, candidates):
-    """CO-RE records each on a nameless type of its own, beside as many of the kernel's as there are candidates."""
+    """CO-RE records each on an anonymous type of its own, beside as many of the kernel's as there are candidates."""
     types = pointers(count)
     string = types.strings.add("0")
     return asking(types, [(number + 1, string) for number in range(count)]), pointers(candidates).bytes()
@@ -460,7 +460,7 @@ def asking_pointers(count, candidates):
 @beside_types
 @shape
 def core_records_of_nameless_types(size):
-    """CO-RE records each on a nameless type of its own, beside a thousand of the kernel's."""
+    """CO-RE records each on an anonymous type of its own, beside a thousand of the kernel's."""
     return asking_pointers(many(size, 28), 1000)
 
 

@@ -24,7 +24,7 @@ SIGNED = 1 << 24
 
 
 class Strings:
-    """Strings of type information, each once. They are linked at last, as 100,000 functions have many."""
+    """Strings of type information, each once. They are put one after the other at last, as 100,000 functions have many."""
 
     def __init__(self):
         self.places = {"": 0}

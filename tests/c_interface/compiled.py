@@ -38,7 +38,7 @@ def functions(version, path):
 
 
 def maps(path):
-    """The maps that the types declare, as bpftool reads the types: for each the numbers that its struct says."""
+    """The BTF-defined maps, as bpftool reads the types: for each the numbers that its struct says."""
     types = {row["id"]: row for row in json.loads(output("bpftool", "-j", "btf", "dump", "file", path))["types"]}
 
     def number(member):

@@ -89,7 +89,7 @@ def with_line(pattern):
 
 
 def is_declared(line):
-    """Whether a line is of a map that types declare, or of one inside such a map."""
+    """Whether a line is of a BTF-defined map, or of one inside such a map."""
     return line.startswith("inner ") or " kind 2 type " in line
 
 

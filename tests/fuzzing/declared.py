@@ -1,4 +1,4 @@
-"""What types declare: maps, variables of data sections, and externs of the kernel and of its configuration."""
+"""BTF-defined maps, variables of data sections, and extern declarations of the kernel and of its configuration."""
 from fuzzing import names, some_types
 from rows.btf import ARRAY, CONST, ENUM, ENUM64, FUNC_PROTO, STRUCT, TYPEDEF
 

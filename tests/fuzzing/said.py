@@ -1,4 +1,4 @@
-"""`.BTF.ext` in the making: records on functions, on lines, and by types."""
+"""`.BTF.ext` in the making: func info, line info, and CO-RE relocations."""
 import struct
 
 from rows.btf import magic

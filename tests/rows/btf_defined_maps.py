@@ -1,4 +1,4 @@
-"""The maps that types declare."""
+"""BTF-defined maps."""
 from rows.btf import array, btf, datasec, function, integer, pointer, struct_of, typedef, variable
 from rows.case import Case
 from rows.elf import OBJECT, PROGBITS, File
