@@ -328,7 +328,7 @@ struct ebpf_map_shape {
 struct ebpf_map {
 	size_t name_at, name_len; /* its name's place in the text */
 	size_t section;		  /* the index of its section */
-	size_t data_len;	  /* how many bytes of data it begins with */
+	size_t data_len;	  /* how many bytes its initial data has */
 	uint32_t section_kind;	  /* enum ebpf_section_kind */
 	uint32_t has_inner;	  /* 1 or 0: whether `inner` says something */
 	struct ebpf_map_shape shape;
@@ -339,7 +339,7 @@ struct ebpf_map {
 uint32_t ebpf_maps(struct ebpf_handle *handle, struct ebpf_map *rows, size_t rows_room, char *text, size_t text_room,
 		   struct ebpf_counts *counts);
 
-/* The data that a map begins with. *len is its length. Numbers: 1, 3, 5. */
+/* The initial data of a map. *len is its length. Numbers: 1, 3, 5. */
 uint32_t ebpf_map_data(struct ebpf_handle *handle, const char *name, size_t name_len, uint8_t *data, size_t room,
 		       size_t *len);
 

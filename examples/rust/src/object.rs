@@ -275,7 +275,7 @@ impl Object {
         self.listed(raw::ebpf_sections)
     }
 
-    /// The data that a map begins with.
+    /// The initial data of a map.
     pub fn map_data(&self, map: &str) -> Result<Vec<u8>, Error> {
         // SAFETY: an `Object` is open, the name is borrowed for the call, and the buffer is ours.
         filled(|data, room, len| unsafe {

@@ -30,7 +30,7 @@ pub struct Program {
 pub struct Map {
     pub name: String,
     pub section: usize,
-    /// How many bytes of data it begins with.
+    /// How many bytes its initial data has.
     pub data_len: usize,
     /// `enum ebpf_section_kind`.
     pub section_kind: u32,
