@@ -1,4 +1,4 @@
--- Types that stand for others, and sizes.
+-- Modifiers, and sizes.
 use Rattle.std.specs.Prelude.{ℕ, ◌*◌, ◌^◌, zero, suc, List, Option, Some, None, Result, Ok, Err, nat_lt, slice_get, if◌then◌else◌}
 use Rattle.ebpf_btf.specs.declared.error.BtfError.{BtfError}
 use Rattle.ebpf_btf.specs.declared.error.BtfError.TheVariants.{InvalidTypeInfo, UnexpectedBtfType, UnknownBtfType, MaximumTypeDepth}
@@ -37,7 +37,7 @@ resolved_from (suc left) types start id =
 abbrev pub resolved : List BtfType → ℕ → Result ℕ BtfError
 resolved types id = resolved_from looks types id id
 
--- the type that an id leads to, past those that stand for others
+-- the type that an id leads to, modifiers followed
 abbrev pub resolved_type : List BtfType → ℕ → Result BtfType BtfError
 resolved_type types id = if_ok (resolved types id) (λ found. type_at types found)
 

@@ -1,4 +1,4 @@
-//! Types that stand for others, and sizes.
+//! Modifiers, and sizes.
 
 ghost use Rattle.std.specs.Prelude.{◌≡◌, ◌<◌, ◌^◌, IfOk};
 ghost use Rattle.ebpf_btf.specs.Steps.{modifier_type_id, own_size, sized_by, repeats, times, resolved, resolved_type, size_of};

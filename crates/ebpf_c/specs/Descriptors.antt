@@ -19,7 +19,7 @@ use Rattle.ebpf_c.specs.declared.refusal.Refusal.{Refusal}
 unfoldable pub text_of : List ℕ → Option (List ℕ)
 text_of bytes = if is_utf8 bytes then Some bytes else None
 
--- the name at a place of a text, where it is inside and is itself a text
+-- the name at an offset of a text, where it is inside and is itself a text
 abbrev pub name_in : List ℕ → ℕ → ℕ → Option (List ℕ)
 name_in text at count = if nat_le (at + count) (length text) then text_of (take count (drop at text)) else None
 

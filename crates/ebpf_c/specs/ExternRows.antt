@@ -4,7 +4,7 @@ use Rattle.ebpf_model.specs.declared.extern_desc.ExternDesc.{ExternDesc}
 use Rattle.ebpf_c.specs.Flags.{flag, or_zero}
 use Rattle.ebpf_c.specs.declared.externs.ebpf_extern.{ebpf_extern}
 
--- the row of an extern whose name begins at a place of the text and has a length
+-- the row of an extern whose name begins at an offset of the text and has a length
 abbrev pub extern_row : ExternDesc → ℕ → ℕ → ebpf_extern
 extern_row x name_at name_len = record {
   name_at = name_at;

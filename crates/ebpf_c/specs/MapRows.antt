@@ -71,7 +71,7 @@ abbrev pub shape_if : Option Map → ebpf_map_shape
 shape_if None = no_shape
 shape_if (Some m) = shape_of m
 
--- the row of a map whose name begins at a place of the text and has a length
+-- the row of a map whose name begins at an offset of the text and has a length
 abbrev pub map_row : Map → ℕ → ℕ → ebpf_map
 map_row m name_at name_len = record {
   name_at = name_at;

@@ -21,7 +21,7 @@ abbrev pub name_if : Option (List ℕ × SectionIndex) → List ℕ
 name_if None = []
 name_if (Some section) = section.0
 
--- the name of the section with a number among named sections, empty where none of them has it
+-- the name of the section with an index among named sections, empty where none of them has it
 abbrev pub name_of_section_number : List (List ℕ × SectionIndex) → ℕ → List ℕ
 name_of_section_number sections number = name_if (find (λ section. section.1.0 == number) sections)
 
@@ -29,7 +29,7 @@ name_of_section_number sections number = name_if (find (λ section. section.1.0 
 abbrev pub loading_of : List (List ℕ × SectionIndex) → Program → Loading
 loading_of sections p = loaded_as (program_kind (name_of_section_number sections p.section_index)) p.section
 
--- the row of a program whose name begins at a place of the text and has a length
+-- the row of a program whose name begins at an offset of the text and has a length
 abbrev pub program_row : FinMap key_cmp Function → List (List ℕ × SectionIndex) → Program → ℕ → ℕ → ebpf_program
 program_row functions sections p name_at name_len = record {
   name_at = name_at;

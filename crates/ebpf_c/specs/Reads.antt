@@ -69,7 +69,7 @@ read_line_infos name o = or_number NO_PROGRAM (λ f. f.line_info.line_info) (fun
 
 -- ---- bytes
 
--- the name of the section of the program that some bytes name, empty where no named section has its number
+-- the name of the section of the program that some bytes name, empty where no named section has its index
 abbrev pub read_section_name : List ℕ → Object → Result (List ℕ) ℕ
 read_section_name name o =
     or_number NO_PROGRAM (λ p. name_of_section_number (entries o.section_infos) p.section_index) (value_by_bytes o.programs name)
@@ -81,7 +81,7 @@ read_map_data name o = or_number NO_MAP bytes_of (value_by_bytes o.maps name)
 abbrev pub read_license : Object → Result (List ℕ) ℕ
 read_license o = Ok o.license
 
--- ---- the same of a handle, whose object may be none
+-- ---- what C reads of a handle, whose object may be none
 
 abbrev pub program_list_in : Option Object → Result (Listed ebpf_program) ℕ
 program_list_in = of_open (λ o. Ok (program_list o))

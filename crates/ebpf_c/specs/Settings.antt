@@ -17,7 +17,7 @@ use Rattle.ebpf_c.specs.declared.refusal.Refusal.{Refusal}
 
 -- ---- maps
 
--- the same of an object; all else is as before
+-- the map with a name is set; all else of the object is as before
 pub record HasSet (set : Map → Map) (name : List ℕ) (old new : Object) : Type 0 where
   pub found : Map
   pub there : value_by_bytes old.maps name ≡ Some found

@@ -17,7 +17,7 @@ use Rattle.ebpf_c.specs.declared.codes.TheConstants.{BAD_NAME, BAD_VALUE}
 use Rattle.ebpf_c.specs.declared.refusal.Refusal.{Refusal}
 use Rattle.ebpf_c.specs.declared.value_rows.ebpf_value.{ebpf_value}
 
--- the bytes at a place of a block, where it is inside
+-- the bytes at an offset of a block, where it is inside
 abbrev pub bytes_in : List ℕ → ℕ → ℕ → Option (List ℕ)
 bytes_in bytes at count = if nat_le (at + count) (length bytes) then Some (take count (drop at bytes)) else None
 

@@ -29,7 +29,7 @@ pub fn text_of(bytes: &[u8]) -> Option<&str>
     }
 }
 
-/// The name at a place of a text, where it is inside and is itself a text.
+/// The name at an offset of a text, where it is inside and is itself a text.
 pub fn name_in(text: &[u8], at: usize, count: usize) -> Option<&str>
     ensures { option_copied result ≡ name_in text.now at count }
 {

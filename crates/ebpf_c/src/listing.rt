@@ -10,10 +10,10 @@ use std::alloc::{AllocError, Global};
 
 /// What C reads of a named thing `V` that stands in a `C`.
 pub trait Row<V, C>: Copy {
-    /// The row of a thing whose name begins at a place of the text and has a length.
+    /// The row of a thing whose name begins at an offset of the text and has a length.
     ghost row_of: { C → V → ℕ → ℕ → Self };
 
-    /// The row of a thing whose name begins at a place of the text and has a length.
+    /// The row of a thing whose name begins at an offset of the text and has a length.
     fn row(context: &C, value: &V, name_at: usize, name_len: usize) -> Self
         ensures { result ≡ row_of context.now value.now name_at name_len };
 }

@@ -42,9 +42,9 @@ pub struct ebpf_map {
     pub name_at: usize,
     /// How many bytes its name has.
     pub name_len: usize,
-    /// The number of its section.
+    /// The index of its section.
     pub section: usize,
-    /// How many bytes of data it begins with.
+    /// How many bytes its initial data has.
     pub data_len: usize,
     /// What that section is for.
     pub section_kind: u32,

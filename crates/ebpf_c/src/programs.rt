@@ -21,7 +21,7 @@ pub struct ebpf_program {
     pub name_at: usize,
     /// How many bytes its name has.
     pub name_len: usize,
-    /// The number of its section.
+    /// The index of its section.
     pub section: usize,
     /// Its address, as its symbol states it.
     pub address: u64,
@@ -56,7 +56,7 @@ pub struct Surroundings<'a, 'b> {
     pub sections: &'a [Entry<'b, SectionIndex>],
 }
 
-/// The name of the section with a number, empty where no named one has it.
+/// The name of the section with an index, empty where no named one has it.
 pub fn name_of_section_number<'b>(sections: &[Entry<'b, SectionIndex>], number: usize) -> &'b str
     ensures { result.now ≡ name_of_section_number sections.now number }
 {

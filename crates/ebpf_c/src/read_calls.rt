@@ -111,7 +111,7 @@ fn write_section(
     )
 }
 
-/// Writes the name of the section of the program with a name, and its length: 0 where no named section has the number of
+/// Writes the name of the section of the program with a name, and its length: 0 where no named section has the index of
 /// the program's, as of two sections with one name the earlier one.
 ///
 /// # Answers

@@ -14,7 +14,7 @@ pub struct ebpf_section {
     pub name_at: usize,
     /// How many bytes its name has.
     pub name_len: usize,
-    /// Its number.
+    /// Its index.
     pub number: usize,
 }
 

@@ -27,7 +27,7 @@ pub struct ebpf_value {
     pub must_exist: u32,
 }
 
-/// The bytes at a place of a block, where it is inside.
+/// The bytes at an offset of a block, where it is inside.
 fn bytes_in(bytes: &[u8], at: usize, count: usize) -> Option<&[u8]>
     ensures { option_copied result ≡ bytes_in bytes.now at count }
 {

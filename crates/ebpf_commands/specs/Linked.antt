@@ -44,7 +44,7 @@ default_passes_of types names = record {
   calls = true;
 }
 
--- the same of maps, in byte order of their names
+-- the passes that the programs choose, with descriptors for these maps in byte order of their names
 abbrev pub default_passes : Option TypeInfo → FinMap text_cmp Map → Chosen
 default_passes types maps = default_passes_of types (keys_of (entries maps))
 

@@ -43,7 +43,7 @@ abbrev pub AmongFirstFaultRefuses : Type 0
 AmongFirstFaultRefuses = (local target : TypeInfo) (r : Relocation) (path : LocalPath) (ids : List ℕ) (fault : RelocationError)
     → AmongIsRefused local target r path ids fault → outcome_among local target r path ids ≡ Err fault
 
--- the same of a record from its local side on
+-- a record is refused with the fault of its first step that has one, from its local side on
 abbrev pub FaultIsFirst : Type 0
 FaultIsFirst = (local target : TypeInfo) (r : Relocation) (fault : RelocationError) → outcome_of local target r ≡ Err fault → OutcomeIsRefused local target r fault
 

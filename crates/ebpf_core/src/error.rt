@@ -42,7 +42,7 @@ pub enum RelocationError {
         type_name: Text,
         candidates: Items<Text>,
     },
-    /// A path of more than 64 parts, or in a type of the kernel more than 64 unnamed members around a member, or more
+    /// A path of more than 64 parts, or in a type of the kernel more than 64 anonymous members around a member, or more
     /// than 1,048,576 members to look at.
     #[error("the path in {:?} has more than 64 parts or levels, or 1048576 members to look at", .type_name.as_str())]
     MaximumNestingLevelReached {

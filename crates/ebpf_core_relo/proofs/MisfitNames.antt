@@ -143,7 +143,7 @@ module _ (local target : TypeInfo) (name : List ℕ) (local_type : ℕ) where
 
   -- ---- the members of a type's own list
 
-  -- what lies under an unnamed member that leads to a type
+  -- what lies under an anonymous member that leads to a type
   abbrev AreToldUnder : ℕ → (ℕ → ℕ → List Member → List ViewEntry) → ℕ → Type 0
   AreToldUnder levels deeper inside =
       (type_id id bits : ℕ) → inside < anonymous_levels → resolved target.types type_id ≡ Ok id → are_quiet K (deeper (inside + 1) bits (K.members_of id)) ≡ true

@@ -11,7 +11,7 @@ use Rattle.ebpf_core_relo.proofs.OutcomeRows.{rest_at}
 use Rattle.ebpf_core_relo.specs.Absences.{has_member, is_or_has, members_of_id}
 
 module _ (target : TypeInfo) (name : List ℕ) where
-  -- what an unnamed member is told by, so many levels above the last
+  -- what an anonymous member is told by, so many levels above the last
   abbrev pub below : ℕ → ℕ → Bool
   below zero id = false
   below (suc levels) id = has_member target name levels (members_of_id target id)

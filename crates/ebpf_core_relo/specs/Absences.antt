@@ -65,11 +65,11 @@ furthest local target steps ids = fold (λ so_far id. further so_far id (reach l
 abbrev pub members_of_id : TypeInfo → ℕ → List BtfMember
 members_of_id target id = unwrap_or (option_and_then members_of (result_ok (resolved_type target.types id))) []
 
--- whether a member has a name; an unnamed one is told by the type that it leads to
+-- whether a member has a name; an anonymous one is told by the type that it leads to
 abbrev pub is_or_has : TypeInfo → List ℕ → (ℕ → Bool) → BtfMember → Bool
 is_or_has target name inner m = if m.name_offset == 0 then inner m.btf_type else is_text name (text_at target.strings m.name_offset)
 
--- whether one of some members has a name, or one inside of an unnamed one of them, which is looked into so many levels
+-- whether one of some members has a name, or one inside of an anonymous one of them, which is looked into so many levels
 -- down
 unfoldable pub has_member : TypeInfo → List ℕ → ℕ → List BtfMember → Bool
 has_member target name zero members = list_any (is_or_has target name (λ id. false)) members

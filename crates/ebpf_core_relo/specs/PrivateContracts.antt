@@ -25,7 +25,7 @@ abbrev pub StaysRefused : {U X : Type 0} → Result U RelocationError → X → 
 StaysRefused (Ok u) before after = Unit {0}
 StaysRefused (Err e) before after = MatchBool (is_memory e) ⊤ (after ≡ before)
 
--- the same of faults with their sections; a want of memory has no section
+-- what a call leaves, of faults with their sections; a want of memory has no section
 abbrev pub LeavesAt : {X U : Type 0} → Result U BtfRelocationError → X → Result X BtfRelocationError → Type 0
 LeavesAt (Ok u) left stated = stated ≡ Ok left
 LeavesAt (Err e) left stated = MatchBool (is_memory_at e) (e.section ≡ []) (stated ≡ Err (without_texts_at e))

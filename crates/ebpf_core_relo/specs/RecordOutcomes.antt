@@ -37,7 +37,7 @@ named_records parts = flat_map (λ part. named_in part.0 part.1) parts
 
 -- ---- what they write
 
--- the number of the section whose name stands at an offset
+-- the index of the section whose name stands at an offset
 abbrev pub section_by : FinMap text_cmp SectionIndex → Result (List ℕ) RelocationError → Result ℕ RelocationError
 section_by infos name = if_ok name (λ text. if_some (get infos text) (λ section. Ok section.0) (Err SectionNotFound))
 
@@ -95,7 +95,7 @@ abbrev pub outcomes_from : RelocationInputs → Written → List Named → List 
 outcomes_from inputs so_far [] = []
 outcomes_from inputs so_far (named ∷ records) = outcome_after inputs so_far named ∷ outcomes_from inputs (left_after inputs so_far named) records
 
--- the same from the functions' own slots on
+-- what records come to, the first over the functions' own slots
 abbrev pub record_outcomes : RelocationInputs → List (ℕ × List Relocation) → List RecordOutcome
 record_outcomes inputs parts = outcomes_from inputs empty (named_records parts)
 

@@ -12,7 +12,7 @@ use ebpf_core::NamedPath;
 use ebpf_places::{PlaceEnd, Step, place_in};
 use std::alloc::AllocError;
 
-/// Inside how many unnamed members a name is looked for at most.
+/// Inside how many anonymous members a name is looked for at most.
 const UNNAMED_LEVELS: u32 = 64;
 
 /// What the kernel's types lack, so that a record has no value. Where a field is asked for it is what the type lacks

@@ -30,7 +30,7 @@ pub struct RecordOutcome {
 /// The slot that a record is about.
 #[derive(Clone, Copy, Debug, PartialEq, Eq)]
 pub struct RecordSlot {
-    /// The key of its function: the number of the section, and the address.
+    /// The key of its function: the index of the section, and the address.
     pub function: (usize, u64),
     /// Its number in the function, from 0 on.
     pub slot: usize,

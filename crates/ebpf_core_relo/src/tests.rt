@@ -268,7 +268,7 @@ fn add_types(alloc: Global, btf: &mut Btf) -> Result<Types, BtfError> {
     })
 }
 
-/// Types of a kernel in which `s` has no `a`, its `b` is a pointer in an unnamed struct, and `i` is larger; `name` is a
+/// Types of a kernel in which `s` has no `a`, its `b` is a pointer in an anonymous struct, and `i` is larger; `name` is a
 /// pointer, and `e` has another variant.
 fn other_types(alloc: Global) -> Result<Btf, BtfError> {
     let mut btf = start(alloc)?;

@@ -1,4 +1,4 @@
--- The maps that types declare for a section, each name once: the names in the order of their first maps, and what the
+-- The BTF-defined maps of a section, each name once: the names in the order of their first maps, and what the
 -- last map of each is defined by.
 use Rattle.std.specs.Prelude.{◌≡◌, ◌++◌, ℕ, Bool, true, false, List, [], ◌∷◌, length, Option, Some, None, Result, Ok, slice_get, if◌then◌else◌}
 use Rattle.std.specs.BTreeMap.{get as at_key}
@@ -61,7 +61,7 @@ IsKnown info kept entry n held = (t : BtfType) × (type_at info.types entry.btf_
 abbrev pub type_definitions : Reading → TypeInfo → List ℕ → ℕ → Result MapDefinitions BtfError
 type_definitions reading info name id = if_ok (resolved info.types id) (λ held. struct_definitions reading info name held)
 
--- ---- as maps of a section with this number, the symbols of which have these numbers
+-- ---- as maps of a section with this index, the symbols of which have these indices
 
 -- a name that has no symbol
 abbrev pub missing : (List ℕ → Option ℕ) → List ℕ → Option ParseError
@@ -86,7 +86,7 @@ pub record Adds (before after : DistinctMaps) (more : (List ℕ → Option ℕ) 
       → put_all m (distinct_maps symbols section after) ≡ put_all (put_all m (distinct_maps symbols section before)) (more symbols section)
   pub fault : (symbols : List ℕ → Option ℕ) (section : ℕ) → distinct_fault symbols after ≡ or_else (distinct_fault symbols before) (wrong symbols section)
 
--- in one reading, of each of some names, key by key, what all types declare in a section of the name
+-- in one reading, of each of some names, key by key, the BTF-defined maps of a section of the name
 pub record AreSectionMaps (reading : Reading) (info : TypeInfo) (kept : FinMap text_cmp DistinctMaps) : Type 0 where
   pub maps : (name : List ℕ) (k : DistinctMaps) → get kept name ≡ Some k → (symbols : List ℕ → Option ℕ) (section : ℕ) (m : FinMap text_cmp Map) (q : List ℕ)
       → get (put_all m (distinct_maps symbols section k)) q ≡ get (put_all m (btf_maps reading info symbols section name)) q

@@ -25,7 +25,7 @@ LaterInnerMembersStand =
     → fault_of (inner_member_value reading info name earlier) ≡ None
     → inner_definition reading info name (before ++ (earlier ∷ (between ++ (later ∷ after)))) ≡ inner_definition reading info name (before ++ (between ++ (later ∷ after)))
 
--- What types declare in a section without a fault in the stated reading they declare in the broad one.
+-- The BTF-defined maps of a section without a fault in the stated reading are those of the broad one.
 abbrev pub BroadDeclaresAsStated : Type 0
 BroadDeclaresAsStated =
     (info : TypeInfo) (symbols : List ℕ → Option ℕ) (section : ℕ) (name : List ℕ) → btf_maps_fault Stated info symbols section name ≡ None

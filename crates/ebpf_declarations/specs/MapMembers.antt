@@ -73,7 +73,7 @@ abbrev pub sole_value_in : Result BtfType BtfError → Option ℕ
 sole_value_in (Ok t) = sole_value t
 sole_value_in (Err e) = None
 
--- the number that a member is itself, past types that stand for others
+-- the number that a member is itself, modifiers followed
 unfoldable pub own_number : List BtfType → ℕ → Option ℕ
 own_number types id = sole_value_in (resolved_type types id)
 
@@ -104,7 +104,7 @@ members_at types id =
     if_ok (type_at types id) (λ t.
     if_some (struct_members t) (λ members. Ok members) (Err (unexpected t)))
 
--- the id of what a pointer, which a type stands for, points to, past types that stand for others
+-- the id of what a pointer points to, modifiers followed before it and behind it
 unfoldable pub pointee_struct : List BtfType → ℕ → Result ℕ BtfError
 pointee_struct types id =
     if_ok (resolved_type types id) (λ p.

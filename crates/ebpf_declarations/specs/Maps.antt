@@ -1,4 +1,4 @@
--- The maps that types declare in the DATASECs of a section as `.maps` (libbpf's "BTF-defined maps").
+-- BTF-defined maps (libbpf's word): those of the DATASECs of a section as `.maps`.
 use Rattle.std.specs.Prelude.{ℕ, Bool, false, List, [], Option, Some, None, Result, Ok, Err, ◌==◌, if◌then◌else◌}
 use Rattle.std.specs.List.{flat_map}
 use Rattle.ebpf_base.specs.Faults.{first_some, fault_of}
@@ -153,7 +153,7 @@ type_maps reading info symbols section name t = matched_maps reading info symbol
 unfoldable pub type_maps_fault : Reading → TypeInfo → (List ℕ → Option ℕ) → ℕ → List ℕ → BtfType → Option ParseError
 type_maps_fault reading info symbols section name t = matched_maps_fault reading info symbols section (datasec_match info name t)
 
--- Of a section with this number and name, the symbols of which have these numbers.
+-- Of a section with this index and name, the symbols of which have these indices.
 abbrev pub btf_maps : Reading → TypeInfo → (List ℕ → Option ℕ) → ℕ → List ℕ → List (List ℕ × Map)
 btf_maps reading info symbols section name = flat_map (type_maps reading info symbols section name) info.types
 

@@ -60,7 +60,7 @@ abbrev pub last_some : {X : Type 0} → (MemberValue → Option X) → List Memb
 last_some says [] = None
 last_some says (s ∷ later) = or_else (last_some says later) (says s)
 
--- the same, or what stood before
+-- that value, or what stood before where none of them gives one
 abbrev pub last_or : {X : Type 0} → (MemberValue → Option X) → X → List MemberValue → X
 last_or says before all = unwrap_or (last_some says all) before
 

@@ -77,7 +77,7 @@ abbrev pub unreadable_name_fault : Option ℕ → Option ParseError
 unreadable_name_fault None = None
 unreadable_name_fault (Some offset) = Some (errors.BtfError (InvalidStringOffset offset))
 
--- of each name the types with the ids declare what all types declare in a section of the name
+-- of each name the DATASECs with the ids have the BTF-defined maps that all types have in a section of the name
 pub record AreFound (info : TypeInfo) (found : NamedSections) : Type 0 where
   pub maps : (reading : Reading) (name ids : List ℕ) → get found.by_name name ≡ Some ids → found.unreadable ≡ None → (symbols : List ℕ → Option ℕ) (section : ℕ)
       → ids_maps reading info symbols section ids ≡ btf_maps reading info symbols section name

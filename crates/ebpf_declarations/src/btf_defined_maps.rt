@@ -123,7 +123,7 @@ impl<'b> Model for BtfDefinedMaps<'b> {
 }
 
 impl<'b> BtfDefinedMaps<'b> {
-    /// The maps that types declare. The DATASECs of these names are found in one pass, in which of each DATASEC's
+    /// The BTF-defined maps. The DATASECs of these names are found in one pass, in which of each DATASEC's
     /// name no more is looked at than the longest of them has. Their entries are read once, up to the first that has
     /// a fault or is of a name that is none of these symbols'. `OutOfMemory` where memory is refused.
     pub fn gather(
@@ -146,7 +146,7 @@ impl<'b> BtfDefinedMaps<'b> {
         })
     }
 
-    /// Puts the maps that the types declare in a section by their names, DATASEC by
+    /// Puts the BTF-defined maps of a section by their names, DATASEC by
     /// DATASEC of the section's name and of each its entries in order; of equal names the later stands. Of a section whose name was given, where no fault is, each name is put once, however
     /// many entries declare it.
     pub fn put(
@@ -166,7 +166,7 @@ impl<'b> BtfDefinedMaps<'b> {
         put_maps(maps, found)
     }
 
-    /// The maps that the types declare in a section, with their names. Where the section's name is none of those that
+    /// The BTF-defined maps of a section, with their names. Where the section's name is none of those that
     /// were given, its DATASECs are looked for anew.
     fn of(
         &self,

@@ -115,7 +115,7 @@ impl DistinctMaps {
         self.last.get(*self.numbers.get(name)?)
     }
 
-    /// Puts the maps by their names, as those of a section with these numbers of symbols. `SymbolNotFound` of the
+    /// Puts the maps by their names, as those of a section with these indices of symbols. `SymbolNotFound` of the
     /// first name that has no symbol. `OutOfMemory` only where memory was refused.
     #[tactic(auto, using(ebpf_base::proofs::Walks::rest_more, ebpf_base::proofs::Walks::rest_none))]
     pub fn put(

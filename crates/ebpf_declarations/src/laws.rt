@@ -1,4 +1,4 @@
-//! What holds of the maps that types declare.
+//! What holds of BTF-defined maps.
 
 ghost use Rattle.ebpf_declarations.specs.Laws.{BroadDeclaresAsStated, LaterMembersStand, LaterInnerMembersStand};
 
@@ -9,7 +9,7 @@ pub fn later_members_stand()
     ensures inner_maps { LaterInnerMembersStand }
 {}
 
-/// What types declare in a section without a fault in the stated reading they declare in the broad one, without a fault.
+/// The BTF-defined maps of a section without a fault in the stated reading are those of the broad one, without a fault.
 pub fn broad_declares_as_stated()
     ensures { BroadDeclaresAsStated }
 {}

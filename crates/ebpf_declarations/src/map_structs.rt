@@ -31,7 +31,7 @@ pub fn members_at(btf: &Btf, type_id: u32) -> Result<&[BtfMember], BtfError>
     }
 }
 
-/// The id of what the pointer points to that a type stands for, past types that stand for others.
+/// The id of what a pointer points to, modifiers followed before it and behind it.
 #[tactic(auto, unfolding(crate::specs::MapMembers::pointee_struct))]
 fn pointee_struct(btf: &Btf, type_id: u32) -> Result<u32, BtfError>
     ensures { result ≡ pointee_struct btf.now.types type_id }

@@ -83,7 +83,7 @@ fn sole_value(ty: &BtfType) -> Option<u64>
     }
 }
 
-/// The number that a member is itself, past types that stand for others.
+/// The number that a member is itself, modifiers followed.
 #[tactic(auto, unfolding(crate::specs::MapMembers::own_number))]
 pub fn own_number(btf: &Btf, type_id: u32) -> Option<u64>
     ensures { result ≡ own_number btf.now.types type_id }

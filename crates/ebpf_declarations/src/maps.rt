@@ -52,7 +52,7 @@ pub fn declared(
     Ok((name, definitions))
 }
 
-/// The map with these definitions, of a section and a symbol with these numbers.
+/// The map with these definitions, of a section and a symbol with these indices.
 pub fn map_at(
     alloc: Global,
     definitions: &MapDefinitions,

@@ -47,7 +47,7 @@ pub record AreReportsOf (steps : Chosen) (lines : Source) (o : Object) (reports 
   pub stages : Stages (with_linking steps) lines o linked
   pub each : AreReports stages.unlinked linked (programs_in_order linked.programs) reports
 
--- the same of a file in a reading
+-- the reports of the programs of a file in a reading, of which the headline holds
 pub record IsInspected (steps : Chosen) (lines : Source) (reading : Reading) (bytes : List ℕ) (reports : List ProgramReport) : Type 0 where
   pub linked : Object
   pub headline : Headline (with_linking steps) lines reading bytes linked

@@ -33,7 +33,7 @@ content_fault c base too_long stray_line =
     first_of ((nat_lt 2147483647 (base + length c.slots), too_long) ∷ (has_stray base c.line_info, stray_line) ∷ [])
 
 module _ {K E : Type 0} where
-  -- both or neither of two functions have records on functions
+  -- both or neither of two functions have func info records
   abbrev pub func_info_agrees : Functions K E → K → K → Bool
   func_info_agrees F p k = same (has_some (content_at F k).func_info) (has_some (content_at F p).func_info)
 

@@ -15,7 +15,7 @@ pub data SlotReference (K E : Type 0) : Type 0 where
 abbrev pub References : Type 0 → Type 0 → Type 0
 References K E = K → ℕ → SlotReference K E
 
--- a function: its slots, and the records on functions and on lines that stand in it
+-- a function: its slots, and the func info and line info that stand in it
 pub record FunctionContent : Type 0 where
   pub slots : List bpf_insn
   pub func_info : List bpf_func_info

@@ -1,4 +1,4 @@
--- The records on functions and on lines of a linked program.
+-- The func info and line info of a linked program.
 use Rattle.std.specs.Prelude.{ℕ, ◌+◌, ◌-◌, ◌%◌, ◌^◌, Bool, false, ◌||◌, if◌then◌else◌, List, [], ◌∷◌, ◌++◌, map, length, Option, Some, None}
 use Rattle.ebpf_ext.specs.declared.ext_infos.bpf_func_info.{bpf_func_info}
 use Rattle.ebpf_ext.specs.declared.ext_infos.bpf_line_info.{bpf_line_info}
@@ -30,7 +30,7 @@ module _ {K E : Type 0} where
   abbrev pub linked_line_info : Functions K E → K → List K → List bpf_line_info
   linked_line_info F p ks = (content_at F p).line_info ++ line_records F (length (body F p)) ks
 
-  -- one of the functions has records on lines
+  -- one of the functions has line info records
   abbrev pub has_lines : Functions K E → List K → Bool
   has_lines F [] = false
   has_lines F (k ∷ ks) = has_some (content_at F k).line_info || has_lines F ks

@@ -9,7 +9,7 @@ use ebpf_parts::insn::bpf_insn;
 pub struct Body<'a> {
     /// Its slots.
     pub slots: &'a [bpf_insn],
-    /// The records on functions that stand in it, by slot.
+    /// The func info records that stand in it, by slot.
     pub func_info: &'a [bpf_func_info],
     /// The records on its lines, by slot.
     pub line_info: &'a [bpf_line_info],
@@ -20,12 +20,12 @@ pub struct Body<'a> {
 pub struct LinkedProgram {
     /// Its slots.
     pub slots: Items<bpf_insn>,
-    /// The records on functions, by slot.
+    /// The func info records, by slot.
     pub func_info: Items<bpf_func_info>,
-    /// The records on lines, by slot.
+    /// The line info records, by slot.
     pub line_info: Items<bpf_line_info>,
-    /// How many records on functions there are, the low 32 bits, where a function was copied.
+    /// How many func info records there are, the low 32 bits, where a function was copied.
     pub func_count: Option<u32>,
-    /// How many records on lines there are, the low 32 bits, where a function with such records was copied.
+    /// How many line info records there are, the low 32 bits, where a function with such records was copied.
     pub line_count: Option<u32>,
 }

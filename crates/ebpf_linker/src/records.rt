@@ -23,7 +23,7 @@ fn moved_line(line: bpf_line_info, first: u32, base: u32) -> bpf_line_info
     }
 }
 
-// Appends the records on functions of a copy that begins at a base.
+// Appends the func info records of a copy that begins at a base.
 fn append_func_info(
     out: &mut Vec<bpf_func_info>,
     records: &[bpf_func_info],
@@ -40,7 +40,7 @@ fn append_func_info(
     Ok(())
 }
 
-// Appends the records on lines of a copy that begins at a base.
+// Appends the line info records of a copy that begins at a base.
 fn append_line_info(
     out: &mut Vec<bpf_line_info>,
     lines: &[bpf_line_info],
@@ -59,7 +59,7 @@ fn append_line_info(
     Ok(())
 }
 
-/// The records on functions of a linked program: its own, then those of each copy.
+/// The func info records of a linked program: its own, then those of each copy.
 pub fn func_records(
     alloc: Global,
     bodies: &[Body<'_>],
@@ -81,7 +81,7 @@ pub fn func_records(
     Ok(out)
 }
 
-/// The records on lines of a linked program: its own, then those of each copy.
+/// The line info records of a linked program: its own, then those of each copy.
 pub fn line_records(
     alloc: Global,
     bodies: &[Body<'_>],
@@ -103,7 +103,7 @@ pub fn line_records(
     Ok(out)
 }
 
-/// Whether one of these functions has records on lines.
+/// Whether one of these functions has line info records.
 pub fn has_lines(bodies: &[Body<'_>], copies: &[usize]) -> bool
     requires { All (λ k. k < length bodies.now) copies.now }
     ensures { result ≡ has_lines (functions_by_number bodies.now []) copies.now }

@@ -15,7 +15,7 @@ pub enum Fault {
         /// The function with the reference.
         caller: usize,
     },
-    /// One of a function and the program that reaches it has records on functions, the other has none.
+    /// One of a function and the program that reaches it has func info records, the other has none.
     FunctionInfoMismatch {
         /// The function that is reached.
         callee: usize,

@@ -60,7 +60,7 @@ fn append_fault(body: &Body<'_>, base: usize, callee: usize) -> Option<Fault>
     None
 }
 
-// Where a reference leads, where the program `start` is linked: nowhere where one of both has records on functions
+// Where a reference leads, where the program `start` is linked: nowhere where one of both has func info records
 // and the other none.
 fn checked_target(bodies: &[Body<'_>], start: usize, target: Target) -> Target
     requires start { start < length bodies.now }

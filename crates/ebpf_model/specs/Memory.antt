@@ -8,7 +8,7 @@ abbrev pub is_memory : RelocationError → Bool
 is_memory OutOfMemory = true
 is_memory _ = false
 
--- the same of an error that names a function
+-- want of memory, of an error that names a function
 abbrev pub is_memory_at : EbpfRelocationError → Bool
 is_memory_at e = is_memory e.error
 

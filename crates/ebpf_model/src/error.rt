@@ -40,7 +40,7 @@ pub enum RelocationError {
         address: u64,
         caller_name: Text,
     },
-    /// Of a function and the program that it is linked into only one has records on functions.
+    /// Of a function and the program that it is linked into only one has func info records.
     #[error("only one of {:?} and its program has func info in .BTF.ext", .name.as_str())]
     FunctionInfoMismatch {
         name: Text,

@@ -15,14 +15,14 @@ pub struct Program {
     pub kernel_version: Option<u32>,
     /// Its kind.
     pub section: ProgramSection,
-    /// The number of its section.
+    /// The index of its section.
     pub section_index: usize,
     /// Its address, as its symbol states it.
     pub address: u64,
 }
 
 impl Program {
-    /// The key of its function: the number of its section, and its address.
+    /// The key of its function: the index of its section, and its address.
     pub fn function_key(&self) -> (usize, u64)
         ensures { result ≡ (self.now.section_index, self.now.address) }
     {

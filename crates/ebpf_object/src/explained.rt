@@ -12,8 +12,8 @@ use ebpf_parts::{ParseError, SymbolWords, Within};
 use std::fmt;
 
 /// An error and the object that it is about. It prints the error's sentence with the names that the object has for its
-/// numbers: those of sections, of symbols, of the map that has no descriptor, and of the extern whose type needs the
-/// kernel's. It takes no memory.
+/// numbers: the indices of sections and of symbols, and those of the map that has no descriptor, and of the extern whose
+/// type needs the kernel's. It takes no memory.
 #[derive(Clone, Copy)]
 pub struct Explained<'a> {
     /// The object, as it is after the refusal.
@@ -37,7 +37,7 @@ impl Object {
 }
 
 impl<'a> Explained<'a> {
-    /// The number of a section, and its name where the object has it.
+    /// The index of a section, and its name where the object has it.
     fn section(&self, number: usize) -> SectionWords<'a> {
         let mut name = None;
         for (known, section) in self.object.section_infos.as_map().iter() {

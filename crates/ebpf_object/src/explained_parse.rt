@@ -8,7 +8,7 @@ use ebpf_parts::ParseError;
 use std::fmt;
 
 /// Why a file can't be parsed, and the file. It prints the error's sentence with the names that the file has for the
-/// numbers of sections. It takes no memory.
+/// indices of sections. It takes no memory.
 #[derive(Clone, Copy)]
 pub struct ExplainedParse<'a> {
     /// The file's bytes.
@@ -27,7 +27,7 @@ impl<'a> ExplainedParse<'a> {
     }
 }
 
-/// The name of a file's section by its number, where it can be read.
+/// The name of a file's section by its index, where it can be read.
 fn section_name(file: &[u8], number: usize) -> Option<&str> {
     let Ok(file) = ElfFile::parse(file) else {
         return None;
@@ -40,7 +40,7 @@ fn section_name(file: &[u8], number: usize) -> Option<&str> {
     None
 }
 
-/// The number of a file's section, and its name.
+/// The index of a file's section, and its name.
 fn section_of(file: &[u8], number: usize) -> SectionWords<'_> {
     SectionWords {
         number,

@@ -61,7 +61,7 @@ impl ProgramMaps<'_> {
 
 impl Object {
     /// The object with numbers for its functions, whose calls are found once for the maps of all programs.
-    /// `text_sections` has the numbers of the sections whose symbols are functions.
+    /// `text_sections` has the indices of the sections whose symbols are functions.
     ///
     /// # Errors
     ///
@@ -93,7 +93,7 @@ impl Object {
     /// and then a copy of each function that its references reach, in the order of their key paths, with the places
     /// at which they begin and their numbers of slots; and the references of all copies, in the order of their
     /// places, with the places at which the copies begin that they lead to. `None` exactly where no program has
-    /// the name. Nothing is linked, and no slot is written. `text_sections` has the numbers of the sections whose
+    /// the name. Nothing is linked, and no slot is written. `text_sections` has the indices of the sections whose
     /// symbols are functions. For several programs `program_maps` looks the functions over once.
     ///
     /// # Errors

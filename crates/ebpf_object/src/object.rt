@@ -35,13 +35,13 @@ pub struct Object {
     pub maps: ByName<Map>,
     /// The programs by name.
     pub programs: ByName<Program>,
-    /// The functions by section number and address.
+    /// The functions by section index and address.
     pub functions: ByKey<Function>,
-    /// The symbols by their number.
+    /// The symbols by their index.
     pub symbol_table: ByIndex<Symbol>,
-    /// The relocations by section number and offset in the section, in bytes.
+    /// The relocations by section index and offset in the section, in bytes.
     pub relocations: BySection<ByOffset<Relocation>>,
-    /// The sections' numbers by name.
+    /// The sections' indices by name.
     pub section_infos: ByName<SectionIndex>,
 }
 
@@ -57,7 +57,7 @@ impl Object {
     /// `BtfError(InvalidSymbolName)` at the first symbol whose name can't be read; of the first section `.BTF`
     /// those of `Section::from_elf`, and `BtfError` with that of `Btf::parse`; where there is one, of the first
     /// section `.BTF.ext` the same with that of `BtfExt::parse`, and `BtfError` with that of the externs; then the
-    /// first fault of the other sections by number, each of which has those of `Section::from_elf`. Of a Text section these are
+    /// first fault of the other sections by index, each of which has those of `Section::from_elf`. Of a Text section these are
     /// `SymbolTableConflict` where two defined Text symbols have one address, and then at the functions from
     /// offset 0 on `UnknownSymbol` where no such symbol has the address, `InvalidSymbol` where its size is 0 or
     /// passes the data, and `InvalidProgramCode` where it is no whole slots; of a Program section

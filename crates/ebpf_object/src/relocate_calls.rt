@@ -106,8 +106,8 @@ impl Object {
 
     /// Links each program with every function that its references reach: its slots, and then the slots of those
     /// functions, each once, in the order of their key paths, which are the least paths of slots to them on which
-    /// no function occurs twice. Each reference holds the distance to its copy, and the records on functions and
-    /// lines move with their copies. `text_sections` has the numbers of the sections whose symbols are functions.
+    /// no function occurs twice. Each reference holds the distance to its copy, and func info and line
+    /// info move with their copies. `text_sections` has the indices of the sections whose symbols are functions.
     /// Every program is linked from the functions as they stand before; functions that are no program's stay.
     ///
     /// # Errors

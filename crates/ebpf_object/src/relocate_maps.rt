@@ -16,7 +16,7 @@ use std::collections::HashSet;
 impl Object {
     /// Writes the descriptors of maps into the slots that refer to them (RFC 9669, section 5.4). `maps` gives each
     /// map with its name and its descriptor; of maps of one symbol or one section the later one counts.
-    /// `text_sections` has the numbers of the sections that hold functions. All but the slots of functions stays.
+    /// `text_sections` has the indices of the sections that hold functions. All but the slots of functions stays.
     ///
     /// A relocation of a function refers to the map of its symbol, else to that of the symbol's section. A slot that
     /// refers to a map without data gets source 1 and the descriptor. One that refers to a map with data gets source

@@ -2,7 +2,7 @@
 
 use std::fmt;
 
-/// A section, as errors speak of it: `section 5 ".bss"`, its number as `readelf -S` has it, and its name where that is
+/// A section, as errors speak of it: `section 5 ".bss"`, its index as `readelf -S` has it, and its name where that is
 /// known.
 #[derive(Clone, Copy)]
 pub struct SectionWords<'a> {

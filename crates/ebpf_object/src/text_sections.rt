@@ -9,7 +9,7 @@ use std::alloc::{AllocError, Global};
 use std::collections::HashSet;
 
 impl Object {
-    /// The numbers of the sections that functions stand in, by their keys. `Err` only where memory was refused.
+    /// The indices of the sections that functions stand in, by their keys. `Err` only where memory was refused.
     pub fn text_sections(&self, alloc: Global) -> Result<HashSet<usize>, AllocError>
         ensures { IfOk result (λ sections. text_sections_in sections ≡ has_function_in self.now.functions) }
     {

@@ -254,7 +254,7 @@ module _ {X Y : Type 0} (g : X → Y) (p : X → Bool) where
   pub rows_at_places : (xs : List X) (d : X) → map (λ i. g (get_or xs i d)) (filter (λ i. p (get_or xs i d)) (range_with_len 0 (length xs))) ≡ map g (filter p xs)
   rows_at_places xs d = by_entry_range (λ i. get_or xs i d) 0 xs d (λ k below. let same : 0 + k ≡ k = omega arith in ap (λ n. get_or xs n d) same)
 
--- ---- records on lines
+-- ---- line info records
 
 module _ (first count : ℕ) (rows : List bpf_line_info) (places : List RecordIndex) (sorted : List ℕ) where
   pub lines_found : (base : ℕ) → ((q : ℕ) → filter (is_at_slot q) places ≡ filter (is_at_slot q) (indices_with (line_slot rows) (length rows)))
@@ -279,7 +279,7 @@ lines_kept (r ∷ rows) =
     let here : line_from 0 r ≡ r = ap (λ n. record r { insn_off = n }) same in
     ap (λ x. x ∷ map (line_from 0) rows) here ∙ ap (λ l. r ∷ l) (lines_kept rows)
 
--- ---- records on functions
+-- ---- func info records
 
 module _ (first : ℕ) (rows : List bpf_func_info) (places part : List RecordIndex) where
   pub funcs_found : (base : ℕ) → part ≡ filter (is_at_slot first) places → filter (is_at_slot first) places ≡ filter (is_at_slot first) (indices_with (func_slot rows) (length rows))

@@ -1,4 +1,4 @@
--- Where the entries of a section of relocations stand: the place of the first, their size, and their number.
+-- Where the entries of a section of relocations stand: the offset of the first, their size, and their number.
 use Rattle.std.specs.Prelude.{ℕ}
 use Rattle.std.specs.Coded.{Coded, coded_ℕ, coded×}
 use Rattle.std.specs.Ordering.{nat_cmp, ordering_then}

@@ -85,7 +85,7 @@ functions bytes = put_all empty (function_entries (ext_of bytes) bytes)
 unfoldable pub relocation_tables : List ℕ → FinMap nat_cmp (FinMap nat_cmp ElfRelocation)
 relocation_tables bytes = put_all empty (relocation_entries bytes)
 
--- the sections' numbers by name; those of type information come first
+-- the sections' indices by name; those of type information come first
 unfoldable pub section_infos : List ℕ → FinMap text_cmp SectionIndex
 section_infos bytes = put_all (type_info_names bytes) (name_entries bytes)
 

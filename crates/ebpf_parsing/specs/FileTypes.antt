@@ -19,7 +19,7 @@ use Rattle.ebpf_parts.specs.Sections.{section_of, section_fault}
 use Rattle.ebpf_parts.specs.declared.error.ParseError.{ParseError}
 use Rattle.ebpf_parts.specs.declared.error.ParseError.TheVariants.{BtfError}
 
--- a section's number, by its name
+-- a section's index, by its name
 abbrev pub names_in : Option SectionOf → List (List ℕ × SectionIndex)
 names_in None = []
 names_in (Some s) = section_info_entry (section_of s)

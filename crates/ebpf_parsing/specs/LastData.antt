@@ -23,11 +23,11 @@ is_data Rodata = true
 is_data Bss = true
 is_data _ = false
 
--- the number of a section of data, by its name
+-- the index of a section of data, by its name
 abbrev pub data_row : SectionValue → List (List ℕ × ℕ)
 data_row s = if is_data s.kind then (s.name, s.index.0) ∷ [] else []
 
--- the number of the last section of data of each name
+-- the index of the last section of data of each name
 abbrev pub last_data : List SectionValue → FinMap text_cmp ℕ
 last_data sections = put_all empty (flat_map data_row sections)
 

@@ -18,7 +18,7 @@ use Rattle.ebpf_parts.specs.declared.maps.pinning.PinningType.TheVariants as pin
 abbrev pub struct_bytes : SectionValue → SymbolValue → List ℕ
 struct_bytes s y = slice_range s.bytes y.address (y.address + y.size)
 
--- The number of four bytes from a place of the struct on, little endian in each file. A struct may end
+-- The number of four bytes from an offset of the struct on, little endian in each file. A struct may end
 -- before its last two numbers; a byte that it lacks is zero.
 unfoldable pub word_at : List ℕ → ℕ → ℕ
 word_at bytes place = number_at Little 4 bytes place

@@ -66,7 +66,7 @@ relocations_by _ s = []
 unfoldable pub relocations_in : SectionValue → List (ℕ × FinMap nat_cmp ElfRelocation)
 relocations_in s = relocations_by s.kind s
 
--- the section's number, by its name
+-- the section's index, by its name
 abbrev pub section_info_entry : SectionValue → List (List ℕ × SectionIndex)
 section_info_entry s = (s.name, s.index) ∷ []
 

@@ -43,7 +43,7 @@ lacks_symbol list = list_any (λ r. r.symbol_index == 0) list
 abbrev pub EntryRangesAreCached : List ℕ → FinMap entry_range_cmp Bool → Type 0
 EntryRangesAreCached bytes cached = (p : EntryRange) (lacks : Bool) → get cached p ≡ Some lacks → lacks ≡ lacks_symbol (entries_at bytes p)
 
--- the number of a section of relocations, by its entries' places
+-- the index of a section of relocations, by its entries' offsets
 abbrev pub table_row : SectionOf → List (EntryRange × ℕ)
 table_row t = (entry_range_of t, t.index) ∷ []
 
@@ -67,11 +67,11 @@ AreOfOneFile tables = AreOf (file_of_tables tables) tables
 abbrev pub names_of : List SymbolValue → List (List ℕ)
 names_of symbols = map (λ y. y.name) symbols
 
--- the number of a program's symbol, by its address
+-- the index of a program's symbol, by its address
 abbrev pub program_symbol_row : SymbolValue → List (ℕ × ℕ)
 program_symbol_row y = if is_program_symbol y then (y.address, y.index) ∷ [] else []
 
--- the number of the last program's symbol at each address
+-- the index of the last program's symbol at each address
 abbrev pub last_programs : List SymbolValue → FinMap nat_cmp ℕ
 last_programs symbols = put_all empty (flat_map program_symbol_row symbols)
 

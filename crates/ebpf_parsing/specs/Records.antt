@@ -42,7 +42,7 @@ func_and_line_info_of ext name = record {
   line_size = line_size_of ext;
 }
 
--- the number of the slot that a place in the section falls into; a slot has 8 bytes
+-- the index of the slot that an offset in the section falls into; a slot has 8 bytes
 abbrev pub slot_of : ℕ → ℕ
 slot_of place = place / 8
 

@@ -13,7 +13,7 @@ offset_of r = (r.offset, r)
 abbrev pub relocations_by_offset : List ElfRelocation → FinMap nat_cmp ElfRelocation
 relocations_by_offset relocations = put_all empty (map offset_of relocations)
 
--- an entry of the object, by the section's number; a section without relocations has none
+-- an entry of the object, by the section's index; a section without relocations has none
 abbrev pub relocation_table_at : ℕ → List ElfRelocation → List (ℕ × FinMap nat_cmp ElfRelocation)
 relocation_table_at section [] = []
 relocation_table_at section (r ∷ rest) = (section, relocations_by_offset (r ∷ rest)) ∷ []

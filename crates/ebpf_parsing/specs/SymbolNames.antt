@@ -10,7 +10,7 @@ use Rattle.ebpf_parsing.specs.Symbols.{SymbolValue}
 abbrev pub name_and_index : SymbolValue → List ℕ × ℕ
 name_and_index y = (y.name, y.index)
 
--- the number of the last symbol of each name
+-- the index of the last symbol of each name
 abbrev pub symbol_indices_by_name : List SymbolValue → FinMap text_cmp ℕ
 symbol_indices_by_name symbols = put_all empty (map name_and_index symbols)
 

@@ -24,7 +24,7 @@ abbrev pub FunctionsAtTheirKeys : Type 0
 FunctionsAtTheirKeys = (bytes : List ℕ) (section address : ℕ) (f : Function) → get (functions bytes) (section, address) ≡ Some f
     → (f.section_index.0 ≡ section) × (f.address ≡ address)
 
--- at the number i stands the symbol i of the file's symbol table, with a name
+-- at the index i stands the symbol i of the file's symbol table, with a name
 pub record IsFileSymbol (bytes : List ℕ) (i : ℕ) (y : Symbol) : Type 0 where
   pub table : ℕ
   pub of_file : table_of bytes ≡ Some table

@@ -20,12 +20,12 @@ use ebpf_parts::maps::Map;
 use ebpf_parts::{EbpfSectionKind, ParseError, Reading, Section};
 use std::alloc::Global;
 
-/// Whether a section has maps that types declare.
+/// Whether a section has BTF-defined maps.
 fn has_btf_defined_maps(section: &ElfSection<'_>) -> bool {
     EbpfSectionKind::from_elf(name_or_empty(section), section) == EbpfSectionKind::BtfMaps
 }
 
-/// Adds the numbers of symbols by name.
+/// Adds the indices of symbols by name.
 fn add_symbol_indices(
     alloc: Global,
     numbers: &mut ByName<usize>,
@@ -42,7 +42,7 @@ fn add_symbol_indices(
     Ok(())
 }
 
-/// The symbols of all sections of maps that types declare.
+/// The symbols of all sections of BTF-defined maps.
 fn map_symbols(
     alloc: Global,
     file: &ElfFile<'_>,
@@ -59,7 +59,7 @@ fn map_symbols(
     Ok(numbers)
 }
 
-/// The maps that types declare, where the DATASECs of all sections of maps are found in one pass, and what they
+/// The BTF-defined maps, where the DATASECs of all sections of maps are found in one pass, and what they
 /// declare is read as far as these sections have symbols of its names.
 pub fn find_btf_defined_maps<'b>(
     alloc: Global,
@@ -82,7 +82,7 @@ pub fn find_btf_defined_maps<'b>(
     }
 }
 
-/// Puts the maps that types declare in a section by name.
+/// Puts the BTF-defined maps of a section by name.
 #[tactic(auto, unfolding(crate::specs::BtfDefinedMaps::btf_defined_maps, crate::specs::BtfDefinedMaps::btf_defined_maps_fault))]
 pub fn put_btf_defined_maps(
     alloc: Global,

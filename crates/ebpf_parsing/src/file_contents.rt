@@ -30,7 +30,7 @@ pub struct FileContents {
     pub metadata: FileMetadata,
     /// The externs by name.
     pub externs: ByName<ExternDesc>,
-    /// The symbols by their number.
+    /// The symbols by their index.
     pub symbol_table: ByIndex<Symbol>,
     /// What the sections give.
     pub object_tables: ObjectTables,

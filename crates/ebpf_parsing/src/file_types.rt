@@ -59,7 +59,7 @@ pub fn is_type_information(section: &ElfSection<'_>) -> bool
     }
 }
 
-/// Remembers the number of a section by its name.
+/// Remembers the index of a section by its name.
 pub fn remember(
     alloc: Global,
     section_infos: &mut ByName<SectionIndex>,

@@ -8,7 +8,7 @@ use ebpf_parts::ParseError;
 use std::alloc::Global;
 use std::collections::BTreeMap;
 
-/// Values by the number of a section, those of one section in the order in which they came.
+/// Values by the index of a section, those of one section in the order in which they came.
 #[derive(Drop)]
 pub struct Groups<T> {
     pub groups: BTreeMap<usize, Vec<T>>,

@@ -34,7 +34,7 @@ pub fn name_or_empty<'a>(section: &ElfSection<'a>) -> &'a str
     }
 }
 
-/// Remembers the number of a section of data by its name.
+/// Remembers the index of a section of data by its name.
 #[tactic(auto, unfolding(ebpf_parts::specs::Sections::section_of, ebpf_parts::specs::Sections::section_with))]
 fn remember_data(
     alloc: Global,
@@ -52,7 +52,7 @@ fn remember_data(
     Ok(())
 }
 
-/// The number of the last section of data of each name.
+/// The index of the last section of data of each name.
 pub fn last_data_sections(alloc: Global, file: &ElfFile<'_>) -> Result<ByName<usize>, ParseError>
     ensures last { IfOk result (λ last. last ≡ last_data (object_sections file.now)) }
     ensures memory { IfErr result (λ e. is_memory e ≡ true) }

@@ -31,7 +31,7 @@ pub fn functions_tile()
     ensures { FunctionsTile }
 {}
 
-/// In the table of functions of an object a Text section's number and an address have the function that begins there.
+/// In the table of functions of an object a Text section's index and an address have the function that begins there.
 /// The table's functions of the section in order of their offset are those that its symbols give; concatenated they are the
 /// slots of the section's data, wherever its addresses lie.
 pub fn sections_tile()
@@ -45,7 +45,7 @@ pub fn functions_stand_at_their_keys()
     ensures { FunctionsAtTheirKeys }
 {}
 
-/// At a number stands the symbol with this number of the file's symbol table, with a name.
+/// At an index stands the symbol with this index of the file's symbol table, with a name.
 pub fn symbols_stand_at_their_indices()
     ensures { SymbolsAtTheirIndices }
 {}
@@ -60,7 +60,7 @@ pub fn relocation_tables_are_of_code()
     ensures { TablesOfCode }
 {}
 
-/// No relocation of a file without a fault has the symbol number 0.
+/// No relocation of a file without a fault has the symbol index 0.
 pub fn relocations_name_symbols()
     ensures { RelocationsNameSymbols }
 {}

@@ -95,7 +95,7 @@ fn check_program(
     Ok(())
 }
 
-/// The number of the last program's symbol at each address.
+/// The index of the last program's symbol at each address.
 #[tactic(auto, using(crate::proofs::LastPrograms::row_more, crate::proofs::LastPrograms::row_passed, ebpf_base::proofs::Walks::rest_none))]
 fn last_programs(alloc: Global, symbols: &[NamedSymbol<'_>]) -> Result<ByOffset<usize>, ParseError>
     ensures last { IfOk result (λ last. last ≡ last_programs symbols.now) }

@@ -106,7 +106,7 @@ fn indices_of(alloc: Global, places: &[RecordIndex]) -> Result<Vec<usize>, Parse
     Ok(numbers)
 }
 
-/// The indices of records on functions.
+/// The indices of func info records.
 #[tactic(auto, using(crate::proofs::RecordIndices::places_start, crate::proofs::RecordIndices::places_none))]
 pub fn func_indices(
     alloc: Global,
@@ -123,7 +123,7 @@ pub fn func_indices(
     Ok(places)
 }
 
-/// The indices of records on lines.
+/// The indices of line info records.
 #[tactic(auto, using(crate::proofs::RecordIndices::places_start, crate::proofs::RecordIndices::places_none))]
 pub fn line_indices(
     alloc: Global,

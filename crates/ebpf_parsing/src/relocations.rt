@@ -109,7 +109,7 @@ pub fn check_targets(tables: &[RelocationTable<'_>]) -> Result<(), ParseError>
     Ok(())
 }
 
-/// The number of the last section of relocations whose entries stand at the same places.
+/// The index of the last section of relocations whose entries stand at the same offsets.
 #[tactic(auto, using(crate::proofs::TableRanges::row_more, ebpf_base::proofs::Walks::rest_none))]
 fn last_tables(
     alloc: Global,

@@ -13,7 +13,7 @@ use ebpf_elf::ElfFile;
 use ebpf_parts::ParseError;
 use std::alloc::Global;
 
-/// The numbers of symbols by name; of equal names the last.
+/// The indices of symbols by name; of equal names the last.
 pub fn symbol_indices_by_name(
     alloc: Global,
     symbols: &[NamedSymbol<'_>],

@@ -25,9 +25,9 @@ pub enum EbpfSectionKind {
     BtfMaps,
     /// Programs.
     Program,
-    /// Data with first values.
+    /// Initial data.
     Data,
-    /// Data that is only read.
+    /// Initial data that is only read.
     Rodata,
     /// Data that begins as zeros.
     Bss,

@@ -3,7 +3,7 @@
 use ebpf_base::Text;
 use std::fmt;
 
-/// A symbol, as errors speak of it: `symbol 12 "total"`, its number as `readelf -s` has it, and its name where it has one.
+/// A symbol, as errors speak of it: `symbol 12 "total"`, its index as `readelf -s` has it, and its name where it has one.
 #[derive(Clone, Copy, Debug)]
 pub struct SymbolWords<'a> {
     /// Its number.

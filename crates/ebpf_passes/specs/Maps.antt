@@ -24,7 +24,7 @@ use denote.Ref.{Bor}
 abbrev pub GivenMap : Type 0
 GivenMap = ℤ × Map
 
--- the same as it is lent, behind its name, on which nothing depends
+-- a map that is handed in as it is lent, behind its name, on which nothing depends
 abbrev pub LentMap : Type 0
 LentMap = Bor (List ℕ) × ℤ × Bor Map
 

@@ -18,7 +18,7 @@ use Rattle.ebpf_passes.specs.declared.refusal.Fault.TheVariants.{UnknownSymbol, 
 use Rattle.ebpf_passes.specs.declared.refusal.Refusal.{Refusal}
 use Rattle.ebpf_passes.specs.Edits.{found_slot, slots_after}
 
--- the relocations of one section by offset, and those of all sections by number
+-- the relocations of one section by offset, and those of all sections by index
 abbrev pub SectionRelocations : Type 0
 SectionRelocations = FinMap nat_cmp ElfRelocation
 

@@ -19,7 +19,7 @@ use std::alloc::Global;
 /// symbols.
 ///
 /// A call, code 0x85, of a resolved extern with an id of the kernel gets source 2, the id and offset 0; one of a weak
-/// extern that is not resolved gets no registers, offset 0 and the immediate 2,002,000,000 plus the symbol's number,
+/// extern that is not resolved gets no registers, offset 0 and the immediate 2,002,000,000 plus the symbol's index,
 /// modulo 2^32. A load of 64 bits, code 0x18, gets the id with source 3, and 0 in the slot after it; without an id
 /// the address with source 0, its low half in the slot and its high half in the one after it; without both, where the
 /// extern is weak, the address 0. Relocations to other symbols are passed over. All else stays.

@@ -221,7 +221,7 @@ fn place(
 /// index has no ARRAY or is not below its length, and where the first step is no index.
 ///
 /// The first step is the root index: so many of the type that `root_type` stands for. Each further step begins in the
-/// type that the last one led to, past those that stand for others: an index in an ARRAY, whose length 0 accepts every
+/// type that the last one led to, modifiers followed: an index in an ARRAY, whose length 0 accepts every
 /// index where the ARRAY is the last member of a STRUCT; a name as in `find_member`, with the id of the local member's
 /// type in `local`.
 ///

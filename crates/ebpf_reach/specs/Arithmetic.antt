@@ -12,7 +12,7 @@ quotient x y = if y == 0 then 0 else x / y
 abbrev pub remainder : ℕ → ℕ → ℕ
 remainder x y = if y == 0 then x else x % y
 
--- the same of signed numbers, rounded to zero; the least one by -1 gives itself, with remainder 0
+-- quotient and remainder of signed numbers, rounded to zero; the least one by -1 gives itself, with remainder 0
 abbrev pub signed_quotient : Width → ℕ → ℕ → ℕ
 signed_quotient w x y =
     if y == 0 then 0 else cast_unsigned w (int_wrapping_div w (cast_signed w x) (cast_signed w y))

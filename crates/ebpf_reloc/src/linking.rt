@@ -182,8 +182,8 @@ fn put(
 /// The least fault of the first program that has one, with that program's name. `UnknownProgram` where no
 /// function stands at its key; else, at the first slot in the order of the copies: `UnsupportedTextSymbol`
 /// where the slot's symbol names no function, `UnknownFunction` where none stands at the address,
-/// `FunctionInfoMismatch` where only one of it and the program has records on functions, `ProgramTooLong`
-/// where with it there are more than 2,147,483,647 slots, `InvalidLineInfo` where its records on lines can't
+/// `FunctionInfoMismatch` where only one of it and the program has func info records, `ProgramTooLong`
+/// where with it there are more than 2,147,483,647 slots, `InvalidLineInfo` where its line info records can't
 /// be moved. `OutOfMemory`, with the empty name, only where memory was refused.
 pub fn relocate_calls(
     alloc: Global,

@@ -14,7 +14,7 @@ use std::alloc::{AllocError, Global};
 /// The number that a poisoned slot calls.
 const POISON: u32 = 195_896_080;
 
-/// The number from which on a slot calls an extern that the kernel lacks: this and the number of the extern's symbol.
+/// The number from which on a slot calls an extern that the kernel lacks: this and the index of the extern's symbol.
 const ABSENT: u32 = 2_002_000_000;
 
 /// What a slot calls by a number.
@@ -22,7 +22,7 @@ const ABSENT: u32 = 2_002_000_000;
 enum Called {
     /// The helper function of a number.
     Helper(u32),
-    /// An extern that the kernel lacks, by the number of its symbol.
+    /// An extern that the kernel lacks, by the index of its symbol.
     Absent(usize),
 }
 

@@ -152,7 +152,7 @@ pub struct Linker<'a> {
 }
 
 impl<'a> Linker<'a> {
-    /// Links the programs that count; `sections` has the numbers of the sections with functions.
+    /// Links the programs that count; `sections` has the indices of the sections with functions.
     pub fn new(
         alloc: Global,
         object: &'a Object,

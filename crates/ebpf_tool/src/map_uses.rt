@@ -18,7 +18,7 @@ pub struct MapUse {
     pub slot: usize,
 }
 
-/// The names of maps by the number of their symbol, and by that of their section; the later by name stands.
+/// The names of maps by the index of their symbol, and by that of their section; the later by name stands.
 #[derive(Drop)]
 struct MapNames<'a> {
     by_symbol: ByIndex<&'a str>,

@@ -25,7 +25,7 @@ impl Chosen {
     }
 }
 
-/// The names of a file's sections by their numbers. A name that can't be read is passed over.
+/// The names of a file's sections by their indices. A name that can't be read is passed over.
 fn names_by_number<'a>(
     alloc: Global,
     file: &'a [u8],

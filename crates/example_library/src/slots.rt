@@ -20,7 +20,7 @@ fn print_poisoned(rt: &HostRuntime, slots: &[bpf_insn]) -> io::Result<()> {
     Ok(())
 }
 
-/// Prints the records on functions: where each begins, and its type.
+/// Prints the func info records: where each begins, and its type.
 fn print_functions(rt: &HostRuntime, records: &[bpf_func_info]) -> io::Result<()> {
     for record in records {
         let slot = record.insn_off;
@@ -30,7 +30,7 @@ fn print_functions(rt: &HostRuntime, records: &[bpf_func_info]) -> io::Result<()
     Ok(())
 }
 
-/// Prints the number of the records on lines, and of the last its slot and line.
+/// Prints the number of the line info records, and of the last its slot and line.
 fn print_lines(rt: &HostRuntime, records: &[bpf_line_info]) -> io::Result<()> {
     let count = records.len();
     let Some(last) = records.last() else {

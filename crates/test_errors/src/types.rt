@@ -43,7 +43,7 @@ fn show_types(rt: &HostRuntime) -> io::Result<()> {
     show(rt, BtfError::MaximumTypeDepth { type_id: 7 })
 }
 
-/// Prints the errors on what types declare.
+/// Prints the errors on extern declarations and BTF-defined maps.
 fn show_declared(rt: &HostRuntime) -> io::Result<()> {
     show(rt, BtfError::InvalidDatasec)?;
     show(rt, BtfError::InvalidSymbolName)?;

@@ -1,4 +1,4 @@
-//! What types declare of an object, line by line.
+//! The extern declarations and BTF-defined maps of an object, line by line.
 
 use crate::lines::{Line, put_numbers};
 use ebpf_base::ByName;
@@ -45,7 +45,7 @@ fn put_inner(text: &mut String, inner: &Option<Map>) -> Result<(), AllocError> {
     Ok(())
 }
 
-/// A line for a map that types declare, and one for the maps that it holds.
+/// A line for a BTF-defined map, and one for the maps that it holds.
 fn put_map(text: &mut String, name: &str, map: &Map) -> Result<(), AllocError> {
     if let Map::Btf(map) = map {
         write!(text, "map {name}")?;
@@ -55,7 +55,7 @@ fn put_map(text: &mut String, name: &str, map: &Map) -> Result<(), AllocError> {
     put_inner(text, &inner)
 }
 
-/// A line for each map that types declare, in byte order of their names.
+/// A line for each BTF-defined map, in byte order of their names.
 pub fn put_btf_defined_maps(
     alloc: Global,
     text: &mut String,

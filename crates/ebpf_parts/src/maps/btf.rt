@@ -18,7 +18,7 @@ pub struct BtfMap {
     pub section_index: usize,
     /// The index of the symbol that names it, 0 where none does.
     pub symbol_index: usize,
-    /// The data that it begins with.
+    /// Its initial data.
     pub bytes: Items<u8>,
 }
 

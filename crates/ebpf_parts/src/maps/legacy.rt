@@ -21,7 +21,7 @@ pub struct LegacyMap {
     pub section_kind: EbpfSectionKind,
     /// The index of the symbol that names it. A data section is named by none.
     pub symbol_index: Option<usize>,
-    /// The data that it begins with.
+    /// Its initial data.
     pub bytes: Items<u8>,
 }
 
