@@ -18,7 +18,7 @@ use Rattle.ebpf_object.specs.PatchValues.{global_of, globals_of}
 use Rattle.ebpf_object.specs.Patches.{Global}
 use Rattle.ebpf_object.proofs.GivenValues.{Given, get_given}
 use Rattle.ebpf_c.specs.PrivateContracts.{lent_value}
-use Rattle.ebpf_c.specs.Values.{value_in}
+use Rattle.ebpf_c.specs.Values.{value_of_row}
 use Rattle.ebpf_c.specs.declared.value_rows.ebpf_value.{ebpf_value}
 
 abbrev seen : Given → List (List ℕ × Global)
@@ -43,24 +43,24 @@ put_over m n k v updates = one_set text_total text_exact (seen m.entries) (seen 
 
 module _ (text bytes : List ℕ) where
   abbrev left : FinMap text_cmp Global → List ebpf_value → FinMap text_cmp Global
-  left before rows = put_all before (filter_map (value_in text bytes) rows)
+  left before rows = put_all before (filter_map (value_of_row text bytes) rows)
 
   read : (before : FinMap text_cmp Global) (rows : List ebpf_value) (i : ℕ) (row : ebpf_value) (found : Option (List ℕ × Global))
-      → i < length rows → row ≡ slice_index_or rows i row → found ≡ value_in text bytes row
-      → put_all before (cons_option found (filter_map (value_in text bytes) (drop (i + 1) rows))) ≡ left before (drop i rows)
+      → i < length rows → row ≡ slice_index_or rows i row → found ≡ value_of_row text bytes row
+      → put_all before (cons_option found (filter_map (value_of_row text bytes) (drop (i + 1) rows))) ≡ left before (drop i rows)
   read before rows i row found below here there =
-      ap (λ (f : Option (List ℕ × Global)). put_all before (cons_option f (filter_map (value_in text bytes) (drop (i + 1) rows)))) there
+      ap (λ (f : Option (List ℕ × Global)). put_all before (cons_option f (filter_map (value_of_row text bytes) (drop (i + 1) rows)))) there
       ∙ sym (ap (left before) (rest_more rows i row below here))
 
   -- a row that hands over a value, and the rows that are left
   pub one_put : (before after : FinMap text_cmp Global) (rows : List ebpf_value) (i : ℕ) (row : ebpf_value) (given : Bor (List ℕ) × (Bor (List ℕ) × Bool))
-      → i < length rows → row ≡ slice_index_or rows i row → Some (lent_value given) ≡ value_in text bytes row → after ≡ insert before given.0.now (global_of given.1)
+      → i < length rows → row ≡ slice_index_or rows i row → Some (lent_value given) ≡ value_of_row text bytes row → after ≡ insert before given.0.now (global_of given.1)
       → left after (drop (i + 1) rows) ≡ left before (drop i rows)
   one_put before after rows i row given below here there put =
       ap (λ m. left m (drop (i + 1) rows)) put ∙ read before rows i row (Some (lent_value given)) below here there
 
   -- a row that hands over none
   pub none_put : (before : FinMap text_cmp Global) (rows : List ebpf_value) (i : ℕ) (row : ebpf_value)
-      → i < length rows → row ≡ slice_index_or rows i row → None ≡ value_in text bytes row
+      → i < length rows → row ≡ slice_index_or rows i row → None ≡ value_of_row text bytes row
       → left before (drop (i + 1) rows) ≡ left before (drop i rows)
   none_put before rows i row below here absent = read before rows i row None below here absent

@@ -1,17 +1,12 @@
 -- What an object is, in numbers.
-use Rattle.std.specs.Prelude.{Bool, true, false, is_some, codes}
+use Rattle.std.specs.Prelude.{Bool, is_some, codes}
 use Rattle.std.specs.FinMap.{contains_key}
-use Rattle.ebpf_base.specs.declared.endianness.Endianness.{Endianness}
-use Rattle.ebpf_base.specs.declared.endianness.Endianness.TheVariants.{Little, Big}
 use Rattle.ebpf_object.specs.TypedExterns.{has_typed}
 use Rattle.ebpf_object.specs.declared.object.Object.{Object}
+use Rattle.ebpf_parsing.specs.CodeOrder.{is_big}
 use Rattle.ebpf_parsing.specs.FileTypes.{has_relocations}
 use Rattle.ebpf_c.specs.Flags.{flag, or_zero}
 use Rattle.ebpf_c.specs.declared.info.ebpf_object_info.{ebpf_object_info}
-
-abbrev pub is_big : Endianness → Bool
-is_big Little = false
-is_big Big = true
 
 abbrev pub info_of : Object → ebpf_object_info
 info_of o = record {

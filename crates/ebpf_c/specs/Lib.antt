@@ -3,7 +3,6 @@ pub mod Descriptors
 pub mod Entries
 pub mod ExternRows
 pub mod Flags
-pub mod LentResults
 pub mod Handles
 pub mod HandleOwnership
 pub mod Info
@@ -24,4 +23,5 @@ pub mod Settings
 pub mod TargetTypes
 pub mod Values
 -- What only private contracts and proofs name.
+pub mod LentResults
 pub mod PrivateContracts

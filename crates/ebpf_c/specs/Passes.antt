@@ -29,7 +29,7 @@ pub record HasRelocatedTypes (bytes : List ℕ) (old new : Object) : Type 0 wher
 pub record HasBadRecord (bytes : List ℕ) (o : Object) (r : Refusal) : Type 0 where
   pub target : TypeInfo
   pub spelled : types_in bytes ≡ Ok target
-  pub refusal : IsRefusal (λ e. MatchBool (relocating_types.is_memory_at e) (e.section ≡ []) (relocated_slots o target ≡ Err (relocating_types.without_texts_at e))) types_refusal r
+  pub refusal : IsRefusal (λ e. MatchBool (relocating_types.is_memory_in_section e) (e.section ≡ []) (relocated_slots o target ≡ Err (relocating_types.without_texts_at e))) types_refusal r
 
 abbrev pub CannotRelocateTypes : List ℕ → Object → Refusal → Type 0
 CannotRelocateTypes bytes o r = CannotRead bytes r ⊎ HasBadRecord bytes o r

@@ -26,8 +26,8 @@ abbrev pub held_inputs : List ℕ → List ebpf_descriptor → List ℕ → List
 held_inputs types rows text symbols = record { types = types; rows = rows; text = text; symbols = symbols }
 
 -- all passes, types where a kernel's are known
-abbrev pub passes_of : HeldInputs → Option TypeInfo → Chosen
-passes_of inputs kernel = record {
+abbrev pub held_passes : HeldInputs → Option TypeInfo → Chosen
+held_passes inputs kernel = record {
   target = kernel;
   descriptors = Some (descriptors_in inputs.text inputs.rows);
   kernel = Some kernel;
@@ -40,15 +40,15 @@ pub record HasPreparedHeld (inputs : HeldInputs) (old new : Object) : Type 0 whe
   pub kernel : Option TypeInfo
   pub spelled : types_if inputs.types ≡ Ok kernel
   pub named : have_names inputs.text inputs.rows ≡ true
-  pub stages : Stages (passes_of inputs kernel) (Text inputs.symbols) old new
-  pub headline : (reading : Reading) (file : List ℕ) → IsParsed reading file old → Headline (passes_of inputs kernel) (Text inputs.symbols) reading file new
+  pub stages : Stages (held_passes inputs kernel) (Text inputs.symbols) old new
+  pub headline : (reading : Reading) (file : List ℕ) → IsParsed reading file old → Headline (held_passes inputs kernel) (Text inputs.symbols) reading file new
   pub others_stay : KeepsOthers old new
 
 -- a stage has the first fault
 pub record HasStageFault (inputs : HeldInputs) (o : Object) (r : Refusal) : Type 0 where
   pub kernel : Option TypeInfo
   pub spelled : types_if inputs.types ≡ Ok kernel
-  pub refusal : IsRefusal (RefusesPreparing (IsStageFault (passes_of inputs kernel) (Text inputs.symbols) o)) prepare_refusal r
+  pub refusal : IsRefusal (RefusesPreparing (IsStageFault (held_passes inputs kernel) (Text inputs.symbols) o)) prepare_refusal r
 
 -- the names are looked at first, then the types are read, then come the stages
 abbrev pub CannotPrepareHeld : HeldInputs → Object → Refusal → Type 0

@@ -25,8 +25,8 @@ bytes_in bytes at count = if nat_le (at + count) (length bytes) then Some (take 
 abbrev pub value_of_name : List ℕ → ebpf_value → List ℕ → Option (List ℕ × Global)
 value_of_name bytes row name = option_map (λ value. (name, (value, not (row.must_exist == 0)))) (bytes_in bytes row.value_at row.value_len)
 
-abbrev pub value_in : List ℕ → List ℕ → ebpf_value → Option (List ℕ × Global)
-value_in text bytes row = option_and_then (value_of_name bytes row) (name_in text row.name_at row.name_len)
+abbrev pub value_of_row : List ℕ → List ℕ → ebpf_value → Option (List ℕ × Global)
+value_of_row text bytes row = option_and_then (value_of_name bytes row) (name_in text row.name_at row.name_len)
 
 -- each row names a variable
 abbrev pub are_named : List ℕ → List ebpf_value → Bool
@@ -38,7 +38,7 @@ have_values bytes rows = list_all (λ row. is_some (bytes_in bytes row.value_at 
 
 -- the values of variables by name; of rows of one name the last one stands
 abbrev pub values_in : List ℕ → List ℕ → List ebpf_value → FinMap text_cmp Global
-values_in text bytes rows = put_all empty (filter_map (value_in text bytes) rows)
+values_in text bytes rows = put_all empty (filter_map (value_of_row text bytes) rows)
 
 -- the variables' values, which fit there, written into the data of the maps that hold them; all else is as before
 pub record HasPatchedAll (rows : List ebpf_value) (text bytes : List ℕ) (old new : Object) : Type 0 where

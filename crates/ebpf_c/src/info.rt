@@ -1,7 +1,8 @@
 //! What an object is, in numbers.
 
 ghost use Rattle.std.specs.Prelude.{◌≡◌};
-ghost use Rattle.ebpf_c.specs.Info.{info_of, is_big};
+ghost use Rattle.ebpf_c.specs.Info.{info_of};
+ghost use Rattle.ebpf_parsing.specs.CodeOrder.{is_big};
 
 use crate::flags::{flag, known_number};
 use ebpf_btf::Endianness;

@@ -3,7 +3,7 @@
 ghost use Rattle.std.specs.Prelude.{◌≡◌, IfOk, OnOk, option_map};
 ghost use Rattle.std.specs.FinMap.{insert};
 ghost use Rattle.std.specs.Option.{option_copied};
-ghost use Rattle.ebpf_c.specs.Values.{bytes_in, are_named, have_values, value_in, values_in};
+ghost use Rattle.ebpf_c.specs.Values.{bytes_in, are_named, have_values, value_of_row, values_in};
 ghost use Rattle.ebpf_c.specs.PrivateContracts.{lent_value};
 ghost use Rattle.ebpf_object.specs.PatchValues.{global_of, globals_of};
 
@@ -56,12 +56,12 @@ pub fn have_values(rows: &[ebpf_value], bytes: &[u8]) -> bool
 }
 
 /// What a row hands over: a variable's name, and its value with whether the object has to have the variable.
-fn value_in<'a>(
+fn value_of_row<'a>(
     row: &ebpf_value,
     text: &'a [u8],
     bytes: &'a [u8],
 ) -> Option<(&'a str, (&'a [u8], bool))>
-    ensures { option_map lent_value result ≡ value_in text.now bytes.now row.now }
+    ensures { option_map lent_value result ≡ value_of_row text.now bytes.now row.now }
 {
     let Some(name) = name_in(text, row.name_at, row.name_len) else {
         return None;
@@ -96,7 +96,7 @@ pub fn values_in<'a>(
 {
     let mut globals = HashMap::new(alloc);
     for row in rows {
-        let Some((name, value)) = value_in(row, text, bytes) else {
+        let Some((name, value)) = value_of_row(row, text, bytes) else {
             continue;
         };
         put_over(&mut globals, name, value)?;

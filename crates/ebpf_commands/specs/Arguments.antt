@@ -58,31 +58,31 @@ set_once None with_text = Some with_text
 set_once (Some text) with_text = None
 
 unfoldable pub put : FoundValue → Argument → Option FoundValue
-put found (File, text) = set_once found.file (record found { file = Some text })
-put found (Btf, text) = set_once found.btf (record found { btf = Some text })
-put found (Kallsyms, text) = set_once found.kallsyms (record found { kallsyms = Some text })
-put found (Program, text) = set_once found.program (record found { program = Some text })
+put texts (File, text) = set_once texts.file (record texts { file = Some text })
+put texts (Btf, text) = set_once texts.btf (record texts { btf = Some text })
+put texts (Kallsyms, text) = set_once texts.kallsyms (record texts { kallsyms = Some text })
+put texts (Program, text) = set_once texts.program (record texts { program = Some text })
 
 -- arguments in their places, each at most once
 abbrev pub put_each : FoundValue → List Argument → Option FoundValue
-put_each found [] = Some found
-put_each found (argument ∷ others) = elim (put found argument) [ Some next ↦ put_each next others | None ↦ None ]
+put_each texts [] = Some texts
+put_each texts (argument ∷ others) = elim (put texts argument) [ Some next ↦ put_each next others | None ↦ None ]
 
 abbrev pub put_arguments : FoundValue → Option (List Argument) → Option FoundValue
-put_arguments found None = None
-put_arguments found (Some list) = put_each found list
+put_arguments texts None = None
+put_arguments texts (Some list) = put_each texts list
 
 abbrev pub texts_in : List (List ℕ) → Option FoundValue
 texts_in words = put_arguments nothing (arguments None words)
 
 -- there is a file
 abbrev pub with_file : FoundValue → Option (List ℕ) → Option Words
-with_file found None = None
-with_file found (Some file) = Some (record { file = file; btf = found.btf; kallsyms = found.kallsyms; program = found.program })
+with_file texts None = None
+with_file texts (Some file) = Some (record { file = file; btf = texts.btf; kallsyms = texts.kallsyms; program = texts.program })
 
 abbrev pub words_in : Option FoundValue → Option Words
 words_in None = None
-words_in (Some found) = with_file found found.file
+words_in (Some texts) = with_file texts texts.file
 
 -- what words ask for, where they are as the line says
 abbrev pub words_of : List (List ℕ) → Option Words

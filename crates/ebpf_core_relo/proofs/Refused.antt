@@ -15,7 +15,7 @@ use Rattle.ebpf_core.specs.declared.error.RelocationError.TheVariants as errors
 use Rattle.ebpf_core.specs.declared.outcome.Outcome.{Outcome}
 use Rattle.ebpf_core_relo.proofs.OneRecord.{ok_parts}
 use Rattle.ebpf_core_relo.proofs.OutcomeSlots.{same_ok}
-use Rattle.ebpf_core_relo.specs.Answers.{error_in_section, is_memory_at, without_texts_at}
+use Rattle.ebpf_core_relo.specs.Answers.{error_in_section, is_memory_in_section, without_texts_at}
 use Rattle.ebpf_core_relo.specs.Carried.{written}
 use Rattle.ebpf_core_relo.specs.RecordFunctions.{spans_of}
 use Rattle.ebpf_core_relo.specs.Records.{RelocationInputs, Written, all_applied, answer_in_section, named_applied, put_outcome, record_applied, records_applied, section_applied, slots_so_far, slots_written, unnamed_section}
@@ -255,7 +255,7 @@ module _ {Y : Type 0} (P : BtfRelocationError → Type 0) (stated : Result Y Btf
   without_texts_by true e is = is
   without_texts_by false e is = to (without_texts_at e) is
 
-  pub refused_so : {X : Type 0} (r : Result X BtfRelocationError) → IfErr r (λ e. MatchBool (is_memory_at e) (e.section ≡ []) (stated ≡ Err (without_texts_at e)))
-      → IfErr r (λ e. MatchBool (is_memory_at e) (e.section ≡ []) (P (without_texts_at e)))
+  pub refused_so : {X : Type 0} (r : Result X BtfRelocationError) → IfErr r (λ e. MatchBool (is_memory_in_section e) (e.section ≡ []) (stated ≡ Err (without_texts_at e)))
+      → IfErr r (λ e. MatchBool (is_memory_in_section e) (e.section ≡ []) (P (without_texts_at e)))
   refused_so (Ok x) h = h
-  refused_so (Err e) h = without_texts_by (is_memory_at e) e h
+  refused_so (Err e) h = without_texts_by (is_memory_in_section e) e h

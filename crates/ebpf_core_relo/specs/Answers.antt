@@ -5,8 +5,8 @@ use Rattle.ebpf_core.specs.Memory.{is_memory}
 use Rattle.ebpf_core.specs.declared.error.RelocationError.{RelocationError}
 use Rattle.ebpf_core_relo.specs.declared.error.BtfRelocationError.{BtfRelocationError}
 
-abbrev pub is_memory_at : BtfRelocationError → Bool
-is_memory_at e = is_memory e.error
+abbrev pub is_memory_in_section : BtfRelocationError → Bool
+is_memory_in_section e = is_memory e.error
 
 -- an error without the texts in it that are for people to read
 abbrev pub without_texts_at : BtfRelocationError → BtfRelocationError

@@ -4,7 +4,7 @@ use Rattle.ebpf_core.specs.Answers.{without_texts}
 use Rattle.ebpf_core.specs.Memory.{is_memory}
 use Rattle.ebpf_core.specs.declared.error.RelocationError.{RelocationError}
 use Rattle.ebpf_core_relo.specs.declared.error.BtfRelocationError.{BtfRelocationError}
-use Rattle.ebpf_core_relo.specs.Answers.{is_memory_at, without_texts_at}
+use Rattle.ebpf_core_relo.specs.Answers.{is_memory_in_section, without_texts_at}
 use Rattle.std.specs.FinMap.{FinMap, insert}
 use Rattle.std.specs.Ordering.{nat_cmp}
 use Rattle.ebpf_core_relo.specs.declared.spans.Span.{Span}
@@ -28,11 +28,11 @@ StaysRefused (Err e) before after = MatchBool (is_memory e) ⊤ (after ≡ befor
 -- what a call leaves, of faults with their sections; a want of memory has no section
 abbrev pub LeavesAt : {X U : Type 0} → Result U BtfRelocationError → X → Result X BtfRelocationError → Type 0
 LeavesAt (Ok u) left stated = stated ≡ Ok left
-LeavesAt (Err e) left stated = MatchBool (is_memory_at e) (e.section ≡ []) (stated ≡ Err (without_texts_at e))
+LeavesAt (Err e) left stated = MatchBool (is_memory_in_section e) (e.section ≡ []) (stated ≡ Err (without_texts_at e))
 
 -- The refusal is the stated one, its texts for people aside, or a want of memory, which has no section.
 abbrev pub IsStatedRefusal : BtfRelocationError → BtfRelocationError → Type 0
-IsStatedRefusal e stated = MatchBool (is_memory_at e) (e.section ≡ []) (stated ≡ without_texts_at e)
+IsStatedRefusal e stated = MatchBool (is_memory_in_section e) (e.section ≡ []) (stated ≡ without_texts_at e)
 
 -- what a table has of a section
 abbrev pub spans_or_none : Option (List Span) → List Span

@@ -4,7 +4,7 @@ ghost use Rattle.std.specs.Prelude.{◌≡◌, Ok, Err, IfOk, IfErr, MatchBool, 
 ghost use Rattle.std.specs.FinMap as map;
 ghost use Rattle.ebpf_base.specs.Keys.{key_cmp};
 ghost use Rattle.ebpf_model.specs.Keys.{FunctionKey};
-ghost use Rattle.ebpf_core_relo.specs.Answers.{is_memory_at, without_texts_at};
+ghost use Rattle.ebpf_core_relo.specs.Answers.{is_memory_in_section, without_texts_at};
 ghost use Rattle.ebpf_core_relo.specs.Refused.{RecordsAreRefused};
 ghost use Rattle.ebpf_core_relo.specs.Records.{relocation_inputs_between, slots_written, with_slots};
 ghost use Rattle.ebpf_core_relo.specs.PrivateContracts.{with_slots_at};
@@ -31,7 +31,7 @@ fn written_slots(
     target: &Btf,
 ) -> Result<ByKey<Items<bpf_insn>>, BtfRelocationError>
     ensures slots { IfOk result (λ slots. slots_written (relocation_inputs_between local.now target.now functions.now section_infos.now) relocations.now.relocations ≡ Ok slots) }
-    ensures fault { IfErr result (λ e. MatchBool (is_memory_at e) (e.section ≡ []) (slots_written (relocation_inputs_between local.now target.now functions.now section_infos.now) relocations.now.relocations ≡ Err (without_texts_at e))) }
+    ensures fault { IfErr result (λ e. MatchBool (is_memory_in_section e) (e.section ≡ []) (slots_written (relocation_inputs_between local.now target.now functions.now section_infos.now) relocations.now.relocations ≡ Err (without_texts_at e))) }
 {
     let Ok(function_spans) = FunctionSpans::new(alloc, functions, section_infos) else {
         return Err(BtfRelocationError::memory(alloc));
@@ -69,8 +69,8 @@ pub fn relocate_slots(
     target: &Btf,
 ) -> Result<ByKey<Items<bpf_insn>>, BtfRelocationError>
     ensures slots { IfOk result (λ slots. slots_written (relocation_inputs_between local.now target.now functions.now section_infos.now) relocations.now.relocations ≡ Ok slots) }
-    ensures fault { IfErr result (λ e. MatchBool (is_memory_at e) (e.section ≡ []) (slots_written (relocation_inputs_between local.now target.now functions.now section_infos.now) relocations.now.relocations ≡ Err (without_texts_at e))) }
-    ensures refused { IfErr result (λ e. MatchBool (is_memory_at e) (e.section ≡ []) (RecordsAreRefused (relocation_inputs_between local.now target.now functions.now section_infos.now) relocations.now.relocations (without_texts_at e))) }
+    ensures fault { IfErr result (λ e. MatchBool (is_memory_in_section e) (e.section ≡ []) (slots_written (relocation_inputs_between local.now target.now functions.now section_infos.now) relocations.now.relocations ≡ Err (without_texts_at e))) }
+    ensures refused { IfErr result (λ e. MatchBool (is_memory_in_section e) (e.section ≡ []) (RecordsAreRefused (relocation_inputs_between local.now target.now functions.now section_infos.now) relocations.now.relocations (without_texts_at e))) }
 {
     written_slots(alloc, functions, section_infos, local, relocations, target)
 }

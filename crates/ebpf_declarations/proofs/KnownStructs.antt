@@ -113,7 +113,7 @@ equal_numbers k q h = grind (arith, nat_tests)
 -- one more struct is remembered, which says the same of maps of all names
 pub one_more : {X : Type 0} (says : List ℕ → ℕ → Result X BtfError) → ((n o : List ℕ) (id : ℕ) (d : X) → says n id ≡ Ok d → says o id ≡ Ok d)
     → (m n : BTreeMap ℕ X) (name : List ℕ) (id : ℕ) (d : X) → Remembers says m → says name id ≡ Ok d → Updates nat_cmp m n id (Some d) → Remembers says n
-one_more {X = X} says same_for m n name id d knows is updates = record { said = λ q e at o. step q e o (is_at (nat_cmp id) q) refl (sym (updates.0 q) ∙ at) }
+one_more {X = X} says same_for m n name id d knows is updates = record { known_is = λ q e at o. step q e o (is_at (nat_cmp id) q) refl (sym (updates.0 q) ∙ at) }
   where
     step : (q : ℕ) (e : X) (o : List ℕ) (b : Bool) → is_at (nat_cmp id) q ≡ b → cond (is_at (nat_cmp id) q) (Some d) (get nat_cmp m q) ≡ Some e → says o q ≡ Ok e
     step q e o true here at =
@@ -121,4 +121,4 @@ one_more {X = X} says same_for m n name id d knows is updates = record { said = 
         let value : Some d ≡ Some e = sym (ap (λ b. cond b (Some d) (get nat_cmp m q)) here) ∙ at in
         let same : d ≡ e = cc in
         ap (says o) (sym place) ∙ same_for name o id d is ∙ ap Ok same
-    step q e o false here at = knows.said q e (sym (ap (λ b. cond b (Some d) (get nat_cmp m q)) here) ∙ at) o
+    step q e o false here at = knows.known_is q e (sym (ap (λ b. cond b (Some d) (get nat_cmp m q)) here) ∙ at) o

@@ -29,7 +29,7 @@ datasec_match_if entries (Err e) = Some (UnreadableName e)
 unfoldable pub datasec_match : TypeInfo → List ℕ → BtfType → Option DatasecMatch
 datasec_match info wanted t = if_some (datasec_entries t) (λ entries. datasec_match_if entries (is_name_at info.strings (name_off t) wanted)) None
 
--- the entries of the section that was met
+-- the entries of the section that was found
 abbrev pub matched_entries : Option DatasecMatch → List DataSecEntry
 matched_entries (Some (Named entries)) = entries
 matched_entries _ = []

@@ -33,13 +33,13 @@ is_name_among q [] = false
 is_name_among q (name ∷ names) = if eq_by_cmp text_cmp q name then true else is_name_among q names
 
 -- the number of a name is its place among the names, each of which has a last map
-pub record AreNamed (kept : DistinctMaps) : Type 0 where
-  pub is : (q : List ℕ) (n : ℕ) → get kept.numbers q ≡ Some n → slice_get kept.names n ≡ Some q
-  pub defined : length kept.names ≡ length kept.last
+pub record AreNamed (distinct : DistinctMaps) : Type 0 where
+  pub is : (q : List ℕ) (n : ℕ) → get distinct.numbers q ≡ Some n → slice_get distinct.names n ≡ Some q
+  pub defined : length distinct.names ≡ length distinct.last
 
 -- what the last map of a name is defined by
 abbrev pub last_of : DistinctMaps → List ℕ → Option MapDefinitions
-last_of kept q = if_some (get kept.numbers q) (λ n. slice_get kept.last n) None
+last_of distinct q = if_some (get distinct.numbers q) (λ n. slice_get distinct.last n) None
 
 -- with one more map; the numbers that names have stay
 pub record IsWith (before : DistinctMaps) (name : List ℕ) (d : MapDefinitions) (after : DistinctMaps) : Type 0 where
@@ -50,16 +50,16 @@ pub record IsWith (before : DistinctMaps) (name : List ℕ) (d : MapDefinitions)
   pub offsets : after.offsets ≡ before.offsets
 
 -- at the offsets that are remembered are names with these numbers
-pub record RemembersNames (info : TypeInfo) (kept : DistinctMaps) : Type 0 where
-  pub at : (offset n : ℕ) → at_key nat_cmp kept.offsets offset ≡ Some n → (name : List ℕ) × (text_at info.strings offset ≡ Ok name) × (get kept.numbers name ≡ Some n)
+pub record RemembersNames (info : TypeInfo) (distinct : DistinctMaps) : Type 0 where
+  pub at : (offset n : ℕ) → at_key nat_cmp distinct.offsets offset ≡ Some n → (name : List ℕ) × (text_at info.strings offset ≡ Ok name) × (get distinct.numbers name ≡ Some n)
 
 -- the VAR of an entry holds the type with this id, and the offset of its name is remembered with this number
 abbrev pub IsKnown : TypeInfo → DistinctMaps → DataSecEntry → ℕ → ℕ → Type 0
-IsKnown info kept entry n held = (t : BtfType) × (type_at info.types entry.btf_type ≡ Ok t) × (variable t ≡ Some held) × (at_key nat_cmp kept.offsets (name_off t) ≡ Some n)
+IsKnown info distinct entry n struct_id = (t : BtfType) × (type_at info.types entry.btf_type ≡ Ok t) × (variable t ≡ Some struct_id) × (at_key nat_cmp distinct.offsets (name_off t) ≡ Some n)
 
 -- what the type with an id says of the map with a name
 abbrev pub type_definitions : Reading → TypeInfo → List ℕ → ℕ → Result MapDefinitions BtfError
-type_definitions reading info name id = if_ok (resolved info.types id) (λ held. struct_definitions reading info name held)
+type_definitions reading info name id = if_ok (resolved info.types id) (λ struct_id. struct_definitions reading info name struct_id)
 
 -- ---- as maps of a section with this index, the symbols of which have these indices
 
@@ -72,10 +72,10 @@ unfoldable pub last_map : (List ℕ → Option ℕ) → ℕ → (List ℕ → Op
 last_map symbols section last name = if_some (last name) (λ d. given (map_with_symbol symbols section (Ok (name, d)))) []
 
 abbrev pub distinct_maps : (List ℕ → Option ℕ) → ℕ → DistinctMaps → List (List ℕ × Map)
-distinct_maps symbols section kept = flat_map (last_map symbols section (last_of kept)) kept.names
+distinct_maps symbols section distinct = flat_map (last_map symbols section (last_of distinct)) distinct.names
 
 abbrev pub distinct_fault : (List ℕ → Option ℕ) → DistinctMaps → Option ParseError
-distinct_fault symbols kept = first_some (missing symbols) kept.names
+distinct_fault symbols distinct = first_some (missing symbols) distinct.names
 
 -- ---- what was added
 
@@ -87,8 +87,8 @@ pub record Adds (before after : DistinctMaps) (more : (List ℕ → Option ℕ) 
   pub fault : (symbols : List ℕ → Option ℕ) (section : ℕ) → distinct_fault symbols after ≡ or_else (distinct_fault symbols before) (wrong symbols section)
 
 -- in one reading, of each of some names, key by key, the BTF-defined maps of a section of the name
-pub record AreSectionMaps (reading : Reading) (info : TypeInfo) (kept : FinMap text_cmp DistinctMaps) : Type 0 where
-  pub maps : (name : List ℕ) (k : DistinctMaps) → get kept name ≡ Some k → (symbols : List ℕ → Option ℕ) (section : ℕ) (m : FinMap text_cmp Map) (q : List ℕ)
+pub record AreSectionMaps (reading : Reading) (info : TypeInfo) (distinct : FinMap text_cmp DistinctMaps) : Type 0 where
+  pub maps : (name : List ℕ) (k : DistinctMaps) → get distinct name ≡ Some k → (symbols : List ℕ → Option ℕ) (section : ℕ) (m : FinMap text_cmp Map) (q : List ℕ)
       → get (put_all m (distinct_maps symbols section k)) q ≡ get (put_all m (btf_maps reading info symbols section name)) q
-  pub fault : (name : List ℕ) (k : DistinctMaps) → get kept name ≡ Some k → (symbols : List ℕ → Option ℕ) (section : ℕ)
+  pub fault : (name : List ℕ) (k : DistinctMaps) → get distinct name ≡ Some k → (symbols : List ℕ → Option ℕ) (section : ℕ)
       → distinct_fault symbols k ≡ btf_maps_fault reading info symbols section name

@@ -10,8 +10,8 @@ use Rattle.ebpf_parts.specs.declared.maps.definition.BtfMapDef.{BtfMapDef}
 use Rattle.ebpf_parts.specs.declared.reading.Reading.{Reading}
 
 -- what is remembered is what the structs say, whatever the map's name
-pub record Remembers {X : Type 0} (says : List ℕ → ℕ → Result X BtfError) (known : BTreeMap ℕ X) : Type 0 where
-  pub said : (id : ℕ) (d : X) → get nat_cmp known id ≡ Some d → (name : List ℕ) → says name id ≡ Ok d
+pub record Remembers {X : Type 0} (value_of : List ℕ → ℕ → Result X BtfError) (known : BTreeMap ℕ X) : Type 0 where
+  pub known_is : (id : ℕ) (d : X) → get nat_cmp known id ≡ Some d → (name : List ℕ) → value_of name id ≡ Ok d
 
 abbrev pub RemembersInner : Reading → TypeInfo → BTreeMap ℕ BtfMapDef → Type 0
 RemembersInner reading info known = Remembers (inner_struct_definition reading info) known

@@ -23,7 +23,7 @@ use Rattle.ebpf_declarations.specs.declared.map_member.MapNumber.{MapNumber}
 use Rattle.ebpf_declarations.specs.declared.map_member.MapNumber.TheVariants as numbers
 use Rattle.ebpf_declarations.specs.declared.definitions.MapDefinitions.{MapDefinitions}
 use Rattle.ebpf_declarations.specs.declared.member_value.MemberValue.{MemberValue}
-use Rattle.ebpf_declarations.specs.declared.member_value.MemberValue.TheVariants as said
+use Rattle.ebpf_declarations.specs.declared.member_value.MemberValue.TheVariants as values
 use Rattle.ebpf_parts.specs.declared.error.ParseError.{ParseError}
 use Rattle.ebpf_parts.specs.declared.error.ParseError.TheVariants as errors
 use Rattle.ebpf_parts.specs.declared.maps.definition.BtfMapDef.{BtfMapDef}
@@ -47,19 +47,19 @@ own_extra _ types of id = None
 -- a number, which a member spells, or is itself
 abbrev pub number_value : Reading → List BtfType → MapNumber → ℕ → Result MemberValue BtfError
 number_value reading types of id =
-    if_some (own_extra reading types of id) (λ n. Ok (said.Extra n)) (if_ok (number types id) (λ n. Ok (said.Number of n)))
+    if_some (own_extra reading types of id) (λ n. Ok (values.Extra n)) (if_ok (number types id) (λ n. Ok (values.Number of n)))
 
 -- a number or a type; members of other names say nothing
 unfoldable pub plain_value : Reading → List BtfType → MapMember → ℕ → Result MemberValue BtfError
 plain_value reading types (about.Number of) id = number_value reading types of id
-plain_value reading types about.Pinning id = if_ok (number types id) (λ n. Ok (said.Pinning (pinning_by_number n)))
-plain_value reading types about.Key id = if_ok (sized_type types id) (λ t. Ok (said.Key t.0 t.1))
-plain_value reading types about.Value id = if_ok (sized_type types id) (λ t. Ok (said.Value t.0 t.1))
-plain_value reading types _ id = Ok said.Nothing
+plain_value reading types about.Pinning id = if_ok (number types id) (λ n. Ok (values.Pinning (pinning_by_number n)))
+plain_value reading types about.Key id = if_ok (sized_type types id) (λ t. Ok (values.Key t.0 t.1))
+plain_value reading types about.Value id = if_ok (sized_type types id) (λ t. Ok (values.Value t.0 t.1))
+plain_value reading types _ id = Ok values.Nothing
 
 -- a definition with what members say, or the first fault of a member
 abbrev pub with_members : (BtfMember → Result MemberValue BtfError) → MapDefinitions → List BtfMember → Result MapDefinitions BtfError
-with_members says d members = if_ok (all_given says members) (λ all. Ok (with_all d all))
+with_members value_of d members = if_ok (all_given value_of members) (λ all. Ok (with_all d all))
 
 -- of an inner map of the map with a name, which neither is pinned nor holds maps
 unfoldable pub inner_member_value_of : Reading → TypeInfo → List ℕ → MapMember → ℕ → Result MemberValue BtfError
@@ -85,9 +85,9 @@ are_programs Stated types id = false
 -- of the map with a name, which may hold maps or programs
 unfoldable pub member_value_of : Reading → TypeInfo → List ℕ → MapMember → ℕ → Result MemberValue BtfError
 member_value_of reading info name about.Values id =
-    if_ok (inner_map_struct info.types name id) (λ held.
-    if are_programs reading info.types held then Ok said.Programs
-    else if_ok (inner_struct_definition reading info name held) (λ inner. Ok (said.Values inner)))
+    if_ok (inner_map_struct info.types name id) (λ struct_id.
+    if are_programs reading info.types struct_id then Ok values.Programs
+    else if_ok (inner_struct_definition reading info name struct_id) (λ inner. Ok (values.Values inner)))
 member_value_of reading info name member id = plain_value reading info.types member id
 
 unfoldable pub member_value : Reading → TypeInfo → List ℕ → BtfMember → Result MemberValue BtfError
@@ -114,8 +114,8 @@ declared reading info entry =
     if_some (variable t)
     (λ id.
     if_ok (type_name info t) (λ name.
-    if_ok (resolved info.types id) (λ held.
-    if_ok (struct_definitions reading info name held) (λ d. Ok (name, d)))))
+    if_ok (resolved info.types id) (λ struct_id.
+    if_ok (struct_definitions reading info name struct_id) (λ d. Ok (name, d)))))
     (Err (unexpected t)))
 
 abbrev pub map_at : MapDefinitions → ℕ → ℕ → Map

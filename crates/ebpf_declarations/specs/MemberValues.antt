@@ -57,12 +57,12 @@ inner_def_field _ = None
 
 -- the value of the last of them that gives one
 abbrev pub last_some : {X : Type 0} → (MemberValue → Option X) → List MemberValue → Option X
-last_some says [] = None
-last_some says (s ∷ later) = or_else (last_some says later) (says s)
+last_some value_of [] = None
+last_some value_of (s ∷ later) = or_else (last_some value_of later) (value_of s)
 
 -- that value, or what stood before where none of them gives one
 abbrev pub last_or : {X : Type 0} → (MemberValue → Option X) → X → List MemberValue → X
-last_or says before all = unwrap_or (last_some says all) before
+last_or value_of before all = unwrap_or (last_some value_of all) before
 
 -- a definition with the values of members
 unfoldable pub with_all : MapDefinitions → List MemberValue → MapDefinitions

@@ -68,8 +68,8 @@ fn first_function_or_fault(btf: &Btf, entries: &[DataSecEntry]) -> Option<Functi
     ensures { result ≡ first_function_or_fault btf.now entries.now }
 {
     for entry in entries {
-        if let Some(met) = function_or_fault(btf, entry) {
-            return Some(met);
+        if let Some(first) = function_or_fault(btf, entry) {
+            return Some(first);
         }
     }
     None

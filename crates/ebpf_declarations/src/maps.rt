@@ -43,12 +43,12 @@ pub fn declared(
     ensures known { OnOk result (Knows reading btf.now known.new) }
 {
     let ty = btf.type_by_id(entry.btf_type)?;
-    let Some(held) = variable(ty) else {
+    let Some(struct_id) = variable(ty) else {
         return Err(unexpected(ty));
     };
     let name = Text::from_str(alloc, btf.type_name(ty)?.as_str())?;
-    let held = btf.resolve_type(held)?;
-    let definitions = struct_definitions(alloc, btf, reading, known, name.as_str(), held)?;
+    let struct_id = btf.resolve_type(struct_id)?;
+    let definitions = struct_definitions(alloc, btf, reading, known, name.as_str(), struct_id)?;
     Ok((name, definitions))
 }
 

@@ -198,11 +198,11 @@ fn member_value_of(
     if member != MapMember::Values {
         return plain_value(btf, reading, member, type_id);
     }
-    let held = inner_map_struct(alloc, btf, name, type_id)?;
-    if are_programs(btf, reading, held) {
+    let struct_id = inner_map_struct(alloc, btf, name, type_id)?;
+    if are_programs(btf, reading, struct_id) {
         return Ok(MemberValue::Programs);
     }
-    let inner = inner_struct_definition(alloc, btf, reading, known, name, held)?;
+    let inner = inner_struct_definition(alloc, btf, reading, known, name, struct_id)?;
     Ok(MemberValue::Values(inner))
 }
 

@@ -30,9 +30,9 @@ fn known_name(distinct: &DistinctMaps, btf: &Btf, entry: &DataSecEntry) -> Optio
     let Ok(ty) = btf.type_by_id(entry.btf_type) else {
         return None;
     };
-    let held = variable(ty)?;
+    let struct_id = variable(ty)?;
     let number = distinct.offsets.get(&ty.name_offset())?;
-    Some((*number, held))
+    Some((*number, struct_id))
 }
 
 /// What the type with an id says of the map with a name.
@@ -48,8 +48,8 @@ fn type_definitions(
     ensures says { Gives is_memory result (type_definitions reading btf.now name.now type_id) }
     ensures known { OnOk result (Knows reading btf.now known.new) }
 {
-    let held = btf.resolve_type(type_id)?;
-    struct_definitions(alloc, btf, reading, known, name, held)
+    let struct_id = btf.resolve_type(type_id)?;
+    struct_definitions(alloc, btf, reading, known, name, struct_id)
 }
 
 /// Adds a map whose name has a number, and which a type defines.
@@ -119,7 +119,9 @@ fn add_entry(
     ensures added { OnOk result (Adds distinct.old distinct.new (λ symbols section. given (entry_map reading btf.now symbols section entry.now)) (λ symbols section. fault_of (entry_map reading btf.now symbols section entry.now))) }
 {
     match known_name(distinct, btf, entry) {
-        Some((number, held)) => add_known(alloc, distinct, btf, reading, known, number, held),
+        Some((number, struct_id)) => add_known(
+            alloc, distinct, btf, reading, known, number, struct_id,
+        ),
         None => add_read(alloc, distinct, btf, reading, known, symbols, entry),
     }
 }
@@ -181,7 +183,7 @@ fn add_sections(
 /// has.
 fn add_section_maps(
     alloc: Global,
-    kept: &mut ByName<DistinctMaps>,
+    by_name: &mut ByName<DistinctMaps>,
     btf: &Btf,
     reading: Reading,
     known: &mut KnownStructs,
@@ -191,13 +193,13 @@ fn add_section_maps(
 ) -> Result<bool, BtfError>
     requires found { AreFound btf.now sections.now }
     requires readable { sections.now.unreadable ≡ None }
-    requires kept { AreSectionMaps reading btf.now kept.old }
+    requires by_name { AreSectionMaps reading btf.now by_name.old }
     requires known { Knows reading btf.now known.old }
-    ensures kept { OnOk result (AreSectionMaps reading btf.now kept.new) }
+    ensures by_name { OnOk result (AreSectionMaps reading btf.now by_name.new) }
     ensures known { IfOk result (λ clear. MatchBool clear (Knows reading btf.now known.new) ⊤) }
     ensures memory { IfErr result (λ e. is_memory e ≡ true) }
 {
-    if kept.contains_key(name) {
+    if by_name.contains_key(name) {
         return Ok(true);
     }
     let Some(ids) = sections.by_name.get(name) else {
@@ -217,7 +219,7 @@ fn add_section_maps(
         Err(BtfError::OutOfMemory) => return Err(BtfError::OutOfMemory),
         Err(_) => return Ok(false),
     }
-    kept.insert(String::from_str(alloc, name)?, distinct)?;
+    by_name.insert(String::from_str(alloc, name)?, distinct)?;
     Ok(true)
 }
 
@@ -232,20 +234,27 @@ pub fn all_section_maps(
     symbols: &ByName<usize>,
 ) -> Result<ByName<DistinctMaps>, BtfError>
     requires { AreFound btf.now sections.now }
-    ensures kept { IfOk result (λ kept. AreSectionMaps reading btf.now kept) }
+    ensures by_name { IfOk result (λ by_name. AreSectionMaps reading btf.now by_name) }
     ensures memory { IfErr result (λ e. is_memory e ≡ true) }
 {
-    let mut kept = ByName::new(alloc);
+    let mut by_name = ByName::new(alloc);
     if sections.unreadable.is_some() {
-        return Ok(kept);
+        return Ok(by_name);
     }
     let mut known = KnownStructs::none(alloc);
     for name in names {
         if !add_section_maps(
-            alloc, &mut kept, btf, reading, &mut known, sections, symbols, name,
+            alloc,
+            &mut by_name,
+            btf,
+            reading,
+            &mut known,
+            sections,
+            symbols,
+            name,
         )? {
-            return Ok(kept);
+            return Ok(by_name);
         }
     }
-    Ok(kept)
+    Ok(by_name)
 }

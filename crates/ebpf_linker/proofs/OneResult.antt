@@ -107,8 +107,8 @@ module _ {K E : Type 0} (F : Functions K E) where
       h.2 ∙ ap (λ n. relinked s (pos (length (body F p) + n) -ℤ pos (place + 1))) (one_begin ks k h.0 g.0 once h.1 g.1) ∙ sym g.2
 
   -- one list of slots has these functions, one after the other
-  pub one_image : (p : K) (ks : List K) (xs ys : List bpf_insn) → Linked F p ks xs → Linked F p ks ys → xs ≡ ys
-  one_image p ks xs ys h g = same_slots xs ys (h.size ∙ sym g.size) (λ x lt.
+  pub one_body : (p : K) (ks : List K) (xs ys : List bpf_insn) → Linked F p ks xs → Linked F p ks ys → xs ≡ ys
+  one_body p ks xs ys h g = same_slots xs ys (h.size ∙ sym g.size) (λ x lt.
       let n = inside (p ∷ ks) x (let size = h.size in omega arith) in
       let s = there_is (body F n.key) n.slot n.within in
       let t = h.slots n.key n.base n.slot s.0 n.begins s.1 in
@@ -129,7 +129,7 @@ module _ {K E : Type 0} (F : Functions K E) where
 
   same_made : (p : K) (ks : List K) (l n : LinkedProgram) → IsProgram F p ks l → IsProgram F p ks n → l ≡ n
   same_made p ks l n h g =
-      let slots : l.slots ≡ n.slots = one_image p ks l.slots n.slots h.linked g.linked in
+      let slots : l.slots ≡ n.slots = one_body p ks l.slots n.slots h.linked g.linked in
       let funcs : l.func_info ≡ n.func_info = h.func_info ∙ sym g.func_info in
       let lines : l.line_info ≡ n.line_info = h.line_info ∙ sym g.line_info in
       let func_count : l.func_count ≡ n.func_count = h.func_count ∙ ap (count_if (has_some ks)) funcs ∙ sym g.func_count in

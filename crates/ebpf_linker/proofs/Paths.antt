@@ -123,14 +123,14 @@ module _ {K E : Type 0} (R : References K E) where
       cc
 
   -- the parts of a walk
-  pub record Parts (p : K) (t q : List ℕ) (ks : List K) : Type 0 where
+  pub record WalkParts (p : K) (t q : List ℕ) (ks : List K) : Type 0 where
     pub front : List K
     pub back : List K
     pub whole : ks ≡ front ++ back
     pub first : Walk R p t front
     pub second : Walk R (last_key_or p front) q back
 
-  pub walk_parts : (p : K) (t q : List ℕ) (ks : List K) → Walk R p (t ++ q) ks → Parts p t q ks
+  pub walk_parts : (p : K) (t q : List ℕ) (ks : List K) → Walk R p (t ++ q) ks → WalkParts p t q ks
   walk_parts p [] q ks w = record { front = []; back = ks; whole = refl; first = tt; second = w }
   walk_parts p (x ∷ t) q [] w = absurd w
   walk_parts p (x ∷ t) q (k ∷ ks) w =

@@ -69,9 +69,9 @@ abbrev pub record_inputs_of : Object → TypeInfo → TypeInfo → RelocationInp
 record_inputs_of parsed local target = relocation_inputs_between local target parsed.functions parsed.section_infos
 
 -- The slots that a record touches: no other record touches them, and neither descriptors nor externs change them.
-pub record IsAlone (scene : RelocationInputs) (records : List (ℕ × Relocation)) (relocated unlinked : Object) (n : ℕ) (record_at : ℕ × Relocation) : Type 0 where
-  pub among_records : WritesAlone scene records n record_at
-  pub unwritten : (key : FunctionKey) (i : ℕ) → Touches scene record_at key i → slot_in unlinked key i ≡ slot_in relocated key i
+pub record IsAlone (inputs : RelocationInputs) (records : List (ℕ × Relocation)) (relocated unlinked : Object) (n : ℕ) (record_at : ℕ × Relocation) : Type 0 where
+  pub among_records : WritesAlone inputs records n record_at
+  pub unwritten : (key : FunctionKey) (i : ℕ) → Touches inputs record_at key i → slot_in unlinked key i ≡ slot_in relocated key i
 
 -- Linking leaves a slot as it is: it refers to no function, or where it stands is what it was.
 abbrev pub LinkingKeeps : TextSections → Object → Object → FunctionKey → ℕ → FunctionKey → ℕ → Type 0
@@ -99,17 +99,17 @@ StandsAt (Some text_sections) unlinked o key i at place =
     ((at ≡ key) × (place ≡ i))
 
 -- The slots that a record touches carry its outcome in the finished object, wherever they stand in it.
-pub record IsCarried (scene : RelocationInputs) (left : Written) (calls : Option TextSections) (unlinked o : Object) (record_at : ℕ × Relocation) : Type 0 where
-  pub carries : Carries scene left record_at
-  pub finished : (i : ℕ) (carrying : bpf_insn) → Touches scene record_at carries.key i → slice_get carries.slots i ≡ Some carrying
+pub record IsCarried (inputs : RelocationInputs) (left : Written) (calls : Option TextSections) (unlinked o : Object) (record_at : ℕ × Relocation) : Type 0 where
+  pub carries : Carries inputs left record_at
+  pub finished : (i : ℕ) (carrying : bpf_insn) → Touches inputs record_at carries.key i → slice_get carries.slots i ≡ Some carrying
       → (at : FunctionKey) (place : ℕ) → StandsAt calls unlinked o carries.key i at place → slot_in o at place ≡ Some carrying
 
 -- each record that writes alone is carried
-pub record RecordsAreCarried (scene : RelocationInputs) (parts : List (ℕ × List Relocation)) (calls : Option TextSections) (relocated unlinked o : Object) : Type 0 where
+pub record RecordsAreCarried (inputs : RelocationInputs) (parts : List (ℕ × List Relocation)) (calls : Option TextSections) (relocated unlinked o : Object) : Type 0 where
   pub left : Written
-  pub written : slots_written scene parts ≡ Ok left
-  pub each : (n : ℕ) (record_at : ℕ × Relocation) → slice_get (records_with_sections scene parts) n ≡ Some record_at
-      → IsAlone scene (records_with_sections scene parts) relocated unlinked n record_at → IsCarried scene left calls unlinked o record_at
+  pub written : slots_written inputs parts ≡ Ok left
+  pub each : (n : ℕ) (record_at : ℕ × Relocation) → slice_get (records_with_sections inputs parts) n ≡ Some record_at
+      → IsAlone inputs (records_with_sections inputs parts) relocated unlinked n record_at → IsCarried inputs left calls unlinked o record_at
 
 -- ---- a finished object
 

@@ -21,7 +21,7 @@ pub mod Chain
 pub mod BothReadings
 pub mod Headline
 pub mod NamedPrograms
+pub mod SectionNames
 -- What only private contracts and proofs name.
 pub mod MapNames
-pub mod SectionNames
 pub mod PrivateContracts

@@ -82,7 +82,7 @@ pub record IsParsed (reading : Reading) (bytes : List ℕ) (o : Object) : Type 0
 -- the one answer that no definition states, of a stage or between them
 abbrev pub is_memory : PrepareError → Bool
 is_memory (Parse e) = parsing.is_memory e
-is_memory (Types e) = types_relocation.is_memory_at e
+is_memory (Types e) = types_relocation.is_memory_in_section e
 is_memory (Maps e) = relocating.is_memory_at e
 is_memory (Ksyms e) = resolving.is_memory e
 is_memory (Externs e) = relocating.is_memory_at e

@@ -1,7 +1,7 @@
 //! Relocating the functions to another kernel's types.
 
 ghost use Rattle.std.specs.Prelude.{◌≡◌, [], MatchBool, Ok, Err, IfOk, IfErr, OnOk, OnErr};
-ghost use Rattle.ebpf_core_relo.specs.Answers.{is_memory_at, without_texts_at};
+ghost use Rattle.ebpf_core_relo.specs.Answers.{is_memory_in_section, without_texts_at};
 ghost use Rattle.ebpf_object.specs.RelocatedSlots.{relocated_slots, AreRelocatedToTypes};
 
 use crate::object::Object;
@@ -14,7 +14,7 @@ impl Object {
     /// The slots of the functions that its CO-RE relocations write, by the functions' keys.
     fn relocated_slots(&self, target: &Btf) -> Result<ByKey<Items<bpf_insn>>, BtfRelocationError>
         ensures slots { IfOk result (λ slots. relocated_slots self.now target.now ≡ Ok slots) }
-        ensures fault { IfErr result (λ e. MatchBool (is_memory_at e) (e.section ≡ []) (relocated_slots self.now target.now ≡ Err (without_texts_at e))) }
+        ensures fault { IfErr result (λ e. MatchBool (is_memory_in_section e) (e.section ≡ []) (relocated_slots self.now target.now ≡ Err (without_texts_at e))) }
     {
         let alloc = *self.license.as_vec().allocator();
         let (Some(local), Some(relocations)) = (&self.btf, &self.btf_ext) else {
@@ -45,7 +45,7 @@ impl Object {
     /// refusal the object is as it was.
     pub fn relocate_btf(&mut self, target: &Btf) -> Result<(), BtfRelocationError>
         ensures functions { OnOk result (AreRelocatedToTypes self.old target.now self.new.functions) }
-        ensures fault { IfErr result (λ e. MatchBool (is_memory_at e) (e.section ≡ []) (relocated_slots self.old target.now ≡ Err (without_texts_at e))) }
+        ensures fault { IfErr result (λ e. MatchBool (is_memory_in_section e) (e.section ≡ []) (relocated_slots self.old target.now ≡ Err (without_texts_at e))) }
         ensures others_stay { self.new ≡ record self.old { functions = self.new.functions } }
         ensures unchanged { OnErr result (self.new ≡ self.old) }
     {

@@ -11,7 +11,7 @@ use Rattle.ebpf_btf.specs.TypeInfo.{TypeInfo}
 use Rattle.ebpf_parsing.proofs.Lasts.{has, false_is_not, any-append, put_again, Lasts, another}
 use Rattle.ebpf_parsing.specs.FileContents.{symbols_at}
 use Rattle.ebpf_parsing.specs.DataMaps.{data_maps}
-use Rattle.ebpf_parsing.specs.LastData.{is_data, data_row, is_index, last_maps, put_by, added_last}
+use Rattle.ebpf_parsing.specs.LastData.{is_data_kind, data_row, is_index, last_maps, put_by, added_last}
 use Rattle.ebpf_parsing.specs.OfSection.{maps_by, maps_in}
 use Rattle.ebpf_parsing.specs.ObjectTables.{added, all_added}
 use Rattle.ebpf_parsing.specs.Symbols.{SymbolValue}
@@ -28,7 +28,7 @@ DataLasts last rest = Lasts text_total data_row last rest
 
 module _ (reading : Reading) (types : Option TypeInfo) where
   -- a section of data gives a map of its name
-  data_gives : (q : List ℕ) (s : SectionValue) (symbols : List SymbolValue) (k : EbpfSectionKind) → has text_cmp q (if is_data k then (s.name, s.index.0) ∷ [] else []) ≡ true → has text_cmp q (maps_by k reading types s symbols) ≡ true
+  data_gives : (q : List ℕ) (s : SectionValue) (symbols : List SymbolValue) (k : EbpfSectionKind) → has text_cmp q (if is_data_kind k then (s.name, s.index.0) ∷ [] else []) ≡ true → has text_cmp q (maps_by k reading types s symbols) ≡ true
   data_gives q s symbols Data h = h
   data_gives q s symbols Rodata h = h
   data_gives q s symbols Bss h = h
@@ -63,7 +63,7 @@ module _ (last : FinMap text_cmp ℕ) (s : SectionValue) (rest : List SectionVal
   abbrev rest_maps : List (List ℕ × Map)
   rest_maps = maps_of metadata.reading metadata.btf ys rest
 
-  skipped : is_data s.kind ≡ true → put_all (put_all p.maps (last_maps last s)) rest_maps ≡ put_all (put_all p.maps (data_maps s)) rest_maps
+  skipped : is_data_kind s.kind ≡ true → put_all (put_all p.maps (last_maps last s)) rest_maps ≡ put_all (put_all p.maps (data_maps s)) rest_maps
   skipped is = step (is_index s.index.0 (get last s.name)) refl
     where
       step : (b : Bool) → is_index s.index.0 (get last s.name) ≡ b → put_all (put_all p.maps (if is_index s.index.0 (get last s.name) then data_maps s else [])) rest_maps ≡ put_all (put_all p.maps (data_maps s)) rest_maps
@@ -71,9 +71,9 @@ module _ (last : FinMap text_cmp ℕ) (s : SectionValue) (rest : List SectionVal
       step false at = rw at (sym (put_again text_total text_exact p.maps s.name _ rest_maps (all_give metadata.reading metadata.btf ys s.name rest (another text_total data_row last s rest lasts s.name s.index.0 (ap (λ (b : Bool). if b then (s.name, s.index.0) ∷ [] else []) is) at))))
 
   same_put : (symbols : List SymbolValue) (k : EbpfSectionKind) → s.kind ≡ k → put_all (put_all p.maps (put_by k last metadata.reading metadata.btf s symbols)) rest_maps ≡ put_all (put_all p.maps (maps_by k metadata.reading metadata.btf s symbols)) rest_maps
-  same_put symbols Data at = skipped (ap is_data at)
-  same_put symbols Rodata at = skipped (ap is_data at)
-  same_put symbols Bss at = skipped (ap is_data at)
+  same_put symbols Data at = skipped (ap is_data_kind at)
+  same_put symbols Rodata at = skipped (ap is_data_kind at)
+  same_put symbols Bss at = skipped (ap is_data_kind at)
   same_put symbols Undefined at = refl
   same_put symbols Maps at = refl
   same_put symbols BtfMaps at = refl

@@ -58,13 +58,13 @@ told (Some e) = is_told e
 abbrev Plain : Option ParseError → Type 0
 Plain o = told o ≡ false
 
-is_big : ParseError → Bool
-is_big BigEndianCode = true
-is_big _ = false
+is_big_endian_code : ParseError → Bool
+is_big_endian_code BigEndianCode = true
+is_big_endian_code _ = false
 
 big : Option ParseError → Bool
 big None = false
-big (Some e) = is_big e
+big (Some e) = is_big_endian_code e
 
 -- ---- faults one after the other
 
@@ -299,13 +299,13 @@ broad_refuses_no_name bytes name =
 -- ---- the stated reading
 
 from_plain : (o : Option ParseError) → Plain o → big o ≡ false
-unfolding told is_told big is_big
+unfolding told is_told big is_big_endian_code
 from_plain None plain = refl
 from_plain (Some BigEndianCode) plain = absurd (cc)
 from_plain (Some _) plain = refl
 
 unnamed : (name : List ℕ) (kind : Option ProgramSection) → big (no_section name kind) ≡ false
-unfolding big is_big
+unfolding big is_big_endian_code
 unnamed name None = refl
 unnamed name (Some kind) = refl
 
@@ -331,7 +331,7 @@ stated_sections types bytes = all_of big refl (read_fault Stated types bytes)
     (other_sections bytes)
 
 pub stated_takes_both_orders : StatedTakesBothOrders
-unfolding big is_big
+unfolding big is_big_endian_code
 stated_takes_both_orders bytes is =
     let never : big (parse_fault_as Stated bytes) ≡ false =
     either big _ _ (from_plain _ (file_plain bytes)) (behind_order Stated bytes (sections_fault Stated (types_of bytes) bytes) big from_plain (stated_sections (types_of bytes) bytes)) in

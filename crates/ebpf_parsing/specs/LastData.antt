@@ -17,15 +17,15 @@ use Rattle.ebpf_parts.specs.declared.section_kind.EbpfSectionKind.{EbpfSectionKi
 use Rattle.ebpf_parts.specs.declared.section_kind.EbpfSectionKind.TheVariants.{Maps, BtfMaps, Data, Rodata, Bss}
 use Rattle.ebpf_parts.specs.declared.reading.Reading.{Reading}
 
-abbrev pub is_data : EbpfSectionKind → Bool
-is_data Data = true
-is_data Rodata = true
-is_data Bss = true
-is_data _ = false
+abbrev pub is_data_kind : EbpfSectionKind → Bool
+is_data_kind Data = true
+is_data_kind Rodata = true
+is_data_kind Bss = true
+is_data_kind _ = false
 
 -- the index of a section of data, by its name
 abbrev pub data_row : SectionValue → List (List ℕ × ℕ)
-data_row s = if is_data s.kind then (s.name, s.index.0) ∷ [] else []
+data_row s = if is_data_kind s.kind then (s.name, s.index.0) ∷ [] else []
 
 -- the index of the last section of data of each name
 abbrev pub last_data : List SectionValue → FinMap text_cmp ℕ

@@ -4,7 +4,7 @@ ghost use Rattle.std.specs.Prelude.{◌≡◌, IfOk, IfErr, OnOk, true};
 ghost use Rattle.std.specs.Option.{option_copied};
 ghost use Rattle.ebpf_base.specs.Keyed.{put_all};
 ghost use Rattle.ebpf_parsing.specs.FileContents.{object_sections};
-ghost use Rattle.ebpf_parsing.specs.LastData.{is_data, is_index, data_row, last_data};
+ghost use Rattle.ebpf_parsing.specs.LastData.{is_data_kind, is_index, data_row, last_data};
 ghost use Rattle.ebpf_parts.specs.Memory.{is_memory};
 ghost use Rattle.ebpf_parts.specs.Sections.{section_of, name_or_empty};
 
@@ -15,8 +15,8 @@ use ebpf_parts::{EbpfSectionKind, ParseError};
 use std::alloc::Global;
 
 /// Whether a section is one of data.
-fn is_data(kind: EbpfSectionKind) -> bool
-    ensures { result ≡ is_data kind }
+fn is_data_kind(kind: EbpfSectionKind) -> bool
+    ensures { result ≡ is_data_kind kind }
 {
     matches!(
         kind,
@@ -45,7 +45,7 @@ fn remember_data(
     ensures memory { IfErr result (λ e. is_memory e ≡ true) }
 {
     let name = name_or_empty(section);
-    if !is_data(EbpfSectionKind::from_elf(name, section)) {
+    if !is_data_kind(EbpfSectionKind::from_elf(name, section)) {
         return Ok(());
     }
     last.insert(String::from_str(alloc, name)?, section.index().0)?;

@@ -21,4 +21,4 @@ returns-in-Some-clause-added c =
     let known = c.in-Some.ensures in
     let name = c.requires.remembers.at (name_off known.0) c.in-Some.number known.3 in
     when_ok c.add_known.result (λ p. entry_added c.args.reading info c.args.entry.now c.args.distinct.now c.add_known.new.distinct name.0 p.0 c.requires.named
-    (known_declared c.args.reading info c.args.entry.now known.0 c.in-Some.held name.0 p.0 known.1 known.2 name.1 p.1) p.2) (c.add_known.ensures.added name.0 name.2)
+    (known_declared c.args.reading info c.args.entry.now known.0 c.in-Some.struct_id name.0 p.0 known.1 known.2 name.1 p.1) p.2) (c.add_known.ensures.added name.0 name.2)

@@ -6,5 +6,5 @@ use Rattle.ebpf_declarations.proofs.section_maps.all_section_maps.Given as goal
 abbrev pub invariant-loop-name : goal.invariant-loop-name
 invariant-loop-name l = record {
   known : Knows l.reading l.btf l.known;
-  kept : AreSectionMaps l.reading l.btf l.kept;
+  by_name : AreSectionMaps l.reading l.btf l.by_name;
 }
