@@ -2,8 +2,8 @@
 """Runs the tests of each crate and each program that has a file stdout by `rt try`, which proves nothing and stops at an
 index out of range, a sum that wraps or a failed unwrap; compares what the programs print with these files, row by row.
 Says of each edit that the prover is to refuse whether it can still be applied, and tries none; whether docs/ERRORS.md is
-what test_errors prints; and of each piece of code of docs/LIBRARY.md whether the crate has it that the gate runs. Ends with
-'N passed, M failed', and with status 1 where one failed.
+what test_errors prints; and of each piece of code of docs/LIBRARY.md and of README.md's program whether the crate has it
+that the gate runs. Ends with 'N passed, M failed', and with status 1 where one failed.
 usage: quick.py [CRATE..]      CRATE: only the tests and rows of these crates
 """
 import os
@@ -130,7 +130,7 @@ def main():
         print("\n".join([*failures, f"errors that docs/ERRORS.md has as they are printed: {right}"]), flush=True)
         pieces, failures = library_page.misfits()
         passed, failed = passed + pieces - len(failures), failed + len(failures)
-        print("\n".join([*failures, f"pieces of docs/LIBRARY.md that stand: {pieces - len(failures)}"]), flush=True)
+        print("\n".join([*failures, f"pieces of docs/LIBRARY.md and README.md that stand: {pieces - len(failures)}"]), flush=True)
     print(f"{passed} passed, {failed} failed")
     return 1 if failed or not passed else 0
 

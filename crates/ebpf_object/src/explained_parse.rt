@@ -2,13 +2,16 @@
 
 ghost use Rattle.std.specs.Prelude.{◌≡◌};
 
+use crate::refused_places::{section_without_symbol, symbol_without_name, uneven_function};
 use crate::section_words::SectionWords;
+use ebpf_btf::BtfError;
 use ebpf_elf::ElfFile;
 use ebpf_parts::ParseError;
 use std::fmt;
 
 /// Why a file can't be parsed, and the file. It prints the error's sentence with the names that the file has for the
-/// indices of sections. It takes no memory.
+/// indices of sections, and the place where the error tells none: the section of the first relocation of no symbol, the
+/// first function that is no whole slots, the first symbol whose name can't be read. It takes no memory.
 #[derive(Clone, Copy)]
 pub struct ExplainedParse<'a> {
     /// The file's bytes.
@@ -48,6 +51,44 @@ fn section_of(file: &[u8], number: usize) -> SectionWords<'_> {
     }
 }
 
+impl ExplainedParse<'_> {
+    /// That a relocation names no symbol, and of which section it is.
+    fn write_relocation<W: fmt::Write>(&self, f: &mut fmt::Formatter<W>) -> fmt::Result {
+        match section_without_symbol(self.file) {
+            Some(number) => {
+                let section = section_of(self.file, number);
+                write!(f, "a relocation of {section} names no symbol")
+            }
+            None => write!(f, "{}", self.error),
+        }
+    }
+
+    /// That a function is no whole slots, and which one.
+    fn write_function<W: fmt::Write>(&self, f: &mut fmt::Formatter<W>) -> fmt::Result {
+        let Some((number, symbol)) = uneven_function(self.file) else {
+            return write!(f, "{}", self.error);
+        };
+        let section = section_of(self.file, number);
+        let (index, size) = (symbol.index(), symbol.size());
+        match symbol.name() {
+            Ok(name) => write!(f, "function {name:?} (symbol {index})")?,
+            Err(_) => write!(f, "the function of symbol {index}")?,
+        }
+        write!(
+            f,
+            " of {section} has {size} bytes, which are no whole slots"
+        )
+    }
+
+    /// That a symbol's name can't be read, and the symbol's number. Where all can, an extern or a map has no symbol.
+    fn write_symbol<W: fmt::Write>(&self, f: &mut fmt::Formatter<W>) -> fmt::Result {
+        match symbol_without_name(self.file) {
+            Some(number) => write!(f, "the name of symbol {number} can't be read"),
+            None => write!(f, "{}", self.error),
+        }
+    }
+}
+
 impl fmt::Display for ExplainedParse<'_> {
     fn fmt<W: fmt::Write>(&self, f: &mut fmt::Formatter<W>) -> fmt::Result {
         match self.error {
@@ -72,6 +113,9 @@ impl fmt::Display for ExplainedParse<'_> {
                     "no function of {section} is at address {address:#x}, where its code goes on"
                 )
             }
+            ParseError::UnsupportedRelocationTarget => self.write_relocation(f),
+            ParseError::InvalidProgramCode => self.write_function(f),
+            ParseError::BtfError(BtfError::InvalidSymbolName) => self.write_symbol(f),
             error => write!(f, "{error}"),
         }
     }

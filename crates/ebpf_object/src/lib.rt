@@ -22,6 +22,7 @@ pub mod prepare;
 mod prepare_error;
 mod queries;
 mod record_outcomes;
+mod refused_places;
 mod relocate_btf;
 mod relocate_calls;
 mod relocate_externs;

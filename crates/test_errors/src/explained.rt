@@ -88,11 +88,33 @@ fn show_parsing(rt: &HostRuntime, file: &[u8]) -> io::Result<()> {
     show_parse(rt, file, unknown)
 }
 
+/// Prints why a file is refused in which a byte is another.
+fn show_changed(rt: &HostRuntime, file: &[u8], place: usize, byte: u8) -> io::Result<()> {
+    let mut changed = Vec::from_slice(rt.alloc(), file)?;
+    if let Some(old) = changed.get_mut(place) {
+        *old = byte;
+    }
+    match Object::parse(rt.alloc(), changed.as_slice()) {
+        Ok(_) => Ok(()),
+        Err(error) => show_parse(rt, changed.as_slice(), error),
+    }
+}
+
+/// Prints the errors that tell no place: of call.o with a relocation of symbol 0, with a program of 12 bytes, with a
+/// function of 4, and with a symbol whose name is past the names.
+fn show_places(rt: &HostRuntime, file: &[u8]) -> io::Result<()> {
+    show_changed(rt, file, 0xac, 0)?;
+    show_changed(rt, file, 0x80, 12)?;
+    show_changed(rt, file, 0x98, 4)?;
+    show_changed(rt, file, 0x88, 0xff)
+}
+
 /// Prints the errors that names add to.
 pub fn show_all(rt: &HostRuntime, file: &[u8]) -> io::Result<()> {
     let object = object(rt)?;
     show_maps(rt, &object)?;
     show_externs(rt, &object)?;
     show_calls(rt, &object)?;
-    show_parsing(rt, file)
+    show_parsing(rt, file)?;
+    show_places(rt, file)
 }
