@@ -8,7 +8,7 @@ use Rattle.std.specs.Str.Parse.{ParsesUnsigned, IsNumeral, digits_value, without
 use Rattle.std.proofs.lemmas.Bool.{lt-ltb, ltb-true}
 use Rattle.std.proofs.lemmas.Str.Parse.{IsNumeralModel, numerals_by_value, tells_all_ascii_digits}
 use Rattle.ebpf_base.proofs.Lists.{map-map}
-use Rattle.ebpf_core.specs.AccessStrings.{all_of, part_of, number_of_digits}
+use Rattle.ebpf_core.specs.AccessStrings.{all_of, accessor_of, number_of_digits}
 
 digits : IsNumeralModel (λ ds. all_ascii_digits ds ≡ true) (digits_value 10)
 digits = numerals_by_value _ tells_all_ascii_digits
@@ -28,8 +28,8 @@ number_missing ds never =
     not_all (nat_lt 0 (length ds)) (all_ascii_digits ds) (nat_lt (digits_value 10 ds) (2 ^ 64)) (digits_value 10 ds)
     (λ some all fits. never ((ltb-true 0 (length ds) some, digits.to ds all), ltb-true (digits_value 10 ds) (2 ^ 64) fits))
 
-pub part_read : {E : Type 0} (piece : List ℕ) (r : Result ℕ E) → ParsesUnsigned 64 10 piece r → result_ok r ≡ part_of piece
-unfolding part_of
+pub part_read : {E : Type 0} (piece : List ℕ) (r : Result ℕ E) → ParsesUnsigned 64 10 piece r → result_ok r ≡ accessor_of piece
+unfolding accessor_of
 part_read piece (Ok n) h =
     let there = number_there (without_leading_plus piece) h.0.0 h.0.1 in
     let same : n ≡ digits_value 10 (without_leading_plus piece) = h.1 in
@@ -40,7 +40,7 @@ part_read piece (Err e) h =
 
 -- the parts of the texts that pieces lend
 pub parts_listed : {E : Type 0} (r : Result (Option (List ℕ)) E) (pieces slice : List (Bor (List ℕ))) (texts : List (List ℕ)) → map (λ piece. piece.now) pieces ≡ texts
-    → slice ≡ pieces → IfOk r (λ parts. parts ≡ all_of (map (λ piece. part_of piece.now) slice)) → IfOk r (λ parts. parts ≡ all_of (map part_of texts))
+    → slice ≡ pieces → IfOk r (λ parts. parts ≡ all_of (map (λ piece. accessor_of piece.now) slice)) → IfOk r (λ parts. parts ≡ all_of (map accessor_of texts))
 parts_listed r pieces slice texts lent same given =
     subst (λ (numbers : List (Option ℕ)). IfOk r (λ parts. parts ≡ all_of numbers))
-    (ap (map (λ (piece : Bor (List ℕ)). part_of piece.now)) same ∙ sym (map-map part_of (λ piece. piece.now) pieces) ∙ ap (map part_of) lent) given
+    (ap (map (λ (piece : Bor (List ℕ)). accessor_of piece.now)) same ∙ sym (map-map accessor_of (λ piece. piece.now) pieces) ∙ ap (map accessor_of) lent) given

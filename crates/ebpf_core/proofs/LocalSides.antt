@@ -6,11 +6,11 @@ use Rattle.ebpf_btf.specs.TypeInfo.{TypeInfo}
 use Rattle.ebpf_btf.specs.declared.error.BtfError.{BtfError as TypeError}
 use Rattle.ebpf_btf.specs.declared.types.BtfType.{BtfType}
 use Rattle.ebpf_ext.specs.declared.relocation.Relocation.{Relocation}
-use Rattle.ebpf_core.specs.AccessStrings.{access_parts}
+use Rattle.ebpf_core.specs.AccessStrings.{accessors}
 use Rattle.ebpf_base.specs.Results.{if_ok}
 use Rattle.ebpf_core.specs.Answers.{of_types}
 use Rattle.ebpf_core.specs.LocalPaths.{field_path, local_path, part_step, path_for, spot_at_element, variant_path, spot_after}
-use Rattle.ebpf_core.specs.LocalSides.{FieldLeads, NoPart, NoRoot, NoField, ToField, IsRead, LocalPathLeads, OfType, NoType, OfVariant, OfField, LocalSideIs, NoLocalType, NoName, NoString, NoParts, NotResolved, NoPath, Led, PartsLead, Arrived, Refused, Onward}
+use Rattle.ebpf_core.specs.LocalSides.{FieldLeads, NoPart, NoRoot, NoField, ToField, IsRead, LocalPathLeads, OfType, NoType, OfVariant, OfField, LocalSideIs, NoLocalType, NoName, NoString, NoAccessors, NotResolved, NoPath, Led, AccessorsLead, Arrived, Refused, Onward}
 use Rattle.ebpf_core.specs.RelocationBases.{basis_of}
 use Rattle.ebpf_core.specs.declared.error.RelocationError.{RelocationError}
 use Rattle.ebpf_core.specs.declared.local_walk.LocalSpot.{LocalSpot}
@@ -28,21 +28,21 @@ module _ (info : TypeInfo) (number : ℕ) (access : List ℕ) where
   walk = spot_after info number access
 
   lead_on : (part : ℕ) (parts : List ℕ) (from : LocalSpot) (r : Result LocalSpot RelocationError) → part_step info number access from part ≡ r
-      → ((next : LocalSpot) → PartsLead info number access parts next (walk parts next)) → PartsLead info number access (part ∷ parts) from (if_ok r (walk parts))
+      → ((next : LocalSpot) → AccessorsLead info number access parts next (walk parts next)) → AccessorsLead info number access (part ∷ parts) from (if_ok r (walk parts))
   lead_on part parts from (Ok next) is more = Onward part parts from next (walk parts next) is (more next)
   lead_on part parts from (Err e) is more = Refused part parts from e is
 
-  parts_lead : (parts : List ℕ) (from : LocalSpot) → PartsLead info number access parts from (walk parts from)
-  parts_lead [] from = subst (PartsLead info number access [] from) (sym (walked_none info number access from)) (Arrived from)
+  parts_lead : (parts : List ℕ) (from : LocalSpot) → AccessorsLead info number access parts from (walk parts from)
+  parts_lead [] from = subst (AccessorsLead info number access [] from) (sym (walked_none info number access from)) (Arrived from)
   parts_lead (part ∷ parts) from =
-      subst (PartsLead info number access (part ∷ parts) from) (sym (walked_on info number access part parts from))
+      subst (AccessorsLead info number access (part ∷ parts) from) (sym (walked_on info number access part parts from))
       (lead_on part parts from (part_step info number access from part) refl (λ next. parts_lead parts next))
 
   walk_by : (part : ℕ) (parts : List ℕ) (from : LocalSpot) (r : Result LocalSpot RelocationError) → part_step info number access from part ≡ r
       → walk (part ∷ parts) from ≡ if_ok r (walk parts)
   walk_by part parts from r is = walked_on info number access part parts from ∙ ap (λ (x : Result LocalSpot RelocationError). if_ok x (walk parts)) is
 
-  one_way : {parts : List ℕ} {from : LocalSpot} {a : Result LocalSpot RelocationError} → PartsLead info number access parts from a → a ≡ walk parts from
+  one_way : {parts : List ℕ} {from : LocalSpot} {a : Result LocalSpot RelocationError} → AccessorsLead info number access parts from a → a ≡ walk parts from
   one_way (Arrived from) = sym (walked_none info number access from)
   one_way (Refused part parts from fault is) = sym (walk_by part parts from (Err fault) is)
   one_way (Onward part parts from next a is more) = one_way more ∙ sym (walk_by part parts from (Ok next) is)
@@ -56,7 +56,7 @@ module _ (info : TypeInfo) (number : ℕ) (access : List ℕ) where
   from_root parts r = if_ok r (λ start. to_field (walk parts start))
 
   field_end : (id root : ℕ) (parts : List ℕ) (start : LocalSpot) (r : Result LocalSpot RelocationError) → spot_at_element info [] 0 id root ≡ Ok start
-      → PartsLead info number access parts start r → FieldLeads info number access id (root ∷ parts) (to_field r)
+      → AccessorsLead info number access parts start r → FieldLeads info number access id (root ∷ parts) (to_field r)
   field_end id root parts start (Ok end) is way = ToField root parts start end is way
   field_end id root parts start (Err e) is way = NoField root parts start e is way
 
@@ -122,7 +122,7 @@ module _ (info : TypeInfo) (r : Relocation) where
   with_parts name access x = if_ok x (λ parts. with_id name access parts (resolved info.types r.type_id))
 
   abbrev pub with_access : List ℕ → Result (List ℕ) TypeError → Result LocalPath RelocationError
-  with_access name x = if_ok (of_types x) (λ access. with_parts name access (access_parts name access))
+  with_access name x = if_ok (of_types x) (λ access. with_parts name access (accessors name access))
 
   abbrev pub with_name : Result (List ℕ) TypeError → Result LocalPath RelocationError
   with_name x = if_ok (of_types x) (λ name. with_access name (text_at info.strings r.access_str_off))
@@ -130,25 +130,25 @@ module _ (info : TypeInfo) (r : Relocation) where
   abbrev pub with_type : Result BtfType TypeError → Result LocalPath RelocationError
   with_type x = if_ok (of_types x) (λ t. with_name (type_name info t))
 
-  path_side : (name access parts : List ℕ) (id : ℕ) (x : Result NamedPath RelocationError) → IsRead info r name access → access_parts name access ≡ Ok parts
+  path_side : (name access parts : List ℕ) (id : ℕ) (x : Result NamedPath RelocationError) → IsRead info r name access → accessors name access ≡ Ok parts
       → resolved info.types r.type_id ≡ Ok id → LocalPathLeads info r access id parts x → LocalSideIs info r (with_path name x)
   path_side name access parts id (Ok path) read split is way = Led name access parts id path read split is way
   path_side name access parts id (Err e) read split is way = NoPath name access parts id e read split is way
 
-  id_side : (name access parts : List ℕ) (x : Result ℕ TypeError) → IsRead info r name access → access_parts name access ≡ Ok parts
+  id_side : (name access parts : List ℕ) (x : Result ℕ TypeError) → IsRead info r name access → accessors name access ≡ Ok parts
       → resolved info.types r.type_id ≡ x → LocalSideIs info r (with_id name access parts x)
   id_side name access parts (Ok id) read split is = path_side name access parts id _ read split is (path_leads access id parts)
   id_side name access parts (Err e) read split is = NotResolved name access parts e read split is
 
-  parts_side : (name access : List ℕ) (x : Result (List ℕ) RelocationError) → IsRead info r name access → access_parts name access ≡ x
+  parts_side : (name access : List ℕ) (x : Result (List ℕ) RelocationError) → IsRead info r name access → accessors name access ≡ x
       → LocalSideIs info r (with_parts name access x)
   parts_side name access (Ok parts) read is = id_side name access parts (resolved info.types r.type_id) read is refl
-  parts_side name access (Err e) read is = NoParts name access e read is
+  parts_side name access (Err e) read is = NoAccessors name access e read is
 
   access_side : (t : BtfType) (name : List ℕ) (x : Result (List ℕ) TypeError) → type_at info.types r.type_id ≡ Ok t → type_name info t ≡ Ok name
       → text_at info.strings r.access_str_off ≡ x → LocalSideIs info r (with_access name x)
   access_side t name (Ok access) there named is =
-      parts_side name access (access_parts name access) (record { type = t; there = there; named = named; access_is = is }) refl
+      parts_side name access (accessors name access) (record { type = t; there = there; named = named; access_is = is }) refl
   access_side t name (Err e) there named is = NoString t name e there named is
 
   name_side : (t : BtfType) (x : Result (List ℕ) TypeError) → type_at info.types r.type_id ≡ Ok t → type_name info t ≡ x → LocalSideIs info r (with_name x)
@@ -176,15 +176,15 @@ module _ (info : TypeInfo) (r : Relocation) where
       → text_at info.strings r.access_str_off ≡ x → local_path info r ≡ with_access name x
   by_access t name x there named is = by_name t (Ok name) there named ∙ ap (with_access name) is
 
-  by_parts : (name access : List ℕ) (x : Result (List ℕ) RelocationError) → IsRead info r name access → access_parts name access ≡ x
+  by_parts : (name access : List ℕ) (x : Result (List ℕ) RelocationError) → IsRead info r name access → accessors name access ≡ x
       → local_path info r ≡ with_parts name access x
   by_parts name access x read is = by_access read.type name (Ok access) read.there read.named read.access_is ∙ ap (with_parts name access) is
 
-  by_id : (name access parts : List ℕ) (x : Result ℕ TypeError) → IsRead info r name access → access_parts name access ≡ Ok parts
+  by_id : (name access parts : List ℕ) (x : Result ℕ TypeError) → IsRead info r name access → accessors name access ≡ Ok parts
       → resolved info.types r.type_id ≡ x → local_path info r ≡ with_id name access parts x
   by_id name access parts x read split is = by_parts name access (Ok parts) read split ∙ ap (with_id name access parts) is
 
-  by_path : (name access parts : List ℕ) (id : ℕ) (x : Result NamedPath RelocationError) → IsRead info r name access → access_parts name access ≡ Ok parts
+  by_path : (name access parts : List ℕ) (id : ℕ) (x : Result NamedPath RelocationError) → IsRead info r name access → accessors name access ≡ Ok parts
       → resolved info.types r.type_id ≡ Ok id → LocalPathLeads info r access id parts x → local_path info r ≡ with_path name x
   by_path name access parts id x read split is way = by_id name access parts (Ok id) read split is ∙ ap (with_path name) (sym (one_path access id parts way))
 
@@ -192,7 +192,7 @@ module _ (info : TypeInfo) (r : Relocation) where
   one_side (NoLocalType e is) = sym (by_type (Err e) is)
   one_side (NoName t e there is) = sym (by_name t (Err e) there is)
   one_side (NoString t name e there named is) = sym (by_access t name (Err e) there named is)
-  one_side (NoParts name access e read is) = sym (by_parts name access (Err e) read is)
+  one_side (NoAccessors name access e read is) = sym (by_parts name access (Err e) read is)
   one_side (NotResolved name access parts e read split is) = sym (by_id name access parts (Err e) read split is)
   one_side (NoPath name access parts id e read split is way) = sym (by_path name access parts id (Err e) read split is way)
   one_side (Led name access parts id path read split is way) = sym (by_path name access parts id (Ok path) read split is way)

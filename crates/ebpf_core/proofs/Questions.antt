@@ -19,7 +19,7 @@ use Rattle.ebpf_ext.proofs.RelocationRows.{numbers_of_relocation_kinds}
 use Rattle.ebpf_ext.specs.RelocationKinds.{relocation_kind, relocation_kind_number}
 use Rattle.ebpf_ext.specs.declared.relocation.Relocation.{Relocation}
 use Rattle.ebpf_ext.specs.declared.relocation.RelocationKind.{RelocationKind}
-use Rattle.ebpf_core.specs.AccessStrings.{access_parts}
+use Rattle.ebpf_core.specs.AccessStrings.{accessors}
 use Rattle.ebpf_base.specs.Results.{if_ok}
 use Rattle.ebpf_core.specs.Answers.{each, of_types}
 use Rattle.ebpf_core.specs.Questions.{OutcomesAreCached, Question, question_of, question_cmp}
@@ -143,8 +143,8 @@ module _ (info : TypeInfo) (r : Relocation) (number insn_off : ℕ) where
   side_alike =
       on_same (of_types (type_at info.types r.type_id)) (λ t. with_name info r (type_name info t)) (λ t. with_name info other (type_name info t))
       (λ t. on_same (of_types (type_name info t)) (λ name. with_access info r name (text_at info.strings r.access_str_off)) (λ name. with_access info other name (text_at info.strings r.access_str_off))
-      (λ name. on_same (of_types (text_at info.strings r.access_str_off)) (λ access. with_parts info r name access (access_parts name access)) (λ access. with_parts info other name access (access_parts name access))
-      (λ access. on_same (access_parts name access) (λ parts. with_id info r name access parts (resolved info.types r.type_id)) (λ parts. with_id info other name access parts (resolved info.types r.type_id))
+      (λ name. on_same (of_types (text_at info.strings r.access_str_off)) (λ access. with_parts info r name access (accessors name access)) (λ access. with_parts info other name access (accessors name access))
+      (λ access. on_same (accessors name access) (λ parts. with_id info r name access parts (resolved info.types r.type_id)) (λ parts. with_id info other name access parts (resolved info.types r.type_id))
       (λ parts. on_same (of_types (resolved info.types r.type_id))
       (λ id. with_path info r name (path_for info r.number access id parts (basis_of r.kind))) (λ id. with_path info other name (path_for info number access id parts (basis_of r.kind)))
       (λ id. on_first (path_for info r.number access id parts (basis_of r.kind)) (path_for info number access id parts (basis_of r.kind)) (λ path. Ok (record { type_name = name; path = path }))

@@ -12,9 +12,9 @@ abbrev pub number_of_digits : List ℕ → Option ℕ
 number_of_digits digits =
     if nat_lt 0 (length digits) && all_ascii_digits digits && nat_lt (digits_value 10 digits) (2 ^ 64) then Some (digits_value 10 digits) else None
 
--- a part: the number that a piece writes, before which a plus may stand
-unfoldable pub part_of : List ℕ → Option ℕ
-part_of piece = number_of_digits (without_leading_plus piece)
+-- an accessor: the number that a piece writes, before which a plus may stand
+unfoldable pub accessor_of : List ℕ → Option ℕ
+accessor_of piece = number_of_digits (without_leading_plus piece)
 
 -- all members of a list, where each is there
 abbrev pub all_of : {X : Type 0} → List (Option X) → Option (List X)
@@ -22,17 +22,17 @@ all_of [] = Some []
 all_of (None ∷ xs) = None
 all_of (Some x ∷ xs) = option_map (λ ys. x ∷ ys) (all_of xs)
 
--- the parts of an access string, where each piece between its colons is one
-abbrev pub access_parts_of : List ℕ → Option (List ℕ)
-access_parts_of access = all_of (map part_of (slice_split (λ b. b == 58) access))
+-- the accessors of an access string, where each piece between its colons is one
+abbrev pub accessors_of : List ℕ → Option (List ℕ)
+accessors_of access = all_of (map accessor_of (slice_split (λ b. b == 58) access))
 
--- how many parts there may be
-abbrev pub most_parts : ℕ
-most_parts = 64
+-- how many accessors there may be
+abbrev pub most_accessors : ℕ
+most_accessors = 64
 
--- the parts, of which there may be so many; the faults speak of the local type's name and of the string
-abbrev pub access_parts : List ℕ → List ℕ → Result (List ℕ) RelocationError
-access_parts type_name access =
-    if_some (access_parts_of access)
-    (λ parts. if nat_le (length parts) most_parts then Ok parts else Err (MaximumNestingLevelReached type_name))
+-- the accessors, of which there may be so many; the faults speak of the local type's name and of the string
+abbrev pub accessors : List ℕ → List ℕ → Result (List ℕ) RelocationError
+accessors type_name access =
+    if_some (accessors_of access)
+    (λ parts. if nat_le (length parts) most_accessors then Ok parts else Err (MaximumNestingLevelReached type_name))
     (Err (InvalidAccessString access))

@@ -26,7 +26,7 @@ use Rattle.ebpf_places.specs.declared.places.PlaceEnd.{PlaceEnd}
 use Rattle.ebpf_places.specs.declared.places.PlaceEnd.TheVariants.{Element, Member}
 use Rattle.ebpf_places.specs.declared.steps.Step.{Step}
 use Rattle.ebpf_places.specs.declared.steps.Step.TheVariants.{Name, Index}
-use Rattle.ebpf_core.specs.AccessStrings.{access_parts}
+use Rattle.ebpf_core.specs.AccessStrings.{accessors}
 use Rattle.ebpf_base.specs.Results.{if_ok}
 use Rattle.ebpf_core.specs.Answers.{of_types}
 use Rattle.ebpf_core.specs.RelocationBases.{basis_of}
@@ -36,7 +36,7 @@ use Rattle.ebpf_core.specs.RelocationBases.{basis_of}
 abbrev pub wrong_string : {X : Type 0} → List ℕ → Result X RelocationError
 wrong_string access = Err (InvalidAccessString access)
 
--- a part is past so many things
+-- an accessor is past so many things
 abbrev pub past : {X : Type 0} → List ℕ → ℕ → ℕ → Result X RelocationError
 past access part count = Err (InvalidAccessIndex [] access part count [])
 
@@ -92,7 +92,7 @@ abbrev pub into_members : TypeInfo → List ℕ → LocalSpot → ℕ → BtfTyp
 into_members info access from parent t members index =
     if_some (slice_get members index) (spot_at_member info from parent t index) (past access index (length members))
 
--- where a part leads: to a member of a STRUCT or UNION, or to an element of an ARRAY
+-- where an accessor leads: to a member of a STRUCT or UNION, or to an element of an ARRAY
 unfoldable pub part_step : TypeInfo → ℕ → List ℕ → LocalSpot → ℕ → Result LocalSpot RelocationError
 part_step info number access from part =
     if_ok (of_types (resolved info.types from.type_id)) (λ id.
@@ -100,11 +100,11 @@ part_step info number access from part =
     if_some (members_of t) (λ members. into_members info access from id t members part)
     (if_some (array_of t) (λ array. into_array info access from array part) (wrong_kind number))))
 
--- where parts lead, one after the other
+-- where accessors lead, one after the other
 unfoldable pub spot_after : TypeInfo → ℕ → List ℕ → List ℕ → LocalSpot → Result LocalSpot RelocationError
 spot_after info number access parts from = fold (λ so_far part. if_ok so_far (λ spot. part_step info number access spot part)) (Ok from) parts
 
--- the first part counts in the local type itself
+-- the first accessor counts in the local type itself
 unfoldable pub field_path : TypeInfo → ℕ → List ℕ → ℕ → List ℕ → Result NamedPath RelocationError
 field_path info number access id [] = wrong_string access
 field_path info number access id (root ∷ parts) =
@@ -113,7 +113,7 @@ field_path info number access id (root ∷ parts) =
 
 -- ---- a type, and a variant of an enumeration
 
--- the only part
+-- the only accessor
 abbrev pub lone : List ℕ → Option ℕ
 lone (part ∷ []) = Some part
 lone _ = None
@@ -145,6 +145,6 @@ local_path info r =
     if_ok (of_types (type_at info.types r.type_id)) (λ t.
     if_ok (of_types (type_name info t)) (λ name.
     if_ok (of_types (text_at info.strings r.access_str_off)) (λ access.
-    if_ok (access_parts name access) (λ parts.
+    if_ok (accessors name access) (λ parts.
     if_ok (of_types (resolved info.types r.type_id)) (λ id.
     if_ok (path_for info r.number access id parts (basis_of r.kind)) (λ path. Ok (record { type_name = name; path = path })))))))

@@ -6,7 +6,7 @@ use Rattle.ebpf_btf.specs.TypeInfo.{TypeInfo}
 use Rattle.ebpf_btf.specs.declared.error.BtfError.{BtfError as TypeError}
 use Rattle.ebpf_btf.specs.declared.types.BtfType.{BtfType}
 use Rattle.ebpf_ext.specs.declared.relocation.Relocation.{Relocation}
-use Rattle.ebpf_core.specs.AccessStrings.{access_parts}
+use Rattle.ebpf_core.specs.AccessStrings.{accessors}
 use Rattle.ebpf_core.specs.LocalPaths.{part_step, spot_at_element, type_path, variant_path, wrong_string}
 use Rattle.ebpf_core.specs.RelocationBases.{basis_of}
 use Rattle.ebpf_core.specs.declared.error.RelocationError.{RelocationError}
@@ -17,26 +17,26 @@ use Rattle.ebpf_core.specs.declared.paths.NamedPath.{NamedPath}
 use Rattle.ebpf_core.specs.declared.paths.NamedPath.TheVariants as paths
 use Rattle.ebpf_core.specs.declared.relocation_basis.RelocationBasis.TheVariants as bases
 
--- Some parts of an access string lead so from a spot: one after the other, up to the first that has a fault.
-pub data PartsLead (info : TypeInfo) (number : ℕ) (access : List ℕ) : List ℕ → LocalSpot → Result LocalSpot RelocationError → Type 0 where
-  Arrived : (from : LocalSpot) → PartsLead info number access [] from (Ok from)
+-- Some accessors of an access string lead so from a spot: one after the other, up to the first that has a fault.
+pub data AccessorsLead (info : TypeInfo) (number : ℕ) (access : List ℕ) : List ℕ → LocalSpot → Result LocalSpot RelocationError → Type 0 where
+  Arrived : (from : LocalSpot) → AccessorsLead info number access [] from (Ok from)
   Refused : (part : ℕ) (parts : List ℕ) (from : LocalSpot) (fault : RelocationError) → part_step info number access from part ≡ Err fault
-      → PartsLead info number access (part ∷ parts) from (Err fault)
+      → AccessorsLead info number access (part ∷ parts) from (Err fault)
   Onward : (part : ℕ) (parts : List ℕ) (from next : LocalSpot) (answer : Result LocalSpot RelocationError)
-      → part_step info number access from part ≡ Ok next → PartsLead info number access parts next answer
-      → PartsLead info number access (part ∷ parts) from answer
+      → part_step info number access from part ≡ Ok next → AccessorsLead info number access parts next answer
+      → AccessorsLead info number access (part ∷ parts) from answer
 
--- The parts of an access string lead so to a field of the type with an id. The first part counts in the type itself.
+-- The accessors of an access string lead so to a field of the type with an id. The first accessor counts in the type itself.
 pub data FieldLeads (info : TypeInfo) (number : ℕ) (access : List ℕ) (id : ℕ) : List ℕ → Result NamedPath RelocationError → Type 0 where
   NoPart : FieldLeads info number access id [] (wrong_string access)
   NoRoot : (root : ℕ) (parts : List ℕ) (fault : RelocationError) → spot_at_element info [] 0 id root ≡ Err fault
       → FieldLeads info number access id (root ∷ parts) (Err fault)
   NoField : (root : ℕ) (parts : List ℕ) (start : LocalSpot) (fault : RelocationError) → spot_at_element info [] 0 id root ≡ Ok start
-      → PartsLead info number access parts start (Err fault) → FieldLeads info number access id (root ∷ parts) (Err fault)
+      → AccessorsLead info number access parts start (Err fault) → FieldLeads info number access id (root ∷ parts) (Err fault)
   ToField : (root : ℕ) (parts : List ℕ) (start end : LocalSpot) → spot_at_element info [] 0 id root ≡ Ok start
-      → PartsLead info number access parts start (Ok end) → FieldLeads info number access id (root ∷ parts) (Ok (paths.Field end.steps end.place))
+      → AccessorsLead info number access parts start (Ok end) → FieldLeads info number access id (root ∷ parts) (Ok (paths.Field end.steps end.place))
 
--- The parts of a record's access string lead so in the type with an id, by what the record's kind asks about.
+-- The accessors of a record's access string lead so in the type with an id, by what the record's kind asks about.
 pub data LocalPathLeads (info : TypeInfo) (r : Relocation) (access : List ℕ) (id : ℕ) (parts : List ℕ) : Result NamedPath RelocationError → Type 0 where
   OfType : basis_of r.kind ≡ bases.WholeType → LocalPathLeads info r access id parts (type_path access parts)
   NoType : (e : TypeError) → basis_of r.kind ≡ bases.Variant → type_at info.types id ≡ Err e → LocalPathLeads info r access id parts (Err (BtfError e))
@@ -59,12 +59,12 @@ pub data LocalSideIs (info : TypeInfo) (r : Relocation) : Result LocalPath Reloc
   NoName : (t : BtfType) (e : TypeError) → type_at info.types r.type_id ≡ Ok t → type_name info t ≡ Err e → LocalSideIs info r (Err (BtfError e))
   NoString : (t : BtfType) (name : List ℕ) (e : TypeError) → type_at info.types r.type_id ≡ Ok t → type_name info t ≡ Ok name
       → text_at info.strings r.access_str_off ≡ Err e → LocalSideIs info r (Err (BtfError e))
-  NoParts : (name access : List ℕ) (fault : RelocationError) → IsRead info r name access → access_parts name access ≡ Err fault
+  NoAccessors : (name access : List ℕ) (fault : RelocationError) → IsRead info r name access → accessors name access ≡ Err fault
       → LocalSideIs info r (Err fault)
-  NotResolved : (name access parts : List ℕ) (e : TypeError) → IsRead info r name access → access_parts name access ≡ Ok parts
+  NotResolved : (name access parts : List ℕ) (e : TypeError) → IsRead info r name access → accessors name access ≡ Ok parts
       → resolved info.types r.type_id ≡ Err e → LocalSideIs info r (Err (BtfError e))
-  NoPath : (name access parts : List ℕ) (id : ℕ) (fault : RelocationError) → IsRead info r name access → access_parts name access ≡ Ok parts
+  NoPath : (name access parts : List ℕ) (id : ℕ) (fault : RelocationError) → IsRead info r name access → accessors name access ≡ Ok parts
       → resolved info.types r.type_id ≡ Ok id → LocalPathLeads info r access id parts (Err fault) → LocalSideIs info r (Err fault)
-  Led : (name access parts : List ℕ) (id : ℕ) (path : NamedPath) → IsRead info r name access → access_parts name access ≡ Ok parts
+  Led : (name access parts : List ℕ) (id : ℕ) (path : NamedPath) → IsRead info r name access → accessors name access ≡ Ok parts
       → resolved info.types r.type_id ≡ Ok id → LocalPathLeads info r access id parts (Ok path)
       → LocalSideIs info r (Ok (record { type_name = name; path = path }))

@@ -2,7 +2,7 @@
 
 ghost use Rattle.std.specs.Prelude.{◌≡◌, ◌==◌, IfOk, map};
 ghost use Rattle.std.specs.List.{slice_split};
-ghost use Rattle.ebpf_core.specs.AccessStrings.{access_parts, all_of, part_of, access_parts_of};
+ghost use Rattle.ebpf_core.specs.AccessStrings.{accessors, all_of, accessor_of, accessors_of};
 ghost use Rattle.ebpf_core.specs.Answers.{Tells};
 
 use crate::error::RelocationError;
@@ -10,12 +10,12 @@ use crate::faults::{invalid_access_string, too_nested};
 use ebpf_base::Items;
 use std::alloc::{AllocError, Global};
 
-/// How many parts an access string may have.
-const MOST_PARTS: usize = 64;
+/// How many accessors an access string may have.
+const MOST_ACCESSORS: usize = 64;
 
 /// The number that a piece of an access string writes.
-fn part_of(piece: &str) -> Option<usize>
-    ensures { result ≡ part_of piece.now }
+fn accessor_of(piece: &str) -> Option<usize>
+    ensures { result ≡ accessor_of piece.now }
 {
     piece.parse::<usize>().ok()
 }
@@ -31,14 +31,14 @@ fn pieces_of(alloc: Global, access: &str) -> Result<Vec<&str>, AllocError>
     Ok(pieces)
 }
 
-/// The parts that pieces write, where each writes one.
+/// The accessors that pieces write, where each writes one.
 #[tactic(auto, using(crate::proofs::Lists::all_more, crate::proofs::Lists::all_missing, crate::proofs::Lists::all_end))]
 fn all_parts(alloc: Global, pieces: &[&str]) -> Result<Option<Items<usize>>, AllocError>
-    ensures { IfOk result (λ parts. parts ≡ all_of (map (λ piece. part_of piece.now) pieces.now)) }
+    ensures { IfOk result (λ parts. parts ≡ all_of (map (λ piece. accessor_of piece.now) pieces.now)) }
 {
     let mut parts = Items::new(alloc);
     for piece in pieces {
-        let Some(part) = part_of(piece) else {
+        let Some(part) = accessor_of(piece) else {
             return Ok(None);
         };
         parts.push(part)?;
@@ -46,29 +46,29 @@ fn all_parts(alloc: Global, pieces: &[&str]) -> Result<Option<Items<usize>>, All
     Ok(Some(parts))
 }
 
-/// The parts of an access string, where each piece between its colons is one.
-fn access_parts_of(alloc: Global, access: &str) -> Result<Option<Items<usize>>, AllocError>
-    ensures { IfOk result (λ parts. parts ≡ access_parts_of access.now) }
+/// The accessors of an access string, where each piece between its colons is one.
+fn accessors_of(alloc: Global, access: &str) -> Result<Option<Items<usize>>, AllocError>
+    ensures { IfOk result (λ parts. parts ≡ accessors_of access.now) }
 {
     let pieces = pieces_of(alloc, access)?;
     all_parts(alloc, pieces.as_slice())
 }
 
-/// The parts of an access string. The errors speak of it and of the name of the local type.
+/// The accessors of an access string. The errors speak of it and of the name of the local type.
 ///
 /// `InvalidAccessString` where a piece between colons is no `usize`; `MaximumNestingLevelReached` where there are
-/// more than 64 parts; `OutOfMemory` where memory is refused.
-pub fn access_parts(
+/// more than 64 accessors; `OutOfMemory` where memory is refused.
+pub fn accessors(
     alloc: Global,
     type_name: &str,
     access: &str,
 ) -> Result<Items<usize>, RelocationError>
-    ensures { Tells result (access_parts type_name.now access.now) }
+    ensures { Tells result (accessors type_name.now access.now) }
 {
-    let Some(parts) = access_parts_of(alloc, access)? else {
+    let Some(parts) = accessors_of(alloc, access)? else {
         return invalid_access_string(alloc, access);
     };
-    if parts.len() > MOST_PARTS {
+    if parts.len() > MOST_ACCESSORS {
         return too_nested(alloc, type_name);
     }
     Ok(parts)

@@ -26,7 +26,7 @@ pub fn too_nested<X>(alloc: Global, type_name: &str) -> Result<X, RelocationErro
     Err(RelocationError::MaximumNestingLevelReached { type_name })
 }
 
-/// `InvalidAccessIndex`: part `index` of an access string is past the `len` things, as `members`, at a place.
+/// `InvalidAccessIndex`: accessor `index` of an access string is past the `len` things, as `members`, at a place.
 pub fn invalid_access_index<X>(
     alloc: Global,
     access: &str,

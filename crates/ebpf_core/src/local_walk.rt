@@ -192,7 +192,7 @@ fn into_members(
     }
 }
 
-/// Where a part leads: to a member of a STRUCT or UNION, or to an element of an ARRAY.
+/// Where an accessor leads: to a member of a STRUCT or UNION, or to an element of an ARRAY.
 #[tactic(auto, unfolding(crate::specs::LocalPaths::part_step))]
 fn part_step(
     alloc: Global,
@@ -221,7 +221,7 @@ fn part_step(
     )
 }
 
-/// Where parts lead, one after the other.
+/// Where accessors lead, one after the other.
 #[tactic(auto, using(crate::proofs::WalkSteps::parts_over))]
 fn walk(
     alloc: Global,
@@ -240,8 +240,8 @@ fn walk(
     Ok(from)
 }
 
-/// The steps that the parts of an access string mean in the resolved type `type_id`, and where they lead. The first
-/// part counts in the type itself.
+/// The steps that the accessors of an access string mean in the resolved type `type_id`, and where they lead. The first
+/// accessor counts in the type itself.
 #[tactic(auto, unfolding(crate::specs::LocalPaths::field_path))]
 pub fn field_path(
     alloc: Global,

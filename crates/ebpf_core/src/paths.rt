@@ -6,7 +6,7 @@ ghost use Rattle.ebpf_core.specs.LocalSides.{LocalSideIs};
 ghost use Rattle.ebpf_core.specs.LocalPaths.{local_path, lone, named_variant, path_for, type_path, variant_path};
 ghost use Rattle.ebpf_core.specs.RelocationBases.{basis_of};
 
-use crate::access::access_parts;
+use crate::access::accessors;
 use crate::error::RelocationError;
 use crate::faults::{invalid_access_index, invalid_access_string, invalid_kind};
 use crate::local_walk::field_path;
@@ -38,7 +38,7 @@ pub struct LocalPath {
     pub path: NamedPath,
 }
 
-/// The only part.
+/// The only accessor.
 fn lone(parts: &[usize]) -> Option<usize>
     ensures { result ≡ lone parts.now }
 {
@@ -136,7 +136,7 @@ fn local_side(
 {
     let type_name = local.type_name(local.type_by_id(relocation.type_id)?)?;
     let access = local.string_at(relocation.access_str_off)?;
-    let parts = access_parts(alloc, type_name.as_str(), access.as_str())?;
+    let parts = accessors(alloc, type_name.as_str(), access.as_str())?;
     let type_id = local.resolve_type(relocation.type_id)?;
     let request = Request {
         number: relocation.number,
