@@ -1,8 +1,8 @@
-//! The names of faults by their place among those of their kind. A place without a fault has the empty name.
+//! The names of faults by their index among those of their kind. An index without a fault has the empty name.
 
 /// The name of what is of no stage.
-pub fn general_name(place: u32) -> &'static [u8] {
-    match place {
+pub fn general_name(index: u32) -> &'static [u8] {
+    match index {
         0 => b"Done",
         1 => b"Room",
         2 => b"OutOfMemory",
@@ -16,8 +16,8 @@ pub fn general_name(place: u32) -> &'static [u8] {
 }
 
 /// The name of a fault of files.
-pub fn file_name(place: u32) -> &'static [u8] {
-    match place {
+pub fn file_name(index: u32) -> &'static [u8] {
+    match index {
         0 => b"TooShort",
         1 => b"BadMagic",
         2 => b"NotElf64",
@@ -33,8 +33,8 @@ pub fn file_name(place: u32) -> &'static [u8] {
 }
 
 /// The name of a fault of types.
-pub fn type_name(place: u32) -> &'static [u8] {
-    match place {
+pub fn type_name(index: u32) -> &'static [u8] {
+    match index {
         0 => b"InvalidHeader",
         1 => b"InvalidTypeInfo",
         2 => b"InvalidInfo",
@@ -55,8 +55,8 @@ pub fn type_name(place: u32) -> &'static [u8] {
 }
 
 /// The name of another fault of parsing.
-pub fn parse_name(place: u32) -> &'static [u8] {
-    match place {
+pub fn parse_name(index: u32) -> &'static [u8] {
+    match index {
         0 => b"MissingLicenseNullTerminator",
         1 => b"InvalidLicense",
         2 => b"InvalidKernelVersion",
@@ -79,8 +79,8 @@ pub fn parse_name(place: u32) -> &'static [u8] {
 }
 
 /// The name of a fault of a record on types.
-pub fn record_name(place: u32) -> &'static [u8] {
-    match place {
+pub fn record_name(index: u32) -> &'static [u8] {
+    match index {
         0 => b"SectionNotFound",
         1 => b"FunctionNotFound",
         2 => b"InvalidAccessString",
@@ -96,8 +96,8 @@ pub fn record_name(place: u32) -> &'static [u8] {
 }
 
 /// The name of a fault of slots.
-pub fn slot_name(place: u32) -> &'static [u8] {
-    match place {
+pub fn slot_name(index: u32) -> &'static [u8] {
+    match index {
         0 => b"UnknownSymbol",
         1 => b"SectionNotFound",
         2 => b"UnknownFunction",
@@ -115,8 +115,8 @@ pub fn slot_name(place: u32) -> &'static [u8] {
 }
 
 /// The name of a fault of finding externs.
-pub fn extern_name(place: u32) -> &'static [u8] {
-    match place {
+pub fn extern_name(index: u32) -> &'static [u8] {
+    match index {
         0 => b"TypedKsymRequiresKernelBtf",
         1 => b"VariableNotFound",
         2 => b"IncompatibleFunctionSignature",

@@ -34,11 +34,11 @@ with_first_argument argument (Some others) = Some (argument ∷ others)
 -- whatever it is, and has one; no other word begins with two dashes; each other word is a file.
 abbrev pub arguments : Option ArgumentKind → List (List ℕ) → Option (List Argument)
 arguments None [] = Some []
-arguments (Some place) [] = None
-arguments (Some place) (word ∷ words) = with_first_argument (place, word) (arguments None words)
+arguments (Some kind) [] = None
+arguments (Some kind) (word ∷ words) = with_first_argument (kind, word) (arguments None words)
 arguments None (word ∷ words) =
     elim (option_of word) [
-      | Some place ↦ arguments (Some place) words
+      | Some kind ↦ arguments (Some kind) words
       | None ↦ if has_dashes word then None else with_first_argument (File, word) (arguments None words)
     ]
 
@@ -52,7 +52,7 @@ pub record FoundValue : Type 0 where
 abbrev pub nothing : FoundValue
 nothing = record { file = None; btf = None; kallsyms = None; program = None }
 
--- a text in a place that has none yet
+-- a text of a kind that has none yet
 abbrev pub set_once : Option (List ℕ) → FoundValue → Option FoundValue
 set_once None with_text = Some with_text
 set_once (Some text) with_text = None
@@ -63,7 +63,7 @@ put texts (Btf, text) = set_once texts.btf (record texts { btf = Some text })
 put texts (Kallsyms, text) = set_once texts.kallsyms (record texts { kallsyms = Some text })
 put texts (Program, text) = set_once texts.program (record texts { program = Some text })
 
--- arguments in their places, each at most once
+-- arguments by their kinds, each at most once
 abbrev pub put_each : FoundValue → List Argument → Option FoundValue
 put_each texts [] = Some texts
 put_each texts (argument ∷ others) = elim (put texts argument) [ Some next ↦ put_each next others | None ↦ None ]

@@ -110,13 +110,13 @@ impl<'a> Found<'a> {
         }
     }
 
-    /// Puts a text in a place that has none yet.
+    /// Puts a text of a kind that has none yet.
     #[tactic(auto, unfolding(crate::specs::Arguments::put))]
-    fn put(self, place: ArgumentKind, text: &'a str) -> Option<Found<'a>>
-        ensures { result ≡ put self.entry (place, text.entry.now) }
+    fn put(self, kind: ArgumentKind, text: &'a str) -> Option<Found<'a>>
+        ensures { result ≡ put self.entry (kind, text.entry.now) }
     {
         let text = Some(text);
-        match place {
+        match kind {
             ArgumentKind::File if self.file.is_none() => Some(Found { file: text, ..self }),
             ArgumentKind::Btf if self.btf.is_none() => Some(Found { btf: text, ..self }),
             ArgumentKind::Kallsyms if self.kallsyms.is_none() => Some(Found {
@@ -140,8 +140,8 @@ fn find_texts(words: &[String]) -> Option<Found<'_>>
     let mut waits = None;
     for word in words {
         let text = word.as_str();
-        if let Some(place) = waits {
-            found = found.put(place, text)?;
+        if let Some(kind) = waits {
+            found = found.put(kind, text)?;
             waits = None;
             continue;
         }

@@ -12,7 +12,7 @@ use Rattle.ebpf_core.proofs.Questions.{question_exact}
 use Rattle.ebpf_core.specs.Questions.{Question, question_of, question_cmp}
 use Rattle.ebpf_core.specs.LocalPaths.{local_path}
 use Rattle.ebpf_core.specs.Searches.{candidates_for}
-use Rattle.ebpf_core_relo.specs.Absences.{absence_by, absence_of, without_place}
+use Rattle.ebpf_core_relo.specs.Absences.{absence_by, absence_of, without_position}
 use Rattle.ebpf_core_relo.specs.CachedAbsences.{AbsencesAreCached}
 use Rattle.ebpf_core_relo.specs.declared.absence.Absence.{Absence}
 
@@ -21,20 +21,20 @@ use Rattle.ebpf_core_relo.specs.declared.absence.Absence.{Absence}
 kinds_alike : (a b : RelocationKind) → relocation_kind_number a ≡ relocation_kind_number b → a ≡ b
 kinds_alike a b e = same_Some _ _ (sym (numbers_of_relocation_kinds a) ∙ ap relocation_kind e ∙ numbers_of_relocation_kinds b)
 
-same_question : (r s : Relocation) → question_of r ≡ question_of s → without_place r ≡ without_place s
+same_question : (r s : Relocation) → question_of r ≡ question_of s → without_position r ≡ without_position s
 same_question r s e =
     let type : r.type_id ≡ s.type_id = ap (λ (q : Question). q.0.0) e in
     let string : r.access_str_off ≡ s.access_str_off = ap (λ (q : Question). q.0.1) e in
     let kind : r.kind ≡ s.kind = kinds_alike r.kind s.kind (ap (λ (q : Question). q.1) e) in
-    ap (λ n. record (without_place s) { type_id = n; access_str_off = r.access_str_off; kind = r.kind }) type
-    ∙ ap (λ n. record (without_place s) { access_str_off = n; kind = r.kind }) string
-    ∙ ap (λ k. record (without_place s) { kind = k }) kind
+    ap (λ n. record (without_position s) { type_id = n; access_str_off = r.access_str_off; kind = r.kind }) type
+    ∙ ap (λ n. record (without_position s) { access_str_off = n; kind = r.kind }) string
+    ∙ ap (λ k. record (without_position s) { kind = k }) kind
 
 same_absence : (local target : TypeInfo) (r s : Relocation) → question_of r ≡ question_of s → absence_of local target r ≡ absence_of local target s
 unfolding absence_of
 same_absence local target r s e =
     ap (λ q. absence_by local target (candidates_for local target r.type_id) (local_path local q)) (same_question r s e)
-    ∙ ap (λ n. absence_by local target (candidates_for local target n) (local_path local (without_place s))) (ap (λ (q : Question). q.0.0) e)
+    ∙ ap (λ n. absence_by local target (candidates_for local target n) (local_path local (without_position s))) (ap (λ (q : Question). q.0.0) e)
 
 -- ---- what is kept
 

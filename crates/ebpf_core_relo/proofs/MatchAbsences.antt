@@ -31,7 +31,7 @@ use Rattle.ebpf_core_relo.proofs.FurthestOnes.{comes_furthest, nothing_leads}
 use Rattle.ebpf_core_relo.proofs.OneRecord.{ok_parts}
 use Rattle.ebpf_core_relo.proofs.OutcomeSlots.{same_ok}
 use Rattle.ebpf_core_relo.specs.AbsenceLaws.{AbsencesAreOfPaths, ComesFurthest, IsPathAbsence, NoValueIsOfMatches}
-use Rattle.ebpf_core_relo.specs.Absences.{absence_by, absence_of, field_absence, furthest, is_place, lacks, leads, step_absence, without_place}
+use Rattle.ebpf_core_relo.specs.Absences.{absence_by, absence_of, field_absence, furthest, is_place, lacks, leads, step_absence, without_position}
 use Rattle.ebpf_core_relo.specs.declared.absence.Absence.{Absence}
 use Rattle.ebpf_core_relo.specs.declared.absence.Absence.TheVariants.{MemberOfAnotherKind, NoMember, NoValue}
 use Rattle.ebpf_core_relo.specs.declared.furthest.Furthest.{Furthest}
@@ -39,9 +39,9 @@ use Rattle.ebpf_core_relo.specs.declared.furthest.Furthest.{Furthest}
 -- ---- a record that has no value
 
 -- its path, its candidates
-told_among : (local target : TypeInfo) (r : Relocation) (path : LocalPath) → local_path local (without_place r) ≡ Ok path
+told_among : (local target : TypeInfo) (r : Relocation) (path : LocalPath) → local_path local (without_position r) ≡ Ok path
     → (ids : Result (List ℕ) BtfError) → candidates_for local target r.type_id ≡ ids → (outcome : Outcome)
-    → if_ok (of_types ids) (outcome_among local target (without_place r) path) ≡ Ok outcome → IsPathAbsence local target r
+    → if_ok (of_types ids) (outcome_among local target (without_position r) path) ≡ Ok outcome → IsPathAbsence local target r
 unfolding absence_of
 told_among local target r path side (Ok ids) are outcome e = record {
   path = path;
@@ -52,14 +52,14 @@ told_among local target r path side (Ok ids) are outcome e = record {
 }
 told_among local target r path side (Err fault) are outcome e = cc
 
-without_texts_by : (local target : TypeInfo) (r : Relocation) (outcome : Outcome) → outcome.value ≡ None → (side : Result LocalPath RelocationError) → local_path local (without_place r) ≡ side
+without_texts_by : (local target : TypeInfo) (r : Relocation) (outcome : Outcome) → outcome.value ≡ None → (side : Result LocalPath RelocationError) → local_path local (without_position r) ≡ side
     → if_ok side (λ path.
-    if is_local r.kind then Ok (itself r.type_id) else if_ok (of_types (candidates_for local target r.type_id)) (outcome_among local target (without_place r) path)) ≡ Ok outcome
+    if is_local r.kind then Ok (itself r.type_id) else if_ok (of_types (candidates_for local target r.type_id)) (outcome_among local target (without_position r) path)) ≡ Ok outcome
     → IsPathAbsence local target r
 without_texts_by local target r outcome none (Err fault) is e = cc
 without_texts_by local target r outcome none (Ok path) is e = by_kind (is_local r.kind) e
   where
-    by_kind : (b : Bool) → (if b then Ok (itself r.type_id) else if_ok (of_types (candidates_for local target r.type_id)) (outcome_among local target (without_place r) path)) ≡ Ok outcome
+    by_kind : (b : Bool) → (if b then Ok (itself r.type_id) else if_ok (of_types (candidates_for local target r.type_id)) (outcome_among local target (without_position r) path)) ≡ Ok outcome
         → IsPathAbsence local target r
     by_kind true e = let never : Some r.type_id ≡ None = ap (λ (o : Outcome). o.value) (same_ok _ _ e) ∙ none in cc
     by_kind false e = told_among local target r path is (candidates_for local target r.type_id) refl outcome e
@@ -67,7 +67,7 @@ without_texts_by local target r outcome none (Ok path) is e = by_kind (is_local 
 pub absences_are_of_paths : AbsencesAreOfPaths
 unfolding outcome_of
 absences_are_of_paths local target r outcome is none =
-    without_texts_by local target r outcome none (local_path local (without_place r)) refl (outcomes_rest_on_questions local target r (without_place r) outcome refl is)
+    without_texts_by local target r outcome none (local_path local (without_position r)) refl (outcomes_rest_on_questions local target r (without_position r) outcome refl is)
 
 -- ---- matches of a field
 

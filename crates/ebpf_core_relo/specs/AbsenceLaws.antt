@@ -16,7 +16,7 @@ use Rattle.ebpf_core.specs.declared.matches.Match.{Match}
 use Rattle.ebpf_core.specs.declared.outcome.Outcome.{Outcome}
 use Rattle.ebpf_core.specs.declared.paths.LocalPath.{LocalPath}
 use Rattle.ebpf_core.specs.declared.paths.NamedPath.TheVariants as paths
-use Rattle.ebpf_core_relo.specs.Absences.{absence_among, absence_of, field_absence, furthest, has_member, leads, members_of_id, without_place}
+use Rattle.ebpf_core_relo.specs.Absences.{absence_among, absence_of, field_absence, furthest, has_member, leads, members_of_id, without_position}
 use Rattle.ebpf_core_relo.specs.declared.absence.Absence.TheVariants.{NoValue}
 
 -- A candidate comes furthest along a path, and so far: so many steps lead somewhere in it, more lead nowhere in any, and
@@ -43,7 +43,7 @@ NoneLeads =
 -- Both sides of a record could be read, and the reason is that of its path among its candidates.
 pub record IsPathAbsence (local target : TypeInfo) (r : Relocation) : Type 0 where
   pub path : LocalPath
-  pub side : local_path local (without_place r) ≡ Ok path
+  pub side : local_path local (without_position r) ≡ Ok path
   pub ids : List ℕ
   pub candidates : candidates_for local target r.type_id ≡ Ok ids
   pub absence : absence_of local target r ≡ absence_among local target path.path ids

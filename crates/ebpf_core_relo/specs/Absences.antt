@@ -126,10 +126,10 @@ abbrev pub absence_by : TypeInfo → TypeInfo → Result (List ℕ) BtfError →
 absence_by local target ids (Ok path) = absence_in local target path.path ids
 absence_by local target ids (Err fault) = NoType
 
--- what a record asks, without its own place: its number and its instruction make no difference
-abbrev pub without_place : Relocation → Relocation
-without_place r = record r { number = 0; insn_off = 0 }
+-- what a record asks, without its own position: its number and its instruction make no difference
+abbrev pub without_position : Relocation → Relocation
+without_position r = record r { number = 0; insn_off = 0 }
 
 -- why a record that has no value has none
 unfoldable pub absence_of : TypeInfo → TypeInfo → Relocation → Absence
-absence_of local target r = absence_by local target (candidates_for local target r.type_id) (local_path local (without_place r))
+absence_of local target r = absence_by local target (candidates_for local target r.type_id) (local_path local (without_position r))

@@ -8,19 +8,19 @@ abbrev pub tops : ℕ → List Span → List ℕ
 tops top [] = []
 tops top (s ∷ spans) = max top s.end ∷ tops (max top s.end) spans
 
--- whether each begins no earlier than the one before it, and the first no earlier than a place
+-- whether each begins no earlier than the one before it, and the first no earlier than a start
 abbrev pub rises : ℕ → List Span → Bool
-rises place [] = true
-rises place (s ∷ spans) = nat_le place s.start && rises s.start spans
+rises start [] = true
+rises start (s ∷ spans) = nat_le start s.start && rises s.start spans
 
--- the greatest end of all, and the place where the last one begins
+-- the greatest end of all, and the start of the last one
 abbrev pub last_top : ℕ → List Span → ℕ
 last_top top [] = top
 last_top top (s ∷ spans) = last_top (max top s.end) spans
 
 abbrev pub last_start : ℕ → List Span → ℕ
-last_start place [] = place
-last_start place (s ∷ spans) = last_start s.start spans
+last_start start [] = start
+last_start start (s ∷ spans) = last_start s.start spans
 
 pub record IsTopped (spans : List Span) (ends : List ℕ) (top start : ℕ) : Type 0 where
   pub ends_are : ends ≡ tops 0 spans

@@ -4,7 +4,7 @@ ghost use Rattle.std.specs.Prelude.{◌≡◌, IfOk};
 ghost use Rattle.ebpf_core.specs.Questions.{question_of};
 ghost use Rattle.ebpf_core.specs.LocalPaths.{local_path};
 ghost use Rattle.ebpf_core.specs.Searches.{candidates_for, candidates_named, was_enum64};
-ghost use Rattle.ebpf_core_relo.specs.Absences.{absence_by, absence_in, absence_of, without_place};
+ghost use Rattle.ebpf_core_relo.specs.Absences.{absence_by, absence_in, absence_of, without_position};
 
 use crate::absence::{Absence, absence_among};
 use crate::memory::{unless_memory, unless_memory_of_types};
@@ -87,9 +87,9 @@ fn question_of(relocation: &Relocation) -> Question
     )
 }
 
-/// What a record asks, without its own place.
-fn without_place(relocation: &Relocation) -> Relocation
-    ensures { result ≡ without_place relocation.now }
+/// What a record asks, without its own position.
+fn without_position(relocation: &Relocation) -> Relocation
+    ensures { result ≡ without_position relocation.now }
 {
     Relocation {
         number: 0,
@@ -165,7 +165,7 @@ impl<'a> Absences<'a> {
         ensures absence { IfOk result (λ absence. absence ≡ absence_of self.old.local self.old.target relocation.now) }
         ensures stays { self.new ≡ self.old }
     {
-        let question = without_place(relocation);
+        let question = without_position(relocation);
         let path = match local_path(alloc, self.local, &question) {
             Ok(path) => path,
             Err(fault) => {

@@ -100,11 +100,11 @@ is_less a b = by_case (nat_lt a b) (a == b) refl refl
     by_case false true e f = rw (e, f) refl
     by_case false false e f = rw (e, f) refl
 
-tied : (slot : ℕ) (p : RecordIndex) → ties (λ x y. is_lt (nat_cmp x.slot y.slot)) (record { slot = slot; place = 0 }) p ≡ is_at_slot slot p
+tied : (slot : ℕ) (p : RecordIndex) → ties (λ x y. is_lt (nat_cmp x.slot y.slot)) (record { slot = slot; index = 0 }) p ≡ is_at_slot slot p
 tied slot p = rw (is_less slot p.slot, is_less p.slot slot) (bool_same _ _ (λ e. grind (arith, nat_tests)) (λ e. grind (arith, nat_tests)))
 
 pub stable_at : (xs ys : List RecordIndex) → IsStableByKey (λ p. p.slot) nat_cmp xs ys → (slot : ℕ) → filter (is_at_slot slot) ys ≡ filter (is_at_slot slot) xs
-stable_at xs ys stable slot = sym (filter_agree _ _ (tied slot) ys) ∙ stable (record { slot = slot; place = 0 }) ∙ filter_agree _ _ (tied slot) xs
+stable_at xs ys stable slot = sym (filter_agree _ _ (tied slot) ys) ∙ stable (record { slot = slot; index = 0 }) ∙ filter_agree _ _ (tied slot) xs
 
 module _ {X : Type 0} (slot : X → ℕ) where
   pub begin_in_order : (a b : ℕ) (xs : List X) (i j : ℕ) → RowsBeginAt slot a xs i → RowsBeginAt slot b xs j → a ≤ b → i ≤ length xs → i ≤ j
@@ -126,7 +126,7 @@ module _ {X : Type 0} (slot : X → ℕ) where
       (λ k d from to. let above = low.1 k d from (omega arith) in let below = high.0 k d (omega arith) (omega arith) in grind (arith, nat_tests, above, below))
       (λ k d from to. let above = high.1 k d (omega arith) to in grind (arith, nat_tests, above)))
 
-  -- what the rows beside a place say of all of them
+  -- what the rows beside an index say of all of them
   pub begin_at : (s : ℕ) (xs : List X) (n : ℕ) → IsNonDecreasingBy slot xs → n ≤ length xs
       → ((d : X) → 0 < n → slot (get_or xs (n - 1) d) < s) → ((d : X) → n < length xs → s ≤ slot (get_or xs n d)) → RowsBeginAt slot s xs n
   begin_at s xs n rising within before after = (
@@ -134,7 +134,7 @@ module _ {X : Type 0} (slot : X → ℕ) where
     λ k d low high. let first = after d (omega arith) in let up : slot (get_or xs n d) ≤ slot (get_or xs k d) = rising n k d low high in omega (arith, first, up),
   )
 
-  -- rows of which those up to a place are below a limit, and the one there isn't
+  -- rows of which those up to an index are below a limit, and the one there isn't
   pub begin_behind : (limit : ℕ) (xs : List X) (n : ℕ) → IsNonDecreasingBy slot xs → ((k : ℕ) (d : X) → k < n → slot (get_or xs k d) < limit)
       → ((d : X) → n < length xs → limit ≤ slot (get_or xs n d)) → RowsBeginAt slot limit xs n
   begin_behind limit xs n rising below after = (
@@ -200,7 +200,7 @@ module _ {X : Type 0} (slot : X → ℕ) where
       let there : flat_map (λ s. filter (stands_at s) ys) slots ≡ flat_map (λ s. filter (stands_at s) xs) slots = λ i. flat_map (λ s. sym (same s) i) slots in
       IsPermutation-trans _ _ _ (gathered xs first count) (subst (λ l. IsPermutation l (filter (stands_in first count) ys)) there (IsPermutation-sym _ _ (gathered ys first count)))
 
--- ---- places with the slots of a function
+-- ---- indices with the slots of a function
 
 module _ {X Y : Type 0} (t : X → Bool) (h : X → Y) (f : ℕ → X) where
   kept_more : (i : ℕ) (is : List ℕ) (b : Bool) → t (f i) ≡ b → map h (filter t (map f is)) ≡ map (λ k. h (f k)) (filter (λ k. t (f k)) is)
@@ -212,20 +212,20 @@ module _ {X Y : Type 0} (t : X → Bool) (h : X → Y) (f : ℕ → X) where
   kept_of [] = refl
   kept_of (i ∷ is) = kept_more i is (t (f i)) refl (kept_of is)
 
-numbers_kept : (t : RecordIndex → Bool) (slot : ℕ → ℕ) (n : ℕ) → map (λ p. p.place) (filter t (indices_with slot n)) ≡ filter (λ i. t (record { slot = slot i; place = i })) (range_with_len 0 n)
-numbers_kept t slot n = kept_of t (λ p. p.place) (λ i. record { slot = slot i; place = i }) (range_with_len 0 n) ∙ map-id _
+numbers_kept : (t : RecordIndex → Bool) (slot : ℕ → ℕ) (n : ℕ) → map (λ p. p.index) (filter t (indices_with slot n)) ≡ filter (λ i. t (record { slot = slot i; index = i })) (range_with_len 0 n)
+numbers_kept t slot n = kept_of t (λ p. p.index) (λ i. record { slot = slot i; index = i }) (range_with_len 0 n) ∙ map-id _
 
-module _ (slot : ℕ → ℕ) (n first count : ℕ) (places : List RecordIndex) (sorted : List ℕ) where
-  -- sorted again they are the places of the slots in order
-  pub in_order : ((q : ℕ) → filter (is_at_slot q) places ≡ filter (is_at_slot q) (indices_with slot n))
-      → IsPermutation (map (λ p. p.place) (filter (is_slot_among first count) places)) sorted → IsSorted nat_cmp sorted
+module _ (slot : ℕ → ℕ) (n first count : ℕ) (indices : List RecordIndex) (sorted : List ℕ) where
+  -- sorted again they are the indices of the slots in order
+  pub in_order : ((q : ℕ) → filter (is_at_slot q) indices ≡ filter (is_at_slot q) (indices_with slot n))
+      → IsPermutation (map (λ p. p.index) (filter (is_slot_among first count) indices)) sorted → IsSorted nat_cmp sorted
       → sorted ≡ filter (stands_in slot first count) (range_with_len 0 n)
   in_order by_slot moved up =
       let wanted = filter (stands_in slot first count) (range_with_len 0 n) in
       let rising : IsStrictlySortedBy nat_cmp wanted = IsStrictlySortedBy-filter nat_cmp (stands_in slot first count) (range_with_len 0 n) (range_rises 0 n) in
       let apart : IsDistinct (eq_by_cmp nat_cmp) wanted = IsDistinct-from_sorted nat_cmp wanted rising in
-      let object_tables : IsPermutation (filter (is_slot_among first count) (indices_with slot n)) (filter (is_slot_among first count) places) = same_parts (λ p. p.slot) _ _ first count (λ q. sym (by_slot q)) in
-      let numbers : IsPermutation wanted (map (λ p. p.place) (filter (is_slot_among first count) places)) = subst (λ l. IsPermutation l (map (λ p. p.place) (filter (is_slot_among first count) places))) (numbers_kept (is_slot_among first count) slot n) (IsPermutation-map (λ p. p.place) _ _ object_tables) in
+      let object_tables : IsPermutation (filter (is_slot_among first count) (indices_with slot n)) (filter (is_slot_among first count) indices) = same_parts (λ p. p.slot) _ _ first count (λ q. sym (by_slot q)) in
+      let numbers : IsPermutation wanted (map (λ p. p.index) (filter (is_slot_among first count) indices)) = subst (λ l. IsPermutation l (map (λ p. p.index) (filter (is_slot_among first count) indices))) (numbers_kept (is_slot_among first count) slot n) (IsPermutation-map (λ p. p.index) _ _ object_tables) in
       let all : IsPermutation wanted sorted = IsPermutation-trans _ _ _ numbers moved in
       let flips : (x y : ℕ) → eq_by_cmp nat_cmp x y ≡ eq_by_cmp nat_cmp y x = λ x y. (eq_by_cmp_equiv nat_cmp_total).symm x y in
       same_keys nat_cmp_total nat_cmp-IsAntisymmetric sorted wanted
@@ -233,7 +233,7 @@ module _ (slot : ℕ → ℕ) (n first count : ℕ) (places : List RecordIndex) 
       rising
       (λ q. sym (list_any-IsPermutation (eq_by_cmp nat_cmp q) wanted sorted all))
 
--- ---- what stands at the places
+-- ---- what stands at the indices
 
 module _ {X Y : Type 0} (g : X → Y) (p : X → Bool) where
   by_entry_range : (f : ℕ → X) (a : ℕ) (xs : List X) (d : X) → ((k : ℕ) → k < length xs → f (a + k) ≡ get_or xs k d)
@@ -251,24 +251,24 @@ module _ {X Y : Type 0} (g : X → Y) (p : X → Bool) where
       by_case true e head h = rw (e, ap p (sym head) ∙ e) (λ k. g (head k) ∷ h k)
       by_case false e head h = rw (e, ap p (sym head) ∙ e) h
 
-  pub rows_at_places : (xs : List X) (d : X) → map (λ i. g (get_or xs i d)) (filter (λ i. p (get_or xs i d)) (range_with_len 0 (length xs))) ≡ map g (filter p xs)
-  rows_at_places xs d = by_entry_range (λ i. get_or xs i d) 0 xs d (λ k below. let same : 0 + k ≡ k = omega arith in ap (λ n. get_or xs n d) same)
+  pub rows_at_indices : (xs : List X) (d : X) → map (λ i. g (get_or xs i d)) (filter (λ i. p (get_or xs i d)) (range_with_len 0 (length xs))) ≡ map g (filter p xs)
+  rows_at_indices xs d = by_entry_range (λ i. get_or xs i d) 0 xs d (λ k below. let same : 0 + k ≡ k = omega arith in ap (λ n. get_or xs n d) same)
 
 -- ---- line info records
 
-module _ (first count : ℕ) (rows : List bpf_line_info) (places : List RecordIndex) (sorted : List ℕ) where
-  pub lines_found : (base : ℕ) → ((q : ℕ) → filter (is_at_slot q) places ≡ filter (is_at_slot q) (indices_with (line_slot rows) (length rows)))
-      → IsPermutation (map (λ p. p.place) (filter (is_slot_among first count) places)) sorted → IsSorted nat_cmp sorted
+module _ (first count : ℕ) (rows : List bpf_line_info) (indices : List RecordIndex) (sorted : List ℕ) where
+  pub lines_found : (base : ℕ) → ((q : ℕ) → filter (is_at_slot q) indices ≡ filter (is_at_slot q) (indices_with (line_slot rows) (length rows)))
+      → IsPermutation (map (λ p. p.index) (filter (is_slot_among first count) indices)) sorted → IsSorted nat_cmp sorted
       → map (λ i. line_from base (line_at rows i)) sorted ≡ map (line_from base) (filter (is_line_in first count) rows)
   lines_found base by_slot moved up =
-      ap (map (λ i. line_from base (line_at rows i))) (in_order (line_slot rows) (length rows) first count places sorted by_slot moved up)
-      ∙ rows_at_places (line_from base) (is_line_in first count) rows _
+      ap (map (λ i. line_from base (line_at rows i))) (in_order (line_slot rows) (length rows) first count indices sorted by_slot moved up)
+      ∙ rows_at_indices (line_from base) (is_line_in first count) rows _
 
-  pub lines_inside : ((q : ℕ) → filter (is_at_slot q) places ≡ filter (is_at_slot q) (indices_with (line_slot rows) (length rows)))
-      → IsPermutation (map (λ p. p.place) (filter (is_slot_among first count) places)) sorted → IsSorted nat_cmp sorted
+  pub lines_inside : ((q : ℕ) → filter (is_at_slot q) indices ≡ filter (is_at_slot q) (indices_with (line_slot rows) (length rows)))
+      → IsPermutation (map (λ p. p.index) (filter (is_slot_among first count) indices)) sorted → IsSorted nat_cmp sorted
       → All (λ i. i < length rows) sorted
   lines_inside by_slot moved up =
-      subst (All (λ i. i < length rows)) (sym (in_order (line_slot rows) (length rows) first count places sorted by_slot moved up))
+      subst (All (λ i. i < length rows)) (sym (in_order (line_slot rows) (length rows) first count indices sorted by_slot moved up))
       (All-filter (stands_in (line_slot rows) first count) (λ i. i < length rows) (range_with_len 0 (length rows)) (below_end (length rows)))
 
 -- slots that are counted from the first one
@@ -281,20 +281,20 @@ lines_kept (r ∷ rows) =
 
 -- ---- func info records
 
-module _ (first : ℕ) (rows : List bpf_func_info) (places part : List RecordIndex) where
-  pub funcs_found : (base : ℕ) → part ≡ filter (is_at_slot first) places → filter (is_at_slot first) places ≡ filter (is_at_slot first) (indices_with (func_slot rows) (length rows))
-      → map (λ p. func_from base (func_at rows p.place)) part ≡ map (func_from base) (filter (is_func_at first) rows)
+module _ (first : ℕ) (rows : List bpf_func_info) (indices part : List RecordIndex) where
+  pub funcs_found : (base : ℕ) → part ≡ filter (is_at_slot first) indices → filter (is_at_slot first) indices ≡ filter (is_at_slot first) (indices_with (func_slot rows) (length rows))
+      → map (λ p. func_from base (func_at rows p.index)) part ≡ map (func_from base) (filter (is_func_at first) rows)
   funcs_found base here same =
-      ap (map (λ p. func_from base (func_at rows p.place))) (here ∙ same)
-      ∙ kept_of (is_at_slot first) (λ p. func_from base (func_at rows p.place)) (λ i. record { slot = func_slot rows i; place = i }) (range_with_len 0 (length rows))
-      ∙ rows_at_places (func_from base) (is_func_at first) rows _
+      ap (map (λ p. func_from base (func_at rows p.index))) (here ∙ same)
+      ∙ kept_of (is_at_slot first) (λ p. func_from base (func_at rows p.index)) (λ i. record { slot = func_slot rows i; index = i }) (range_with_len 0 (length rows))
+      ∙ rows_at_indices (func_from base) (is_func_at first) rows _
 
-  pub funcs_inside : part ≡ filter (is_at_slot first) places → filter (is_at_slot first) places ≡ filter (is_at_slot first) (indices_with (func_slot rows) (length rows))
-      → All (λ p. p.place < length rows) part
+  pub funcs_inside : part ≡ filter (is_at_slot first) indices → filter (is_at_slot first) indices ≡ filter (is_at_slot first) (indices_with (func_slot rows) (length rows))
+      → All (λ p. p.index < length rows) part
   funcs_inside here same =
-      subst (All (λ p. p.place < length rows)) (sym (here ∙ same))
-      (All-filter (is_at_slot first) (λ p. p.place < length rows) (indices_with (func_slot rows) (length rows))
-      (All-map (λ p. p.place < length rows) (λ i. record { slot = func_slot rows i; place = i }) (range_with_len 0 (length rows)) (below_end (length rows))))
+      subst (All (λ p. p.index < length rows)) (sym (here ∙ same))
+      (All-filter (is_at_slot first) (λ p. p.index < length rows) (indices_with (func_slot rows) (length rows))
+      (All-map (λ p. p.index < length rows) (λ i. record { slot = func_slot rows i; index = i }) (range_with_len 0 (length rows)) (below_end (length rows))))
 
 pub funcs_kept : (rows : List bpf_func_info) → map (func_from 0) rows ≡ rows
 funcs_kept [] = refl
@@ -303,22 +303,22 @@ funcs_kept (r ∷ rows) =
     let here : func_from 0 r ≡ r = ap (λ n. record r { insn_off = n }) same in
     ap (λ x. x ∷ map (func_from 0) rows) here ∙ ap (λ l. r ∷ l) (funcs_kept rows)
 
--- ---- places one after the other
+-- ---- indices one after the other
 
-pub places_more : (slot : ℕ → ℕ) (xs : List RecordIndex) (n i : ℕ) (p : RecordIndex) → i < n → p ≡ record { slot = slot i; place = i }
-    → (xs ++ p ∷ []) ++ map (λ k. record { slot = slot k; place = k }) (range_with_len (i + 1) (n - (i + 1))) ≡ xs ++ map (λ k. record { slot = slot k; place = k }) (range_with_len i (n - i))
-places_more slot xs n i p below here =
+pub indices_more : (slot : ℕ → ℕ) (xs : List RecordIndex) (n i : ℕ) (p : RecordIndex) → i < n → p ≡ record { slot = slot i; index = i }
+    → (xs ++ p ∷ []) ++ map (λ k. record { slot = slot k; index = k }) (range_with_len (i + 1) (n - (i + 1))) ≡ xs ++ map (λ k. record { slot = slot k; index = k }) (range_with_len i (n - i))
+indices_more slot xs n i p below here =
     let left : n - i ≡ suc (n - (i + 1)) = omega arith in
     append_assoc xs (p ∷ []) _
-    ∙ ap (λ q. xs ++ q ∷ map (λ k. record { slot = slot k; place = k }) (range_with_len (i + 1) (n - (i + 1)))) here
-    ∙ ap (λ k. xs ++ map (λ k. record { slot = slot k; place = k }) (range_with_len i k)) (sym left)
+    ∙ ap (λ q. xs ++ q ∷ map (λ k. record { slot = slot k; index = k }) (range_with_len (i + 1) (n - (i + 1)))) here
+    ∙ ap (λ k. xs ++ map (λ k. record { slot = slot k; index = k }) (range_with_len i k)) (sym left)
 
-pub places_start : (slot : ℕ → ℕ) (n : ℕ) → map (λ k. record { slot = slot k; place = k }) (range_with_len 0 (n - 0)) ≡ indices_with slot n
-places_start slot n =
+pub indices_start : (slot : ℕ → ℕ) (n : ℕ) → map (λ k. record { slot = slot k; index = k }) (range_with_len 0 (n - 0)) ≡ indices_with slot n
+indices_start slot n =
     let all : n - 0 ≡ n = omega arith in
     ap (λ k. indices_with slot k) all
 
-pub places_none : (slot : ℕ → ℕ) (xs : List RecordIndex) (n i : ℕ) → n ≤ i → xs ++ map (λ k. record { slot = slot k; place = k }) (range_with_len i (n - i)) ≡ xs
-places_none slot xs n i past =
+pub indices_none : (slot : ℕ → ℕ) (xs : List RecordIndex) (n i : ℕ) → n ≤ i → xs ++ map (λ k. record { slot = slot k; index = k }) (range_with_len i (n - i)) ≡ xs
+indices_none slot xs n i past =
     let none : n - i ≡ 0 = omega arith in
-    ap (λ k. xs ++ map (λ k. record { slot = slot k; place = k }) (range_with_len i k)) none ∙ append-nil xs
+    ap (λ k. xs ++ map (λ k. record { slot = slot k; index = k }) (range_with_len i k)) none ∙ append-nil xs

@@ -21,7 +21,7 @@ struct_bytes s y = slice_range s.bytes y.address (y.address + y.size)
 -- The number of four bytes from an offset of the struct on, little endian in each file. A struct may end
 -- before its last two numbers; a byte that it lacks is zero.
 unfoldable pub word_at : List ℕ → ℕ → ℕ
-word_at bytes place = number_at Little 4 bytes place
+word_at bytes offset = number_at Little 4 bytes offset
 
 -- 0 says no pinning, 1 pinning by name
 abbrev pub legacy_pinning : ℕ → PinningType

@@ -82,14 +82,14 @@ pub record AreFuncsOf (infos : FinMap text_cmp FuncSecInfo) (table : FinMap text
 pub record AreLinesOf (infos : FinMap text_cmp LineSecInfo) (table : FinMap text_cmp LineSecInfo) : Type 0 where
   pub are : (name : List ℕ) (lines : LineSecInfo) → get table name ≡ Some lines → lines ≡ line_info_at infos name
 
--- a record of a list, by its place, and the slot that it names
+-- a record of a list, by its index, and the slot that it names
 abbrev pub func_at : List bpf_func_info → ℕ → bpf_func_info
 func_at rows i = slice_index_or rows i (record { insn_off = 0; type_id = 0 })
 
 abbrev pub func_slot : List bpf_func_info → ℕ → ℕ
 func_slot rows i = (func_at rows i).insn_off
 
--- a record of a list, by its place, and the slot that it names
+-- a record of a list, by its index, and the slot that it names
 abbrev pub line_at : List bpf_line_info → ℕ → bpf_line_info
 line_at rows i = slice_index_or rows i (record { insn_off = 0; file_name_off = 0; line_off = 0; line_col = 0 })
 

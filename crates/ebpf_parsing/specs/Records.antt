@@ -44,7 +44,7 @@ func_and_line_info_of ext name = record {
 
 -- the index of the slot that an offset in the section falls into; a slot has 8 bytes
 abbrev pub slot_of : ℕ → ℕ
-slot_of place = place / 8
+slot_of offset = offset / 8
 
 -- ---- the records on the function that begins at a slot; the counts stay the section's
 

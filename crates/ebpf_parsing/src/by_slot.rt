@@ -1,7 +1,7 @@
 //! Rows in the order of the slots that they name, and the part of them that names some slots.
 //!
 //! Functions are asked for in the order of their slots, so the part of the next one mostly begins where the last one
-//! ended: that place is tried first, and only else the rows are searched.
+//! ended: that index is tried first, and only else the rows are searched.
 
 ghost use Rattle.std.specs.Prelude.{◌≡◌, ◌+◌, ◌-◌, ◌<◌, ◌≤◌, ℕ, filter, length, slice_index_or};
 ghost use Rattle.std.specs.Bool.{OnTrue};
@@ -43,46 +43,46 @@ fn lower_bound<R: NamesSlot>(rows: &[R], slot: usize) -> usize
     rows.partition_point(|row| (row.slot() as usize) < slot)
 }
 
-/// Whether the row before a place names a lower slot than one, where there is a row.
-fn ends_below<R: NamesSlot>(rows: &[R], place: usize, slot: usize) -> bool
-    requires { place ≤ length rows.now }
-    ensures { OnTrue result ((d : R) → 0 < place → R.slot_of (slice_index_or rows.now (place - 1) d) < slot) }
+/// Whether the row before an index names a lower slot than one, where there is a row.
+fn ends_below<R: NamesSlot>(rows: &[R], index: usize, slot: usize) -> bool
+    requires { index ≤ length rows.now }
+    ensures { OnTrue result ((d : R) → 0 < index → R.slot_of (slice_index_or rows.now (index - 1) d) < slot) }
 {
-    if place == 0 {
+    if index == 0 {
         return true;
     }
-    (rows[place - 1].slot() as usize) < slot
+    (rows[index - 1].slot() as usize) < slot
 }
 
-/// Whether the row at a place names no lower slot than one, where there is a row.
-fn begins_above<R: NamesSlot>(rows: &[R], place: usize, slot: usize) -> bool
-    ensures { OnTrue result ((d : R) → place < length rows.now → slot ≤ R.slot_of (slice_index_or rows.now place d)) }
+/// Whether the row at an index names no lower slot than one, where there is a row.
+fn begins_above<R: NamesSlot>(rows: &[R], index: usize, slot: usize) -> bool
+    ensures { OnTrue result ((d : R) → index < length rows.now → slot ≤ R.slot_of (slice_index_or rows.now index d)) }
 {
-    if place >= rows.len() {
+    if index >= rows.len() {
         return true;
     }
-    rows[place].slot() as usize >= slot
+    rows[index].slot() as usize >= slot
 }
 
-/// Whether the rows before a place name lower slots than one, and those from there on don't.
-fn begins_at<R: NamesSlot>(rows: &[R], place: usize, slot: usize) -> bool
+/// Whether the rows before an index name lower slots than one, and those from there on don't.
+fn begins_at<R: NamesSlot>(rows: &[R], index: usize, slot: usize) -> bool
     requires { IsNonDecreasingBy R.slot_of rows.now }
-    ensures within { OnTrue result (place ≤ length rows.now) }
-    ensures cut { OnTrue result (RowsBeginAt R.slot_of slot rows.now place) }
+    ensures within { OnTrue result (index ≤ length rows.now) }
+    ensures cut { OnTrue result (RowsBeginAt R.slot_of slot rows.now index) }
 {
-    if place > rows.len() {
+    if index > rows.len() {
         return false;
     }
-    if !ends_below(rows, place, slot) {
+    if !ends_below(rows, index, slot) {
         return false;
     }
-    if !begins_above(rows, place, slot) {
+    if !begins_above(rows, index, slot) {
         return false;
     }
     true
 }
 
-/// How many rows stand before those of a slot, where a place is tried first.
+/// How many rows stand before those of a slot, where an index is tried first.
 fn start_of<R: NamesSlot>(rows: &[R], guess: usize, slot: usize) -> usize
     requires { IsNonDecreasingBy R.slot_of rows.now }
     ensures within { result ≤ length rows.now }
@@ -94,7 +94,7 @@ fn start_of<R: NamesSlot>(rows: &[R], guess: usize, slot: usize) -> usize
     lower_bound(rows, slot)
 }
 
-/// How many rows stand before those of a slot, from the place on where those of a slot before it begin.
+/// How many rows stand before those of a slot, from the index on where those of a slot before it begin.
 fn end_of<R: NamesSlot>(rows: &[R], start: usize, limit: u128) -> usize
     requires rising { IsNonDecreasingBy R.slot_of rows.now }
     requires within { start ≤ length rows.now }
@@ -110,7 +110,7 @@ fn end_of<R: NamesSlot>(rows: &[R], start: usize, limit: u128) -> usize
     end
 }
 
-/// The rows of so many slots from a slot on. `next` is where they may begin, and becomes the place behind them.
+/// The rows of so many slots from a slot on. `next` is where they may begin, and becomes the index behind them.
 pub fn rows_among<'r, R: NamesSlot>(
     rows: &'r [R],
     next: &Cell<usize>,

@@ -18,25 +18,25 @@ const LEAST_SIZE: u64 = 20;
 /// Where the number of the pinning stands.
 const PINNING: usize = 24;
 
-/// The byte at a place, 0 where there is none.
-fn byte_at(bytes: &[u8], place: usize) -> u32
-    ensures byte { result ≡ slice_index bytes.now place }
+/// The byte at an offset, 0 where there is none.
+fn byte_at(bytes: &[u8], offset: usize) -> u32
+    ensures byte { result ≡ slice_index bytes.now offset }
     ensures small { result < 256 }
 {
-    match bytes.get(place) {
+    match bytes.get(offset) {
         Some(byte) => u32::from(*byte),
         None => 0,
     }
 }
 
-/// The number in the four bytes from a place on.
+/// The number in the four bytes from an offset on.
 #[tactic(auto, using(crate::proofs::Words::word_by_bytes))]
-fn word_at(bytes: &[u8], place: usize) -> u32
-    requires { place ≤ 24 }
-    ensures { result ≡ word_at bytes.now place }
+fn word_at(bytes: &[u8], offset: usize) -> u32
+    requires { offset ≤ 24 }
+    ensures { result ≡ word_at bytes.now offset }
 {
-    let low = byte_at(bytes, place) + 256 * byte_at(bytes, place + 1);
-    let high = byte_at(bytes, place + 2) + 256 * byte_at(bytes, place + 3);
+    let low = byte_at(bytes, offset) + 256 * byte_at(bytes, offset + 1);
+    let high = byte_at(bytes, offset + 2) + 256 * byte_at(bytes, offset + 3);
     low + 65536 * high
 }
 

@@ -47,9 +47,9 @@ pub struct FuncRecords<'e> {
     records: &'e [bpf_func_info],
     in_order: bool,
     next: Cell<usize>,
-    places: RecordsBySlot,
+    indices: RecordsBySlot,
     ghost rising: { in_order ≡ true → IsNonDecreasingBy slot_of_func records.now },
-    ghost grouped: { in_order ≡ false → (q : ℕ) → filter (is_at_slot q) places ≡ filter (is_at_slot q) (indices_with (func_slot records.now) (length records.now)) },
+    ghost grouped: { in_order ≡ false → (q : ℕ) → filter (is_at_slot q) indices ≡ filter (is_at_slot q) (indices_with (func_slot records.now) (length records.now)) },
 }
 
 impl<'e> Model for FuncRecords<'e> {
@@ -69,9 +69,9 @@ pub struct LineRecords<'e> {
     records: &'e [bpf_line_info],
     in_order: bool,
     next: Cell<usize>,
-    places: RecordsBySlot,
+    indices: RecordsBySlot,
     ghost rising: { in_order ≡ true → IsNonDecreasingBy slot_of_line records.now },
-    ghost grouped: { in_order ≡ false → (q : ℕ) → filter (is_at_slot q) places ≡ filter (is_at_slot q) (indices_with (line_slot records.now) (length records.now)) },
+    ghost grouped: { in_order ≡ false → (q : ℕ) → filter (is_at_slot q) indices ≡ filter (is_at_slot q) (indices_with (line_slot records.now) (length records.now)) },
 }
 
 impl<'e> Model for LineRecords<'e> {
@@ -99,17 +99,17 @@ impl<'e> FuncRecords<'e> {
                 records,
                 in_order: true,
                 next: Cell::new(0),
-                places: RecordsBySlot::none(alloc),
+                indices: RecordsBySlot::none(alloc),
             });
         }
-        let places = RecordsBySlot::sorted(func_indices(alloc, records)?)?;
+        let indices = RecordsBySlot::sorted(func_indices(alloc, records)?)?;
         Ok(FuncRecords {
             name_offset,
             count,
             records,
             in_order: false,
             next: Cell::new(0),
-            places,
+            indices,
         })
     }
 
@@ -151,7 +151,7 @@ impl<'e> FuncRecords<'e> {
         if self.in_order {
             return funcs_counted_from(alloc, rows_among(self.records, &self.next, first, 1), base);
         }
-        let kept = funcs_from(alloc, self.records, self.places.at(first), base)?;
+        let kept = funcs_from(alloc, self.records, self.indices.at(first), base)?;
         Ok(kept)
     }
 
@@ -199,20 +199,20 @@ fn funcs_counted_from(
     Ok(Items::from_vec(kept))
 }
 
-/// The records at some places, their slots counted from another one.
+/// The records at some indices, their slots counted from another one.
 fn funcs_from(
     alloc: Global,
     rows: &[bpf_func_info],
-    places: &[RecordIndex],
+    indices: &[RecordIndex],
     base: usize,
 ) -> Result<Items<bpf_func_info>, ParseError>
-    requires { All (λ p. p.place < length rows.now) places.now }
-    ensures records { IfOk result (λ kept. kept ≡ map (λ p. func_from base (func_at rows.now p.place)) places.now) }
+    requires { All (λ p. p.index < length rows.now) indices.now }
+    ensures records { IfOk result (λ kept. kept ≡ map (λ p. func_from base (func_at rows.now p.index)) indices.now) }
     ensures memory { IfErr result (λ e. is_memory e ≡ true) }
 {
-    let mut kept = Vec::with_capacity(alloc, places.len())?;
-    for place in places {
-        kept.push(func_from(base, &rows[place.place]))?;
+    let mut kept = Vec::with_capacity(alloc, indices.len())?;
+    for index in indices {
+        kept.push(func_from(base, &rows[index.index]))?;
     }
     Ok(Items::from_vec(kept))
 }
@@ -249,20 +249,20 @@ fn lines_counted_from(
     Ok(Items::from_vec(kept))
 }
 
-/// The records at some places, their slots counted from another one.
+/// The records at some indices, their slots counted from another one.
 fn lines_from(
     alloc: Global,
     rows: &[bpf_line_info],
-    places: &[usize],
+    indices: &[usize],
     base: usize,
 ) -> Result<Items<bpf_line_info>, ParseError>
-    requires { All (λ i. i < length rows.now) places.now }
-    ensures records { IfOk result (λ kept. kept ≡ map (λ i. line_from base (line_at rows.now i)) places.now) }
+    requires { All (λ i. i < length rows.now) indices.now }
+    ensures records { IfOk result (λ kept. kept ≡ map (λ i. line_from base (line_at rows.now i)) indices.now) }
     ensures memory { IfErr result (λ e. is_memory e ≡ true) }
 {
-    let mut kept = Vec::with_capacity(alloc, places.len())?;
-    for place in places {
-        kept.push(line_from(base, &rows[*place]))?;
+    let mut kept = Vec::with_capacity(alloc, indices.len())?;
+    for index in indices {
+        kept.push(line_from(base, &rows[*index]))?;
     }
     Ok(Items::from_vec(kept))
 }
@@ -284,17 +284,17 @@ impl<'e> LineRecords<'e> {
                 records,
                 in_order: true,
                 next: Cell::new(0),
-                places: RecordsBySlot::none(alloc),
+                indices: RecordsBySlot::none(alloc),
             });
         }
-        let places = RecordsBySlot::sorted(line_indices(alloc, records)?)?;
+        let indices = RecordsBySlot::sorted(line_indices(alloc, records)?)?;
         Ok(LineRecords {
             name_offset,
             count,
             records,
             in_order: false,
             next: Cell::new(0),
-            places,
+            indices,
         })
     }
 
@@ -338,8 +338,8 @@ impl<'e> LineRecords<'e> {
             let among = rows_among(self.records, &self.next, first, count);
             return lines_counted_from(alloc, among, base);
         }
-        let places = self.places.within(alloc, first, count)?;
-        let kept = lines_from(alloc, self.records, &places, base)?;
+        let indices = self.indices.within(alloc, first, count)?;
+        let kept = lines_from(alloc, self.records, &indices, base)?;
         Ok(kept)
     }
 

@@ -21,7 +21,7 @@ use std::marker::Model;
 #[derive(Clone, Copy)]
 pub struct RecordIndex {
     pub slot: u32,
-    pub place: usize,
+    pub index: usize,
 }
 
 impl NamesSlot for RecordIndex {
@@ -35,9 +35,9 @@ impl NamesSlot for RecordIndex {
 /// The indices of records in the order of their slots, those of one slot in the order of the list.
 #[derive(Drop)]
 pub struct RecordsBySlot {
-    places: Vec<RecordIndex>,
+    indices: Vec<RecordIndex>,
     next: Cell<usize>,
-    ghost rising: { IsNonDecreasingBy (λ p. p.slot) places.items },
+    ghost rising: { IsNonDecreasingBy (λ p. p.slot) indices.items },
 }
 
 impl Model for RecordsBySlot {
@@ -46,26 +46,26 @@ impl Model for RecordsBySlot {
 
     ghost Value = { List RecordIndex };
 
-    ghost view = { λ s. s.places.items };
+    ghost view = { λ s. s.indices.items };
 }
 
 impl RecordsBySlot {
     /// No records, without memory.
     pub fn none(alloc: Global) -> RecordsBySlot {
         RecordsBySlot {
-            places: Vec::new(alloc),
+            indices: Vec::new(alloc),
             next: Cell::new(0),
         }
     }
 
     /// Indices, sorted by their slots.
-    pub fn sorted(mut places: Vec<RecordIndex>) -> Result<RecordsBySlot, ParseError>
-        ensures grouped { IfOk result (λ s. (q : ℕ) → filter (is_at_slot q) s ≡ filter (is_at_slot q) places.items) }
+    pub fn sorted(mut indices: Vec<RecordIndex>) -> Result<RecordsBySlot, ParseError>
+        ensures grouped { IfOk result (λ s. (q : ℕ) → filter (is_at_slot q) s ≡ filter (is_at_slot q) indices.items) }
         ensures memory { IfErr result (λ e. is_memory e ≡ true) }
     {
-        places.sort_by_key(|place| place.slot)?;
+        indices.sort_by_key(|index| index.slot)?;
         let next = Cell::new(0);
-        Ok(RecordsBySlot { places, next })
+        Ok(RecordsBySlot { indices, next })
     }
 
     /// The indices of the records at a slot.
@@ -73,7 +73,7 @@ impl RecordsBySlot {
     pub fn at(&self, slot: usize) -> &[RecordIndex]
         ensures { result.now ≡ filter (is_at_slot slot) self.now }
     {
-        rows_among(self.places.as_slice(), &self.next, slot, 1)
+        rows_among(self.indices.as_slice(), &self.next, slot, 1)
     }
 
     /// The indices of the records at so many slots from a slot on, in the order of the list.
@@ -83,59 +83,59 @@ impl RecordsBySlot {
         first: usize,
         count: usize,
     ) -> Result<Vec<usize>, ParseError>
-        ensures moved { IfOk result (λ places. IsPermutation (map (λ p. p.place) (filter (is_slot_among first count) self.now)) places.items) }
-        ensures sorted { IfOk result (λ places. IsSorted nat_cmp places.items) }
+        ensures moved { IfOk result (λ indices. IsPermutation (map (λ p. p.index) (filter (is_slot_among first count) self.now)) indices.items) }
+        ensures sorted { IfOk result (λ indices. IsSorted nat_cmp indices.items) }
         ensures memory { IfErr result (λ e. is_memory e ≡ true) }
     {
-        let among = rows_among(self.places.as_slice(), &self.next, first, count);
-        let mut places = indices_of(alloc, among)?;
-        places.sort_unstable();
-        Ok(places)
+        let among = rows_among(self.indices.as_slice(), &self.next, first, count);
+        let mut indices = indices_of(alloc, among)?;
+        indices.sort_unstable();
+        Ok(indices)
     }
 }
 
 /// The indices of some records.
-fn indices_of(alloc: Global, places: &[RecordIndex]) -> Result<Vec<usize>, ParseError>
-    ensures numbers { IfOk result (λ numbers. numbers.items ≡ map (λ p. p.place) places.now) }
+fn indices_of(alloc: Global, indices: &[RecordIndex]) -> Result<Vec<usize>, ParseError>
+    ensures numbers { IfOk result (λ numbers. numbers.items ≡ map (λ p. p.index) indices.now) }
     ensures memory { IfErr result (λ e. is_memory e ≡ true) }
 {
-    let mut numbers = Vec::with_capacity(alloc, places.len())?;
-    for place in places {
-        numbers.push(place.place)?;
+    let mut numbers = Vec::with_capacity(alloc, indices.len())?;
+    for index in indices {
+        numbers.push(index.index)?;
     }
     Ok(numbers)
 }
 
 /// The indices of func info records.
-#[tactic(auto, using(crate::proofs::RecordIndices::places_start, crate::proofs::RecordIndices::places_none))]
+#[tactic(auto, using(crate::proofs::RecordIndices::indices_start, crate::proofs::RecordIndices::indices_none))]
 pub fn func_indices(
     alloc: Global,
     records: &[bpf_func_info],
 ) -> Result<Vec<RecordIndex>, ParseError>
-    ensures places { IfOk result (λ places. places.items ≡ indices_with (func_slot records.now) (length records.now)) }
+    ensures indices { IfOk result (λ indices. indices.items ≡ indices_with (func_slot records.now) (length records.now)) }
     ensures memory { IfErr result (λ e. is_memory e ≡ true) }
 {
-    let mut places = Vec::with_capacity(alloc, records.len())?;
-    for (place, row) in records.iter().enumerate() {
+    let mut indices = Vec::with_capacity(alloc, records.len())?;
+    for (index, row) in records.iter().enumerate() {
         let slot = row.insn_off;
-        places.push(RecordIndex { slot, place })?;
+        indices.push(RecordIndex { slot, index })?;
     }
-    Ok(places)
+    Ok(indices)
 }
 
 /// The indices of line info records.
-#[tactic(auto, using(crate::proofs::RecordIndices::places_start, crate::proofs::RecordIndices::places_none))]
+#[tactic(auto, using(crate::proofs::RecordIndices::indices_start, crate::proofs::RecordIndices::indices_none))]
 pub fn line_indices(
     alloc: Global,
     records: &[bpf_line_info],
 ) -> Result<Vec<RecordIndex>, ParseError>
-    ensures places { IfOk result (λ places. places.items ≡ indices_with (line_slot records.now) (length records.now)) }
+    ensures indices { IfOk result (λ indices. indices.items ≡ indices_with (line_slot records.now) (length records.now)) }
     ensures memory { IfErr result (λ e. is_memory e ≡ true) }
 {
-    let mut places = Vec::with_capacity(alloc, records.len())?;
-    for (place, row) in records.iter().enumerate() {
+    let mut indices = Vec::with_capacity(alloc, records.len())?;
+    for (index, row) in records.iter().enumerate() {
         let slot = row.insn_off;
-        places.push(RecordIndex { slot, place })?;
+        indices.push(RecordIndex { slot, index })?;
     }
-    Ok(places)
+    Ok(indices)
 }

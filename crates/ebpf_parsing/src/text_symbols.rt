@@ -54,12 +54,12 @@ fn sorted<'s, 'a>(
     Ok(rows)
 }
 
-/// Whether the symbol at a place has a smaller address than this one.
-fn is_below(rows: &[&NamedSymbol<'_>], place: usize, address: u64) -> bool
-    requires { place < length rows.now }
-    ensures { MatchBool result (HoldsAt (λ y. y.now.address < address) rows.now place) (HoldsAt (λ y. address ≤ y.now.address) rows.now place) }
+/// Whether the symbol at an index has a smaller address than this one.
+fn is_below(rows: &[&NamedSymbol<'_>], index: usize, address: u64) -> bool
+    requires { index < length rows.now }
+    ensures { MatchBool result (HoldsAt (λ y. y.now.address < address) rows.now index) (HoldsAt (λ y. address ≤ y.now.address) rows.now index) }
 {
-    let row = rows[place];
+    let row = rows[index];
     row.address < address
 }
 
@@ -67,9 +67,9 @@ fn is_below(rows: &[&NamedSymbol<'_>], place: usize, address: u64) -> bool
 fn rises(rows: &[&NamedSymbol<'_>]) -> bool
     ensures { OnTrue result (AllAdjacentBelow (λ x y. x.now.address < y.now.address) rows.now (length rows.now)) }
 {
-    for place in 1..rows.len() {
-        let row = rows[place];
-        if !is_below(rows, place - 1, row.address) {
+    for index in 1..rows.len() {
+        let row = rows[index];
+        if !is_below(rows, index - 1, row.address) {
             return false;
         }
     }
@@ -117,16 +117,16 @@ fn check_apart(
     check_conflicts(alloc, section_index, symbols)
 }
 
-/// Whether there is a symbol at a place, those before it have smaller addresses than this one, and those from there
+/// Whether there is a symbol at an index, those before it have smaller addresses than this one, and those from there
 /// on have not.
-fn splits(rows: &[&NamedSymbol<'_>], place: usize, address: u64) -> bool
+fn splits(rows: &[&NamedSymbol<'_>], index: usize, address: u64) -> bool
     requires { IsNonDecreasingBy (λ y. y.now.address) rows.now }
-    ensures within { OnTrue result (place ≤ length rows.now) }
-    ensures cut { OnTrue result (IsPartitionPoint (λ y. y.now.address < address) (λ y. address ≤ y.now.address) rows.now place) }
+    ensures within { OnTrue result (index ≤ length rows.now) }
+    ensures cut { OnTrue result (IsPartitionPoint (λ y. y.now.address < address) (λ y. address ≤ y.now.address) rows.now index) }
 {
-    place < rows.len()
-        && !is_below(rows, place, address)
-        && (place == 0 || is_below(rows, place - 1, address))
+    index < rows.len()
+        && !is_below(rows, index, address)
+        && (index == 0 || is_below(rows, index - 1, address))
 }
 
 /// How many symbols have smaller addresses than this one. The guess is tried first.
@@ -144,14 +144,14 @@ fn lower_bound(rows: &[&NamedSymbol<'_>], guess: usize, address: u64) -> usize
 /// The first symbol at an address, where so many have smaller ones.
 fn row_at<'s, 'a>(
     rows: &[&'s NamedSymbol<'a>],
-    place: usize,
+    index: usize,
     address: u64,
 ) -> Option<&'s NamedSymbol<'a>>
     requires rising { IsNonDecreasingBy (λ y. y.now.address) rows.now }
-    requires cut { IsPartitionPoint (λ y. y.now.address < address) (λ y. address ≤ y.now.address) rows.now place }
+    requires cut { IsPartitionPoint (λ y. y.now.address < address) (λ y. address ≤ y.now.address) rows.now index }
     ensures { result ≡ find (λ y. y.now.address == address) rows.now }
 {
-    match rows.get(place) {
+    match rows.get(index) {
         Some(row) if row.address == address => Some(*row),
         _ => None,
     }
@@ -163,7 +163,7 @@ pub struct TextSymbols<'s, 'a> {
     pub symbols: &'s [NamedSymbol<'a>],
     /// In order of their addresses.
     rows: Vec<&'s NamedSymbol<'a>>,
-    /// The place behind the last one that was asked for, since most are asked for in order.
+    /// The index behind the last one that was asked for, since most are asked for in order.
     next: Cell<usize>,
     ghost rising: { IsNonDecreasingBy (λ y. y.now.address) rows.items },
     ghost by_address: { (q : ℕ) → find (is_at q) (map (λ y. y.now) rows.items) ≡ find (is_text_at q) symbols.now },
@@ -198,8 +198,8 @@ impl<'s, 'a> TextSymbols<'s, 'a> {
     pub fn at(&self, address: u64) -> Option<&'s NamedSymbol<'a>>
         ensures { option_map (λ y. y.now) result ≡ find (is_text_at address) self.now.symbols.now }
     {
-        let place = lower_bound(self.rows.as_slice(), self.next.get(), address);
-        self.next.set(place + 1);
-        row_at(self.rows.as_slice(), place, address)
+        let index = lower_bound(self.rows.as_slice(), self.next.get(), address);
+        self.next.set(index + 1);
+        row_at(self.rows.as_slice(), index, address)
     }
 }

@@ -66,9 +66,9 @@ WithLinkMapAreLinked = (parts : LinkableValue) (key : FunctionKey) (m : LinkMap)
 
 -- the refusal of the first program without a link map is that of linking them all
 abbrev pub FirstWithoutLinkMap : Type 0
-FirstWithoutLinkMap = (parts : LinkableValue) (programs : List ProgramValue) (place : ℕ) (program : ProgramValue) (e : EbpfRelocationError)
-    → slice_get programs place ≡ Some program → IsProgramRefusal parts program e
-    → ((k : ℕ) (earlier : ProgramValue) → k < place → slice_get programs k ≡ Some earlier → (m : LinkMap) × IsLinkMapAt parts (key_of earlier) m)
+FirstWithoutLinkMap = (parts : LinkableValue) (programs : List ProgramValue) (index : ℕ) (program : ProgramValue) (e : EbpfRelocationError)
+    → slice_get programs index ≡ Some program → IsProgramRefusal parts program e
+    → ((k : ℕ) (earlier : ProgramValue) → k < index → slice_get programs k ≡ Some earlier → (m : LinkMap) × IsLinkMapAt parts (key_of earlier) m)
     → IsFirstRefusal parts programs e
 
 -- programs that all have link maps are not refused

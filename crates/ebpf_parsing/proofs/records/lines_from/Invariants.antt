@@ -4,5 +4,5 @@ use Rattle.ebpf_parsing.specs.PrivateContracts.{line_at}
 use Rattle.ebpf_parsing.proofs.records.lines_from.Given as goal
 
 -- what is kept so far
-abbrev pub invariant-loop-place : goal.invariant-loop-place
-invariant-loop-place l = l.kept.items ≡ map (λ i. line_from l.base (line_at l.rows i)) (take l.place-index l.places)
+abbrev pub invariant-loop-index : goal.invariant-loop-index
+invariant-loop-index l = l.kept.items ≡ map (λ i. line_from l.base (line_at l.rows i)) (take l.index-index l.indices)

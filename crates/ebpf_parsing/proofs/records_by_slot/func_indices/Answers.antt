@@ -2,14 +2,14 @@ use Rattle.std.proofs.Common.{◌+◌, ◌-◌, ◌<◌, ◌++◌, length, map, 
 use Rattle.std.specs.List.{range_with_len}
 use Rattle.std.proofs.lemmas.List.{get_or_default}
 use Rattle.ebpf_parsing.specs.PrivateContracts.{func_slot}
-use Rattle.ebpf_parsing.proofs.RecordIndices.{places_more}
+use Rattle.ebpf_parsing.proofs.RecordIndices.{indices_more}
 use Rattle.ebpf_parsing.proofs.records_by_slot.func_indices.Goals as goal
 
-pub loop-place-preserved : goal.loop-place-preserved
-loop-place-preserved c =
+pub loop-index-preserved : goal.loop-index-preserved
+loop-index-preserved c =
     let rows = c.args.records.now in
-    let i = c.loop-place.place in
-    let below : i < length rows = c.loop-place-test.true in
-    ap (λ l. l ++ map (λ k. record { slot = func_slot rows k; place = k }) (range_with_len (i + 1) (length rows - (i + 1)))) c.in_ok-push.ensures.items
-    ∙ places_more (func_slot rows) c.loop-place.places.items (length rows) i _ below (ap (λ z. record { slot = z.insn_off; place = i }) (get_or_default rows i _ _ below))
-    ∙ c.loop-place.invariant
+    let i = c.loop-index.index in
+    let below : i < length rows = c.loop-index-test.true in
+    ap (λ l. l ++ map (λ k. record { slot = func_slot rows k; index = k }) (range_with_len (i + 1) (length rows - (i + 1)))) c.in_ok-push.ensures.items
+    ∙ indices_more (func_slot rows) c.loop-index.indices.items (length rows) i _ below (ap (λ z. record { slot = z.insn_off; index = i }) (get_or_default rows i _ _ below))
+    ∙ c.loop-index.invariant

@@ -5,6 +5,6 @@ use Rattle.ebpf_parsing.specs.RecordsBySlot.{indices_with}
 use Rattle.ebpf_parsing.proofs.records_by_slot.func_indices.Given as goal
 
 -- what is left to do from here is what was to do from the start
-abbrev pub invariant-loop-place : goal.invariant-loop-place
-invariant-loop-place l =
-    l.places.items ++ map (λ k. record { slot = func_slot l.records k; place = k }) (range_with_len l.place (length l.records - l.place)) ≡ indices_with (func_slot l.records) (length l.records)
+abbrev pub invariant-loop-index : goal.invariant-loop-index
+invariant-loop-index l =
+    l.indices.items ++ map (λ k. record { slot = func_slot l.records k; index = k }) (range_with_len l.index (length l.records - l.index)) ≡ indices_with (func_slot l.records) (length l.records)

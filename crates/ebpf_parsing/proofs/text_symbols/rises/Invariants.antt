@@ -3,5 +3,5 @@ use Rattle.std.specs.List.{AllAdjacentBelow}
 use Rattle.ebpf_parsing.proofs.text_symbols.rises.Given as goal
 
 -- they rise so far
-abbrev pub invariant-loop-place : goal.invariant-loop-place
-invariant-loop-place l = AllAdjacentBelow (λ x y. x.now.address < y.now.address) l.rows l.place
+abbrev pub invariant-loop-index : goal.invariant-loop-index
+invariant-loop-index l = AllAdjacentBelow (λ x y. x.now.address < y.now.address) l.rows l.index

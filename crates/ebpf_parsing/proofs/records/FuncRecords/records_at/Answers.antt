@@ -8,8 +8,8 @@ pub returns-clause-records : goal.returns-clause-records
 returns-clause-records c =
     let rows = c.self.inside.records.now in
     let part = c.at.result.now in
-    let kept : c.in_ok-kept.kept ≡ map (λ p. func_from c.args.base (func_at rows p.place)) part = search rules in
+    let kept : c.in_ok-kept.kept ≡ map (λ p. func_from c.args.base (func_at rows p.index)) part = search rules in
     let seen : c.args.self.now.func_info ≡ rows = search rules in
     kept
-    ∙ funcs_found c.args.first rows c.self.inside.places part c.args.base c.at.ensures (c.self.inside.grouped c.if-self.false c.args.first)
+    ∙ funcs_found c.args.first rows c.self.inside.indices part c.args.base c.at.ensures (c.self.inside.grouped c.if-self.false c.args.first)
     ∙ ap (λ l. map (func_from c.args.base) (filter (is_func_at c.args.first) l)) (sym seen)
