@@ -4,7 +4,7 @@ from dataclasses import dataclass
 
 from rows.btf import Strings, btf, ext, type_words, with_strings
 from rows.core_sides import EXISTS, LOAD, MOVE, OFFSET, S
-from rows.elf import CALL32, FUNCTION, LOAD64, NOBITS, NOTHING, OBJECT, PROGBITS, File, slot
+from rows.elf import CALL32, CALL_CODE, FUNCTION, LOAD64, NOBITS, NOTHING, OBJECT, PROGBITS, File, slot
 
 # The binding of symbols without a section.
 GLOBAL, WEAK = 0x10, 0x20
@@ -65,12 +65,12 @@ def go(by):
 
 
 def helper(number):
-    return slot(0x85, imm=number)
+    return slot(CALL_CODE, imm=number)
 
 
 def call(name):
     """A call of a function or an extern."""
-    return Refers(slot(0x85, 0x10, imm=-1), name, CALL32)
+    return Refers(slot(CALL_CODE, 0x10, imm=-1), name, CALL32)
 
 
 def address(register, name):

@@ -27,7 +27,7 @@ from checked.objects import (
 )
 from rows.btf import INT, btf, datasec, integer, pointer, struct_of, ty, variable
 from rows.core_sides import INT_4, MOVE, OFFSET, S, SIZE, TYPE_SIZE, VARIANT_VALUE, enum64_of, enum_of
-from rows.elf import BIG, EXIT, FUNCTION, File, slot
+from rows.elf import BIG, CALL_CODE, EXIT, FUNCTION, File, slot
 
 FINE = program(move(0, 0), EXIT)
 
@@ -228,7 +228,7 @@ def refused_linking(rows):
     runs = program(move(0, 0), EXIT, section="kprobe/q", name="q")
     breaks = program(GONE, EXIT, section="kprobe/r", name="r")
     # A call of what stands 48 bytes into the section.
-    refused = program(slot(0x85, 0x10, imm=5), EXIT)
+    refused = program(slot(CALL_CODE, 0x10, imm=5), EXIT)
     sentence = 'calls: function "p": "p" refers to address 0x30, where no function begins'
     told = [found(f"program p  <linking>  {sentence}", "p"), found(NO_B, "r slot 0")]
     three = object_of([refused, runs, breaks])

@@ -19,7 +19,7 @@ from checked.objects import (
 )
 from rows.btf import btf, struct_of
 from rows.core_sides import INT_4, MOVE, S, TYPE_EXISTS, VARIANT_EXISTS, VARIANT_VALUE, enum_of
-from rows.elf import EXIT, slot
+from rows.elf import CALL_CODE, EXIT, slot
 
 # r6 is kept over calls; r1 holds what the program is called with, which isn't known.
 ONE, SIX, SEVEN, EIGHT = 1, 6, 7, 8
@@ -189,7 +189,7 @@ def calls():
         yield f"r{register} over a call", code, BOTH_WAYS if register <= 5 else TAKEN
     again = [helper(1), move(0, 0), jump(JEQ, 0, 0, 2), *BOTH]
     yield "a number behind a call", again, TAKEN
-    kernel_function = [move(SIX, 0), move(2, 0), slot(0x85, 0x20, imm=7), IF_ZERO, GONE, jump(JEQ, 2, 0, 1), *END]
+    kernel_function = [move(SIX, 0), move(2, 0), slot(CALL_CODE, 0x20, imm=7), IF_ZERO, GONE, jump(JEQ, 2, 0, 1), *END]
     yield "a call of a kernel's function", kernel_function, "gr"
 
 

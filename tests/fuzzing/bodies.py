@@ -2,16 +2,16 @@
 from fuzzing import paths
 from fuzzing.some_types import any_of
 from rows.btf import ENUM, ENUM64, STRUCT, UNION
-from rows.elf import CALL32, EXIT, LOAD64, NOTHING, slot
+from rows.elf import CALL32, CALL_CODE, EXIT, LOAD64, NOTHING, slot
 
 PLAIN = [slot(0xB7, 1, imm=7), slot(0xBF, 0x21), slot(0x07, 1, imm=-8), slot(0x7B, 0x1A, -8), slot(0x55, 1, 1), slot(0x05)]
-PLAIN += [slot(0x85, imm=1), slot(0x85, imm=112), slot(0x85, imm=115), slot(0xDB, 0x12), slot(0x18, 1) + NOTHING, EXIT]
+PLAIN += [slot(CALL_CODE, imm=1), slot(CALL_CODE, imm=112), slot(CALL_CODE, imm=115), slot(0xDB, 0x12), slot(0x18, 1) + NOTHING, EXIT]
 
 # Slots that a record by types may be on: loads, stores, operations with a number, a wide load; and others.
 CORE = [slot(code, 0x12, 4) for code in (0x61, 0x69, 0x71, 0x79, 0x81, 0x89, 0x91, 0x62, 0x6A, 0x72, 0x7A, 0x63, 0x73, 0x7B)]
 CORE += [slot(0xB7, 1, imm=4), slot(0x07, 1, imm=4), slot(0x67, 1, imm=4), slot(0x77, 1, imm=4), slot(0xB4, 1, imm=4)]
 CORE += [slot(0xB7, 1, imm=4)] * 8 + [slot(0x18, 1, imm=4) + NOTHING] * 4
-NO_CORE = [slot(0xBF, 0x21), slot(0x85, imm=1), slot(0x18, 1), EXIT, slot(0x61, 0x12, 0x7FFF)]
+NO_CORE = [slot(0xBF, 0x21), slot(CALL_CODE, imm=1), slot(0x18, 1), EXIT, slot(0x61, 0x12, 0x7FFF)]
 
 # What a record asks; what newer compilers make, and what is no kind.
 ASKED = range(12)
@@ -57,7 +57,7 @@ def record(chance, body, table):
 def call(chance, body, targets):
     target = chance.choice(targets)
     body.refer(target, LOAD64 if chance.bad(8) else CALL32)
-    body.slots += slot(0x85, 0x10, imm=-1 if target[0] != "section" or not chance.bad(2) else chance.choice(ADDED))
+    body.slots += slot(CALL_CODE, 0x10, imm=-1 if target[0] != "section" or not chance.bad(2) else chance.choice(ADDED))
 
 
 def load(chance, body, targets):
@@ -69,7 +69,7 @@ def load(chance, body, targets):
 
 def by_place(chance, body, _targets):
     """A call of a function by its place, without a relocation."""
-    body.slots += slot(0x85, 0x10, imm=chance.choice([1, -2, 2, 5, 2**31 - 1]) if chance.bad(2) else -1 - len(body.slots) // 8)
+    body.slots += slot(CALL_CODE, 0x10, imm=chance.choice([1, -2, 2, 5, 2**31 - 1]) if chance.bad(2) else -1 - len(body.slots) // 8)
 
 
 def fill(chance, body, table, called, loaded):

@@ -1,7 +1,7 @@
 """The two sides of relocations by types (CO-RE): an object whose instructions have some, and a kernel's types."""
 from rows.btf import ENUM, ENUM64, INT, STRUCT, Strings, btf, ext, struct_of, ty, type_words, with_strings
 from rows.case import Case
-from rows.elf import FUNCTION, NOTHING, File, slot
+from rows.elf import CALL_CODE, FUNCTION, NOTHING, File, slot
 
 # What a relocation asks of a field, of a type, of a variant.
 OFFSET, SIZE, EXISTS, SIGNED, LEFT_SHIFT, RIGHT_SHIFT = range(6)
@@ -22,7 +22,7 @@ MOVE = slot(0xB7, 1)
 WIDE = [slot(0x18, 1), NOTHING]
 
 # A call of a function that no kernel has: it fails where it is reached.
-POISON = slot(0x85, imm=195896080)
+POISON = slot(CALL_CODE, imm=195896080)
 
 # An `int`, and an `unsigned int`, both without a name.
 INT_4 = ty("", INT, 4, 0x01000020)

@@ -24,7 +24,7 @@ from rows.core_sides import (
     refused,
     row,
 )
-from rows.elf import CALL, EXIT, NOTHING, slot
+from rows.elf import CALL, CALL_CODE, EXIT, NOTHING, slot
 
 STRUCT_S = [struct_of("s", 8)]
 
@@ -46,7 +46,7 @@ def sized(size):
 def without_value():
     """A slot of any class becomes a call that fails; a load of 64 bits is two such calls."""
     full = lambda code: slot(code, 0x21, 5, 6)
-    codes = [0x61, 0x62, 0x63, 0x04, 0x05, 0x06, 0xB7, 0x85, 0x20]
+    codes = [0x61, 0x62, 0x63, 0x04, 0x05, 0x06, 0xB7, CALL_CODE, 0x20]
     every = sizes_in([full(code) for code in codes])
     return [
         row("slots of each class without a value", every, [], types_relocated(*[POISON] * len(codes))),
@@ -219,7 +219,7 @@ def jumps():
             STRUCT_S,
             refused(bad_slot(2, 1), *slots(code)),
         )
-        for code in (0x05, 0x85, 0x06, 0x16)
+        for code in (0x05, CALL_CODE, 0x06, 0x16)
     ]
 
 

@@ -86,12 +86,15 @@ def slot(code, registers=0, offset=0, imm=0):
     return struct.pack("<BBhi", code, registers, offset, imm)
 
 
+# The code of a call.
+CALL_CODE = 0x85
+
 # A call relative to its place, by -1; the end of a function; a slot of zeros.
-CALL = slot(0x85, 0x10, imm=-1)
+CALL = slot(CALL_CODE, 0x10, imm=-1)
 EXIT = slot(0x95)
 NOTHING = bytes(8)
 
 
 def call_by(slots):
     """A call by so many slots behind its place."""
-    return slot(0x85, 0x10, imm=slots)
+    return slot(CALL_CODE, 0x10, imm=slots)

@@ -1,11 +1,11 @@
 """Ids and addresses of externs that are written into slots."""
 from rows.btf import btf, integer
 from rows.case import Case
-from rows.elf import CALL, CALL32, FUNCTION, LOAD64, NOTHING, File, slot
+from rows.elf import CALL, CALL32, CALL_CODE, FUNCTION, LOAD64, NOTHING, File, slot
 
 # A load of 64 bits, a call by 0, a slot whose immediate is 6, and a move.
 LOAD = slot(0x18, 1)
-CALL_BY_0 = slot(0x85, 0x10)
+CALL_BY_0 = slot(CALL_CODE, 0x10)
 SIX = slot(0, imm=6)
 MOVE = slot(0xB7, 1)
 

@@ -1,6 +1,6 @@
 """Descriptors of maps that are written into slots."""
 from rows.case import Case
-from rows.elf import CALL32, FUNCTION, LOAD64, NOTHING, OBJECT, PROGBITS, File, slot
+from rows.elf import CALL32, CALL_CODE, FUNCTION, LOAD64, NOTHING, OBJECT, PROGBITS, File, slot
 
 # Loads of 64 bits: by 0, by 8, and with the greatest immediate.
 LOAD = slot(0x18, 1)
@@ -99,7 +99,7 @@ ROWS = [
     # A function, an extern, and a call of what has no map.
     (
         "what is no reference to a map",
-        [LOAD_8, LOAD_8, slot(0x85, 0x10)],
+        [LOAD_8, LOAD_8, slot(CALL_CODE, 0x10)],
         [(0, 1, LOAD64), (8, 7, LOAD64), (16, 5, CALL32)],
         "m=1",
         "Ok(()) 18 01 00 00 08 00 00 00, 18 01 00 00 08 00 00 00, 85 10 00 00 00 00 00 00",

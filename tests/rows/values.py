@@ -1,6 +1,6 @@
 """Values of variables that are written into map data, and functions that are made fit for a kernel."""
 from rows.case import Case
-from rows.elf import FUNCTION, OBJECT, PROGBITS, File, slot
+from rows.elf import CALL_CODE, FUNCTION, OBJECT, PROGBITS, File, slot
 
 
 def variables():
@@ -19,7 +19,7 @@ def patched(name, values, how, expected):
 
 def calls(first, second):
     """A program of two slots: helper calls by their numbers."""
-    return File().code("kprobe/p", slot(0x85, imm=first) + slot(0x85, imm=second)).symbol("p", FUNCTION, 3, 0, 16).bytes()
+    return File().code("kprobe/p", slot(CALL_CODE, imm=first) + slot(CALL_CODE, imm=second)).symbol("p", FUNCTION, 3, 0, 16).bytes()
 
 
 def invalid(name, size, length):

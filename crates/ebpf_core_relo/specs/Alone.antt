@@ -11,6 +11,7 @@ use Rattle.ebpf_core_relo.specs.Carried.{written}
 use Rattle.ebpf_core_relo.specs.RecordFunctions.{spans_of}
 use Rattle.ebpf_core_relo.specs.Records.{RelocationInputs, Written, own_slots, slots_so_far, slots_written, with_slots}
 use Rattle.ebpf_core_relo.specs.Spans.{span_at}
+use Rattle.ebpf_parts.specs.Opcodes.{class_ld}
 use Rattle.ebpf_parts.specs.declared.insn.bpf_insn.{bpf_insn}
 use Rattle.ebpf_model.specs.Keys.{FunctionKey}
 use Rattle.ebpf_model.specs.Shapes.{KeepShapes}
@@ -44,7 +45,7 @@ record_slot inputs located = option_map (λ span. ((located.0, span.address), (l
 -- whether there is a slot of class 0, which goes on in the next one
 abbrev pub goes_on : Option bpf_insn → Bool
 goes_on None = false
-goes_on (Some slot) = slot.code % 8 == 0
+goes_on (Some slot) = slot.code % 8 == class_ld
 
 -- A record touches the slot that it is about, and where this one is of class 0 the next one: by the slots as they
 -- stand before all records.

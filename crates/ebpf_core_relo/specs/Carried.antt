@@ -12,7 +12,7 @@ use Rattle.ebpf_core.specs.declared.outcome.Outcome.{Outcome}
 use Rattle.ebpf_core_relo.specs.declared.carried.Carrier.{Carrier}
 use Rattle.ebpf_core_relo.specs.declared.carried.Carrier.TheVariants.{Immediate, Offset, WideLoad, Nothing}
 use Rattle.ebpf_parts.specs.declared.insn.bpf_insn.{bpf_insn}
-use Rattle.ebpf_parts.specs.Opcodes.{call, ld_imm64}
+use Rattle.ebpf_parts.specs.Opcodes.{call, class_alu, class_alu64, class_jmp, class_jmp32, class_ld, ld_imm64, size_b, size_dw, size_h, size_w}
 use Rattle.ebpf_parts.specs.Slots.{src_of}
 
 -- ---- one slot
@@ -21,11 +21,11 @@ use Rattle.ebpf_parts.specs.Slots.{src_of}
 -- store through a register (1, 2 and 3) in the offset, a wide load (0) in two immediates, a jump (5 and 6) nowhere
 abbrev pub carrier_of_class : ℕ → Carrier
 carrier_of_class class =
-    if class == 0 then WideLoad
-    else (if class == 4 then Immediate
-    else (if class == 5 then Nothing
-    else (if class == 6 then Nothing
-    else (if class == 7 then Immediate else Offset))))
+    if class == class_ld then WideLoad
+    else (if class == class_alu then Immediate
+    else (if class == class_jmp then Nothing
+    else (if class == class_jmp32 then Nothing
+    else (if class == class_alu64 then Immediate else Offset))))
 
 abbrev pub carrier_of : bpf_insn → Carrier
 carrier_of slot = carrier_of_class (slot.code % 8)
@@ -40,10 +40,10 @@ high_half number = cast_signed w32 (number / 2 ^ 32)
 -- the bits of a load's or store's code that say how many bytes it moves
 abbrev pub size_bits : ℕ → Option ℕ
 size_bits size =
-    if size == 8 then Some 0x18
-    else (if size == 4 then Some 0x00
-    else (if size == 2 then Some 0x08
-    else (if size == 1 then Some 0x10 else None)))
+    if size == 8 then Some size_dw
+    else (if size == 4 then Some size_w
+    else (if size == 2 then Some size_h
+    else (if size == 1 then Some size_b else None)))
 
 -- a code that moves so many bytes
 abbrev pub resized : ℕ → ℕ → Option ℕ

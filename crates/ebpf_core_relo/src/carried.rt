@@ -10,7 +10,9 @@ ghost use Rattle.ebpf_core_relo.specs.Carried.{carrier_of, carried_by, high_half
 use ebpf_base::Text;
 use ebpf_core::{FieldClass, LoadedField, Outcome, RelocationError};
 use ebpf_parts::insn::bpf_insn;
-use ebpf_parts::insn::opcodes::{ALU, ALU64, CALL, JMP, JMP32, LD, LD_IMM64};
+use ebpf_parts::insn::opcodes::{
+    ALU, ALU64, BPF_B, BPF_DW, BPF_H, BPF_W, CALL, JMP, JMP32, LD, LD_IMM64,
+};
 use std::alloc::Global;
 
 /// The greatest offset of a load or store.
@@ -61,10 +63,10 @@ fn size_bits(size: u32) -> Option<u8>
     ensures small { IfSome result (λ bits. bits ≤ 24) }
 {
     match size {
-        8 => Some(0x18),
-        4 => Some(0x00),
-        2 => Some(0x08),
-        1 => Some(0x10),
+        8 => Some(BPF_DW),
+        4 => Some(BPF_W),
+        2 => Some(BPF_H),
+        1 => Some(BPF_B),
         _ => None,
     }
 }

@@ -3,6 +3,9 @@ use ebpf_base::Endianness;
 use std::alloc::{AllocError, Global};
 use std::test::*;
 
+/// The code of a call.
+const CALL: u8 = 0x85;
+
 /// A field: its offset, the number's width in bytes, and its value.
 type Field = (u16, u8, u64);
 
@@ -68,7 +71,7 @@ const FIELDS: [Field; 49] = [
 ];
 
 const CODE: [u8; 24] = [
-    0x85, 0x10, 0, 0, 0xff, 0xff, 0xff, 0xff, 0x95, 0, 0, 0, 0, 0, 0, 0, 0x95, 0, 0, 0, 0, 0, 0, 0,
+    CALL, 0x10, 0, 0, 0xff, 0xff, 0xff, 0xff, 0x95, 0, 0, 0, 0, 0, 0, 0, 0x95, 0, 0, 0, 0, 0, 0, 0,
 ];
 
 const STRINGS: [u8; 49] = *b"\0p\0f\0kprobe/p\0.text\0.symtab\0.strtab\0.relkprobe/p\0";

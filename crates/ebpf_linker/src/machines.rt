@@ -4,7 +4,7 @@ use crate::test_functions::{
     CALL, CALLS, CALLS_TWICE, ENDS, EXIT, LOAD, NOTHING, TestReference, linked, lists, plain,
 };
 use crate::{Body, Call, Target};
-use ebpf_parts::insn::bpf_insn;
+use ebpf_parts::insn::{bpf_insn, opcodes};
 use std::alloc::{AllocError, Global};
 use std::test::Fail;
 
@@ -29,11 +29,11 @@ fn is_branch(code: u8) -> bool {
 
 fn flow_of(slot: bpf_insn) -> Flow {
     match slot.code {
-        0x95 => Flow::Return,
-        0x85 if slot.regs == 0x10 && slot.off == 0 => Flow::PseudoCall,
-        0x18 => Flow::WideLoad,
-        0x05 => Flow::Jump(i64::from(slot.off)),
-        0x06 => Flow::Jump(i64::from(slot.imm)),
+        opcodes::EXIT => Flow::Return,
+        opcodes::CALL if slot.regs == 0x10 && slot.off == 0 => Flow::PseudoCall,
+        opcodes::LD_IMM64 => Flow::WideLoad,
+        opcodes::JA => Flow::Jump(i64::from(slot.off)),
+        opcodes::JA32 => Flow::Jump(i64::from(slot.imm)),
         code if is_branch(code) => Flow::Branch(i64::from(slot.off)),
         _ => Flow::Next,
     }
@@ -373,7 +373,7 @@ fn branch_over_a_call(rt: HostRuntime) -> Result<(), Fail> {
 /// A jump by the offset.
 const fn jump(off: i16) -> bpf_insn {
     bpf_insn {
-        code: 0x05,
+        code: opcodes::JA,
         off,
         ..NOTHING
     }
@@ -382,7 +382,7 @@ const fn jump(off: i16) -> bpf_insn {
 /// A jump by the immediate number.
 const fn long_jump(imm: i32) -> bpf_insn {
     bpf_insn {
-        code: 0x06,
+        code: opcodes::JA32,
         imm,
         ..NOTHING
     }

@@ -2,25 +2,25 @@
 
 use crate::link_map::{NumberedLinkMap, link_map};
 use crate::{Body, Call, Fault, LinkedProgram, Tables, Target, is_sound, link};
-use ebpf_parts::insn::bpf_insn;
+use ebpf_parts::insn::{bpf_insn, opcodes};
 use std::alloc::{AllocError, Global};
 
 pub const CALL: bpf_insn = bpf_insn {
-    code: 0x85,
+    code: opcodes::CALL,
     regs: 0x10,
     off: 0,
     imm: -1,
 };
 
 pub const EXIT: bpf_insn = bpf_insn {
-    code: 0x95,
+    code: opcodes::EXIT,
     regs: 0,
     off: 0,
     imm: 0,
 };
 
 pub const LOAD: bpf_insn = bpf_insn {
-    code: 0x18,
+    code: opcodes::LD_IMM64,
     regs: 0x01,
     off: 0,
     imm: 8,

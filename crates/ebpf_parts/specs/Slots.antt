@@ -9,7 +9,7 @@ use Rattle.ebpf_base.specs.Faults.{Row}
 use Rattle.ebpf_parts.specs.declared.error.ParseError.{ParseError}
 use Rattle.ebpf_parts.specs.declared.error.ParseError.TheVariants.{InvalidProgramCode}
 use Rattle.ebpf_parts.specs.declared.insn.bpf_insn.{bpf_insn}
-use Rattle.ebpf_parts.specs.Opcodes.{call}
+use Rattle.ebpf_parts.specs.Opcodes.{call, pseudo_call}
 
 -- the registers' byte: the destination in the low four bits, the source in the high four
 abbrev pub dst_of : bpf_insn → ℕ
@@ -28,7 +28,7 @@ is_zero (negsuc n) = false
 -- A call of a function of the same object, relative to this place: class 5 in the low three bits of the code and
 -- 0x80 in the others, source 1, destination 0, offset 0.
 abbrev pub is_pseudo_call : bpf_insn → Bool
-is_pseudo_call slot = (slot.code == call) && ((src_of slot == 1) && ((dst_of slot == 0) && is_zero slot.off))
+is_pseudo_call slot = (slot.code == call) && ((src_of slot == pseudo_call) && ((dst_of slot == 0) && is_zero slot.off))
 
 -- the code of a call, with no registers (section 4.3.1: a helper function by its number)
 abbrev pub is_helper_call : bpf_insn → Bool

@@ -6,7 +6,7 @@ use Rattle.std.specs.Ordering.{nat_cmp}
 use Rattle.ebpf_base.specs.Keys.{text_cmp}
 use Rattle.ebpf_elf.specs.declared.entries.ElfRelocation.{ElfRelocation}
 use Rattle.ebpf_parts.specs.declared.insn.bpf_insn.{bpf_insn}
-use Rattle.ebpf_parts.specs.Opcodes.{call, ld_imm64}
+use Rattle.ebpf_parts.specs.Opcodes.{call, ld_imm64, pseudo_btf_id, pseudo_kfunc_call}
 use Rattle.ebpf_parts.specs.Slots.{dst_of, registers}
 use Rattle.ebpf_model.specs.Symbols.{is_extern}
 use Rattle.ebpf_model.specs.declared.extern_desc.ExternDesc.{ExternDesc}
@@ -26,7 +26,7 @@ pub record ExternInputs : Type 0 where
 
 -- a call of a kernel function by its id: source 2 (the kernel's BPF_PSEUDO_KFUNC_CALL)
 abbrev pub kernel_call : bpf_insn → ℕ → bpf_insn
-kernel_call slot id = record slot { regs = registers 2 (dst_of slot); off = pos 0; imm = cast_signed w32 id }
+kernel_call slot id = record slot { regs = registers pseudo_kfunc_call (dst_of slot); off = pos 0; imm = cast_signed w32 id }
 
 -- a call that a verifier refuses where it is reached, by a number that tells the symbol
 abbrev pub absent_call : bpf_insn → ℕ → bpf_insn
@@ -57,7 +57,7 @@ load_of desc = load_by desc.kernel_btf_id desc.ksym_addr desc.is_weak
 -- An id has source 3 (the kernel's BPF_PSEUDO_BTF_ID) and 0 in the slot after it; an address has source 0, its low
 -- half in the slot and its high half in the one after it.
 abbrev pub edit_of_load : Load → bpf_insn → Edit
-edit_of_load (Id id) slot = Pair (with_source slot 3 (cast_signed w32 id)) (pos 0)
+edit_of_load (Id id) slot = Pair (with_source slot pseudo_btf_id (cast_signed w32 id)) (pos 0)
 edit_of_load (Address address) slot = Pair (with_source slot 0 (cast_signed w32 (address % 2 ^ 32))) (cast_signed w32 (address / 2 ^ 32))
 
 abbrev pub load_edit : Option Load → bpf_insn → Bool → Result Edit Fault

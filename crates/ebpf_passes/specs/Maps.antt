@@ -6,6 +6,7 @@ use Rattle.std.specs.Ordering.{nat_cmp}
 use Rattle.ebpf_base.specs.Faults.{or_else}
 use Rattle.ebpf_base.specs.Keyed.{put_all}
 use Rattle.ebpf_elf.specs.declared.entries.ElfRelocation.{ElfRelocation}
+use Rattle.ebpf_parts.specs.Opcodes.{pseudo_map_fd, pseudo_map_value}
 use Rattle.ebpf_parts.specs.Slots.{is_pseudo_call, dst_of, registers}
 use Rattle.ebpf_parts.specs.declared.insn.bpf_insn.{bpf_insn}
 use Rattle.ebpf_parts.specs.declared.maps.either.Map.{Map}
@@ -70,7 +71,7 @@ value_offset imm address = if fits_imm (imm +ℤ pos address) then Some (imm +�
 
 abbrev pub value_edit : Option ℤ → bpf_insn → ℤ → Result Edit Fault
 value_edit None slot descriptor = Err MapAddressOverflow
-value_edit (Some next) slot descriptor = Ok (Pair (with_source slot 2 descriptor) next)
+value_edit (Some next) slot descriptor = Ok (Pair (with_source slot pseudo_map_value descriptor) next)
 
 -- A map with data is named by source 2, with the offset in its data in the slot after it
 -- (RFC 9669, section 5.4: the address of a map's value); a map by source 1.
@@ -78,7 +79,7 @@ abbrev pub target_edit : MapTarget → ℕ → bpf_insn → Bool → Result Edit
 target_edit target address slot has_next =
     if target.has_data
     then (if has_next then value_edit (value_offset slot.imm address) slot target.descriptor else Err InvalidOffset)
-    else Ok (Slot (with_source slot 1 target.descriptor))
+    else Ok (Slot (with_source slot pseudo_map_fd target.descriptor))
 
 abbrev pub found_edit : Option MapTarget → ℕ → ℕ → bpf_insn → Bool → Result Edit Fault
 found_edit None section address slot has_next = Err (SectionNotFound section)

@@ -4,7 +4,7 @@ use Rattle.std.specs.Option.{option_and_then, option_map}
 use Rattle.std.specs.Int.{w32, w64, cast_unsigned}
 use Rattle.std.specs.Ordering.{int_eq}
 use Rattle.ebpf_parts.specs.declared.insn.bpf_insn.{bpf_insn}
-use Rattle.ebpf_parts.specs.Opcodes.{call}
+use Rattle.ebpf_parts.specs.Opcodes.{call, class_alu, class_alu64, class_jmp32, class_ld, class_ldx, class_st, class_stx}
 use Rattle.ebpf_parts.specs.Slots.{dst_of, src_of}
 use Rattle.ebpf_reach.specs.declared.registers.Registers.{Registers}
 use Rattle.ebpf_reach.specs.Registers.{known, unknown, learned, forgotten, called}
@@ -31,27 +31,27 @@ destination slot a = known a (dst_of slot)
 -- what two operands give: of class 4 the lower 32 bits, of which the upper ones of the result are zero
 abbrev pub calculated : bpf_insn → ℕ → ℕ → Option ℕ
 calculated slot x y =
-    if class slot == 4 then computed w32 (operation slot) slot.off (x % 2 ^ 32) (y % 2 ^ 32)
+    if class slot == class_alu then computed w32 (operation slot) slot.off (x % 2 ^ 32) (y % 2 ^ 32)
     else computed w64 (operation slot) slot.off x y
 
 -- MOV, and MOVSX, which takes a register
 abbrev pub moved : bpf_insn → ℕ → Option ℕ
 moved slot y =
-    if int_eq slot.off (pos 0) then Some (if class slot == 4 then y % 2 ^ 32 else y)
-    else (if takes_register slot then (if class slot == 4 then extended_32 slot.off y else extended_64 slot.off y)
+    if int_eq slot.off (pos 0) then Some (if class slot == class_alu then y % 2 ^ 32 else y)
+    else (if takes_register slot then (if class slot == class_alu then extended_32 slot.off y else extended_64 slot.off y)
     else None)
 
 -- NEG, which takes no register
 abbrev pub negation : bpf_insn → ℕ → Option ℕ
 negation slot x =
     if takes_register slot then None
-    else (if int_eq slot.off (pos 0) then Some (if class slot == 4 then negated w32 (x % 2 ^ 32) else negated w64 x)
+    else (if int_eq slot.off (pos 0) then Some (if class slot == class_alu then negated w32 (x % 2 ^ 32) else negated w64 x)
     else None)
 
 -- END of class 4, to little endian or, with the bit of a register, to big endian; of class 7 always turned round
 abbrev pub byte_swapped : bpf_insn → ℕ → Option ℕ
 byte_swapped slot x =
-    if class slot == 4 then (if takes_register slot then swapped slot.imm x else truncated slot.imm x)
+    if class slot == class_alu then (if takes_register slot then swapped slot.imm x else truncated slot.imm x)
     else (if takes_register slot then None else swapped slot.imm x)
 
 -- the operations of two operands, where both are known
@@ -86,12 +86,12 @@ stored slot a = if is_atomic slot then forgotten (forgotten (forgotten a (dst_of
 abbrev pub after : bpf_insn → Registers → Registers
 after slot a =
     if is_poisoned slot then unknown
-    else (if class slot == 0 then called (forgotten a (dst_of slot))
-    else (if class slot == 1 then forgotten a (dst_of slot)
-    else (if class slot == 2 then a
-    else (if class slot == 3 then stored slot a
-    else (if class slot == 4 then learned a (dst_of slot) (arithmetic slot a)
-    else (if class slot == 7 then learned a (dst_of slot) (arithmetic slot a)
+    else (if class slot == class_ld then called (forgotten a (dst_of slot))
+    else (if class slot == class_ldx then forgotten a (dst_of slot)
+    else (if class slot == class_st then a
+    else (if class slot == class_stx then stored slot a
+    else (if class slot == class_alu then learned a (dst_of slot) (arithmetic slot a)
+    else (if class slot == class_alu64 then learned a (dst_of slot) (arithmetic slot a)
     else called a))))))
 
 -- the number that a wide load holds: the lower half in the first slot, the upper half in the second
@@ -106,5 +106,5 @@ wide_load_result slots i slot = if src_of slot == 0 then option_map (wide slot) 
 abbrev pub decided : bpf_insn → Registers → Option Bool
 decided slot a =
     option_and_then (λ x. option_and_then (λ y.
-    (if class slot == 6 then compared w32 (operation slot) (x % 2 ^ 32) (y % 2 ^ 32) else compared w64 (operation slot) x y))
+    (if class slot == class_jmp32 then compared w32 (operation slot) (x % 2 ^ 32) (y % 2 ^ 32) else compared w64 (operation slot) x y))
     (source slot a)) (destination slot a)

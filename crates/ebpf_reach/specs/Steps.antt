@@ -1,6 +1,7 @@
 -- The steps of a program: from a slot and what is known of the registers there, to which slots, and what is known there.
 use Rattle.std.specs.Prelude.{ℕ, ℤ, pos, negsuc, ◌+ℤ◌, Bool, true, false, Option, Some, None, List, [], ◌∷◌, ◌++◌, length, nat_lt, slice_get, if◌then◌else◌, ◌==◌}
 use Rattle.ebpf_parts.specs.declared.insn.bpf_insn.{bpf_insn}
+use Rattle.ebpf_parts.specs.Opcodes.{pseudo_func}
 use Rattle.ebpf_parts.specs.Slots.{dst_of, src_of}
 use Rattle.ebpf_linker.specs.Slots.{Flow, Return, PseudoCall, WideLoad, Jump, Branch, Next, flow}
 use Rattle.ebpf_reach.specs.declared.registers.Registers.{Registers}
@@ -29,7 +30,7 @@ ways (Some false) here there = here
 -- A wide load with source field 4 has a callback's address (RFC 9669, section 5.4): it is called with registers of
 -- which nothing is known.
 abbrev pub callback : List bpf_insn → ℕ → bpf_insn → List Step
-callback slots i slot = if src_of slot == 4 then steps_to slots (target_index i slot.imm) unknown else []
+callback slots i slot = if src_of slot == pseudo_func then steps_to slots (target_index i slot.imm) unknown else []
 
 abbrev pub steps_by_flow : List bpf_insn → ℕ → bpf_insn → Registers → Flow → List Step
 steps_by_flow slots i slot a Return = []

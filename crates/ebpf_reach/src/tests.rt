@@ -2,6 +2,7 @@
 
 use crate::reached_slots;
 use ebpf_parts::insn::bpf_insn;
+use ebpf_parts::insn::opcodes::{CALL, EXIT};
 use std::alloc::{AllocError, Global};
 use std::test::Fail;
 
@@ -16,17 +17,17 @@ const fn slot(code: u8, regs: u8, off: i16, imm: i32) -> bpf_insn {
 }
 
 fn exit() -> bpf_insn {
-    slot(0x95, 0, 0, 0)
+    slot(EXIT, 0, 0, 0)
 }
 
 /// A call of a helper function.
 fn helper() -> bpf_insn {
-    slot(0x85, 0, 0, 1)
+    slot(CALL, 0, 0, 1)
 }
 
 /// What CO-RE relocations leave of a slot that they poison.
 fn poisoned() -> bpf_insn {
-    slot(0x85, 0, 0, 0x0bad_2310)
+    slot(CALL, 0, 0, 0x0bad_2310)
 }
 
 /// A register takes a number, all 64 bits of it.
@@ -207,7 +208,7 @@ fn pseudo_call(rt: HostRuntime) -> Result<(), Fail> {
     // r1 = 0; call +1; exit; in the function: if r1 == 0 goto +1; slot; exit; behind it a slot that none reaches
     let slots = [
         mov(1, 0),
-        slot(0x85, 0x10, 0, 1),
+        slot(CALL, 0x10, 0, 1),
         exit(),
         skip_if_equal(1, 0),
         mov(2, 0),

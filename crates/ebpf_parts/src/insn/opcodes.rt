@@ -41,3 +41,12 @@ pub const BPF_PSEUDO_FUNC: u8 = 4;
 pub const BPF_PSEUDO_CALL: u8 = 1;
 /// The source of a call of a kernel function, by the id of its type.
 pub const BPF_PSEUDO_KFUNC_CALL: u8 = 2;
+
+/// The bits of the code of a load or store of eight bytes.
+pub const BPF_DW: u8 = 0x18;
+/// The bits of the code of a load or store of four bytes.
+pub const BPF_W: u8 = 0x00;
+/// The bits of the code of a load or store of two bytes.
+pub const BPF_H: u8 = 0x08;
+/// The bits of the code of a load or store of one byte.
+pub const BPF_B: u8 = 0x10;
