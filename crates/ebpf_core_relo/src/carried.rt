@@ -31,7 +31,7 @@ pub enum Carrier {
     Nothing,
 }
 
-/// Where a slot carries a number, by its class (RFC 9669, section 3.1).
+/// Where a slot carries a number, by its class (RFC 9669, section 3.3).
 fn carrier_of(slot: &bpf_insn) -> Carrier
     ensures { result ≡ carrier_of slot.now }
 {
