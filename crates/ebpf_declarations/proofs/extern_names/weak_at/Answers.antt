@@ -9,4 +9,4 @@ returns-clause-known c =
     one_more (λ _ offset. weak_at c.args.btf.now (get c.args.weak.now) offset) (λ _ _ _ _ is. is) c.args.known.now c.insert.new.self [] c.args.name c.in_ok-is_weak.is_weak c.requires c.in_ok-is_weak.ensures c.in_ok-insert.ensures.updates
 
 pub returns-in-Some-clause-says : goal.returns-in-Some-clause-says
-returns-in-Some-clause-says c = c.requires.said c.args.name c.in-Some.is_weak.now (sym c.in-Some.ensures.value) []
+returns-in-Some-clause-says c = c.requires.known_is c.args.name c.in-Some.is_weak.now (sym c.in-Some.ensures.value) []
