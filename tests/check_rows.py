@@ -3,6 +3,7 @@
 'N passed, M failed', and with status 1 where one failed.
 usage: check_rows.py PROGRAM      PROGRAM: the built program `ebpf`
 """
+import ctypes
 import json
 import shutil
 import struct
@@ -12,11 +13,15 @@ import tempfile
 from dataclasses import dataclass
 from pathlib import Path
 
-from checked import absences, functions, lacking, telling, walks
+from checked import absences, functions, grouping, lacking, sizes, telling, walks
 
 TOP = Path(__file__).parents[1]
 EXAMPLE = TOP / "examples" / "check"
 WATCH = TOP / "crates" / "example_library" / "data"
+
+# What root may do beyond others to files, and the call of prctl(2) that gives it up for programs that start.
+CAP_DAC_OVERRIDE, CAP_DAC_READ_SEARCH = 1, 2
+PR_CAPBSET_DROP = 24
 
 # Numbers of BTF kinds.
 INT, PTR, STRUCT, ENUM, TYPEDEF, FUNC, FUNC_PROTO = 1, 2, 4, 6, 8, 12, 13
@@ -107,7 +112,7 @@ class Rows:
         path.write_bytes(content)
         return name
 
-    def run(self, *words):
+    def run(self, *words, before=None):
         return subprocess.run(
             [self.program, *words],
             cwd=self.folder,
@@ -115,6 +120,7 @@ class Rows:
             capture_output=True,
             encoding="utf-8",
             timeout=120,
+            preexec_fn=before,
         )
 
     def expect(self, name, found, wanted):
@@ -205,6 +211,7 @@ def as_json(rows):
     broken = {
         "name": "struct cfs_rq.nr_running",
         "kind": "byte_off",
+        "kinds": ["byte_off"],
         "reason": "no such member",
         "kernels": ["btf/6.18"],
         "places": [place],
@@ -268,8 +275,35 @@ def unread(rows):
     rows.row("no such kernel", ["check", "memdrop.o", "nowhere"], 2, alone, "ebpf: nowhere: No such file or directory (os error 2)")
     wins = rows.run("check", "memdrop.o", "btf/6.18", "nowhere")
     rows.expect("2 wins over 1", wins.returncode, 2)
-    (rows.folder / "hollow").mkdir()
-    rows.row("a folder without files", ["check", "memdrop.o", "hollow"], 2, "", "ebpf: hollow: no file in the folder")
+
+
+def without_override():
+    """Has a process that root starts ask for its rights as any other does."""
+    for right in [CAP_DAC_OVERRIDE, CAP_DAC_READ_SEARCH]:
+        ctypes.CDLL(None).prctl(PR_CAPBSET_DROP, right, 0, 0, 0)
+
+
+def unlisted(rows):
+    """Folders that have no file or can't be listed: the others are told, and the status is 2."""
+    last = "memdrop.o: ok on 1 of 1 kernels, 2 of 2 programs; 1 not read"
+    told = lambda name: [f"unread  -/2 programs  {name}", "ok      2/2 programs  small", last]
+    first_and_last = lambda ran: [*ran.stdout.split("\n")[:2], ran.stdout.split("\n")[-2]]
+    (rows.folder / "hollow" / "below").mkdir(parents=True)
+    alone = "unread  -/2 programs  hollow\n\nmemdrop.o: no kernel to tell of; 1 not read\n"
+    said = "ebpf: hollow: no file in it"
+    rows.row("a folder without files", ["check", "memdrop.o", "hollow"], 2, alone, said)
+    ran = rows.row("a folder without files, and others", ["check", "memdrop.o", "hollow", "small"], 2, err=said)
+    rows.expect("a folder without files, and others: lines", first_and_last(ran), told("hollow"))
+    ran = rows.row("a folder without files, JSON", ["check", "memdrop.o", "btf", "hollow", "--json"], 2, err=said)
+    found = json.loads(ran.stdout)
+    unread = {"name": "hollow", "error": "no file in it"}
+    rows.expect("a folder without files, JSON: told", (found["kernels"][2], len(found["breaks"])), (unread, 1))
+    (rows.folder / "closed").mkdir(mode=0)
+    ran = rows.run("check", "memdrop.o", "closed", "small", before=without_override)
+    (rows.folder / "closed").chmod(0o700)
+    rows.expect("a closed folder: status", ran.returncode, 2)
+    rows.expect("a closed folder: lines", first_and_last(ran), told("closed"))
+    rows.expect("a closed folder: errors", ran.stderr, "ebpf: closed: Permission denied (os error 13)\n")
 
 
 def files(rows):
@@ -373,8 +407,9 @@ def main():
         rows = Rows(program, Path(folder))
         shutil.copy(EXAMPLE / "memdrop.o", folder)
         shutil.copytree(EXAMPLE / "btf", Path(folder) / "btf")
-        own = [example, as_json, kernels, unread, files, lacks, names, words, closed_output]
-        for run in [*own, *absences.ROWS, *walks.ROWS, *functions.ROWS, *lacking.ROWS, *telling.ROWS]:
+        own = [example, as_json, kernels, unread, unlisted, files, lacks, names, words, closed_output]
+        below = [absences, walks, functions, lacking, telling, grouping, sizes]
+        for run in [*own, *(run for module in below for run in module.ROWS)]:
             try:
                 run(rows)
             except Exception as error:

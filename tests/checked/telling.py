@@ -252,7 +252,7 @@ def whole_json(rows):
     said = 'ebpf: bad\\x0a": neither BTF nor an ELF file'
     ran = rows.row("all of JSON", ["check", "object", "lacks", "bad\n\"", "itself", "--json"], 2, err=said)
     rows.expect("all of JSON: one line", ran.stdout.count("\n"), 1)
-    asked = {"name": "struct s.b", "kind": "byte_off", "reason": "no such member", "kernels": ["lacks"]}
+    asked = {"name": "struct s.b", "kind": "byte_off", "kinds": ["byte_off"], "reason": "no such member", "kernels": ["lacks"]}
     inside = {"program": "p", "slot": 6, "function": "f", "function_slot": 1, "kernels": ["lacks"]}
     own = {"program": "p", "slot": 3, "file": "/src/y.c", "line": 9, "kernels": ["lacks"]}
     values = [{"value": -2, "kernels": ["lacks"]}]

@@ -2,10 +2,9 @@
 
 use crate::kernel_order::compare_names;
 use ebpf_base::{Items, Text};
-use std::alloc::{AllocError, AllocFailed};
-use std::io::{self, Read};
+use std::alloc::{AllocError, Global};
+use std::io::{self, ErrorKind, Read};
 use std::{env, fs};
-use thiserror::Error;
 
 /// The words of the command line after the program's own name.
 pub fn gather_words(rt: &HostRuntime) -> io::Result<Vec<String>> {
@@ -49,78 +48,72 @@ fn files_in(rt: &HostRuntime, folder: &str) -> io::Result<Vec<Text>> {
     Ok(paths)
 }
 
-/// Why the files that a word names can't be listed.
-#[derive(Debug, Drop, Error)]
-pub enum ListError {
-    /// It is a folder without files.
-    #[error("no file in the folder")]
-    NoFile,
-    /// It can't be read.
-    #[error("{0}")]
-    Unreadable(io::Error),
-}
-
-impl From<io::Error> for ListError {
-    fn from(error: io::Error) -> ListError {
-        ListError::Unreadable(error)
-    }
-}
-
-impl From<AllocError> for ListError {
-    fn from(error: AllocError) -> ListError {
-        ListError::Unreadable(io::Error::from(error))
-    }
-}
-
-impl<T: Drop> From<AllocFailed<T>> for ListError {
-    fn from(error: AllocFailed<T>) -> ListError {
-        ListError::from(AllocError::from(error))
-    }
-}
-
-/// A word whose files can't be listed, and why.
+/// A kernel that a word names.
 #[derive(Drop)]
-pub struct Unlisted<'a> {
-    pub path: &'a str,
-    pub error: ListError,
+pub struct KernelFile {
+    /// The path of its file, or of a folder that gives none.
+    pub path: Text,
+    /// Why the folder gives none.
+    pub fault: Option<Text>,
 }
 
-/// Adds the paths that a word names: itself, or the files of the folder that it is.
-fn add_paths(rt: &HostRuntime, all: &mut Items<Text>, word: &str) -> Result<(), ListError> {
-    if !is_folder(rt, word) {
-        all.push(Text::from_str(rt.alloc(), word)?)?;
-        return Ok(());
-    }
-    let paths = files_in(rt, word)?;
-    if paths.is_empty() {
-        return Err(ListError::NoFile);
-    }
+/// Adds kernels by the paths of their files.
+fn add_files(all: &mut Items<KernelFile>, paths: Vec<Text>) -> Result<(), AllocError> {
     for path in paths {
-        all.push(path)?;
+        all.push(KernelFile { path, fault: None })?;
     }
+    Ok(())
+}
+
+/// The sentence on a folder that can't be listed.
+fn fault_words(alloc: Global, error: &io::Error) -> Result<Text, AllocError> {
+    if matches!(error.kind(), ErrorKind::OutOfMemory) {
+        return Err(AllocError);
+    }
+    let sentence = format!(in alloc; "{error}")?;
+    Ok(Text::from_string(sentence))
+}
+
+/// Adds the files of a folder; the folder itself where it can't be listed or has none.
+fn add_folder(
+    rt: &HostRuntime,
+    all: &mut Items<KernelFile>,
+    folder: &str,
+) -> Result<(), AllocError> {
+    let alloc = rt.alloc();
+    let fault = match files_in(rt, folder) {
+        Ok(paths) if !paths.is_empty() => return add_files(all, paths),
+        Ok(_) => Text::from_str(alloc, "no file in it")?,
+        Err(error) => fault_words(alloc, &error)?,
+    };
+    all.push(KernelFile {
+        path: Text::from_str(alloc, folder)?,
+        fault: Some(fault),
+    })?;
+    Ok(())
+}
+
+/// Adds what a word names: a file, or the files of the folder that it is.
+fn add_word(rt: &HostRuntime, all: &mut Items<KernelFile>, word: &str) -> Result<(), AllocError> {
+    if is_folder(rt, word) {
+        return add_folder(rt, all, word);
+    }
+    let path = Text::from_str(rt.alloc(), word)?;
+    all.push(KernelFile { path, fault: None })?;
     Ok(())
 }
 
 /// The running kernel's types.
 const RUNNING: &str = "/sys/kernel/btf/vmlinux";
 
-/// The paths of the kernels that words name: files, and the files of folders; without a word the running kernel's.
-pub fn kernel_paths<'a>(rt: &HostRuntime, words: &'a [Text]) -> Result<Items<Text>, Unlisted<'a>> {
+/// The kernels that words name: files, and the files of folders; without a word the running one.
+pub fn kernel_files(rt: &HostRuntime, words: &[Text]) -> Result<Items<KernelFile>, AllocError> {
     let mut all = Items::new(rt.alloc());
     if words.is_empty() {
-        return match add_paths(rt, &mut all, RUNNING) {
-            Ok(()) => Ok(all),
-            Err(error) => Err(Unlisted {
-                path: RUNNING,
-                error,
-            }),
-        };
+        add_word(rt, &mut all, RUNNING)?;
     }
     for word in words {
-        let path = word.as_str();
-        if let Err(error) = add_paths(rt, &mut all, path) {
-            return Err(Unlisted { path, error });
-        }
+        add_word(rt, &mut all, word.as_str())?;
     }
     Ok(all)
 }

@@ -3,7 +3,7 @@
 use crate::kinds::Kind;
 use ebpf_base::Text;
 use std::alloc::{AllocError, Global};
-use std::collections::BTreeMap;
+use std::collections::{BTreeMap, BTreeSet};
 
 /// What a finding means for the programs.
 #[derive(Clone, Copy, Debug, PartialEq, Eq, PartialOrd, Ord)]
@@ -23,7 +23,7 @@ pub struct Topic {
     pub rank: Rank,
     /// What it is about.
     pub name: String,
-    /// What is asked of that.
+    /// What is asked of that; where it is absent or refused, the kind that stands for all that are told with it.
     pub kind: Kind,
     /// The file of the source line, where one is known and counts.
     pub file: String,
@@ -33,6 +33,16 @@ pub struct Topic {
     pub reason: String,
     /// Whether its values are shown with a sign.
     pub is_signed: bool,
+}
+
+impl Topic {
+    /// The topic under which it is told with others.
+    fn grouped(self) -> Topic {
+        Topic {
+            kind: self.kind.group(),
+            ..self
+        }
+    }
 }
 
 /// A place in a linked program. Contracts say nothing of it.
@@ -52,6 +62,8 @@ pub type At = (usize, Option<usize>);
 /// What was found of a topic.
 #[derive(Drop)]
 pub struct Found {
+    /// What is asked, of what is absent or refused.
+    pub kinds: BTreeSet<Kind>,
     /// The value that the object's own types give.
     pub own: Option<u64>,
     /// The places in linked programs.
@@ -65,6 +77,7 @@ pub struct Found {
 impl Found {
     fn new(alloc: Global) -> Found {
         Found {
+            kinds: BTreeSet::new(alloc),
             own: None,
             places: BTreeMap::new(alloc),
             values: BTreeMap::new(alloc),
@@ -138,12 +151,14 @@ impl Findings {
         kernel: usize,
         place: Option<(At, Location)>,
     ) -> Result<(), AllocError> {
+        let kind = topic.kind;
+        let topic = topic.grouped();
         if !self.topics.contains_key(&topic) {
             let found = Found::new(self.alloc);
-            return self.add_new(topic, found, kernel, place);
+            return self.add_new(topic, found, kind, kernel, place);
         }
         match self.topics.get_mut(&topic) {
-            Some(found) => note(found, kernel, place),
+            Some(found) => note(found, kind, kernel, place),
             None => Ok(()),
         }
     }
@@ -153,11 +168,12 @@ impl Findings {
         &mut self,
         topic: Topic,
         found: Found,
+        kind: Kind,
         kernel: usize,
         place: Option<(At, Location)>,
     ) -> Result<(), AllocError> {
         let mut found = found;
-        note(&mut found, kernel, place)?;
+        note(&mut found, kind, kernel, place)?;
         self.topics.insert(topic, found)?;
         Ok(())
     }
@@ -184,8 +200,14 @@ impl Findings {
     }
 }
 
-/// Notes a kernel, and a place.
-fn note(found: &mut Found, kernel: usize, place: Option<(At, Location)>) -> Result<(), AllocError> {
+/// Notes what is asked, a kernel, and a place.
+fn note(
+    found: &mut Found,
+    kind: Kind,
+    kernel: usize,
+    place: Option<(At, Location)>,
+) -> Result<(), AllocError> {
+    found.kinds.insert(kind)?;
     add_kernel(&mut found.kernels, kernel)?;
     match place {
         Some((at, place)) => add_place(&mut found.places, at, place, kernel),

@@ -1,10 +1,11 @@
 //! What `ebpf check --json` prints.
 
 use crate::findings::{At, Found, Location, Rank, Topic};
+use crate::kinds::Kind;
 use crate::names::Quoted;
 use crate::session::{Answer, KernelAnswer, Session};
 use ebpf_base::Text;
-use std::collections::BTreeMap;
+use std::collections::{BTreeMap, BTreeSet};
 use std::io::{self, Write};
 
 /// Writes a comma before all but the first of a list.
@@ -131,11 +132,31 @@ fn write_places<W: Write>(
     write!(out, "]")
 }
 
-/// Writes what a finding is about.
-fn write_topic<W: Write>(out: &mut W, topic: &Topic) -> io::Result<()> {
+/// Writes what a finding is about, and what is asked of it.
+fn write_topic<W: Write>(out: &mut W, topic: &Topic, kind: Kind) -> io::Result<()> {
     let name = Quoted(topic.name.as_str());
-    let kind = topic.kind.word();
+    let kind = kind.word();
     write!(out, "{{\"name\":{name},\"kind\":\"{kind}\",")
+}
+
+/// Writes all that is asked.
+fn write_kinds<W: Write>(out: &mut W, kinds: &BTreeSet<Kind>) -> io::Result<()> {
+    let mut is_first = true;
+    write!(out, "\"kinds\":[")?;
+    for kind in kinds.iter() {
+        separate(out, is_first)?;
+        is_first = false;
+        let kind = kind.word();
+        write!(out, "\"{kind}\"")?;
+    }
+    write!(out, "]")
+}
+
+/// Writes what a finding is about, and all that is asked of it, the first also by itself.
+fn write_asked<W: Write>(out: &mut W, topic: &Topic, kinds: &BTreeSet<Kind>) -> io::Result<()> {
+    let kind = kinds.first().copied().unwrap_or(topic.kind);
+    write_topic(out, topic, kind)?;
+    write_kinds(out, kinds)
 }
 
 /// Writes what is absent or refused.
@@ -145,9 +166,9 @@ fn write_found<W: Write>(
     topic: &Topic,
     found: &Found,
 ) -> io::Result<()> {
-    write_topic(out, topic)?;
+    write_asked(out, topic, &found.kinds)?;
     let reason = Quoted(topic.reason.as_str());
-    write!(out, "\"reason\":{reason},")?;
+    write!(out, ",\"reason\":{reason},")?;
     write_names(out, session, &found.kernels)?;
     write!(out, ",")?;
     write_places(out, session, &found.places)?;
@@ -191,7 +212,7 @@ fn write_changed<W: Write>(
     topic: &Topic,
     found: &Found,
 ) -> io::Result<()> {
-    write_topic(out, topic)?;
+    write_topic(out, topic, topic.kind)?;
     if let Some(own) = found.own {
         write!(out, "\"own\":")?;
         write_value(out, topic.is_signed, own)?;

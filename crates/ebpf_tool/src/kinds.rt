@@ -60,6 +60,19 @@ impl Kind {
         }
     }
 
+    /// The kind under which it is told: all that is asked of a field is told together.
+    pub fn group(self) -> Kind {
+        match self {
+            Kind::ByteOffset
+            | Kind::ByteSize
+            | Kind::FieldExists
+            | Kind::Signed
+            | Kind::LeftShift
+            | Kind::RightShift => Kind::ByteOffset,
+            other => other,
+        }
+    }
+
     /// Its word: of a record as libbpf's log has it.
     pub fn word(self) -> &'static str {
         match self {

@@ -21,9 +21,20 @@ fn field_type(local: &Btf, place: Place) -> Option<u32> {
     }
 }
 
-/// Whether the field at a place is an integer, an enumeration or a pointer.
-fn is_scalar(local: &Btf, place: Place) -> bool {
-    let Some(type_id) = field_type(local, place) else {
+/// The id of the type whose size a record asks for.
+fn sized_type(local: &Btf, relocation: &Relocation, path: &NamedPath) -> Option<u32> {
+    match (relocation.kind, path) {
+        (RelocationKind::FieldByteSize, NamedPath::Field { place, .. }) => {
+            field_type(local, *place)
+        }
+        (RelocationKind::TypeSize, _) => Some(relocation.type_id),
+        _ => None,
+    }
+}
+
+/// Whether a record asks for the size of an integer, an enumeration or a pointer.
+fn asks_scalar_size(local: &Btf, relocation: &Relocation, path: &NamedPath) -> bool {
+    let Some(type_id) = sized_type(local, relocation, path) else {
         return false;
     };
     match local.resolved_type(type_id) {
@@ -37,25 +48,22 @@ fn is_scalar(local: &Btf, place: Place) -> bool {
 
 /// Whether a record's value is told where a kernel has another one: of an enumerator, and of the size of an integer, an
 /// enumeration or a pointer; where all is told each that a kernel may change.
-fn is_told(local: &Btf, kind: RelocationKind, path: &NamedPath, all: bool) -> bool {
-    match (kind, path) {
-        (RelocationKind::EnumVariantValue, _) => true,
-        (RelocationKind::FieldByteSize, NamedPath::Field { place, .. }) => {
-            all || is_scalar(local, *place)
-        }
-        (RelocationKind::TypeIdLocal, _)
-        | (RelocationKind::TypeIdTarget, _)
-        | (RelocationKind::FieldExists, _)
-        | (RelocationKind::TypeExists, _)
-        | (RelocationKind::EnumVariantExists, _) => false,
-        _ => all,
+fn is_told(local: &Btf, relocation: &Relocation, path: &NamedPath, all: bool) -> bool {
+    match relocation.kind {
+        RelocationKind::EnumVariantValue => true,
+        RelocationKind::TypeIdLocal
+        | RelocationKind::TypeIdTarget
+        | RelocationKind::FieldExists
+        | RelocationKind::TypeExists
+        | RelocationKind::EnumVariantExists => false,
+        _ => all || asks_scalar_size(local, relocation, path),
     }
 }
 
 /// The value that the object's own types give a record, where another one is told. None where they give none.
 pub fn own_value(alloc: Global, local: &Btf, relocation: &Relocation, all: bool) -> Option<u64> {
     let path = local_path(alloc, local, relocation).ok()?;
-    if !is_told(local, relocation.kind, &path.path, all) {
+    if !is_told(local, relocation, &path.path, all) {
         return None;
     }
     let itself = [relocation.type_id];

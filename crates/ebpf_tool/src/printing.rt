@@ -4,7 +4,7 @@ use crate::findings::{At, Found, Location, Rank, Topic};
 use crate::kinds::Kind;
 use crate::names::{Shown, last_part};
 use crate::session::{Answer, KernelAnswer, Session};
-use std::collections::BTreeMap;
+use std::collections::{BTreeMap, BTreeSet};
 use std::io::{self, Write};
 
 /// How many kernels a line names where not all are told.
@@ -151,6 +151,24 @@ fn write_places<W: Write>(
     Ok(())
 }
 
+/// Writes what is asked, word by word.
+fn write_kinds<W: Write>(out: &mut W, kinds: &BTreeSet<Kind>) -> io::Result<()> {
+    for kind in kinds.iter() {
+        let kind = kind.word();
+        write!(out, "<{kind}> ")?;
+    }
+    Ok(())
+}
+
+/// Writes the first line of what is absent or refused: what it is, what is asked of it, and why.
+fn write_reason<W: Write>(out: &mut W, topic: &Topic, kinds: &BTreeSet<Kind>) -> io::Result<()> {
+    let name = Shown(topic.name.as_str());
+    write!(out, "  {name}  ")?;
+    write_kinds(out, kinds)?;
+    let reason = Shown(topic.reason.as_str());
+    writeln!(out, " {reason}")
+}
+
 /// Writes what is absent or refused: what it is, on which kernels, and where.
 fn write_found<W: Write>(
     out: &mut W,
@@ -159,10 +177,7 @@ fn write_found<W: Write>(
     topic: &Topic,
     found: &Found,
 ) -> io::Result<()> {
-    let name = Shown(topic.name.as_str());
-    let kind = topic.kind.word();
-    let reason = Shown(topic.reason.as_str());
-    writeln!(out, "  {name}  <{kind}>  {reason}")?;
+    write_reason(out, topic, &found.kinds)?;
     write!(out, "    ")?;
     write_on(out, session, manner, &found.kernels)?;
     writeln!(out, "")?;

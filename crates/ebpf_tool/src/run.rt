@@ -1,6 +1,6 @@
 //! From the words of a command line to a status.
 
-use crate::files::{ListError, Unlisted, gather_words, kernel_paths, read_file};
+use crate::files::{KernelFile, gather_words, kernel_files, read_file};
 use crate::help::{CHECK_HELP, CHECK_USAGE, HELP, VERSION};
 use crate::json::write_json;
 use crate::kernels::kernel_types;
@@ -66,19 +66,6 @@ fn complain(rt: &HostRuntime, path: &str, error: &io::Error) -> Stop {
     Stop::Told(2)
 }
 
-/// Says why the files that a word names can't be listed, and gives the status.
-fn refuse_kernel(rt: &HostRuntime, unlisted: &Unlisted<'_>) -> Stop {
-    match &unlisted.error {
-        ListError::Unreadable(error) => complain(rt, unlisted.path, error),
-        ListError::NoFile => {
-            let path = Shown(unlisted.path);
-            let error = &unlisted.error;
-            let _ = eprintln!(rt; "ebpf: {path}: {error}");
-            Stop::Told(2)
-        }
-    }
-}
-
 /// Says why words can't be read, with the usage line, and gives the status.
 fn usage(rt: &HostRuntime, error: &WordsError<'_>) -> Result<u8, Stop> {
     let alloc = rt.alloc();
@@ -125,11 +112,10 @@ fn load_chosen(rt: &HostRuntime, words: &CheckWords) -> Result<Loaded, Stop> {
     Ok(Loaded { programs, ..loaded })
 }
 
-/// Judges the programs over the kernel of a path.
-fn judge_path(rt: &HostRuntime, session: &mut Session, path: &Text) -> Result<(), Stop> {
+/// Judges the programs over the kernel of a file.
+fn judge_file(rt: &HostRuntime, session: &mut Session, name: Text) -> Result<(), Stop> {
     let alloc = rt.alloc();
-    let name = path.clone()?;
-    let bytes = match read_file(rt, path.as_str()) {
+    let bytes = match read_file(rt, name.as_str()) {
         Ok(bytes) => bytes,
         Err(error) if matches!(error.kind(), ErrorKind::OutOfMemory) => return Err(Stop::Memory),
         Err(error) => {
@@ -146,6 +132,19 @@ fn judge_path(rt: &HostRuntime, session: &mut Session, path: &Text) -> Result<()
             let sentence = format!(in alloc; "{error}")?;
             Ok(session.note_unread(name, Text::from_string(sentence))?)
         }
+    }
+}
+
+/// Judges the programs over a kernel; notes a folder that gives no file.
+fn judge_kernel_file(
+    rt: &HostRuntime,
+    session: &mut Session,
+    kernel: &KernelFile,
+) -> Result<(), Stop> {
+    let name = kernel.path.clone()?;
+    match &kernel.fault {
+        Some(fault) => Ok(session.note_unread(name, fault.clone()?)?),
+        None => judge_file(rt, session, name),
     }
 }
 
@@ -173,16 +172,16 @@ fn tell_kernel(out: &mut BufWriter<Stdout>, session: &Session) -> io::Result<()>
     }
 }
 
-/// Judges the programs over the kernel of each path, and tells each kernel when it is done.
-fn judge_paths(
+/// Judges the programs over each kernel, and tells it when it is done.
+fn judge_kernels(
     rt: &HostRuntime,
     words: &CheckWords,
     session: &mut Session,
-    paths: &[Text],
+    kernels: &[KernelFile],
     out: &mut BufWriter<Stdout>,
 ) -> Result<(), Stop> {
-    for path in paths {
-        judge_path(rt, session, path)?;
+    for kernel in kernels {
+        judge_kernel_file(rt, session, kernel)?;
         tell_unread(rt, session);
         if !words.json {
             tell_kernel(out, session)?;
@@ -205,25 +204,23 @@ fn tell_findings(
     out.flush()
 }
 
-/// Judges the programs over the kernels of these paths, tells what was found, and gives the status.
-fn check_paths(
+/// Judges the programs over these kernels, tells what was found, and gives the status.
+fn check_files(
     rt: &HostRuntime,
     words: &CheckWords,
     session: &mut Session,
-    paths: &[Text],
+    kernels: &[KernelFile],
 ) -> Result<u8, Stop> {
     let mut out = BufWriter::new(rt.alloc(), rt.stdout())?;
-    judge_paths(rt, words, session, paths, &mut out)?;
+    judge_kernels(rt, words, session, kernels, &mut out)?;
     tell_findings(words, session, &mut out)?;
     Ok(session.status())
 }
 
 /// Judges the programs over the kernels that the words name, tells what was found, and gives the status.
 fn check_kernels(rt: &HostRuntime, words: &CheckWords, session: &mut Session) -> Result<u8, Stop> {
-    match kernel_paths(rt, words.kernels.as_slice()) {
-        Ok(paths) => check_paths(rt, words, session, paths.as_slice()),
-        Err(unlisted) => Err(refuse_kernel(rt, &unlisted)),
-    }
+    let kernels = kernel_files(rt, words.kernels.as_slice())?;
+    check_files(rt, words, session, kernels.as_slice())
 }
 
 /// Does what `ebpf check` is asked. It alone holds the object, and leaves early nowhere while it does: each way out of a

@@ -10,6 +10,7 @@ use crate::map_uses::MapUse;
 use crate::record_names::record_name;
 use crate::verdict::{Answers, topic_of};
 use ebpf_btf::{Btf, BtfKind};
+use ebpf_core::Outcome;
 use ebpf_core_relo::{Absence, RecordResult, RelocationError};
 use ebpf_ext::{Relocation, RelocationKind};
 use ebpf_parts::insn::bpf_insn;
@@ -209,16 +210,17 @@ fn has_sign(local: &Btf, relocation: &Relocation) -> bool {
     }
 }
 
-/// Notes a value that is another one than the object's own.
-fn note_value(
+/// Notes a value of a kind where it is another one than the object's own.
+fn note_changed(
     alloc: Global,
     findings: &mut Findings,
     answers: &Answers<'_>,
     record: &Record,
-    value: Option<u64>,
+    kind: Kind,
+    own: u64,
+    value: u64,
 ) -> Result<(), AllocError> {
-    let local = &answers.loaded.object.btf;
-    let (Some(own), Some(value), Some(local)) = (record.own, value, local) else {
+    let Some(local) = &answers.loaded.object.btf else {
         return Ok(());
     };
     if own == value {
@@ -227,13 +229,61 @@ fn note_value(
     let topic = Topic {
         rank: Rank::Changed,
         name: record_name(alloc, local, &record.relocation)?,
-        kind: Kind::of(record.relocation.kind),
+        kind,
         file: String::new(alloc),
         line: 0,
         reason: String::new(alloc),
         is_signed: has_sign(local, &record.relocation),
     };
     findings.add_changed(topic, answers.kernel, own, value)
+}
+
+/// Notes the value of a record where it is told and another one than the object's own.
+fn note_value(
+    alloc: Global,
+    findings: &mut Findings,
+    answers: &Answers<'_>,
+    record: &Record,
+    value: Option<u64>,
+) -> Result<(), AllocError> {
+    let (Some(own), Some(value)) = (record.own, value) else {
+        return Ok(());
+    };
+    let kind = Kind::of(record.relocation.kind);
+    note_changed(alloc, findings, answers, record, kind, own, value)
+}
+
+/// Notes the size of a field where a load or store moves another number of bytes than the object's own. It does so of
+/// integers without a sign and pointers alone; of others its record is refused.
+fn note_moved_size(
+    alloc: Global,
+    findings: &mut Findings,
+    answers: &Answers<'_>,
+    record: &Record,
+    outcome: &Outcome,
+) -> Result<(), AllocError> {
+    let (Some(own), Some(found)) = (outcome.local, outcome.target) else {
+        return Ok(());
+    };
+    let (own, value) = (u64::from(own.size), u64::from(found.size));
+    note_changed(alloc, findings, answers, record, Kind::ByteSize, own, value)
+}
+
+/// Notes what is written of a record where it is another than the object's own: its value, and the size of what its slot
+/// loads or stores.
+fn note_written(
+    alloc: Global,
+    findings: &mut Findings,
+    answers: &Answers<'_>,
+    spot: Spot<'_>,
+    record: &Record,
+    outcome: &Outcome,
+) -> Result<(), AllocError> {
+    note_value(alloc, findings, answers, record, outcome.value)?;
+    if spot.leads {
+        return Ok(());
+    }
+    note_moved_size(alloc, findings, answers, record, outcome)
 }
 
 /// Whether a slot, as the object has it, loads a number and nothing else: by its class it is no load from memory and no
@@ -271,7 +321,7 @@ fn judge_record(
     let spot = Spot { copy, slot, leads };
     match &outcome.result {
         RecordResult::Value(outcome) => {
-            note_value(alloc, findings, answers, record, outcome.value)?;
+            note_written(alloc, findings, answers, spot, record, outcome)?;
             Ok(false)
         }
         RecordResult::Absent(absence) => {
