@@ -1,131 +1,164 @@
-"""Objects that clang makes of tests/objects/broad.c, as they are read broadly, beside what llvm-objdump says of their slots,
-bpftool of their maps, and a reading of `.BTF.ext` of their records."""
-import json
-import re
+"""What both readings answer to the objects that clang makes, beside what told.py tells of them."""
+import multiprocessing
+import os
 import shutil
 import struct
-import subprocess
-import tempfile
-from pathlib import Path
 
-from c_interface.builds import TOP
+from c_interface.kinds import numbers_read
+from c_interface.recipes import Recipe, defined, make, recipes
 from c_interface.runs import run
-
-SOURCE = TOP / "tests/objects/broad.c"
+from c_interface.told import Told
+from rows import broad, loaded_names
 
 # The compilers and the tools of LLVM that are tried, by what stands behind their names.
 VERSIONS = ["", "-19"]
 
-# The numbers that the members of a map's struct say, by where they are listed.
-NUMBERS = {"type": "type", "key_size": "key", "value_size": "value", "max_entries": "entries", "map_extra": "extra"}
+ACTIONS = ["programs", "named", "slots", "listed", "records", "info"]
+
+# The class of a load's slot, and the kind of a record that asks where a field begins.
+LOAD, BYTE_OFFSET = 1, 0
 
 
-def output(*words):
-    return subprocess.run([str(word) for word in words], capture_output=True, text=True, check=True).stdout
+def programs(told):
+    """The functions that are programs, by name."""
+    found = [function for function in told.functions if not told.sections[function.section].startswith(".text")]
+    return sorted(found, key=lambda function: function.name)
 
 
-def functions(version, path):
-    """The slots of each function as the disassembler has them, by name: the place of the first and the bytes of each."""
-    found, name = {}, None
-    for line in output(f"llvm-objdump{version}", "-d", path).splitlines():
-        if head := re.fullmatch(r"[0-9a-f]{16} <(?!LBB)(.*)>:", line):
-            name = head[1]
-        elif row := re.match(r"\s+(\d+):\t((?:[0-9a-f]{2}\s)+)", line):
-            data = bytes.fromhex(row[2])
-            first, slots = found.setdefault(name, (int(row[1]), []))
-            slots += [data[at : at + 8].hex() for at in range(0, len(data), 8)]
+def section_name(told, function):
+    """The name by which a program's section is listed: none where a later section has it too."""
+    name = told.sections[function.section]
+    return "" if name in told.sections[function.section + 1 :] else name
+
+
+def kind_lines(told):
+    for function in programs(told):
+        name = told.sections[function.section]
+        numbers = numbers_read(broad.broad(name), loaded_names.loaded(section_name(told, function)))
+        yield f"program {function.name} {numbers} section {function.section} address {function.address}"
+
+
+def name_lines(told):
+    for function in programs(told):
+        yield f"program {function.name} in '{section_name(told, function)}'"
+
+
+def slot_lines(functions):
+    """The slots of functions, by name."""
+    for name, slots in functions.items():
+        yield f"program {name} slots {len(slots)}"
+        yield from (slot.hex() for slot in slots)
+
+
+def map_lines(told):
+    for name, numbers in sorted(told.maps.items()):
+        of = lambda key: numbers.get(key, 0)
+        yield (
+            f"map {name} section {told.sections.index('.maps')} kind 2 type {of('type')} key {of('key')}:{of('key id')} value "
+            f"{of('value')}:{of('value id')} entries {of('entries')} flags {of('flags')} extra {of('extra')} pinning 0 data "
+        )
+
+
+def record_lines(told):
+    """The records of programs, which count from the first slot of each."""
+    for function in programs(told):
+        records, first = told.records_of(function), function.address // 8
+        end = first + len(told.slots[function.name])
+        functions = [f" {place - first}" for place in records.functions if place == first]
+        lines = [f" {place - first}/{position}" for place, position in records.lines if first <= place < end]
+        yield f"records {function.name}:{''.join(functions)} of {len(functions)},{''.join(lines)} of {len(lines)}"
+
+
+def has_fields(told):
+    return any(records.fields for records in told.records.values())
+
+
+def info_line(told):
+    license = told.bytes_of("license").split(b"\0")[0].hex()
+    return f"info big {told.is_big:d} version 0 0 types 1 relocations {has_fields(told):d} typed 0 license {license}"
+
+
+def wanted(told):
+    slots = {function.name: told.slots[function.name] for function in programs(told)}
+    lines = [*kind_lines(told), *name_lines(told), *slot_lines(slots), *map_lines(told), *record_lines(told)]
+    return [*lines, info_line(told)]
+
+
+def moved_slots(told, kernel, function):
+    """The slots of a program once each load of a field says where a kernel has the field."""
+    slots, first = list(told.slots[function.name]), function.address // 8
+    for field in told.records_of(function).fields:
+        at = field.place - first
+        if not 0 <= at < len(slots):
+            continue
+        assert field.kind == BYTE_OFFSET and slots[at][0] & 7 == LOAD
+        slots[at] = slots[at][:2] + struct.pack("<h", kernel.offset(*told.named(field))) + slots[at][4:]
+    return slots
+
+
+def difference(given, lines):
+    """The first line that differs, or None."""
+    status, found, err = given
+    if status or err:
+        return f"status {status}, {err[:600]}"
+    for number, (line, want) in enumerate(zip([*found, "no line"], [*lines, "no line"]), 1):
+        if line != want:
+            return f"line {number}: {line!r} in place of {want!r}"
+    return None
+
+
+def opened(calls, path, told, action, answer):
+    """What is wrong with the answer of a reading, or with the object that it gives."""
+    lines, asked = [f"{action} {answer}"], [action]
+    if answer == "0":
+        lines, asked = [*lines, *wanted(told)], [*asked, *ACTIONS]
+    return difference(run([str(calls), str(path), "/dev/null", "/dev/null", *asked]), lines)
+
+
+def relocated(calls, path, told, kernel):
+    """What is wrong with the slots that are relocated to a kernel."""
+    slots = {function.name: moved_slots(told, kernel, function) for function in programs(told)}
+    words = [str(calls), str(path), str(types_of(kernel)), "/dev/null", "open_broad", "types", "slots"]
+    return difference(run(words), ["open_broad 0", "types 0", *slot_lines(slots)])
+
+
+def judged(task):
+    """What is wrong with an object that one version's tools make and tell of: what was asked, and None or the fault."""
+    calls, path, recipe, kernel = task
+    make(recipe, kernel.version, path)
+    told = Told(kernel.version, path)
+    name = f"{recipe.name}, by clang{kernel.version}"
+    found = [(f"{name}, as stated", opened(calls, path, told, "open", recipe.stated))]
+    found.append((f"{name}, broadly", opened(calls, path, told, "open_broad", recipe.broad)))
+    if recipe.broad == "0" and has_fields(told):
+        found.append((f"{name}, relocated", relocated(calls, path, told, kernel)))
     return found
 
 
-def maps(path):
-    """The BTF-defined maps, as bpftool reads the types: for each the numbers that its struct says."""
-    types = {row["id"]: row for row in json.loads(output("bpftool", "-j", "btf", "dump", "file", path))["types"]}
-
-    def number(member):
-        of = types[member["type_id"]]
-        if member["name"] == "values":
-            return "value", 4
-        if of["kind"].startswith("ENUM"):
-            return NUMBERS[member["name"]], of["values"][0]["val"]
-        return NUMBERS[member["name"]], types[of["type_id"]]["nr_elems"]
-
-    section = next(row for row in types.values() if row["kind"] == "DATASEC" and row["name"] == ".maps")
-    for entry in section["vars"]:
-        variable = types[entry["type_id"]]
-        yield variable["name"], dict(map(number, types[variable["type_id"]]["members"]))
+def types_of(kernel):
+    """Where the types of a kernel stand alone."""
+    return kernel.path.with_suffix(".btf")
 
 
-def section_bytes(version, path, name):
-    with tempfile.NamedTemporaryFile() as out:
-        output(f"llvm-objcopy{version}", f"--dump-section={name}={out.name}", path, "/dev/null")
-        return Path(out.name).read_bytes()
-
-
-def records(version, path):
-    """The records of each section of code: the places of those on functions, and place and position of those on lines."""
-    types, data = section_bytes(version, path, ".BTF"), section_bytes(version, path, ".BTF.ext")
-    strings = types[struct.unpack_from("<I", types, 4)[0] + struct.unpack_from("<I", types, 16)[0] :]
-    head, *parts = struct.unpack_from("<I4I", data, 4)
-    found = {}
-    for at, size in zip(parts[::2], parts[1::2]):
-        place, end = head + at + 4, head + at + size
-        width = struct.unpack_from("<I", data, head + at)[0]
-        while place < end:
-            name, count = struct.unpack_from("<II", data, place)
-            text = strings[name : strings.index(b"\0", name)].decode()
-            rows = [struct.unpack_from("<I", data, place + 8 + width * row)[0] // 8 for row in range(count)]
-            if width == 16:
-                lines = [struct.unpack_from("<I", data, place + 20 + width * row)[0] for row in range(count)]
-                rows = list(zip(rows, lines))
-            found.setdefault(text, ([], []))[width == 16].extend(rows)
-            place += 8 + width * count
-    return found
-
-
-def wanted_records(name, section, first, count, recorded):
-    """The line of a program's records, which count from its first slot."""
-    funcs, lines = recorded.get(section, ([], []))
-    funcs = [str(place - first) for place in funcs if place == first]
-    lines = [f"{place - first}/{at}" for place, at in lines if first <= place < first + count]
-    return f"records {name}: {' '.join(funcs)} of {len(funcs)}, {' '.join(lines)} of {len(lines)}"
-
-
-def wrong_maps(lines, path):
-    listed = {found[1]: line for line in lines if (found := re.match(r"map (\S+) .* kind 2 ", line))}
-    for name, numbers in maps(path):
-        line = listed.pop(name, "")
-        for of, value in numbers.items():
-            if not re.search(rf" {of} {value}[ :]", line):
-                yield f"{of} {value} isn't in {line!r}"
-    yield from (f"{name} isn't declared" for name in listed)
-
-
-def wrong_programs(lines, version, path):
-    sections = {found[1]: found[2] for line in lines if (found := re.fullmatch(r"program (\S+) in '(.*)'", line))}
-    slots, recorded = functions(version, path), records(version, path)
-    text = "\n".join(lines) + "\n"
-    for name, section in sections.items():
-        first, wanted = slots[name]
-        if f"program {name} slots {len(wanted)}\n" + "".join(f"{slot}\n" for slot in wanted) not in text:
-            yield f"other slots of {name}"
-        if (said := wanted_records(name, section, first, len(wanted), recorded)) not in lines:
-            yield f"not {said!r}"
-    if len(sections) != 6:
-        yield f"{len(sections)} programs"
+def moved_kernel(version, folder):
+    """A kernel that has the fields elsewhere."""
+    kernel = Told(version, folder / f"moved{version}.o")
+    make(Recipe("a kernel", words=defined(MOVED="")), version, kernel.path)
+    types_of(kernel).write_bytes(kernel.bytes_of(".BTF"))
+    return kernel
 
 
 def compared(calls, folder):
-    """What differs, for each version of the tools that is there: a name, and None or the differences."""
+    """What differs, for each version of the tools that is there: a name, and None or the difference."""
+    tasks = []
     for version in VERSIONS:
-        tools = [f"{name}{version}" for name in ("clang", "llvm-objdump", "llvm-objcopy")]
+        tools = [f"{name}{version}" for name in ("clang", "llvm-objdump", "llvm-objcopy", "llvm-readelf")]
         if not all(map(shutil.which, [*tools, "bpftool"])):
             print(f"no {', '.join(tools)} with bpftool: nothing is compared with them")
             continue
-        path = folder / f"broad{version}.o"
-        output(tools[0], "-target", "bpf", "-O2", "-g", "-c", SOURCE, "-o", path)
-        words = [str(calls), str(path), "/dev/null", "/dev/null"]
-        yield f"broad.c of {tools[0]}, as stated", None if run([*words, "open"])[1] == ["open 141"] else "its license is taken"
-        status, lines, err = run([*words, "open_broad", "named", "slots", "listed", "records", "info"])
-        wrong = [err] if status else [*wrong_maps(lines, path), *wrong_programs(lines, version, path)]
-        wrong += [] if lines and lines[-1].endswith(" license 47504c") else ["another license"]
-        yield f"broad.c of {tools[0]}, broadly", "; ".join(wrong) or None
+        kernel = moved_kernel(version, folder)
+        for number, recipe in enumerate(recipes()):
+            tasks.append((calls, folder / f"compiled{version}-{number}.o", recipe, kernel))
+    with multiprocessing.Pool(os.cpu_count()) as pool:
+        for found in pool.imap(judged, tasks, 4):
+            yield from found

@@ -110,3 +110,8 @@ def numbers_loaded(kind, loaded):
     attach = "-1" if attach == "None" else attach[len("Some(") : -1]
     at = OTHER if kind == "Other" else list(KINDS).index(re.match(r"\w+", kind)[0])
     return f"kind {at} flags {flags} type {number} attach {attach}"
+
+
+def numbers_read(kind, loaded):
+    """Of a kind as it is printed, by what loaders know of its section's name, where they know something."""
+    return numbers_of(kind) if loaded == "none" else numbers_loaded(kind, loaded)

@@ -7,7 +7,7 @@ from rows.names import cases as cases_of_names
 from rows.resolved import GLOBAL, function_of, variable_of_void, with_extern
 
 from c_interface import builds
-from c_interface.kinds import numbers_loaded, numbers_of
+from c_interface.kinds import numbers_of, numbers_read
 from c_interface.runs import CallsRow
 
 
@@ -34,8 +34,7 @@ def kinds():
 def broad_kinds():
     """A program in a section of each name that loaders know, and of others, as it is read broadly."""
     for name in broad.NAMES:
-        kind, known = broad.broad(name), loaded_names.loaded(name)
-        wanted = numbers_of(kind) if known == "none" else numbers_loaded(kind, known)
+        wanted = numbers_read(broad.broad(name), loaded_names.loaded(name))
         lines = ["open_broad 0", f"program foo {wanted} section 3 address 0"]
         yield CallsRow(f"the section {name}, broadly", (broad.program_of(name), b"", b""), ["open_broad", "programs"], lines)
 
