@@ -7,9 +7,9 @@ EBPF_BENCH is the built crates/bench_prepare/out/bench_prepare. Needs gcc, libbp
 types. Of a chain of so many functions of some twenty slots, and of so many of three slots, it prints the least time of
 three runs of `bench_prepare prepare`, and the most memory that the process held in one run, as a multiple of the file too.
 The files are what clang and `llvm-strip -g` make of such chains, but libbpf/chain_objects.py makes them here. Of the
-running kernel's types, once and N times over, it prints the times of `btf__new`, of `Btf::parse` and of the index, of
-the first two also in memory that the process has already, and the most memory, the file in it. Times are in
-microseconds, of types the least of five processes.
+running kernel's types, once and N times over, it prints the times of `btf__new`, of `Btf::from_vec`, of reading the file
+and of the index, of all but the index also in memory that the process has already, and the most memory, the file in it.
+Times are in microseconds, of types the least of five processes.
 """
 import argparse
 import re
@@ -43,7 +43,7 @@ def run(*command):
 
 
 def number(pattern, text):
-    return int(re.search(pattern, text).group(1))
+    return int(re.search(pattern, text, re.MULTILINE).group(1))
 
 
 def least(pattern, texts):
@@ -66,16 +66,21 @@ def peak_of(*command):
     return int(run("python3", "-c", script, *command).split()[-1]) * 1024
 
 
+def phase(name, texts):
+    """The first and the least time of a phase."""
+    first = least(rf"^{name} +first +(\d+) us", texts)
+    again = least(rf"^{name} +first +\d+ us, least +(\d+) us", texts)
+    return f"{first}, again {again}"
+
+
 def types(bench, timing, path, title):
     size = path.stat().st_size
     theirs = [run(timing, path, 9) for _ in range(PROCESSES)]
     ours = [run(bench, "types", path) for _ in range(PROCESSES)]
     first, warm = least(r"first (\d+) us", theirs), least(r"least (\d+) us", theirs)
-    parse, index = least(r"parse: (\d+) us", ours), least(r"index: (\d+) us", ours)
-    again = least(r"parse again: (\d+) us", ours)
     peak = peak_of(bench, "types", path)
-    print(f"{title:>20}{size // 1024:>9} KiB  btf__new {first}, again {warm}  parse {parse}, again {again}  index {index}"
-          f"  {peak / 1e6:.1f} MB {peak / size:.2f}", flush=True)
+    print(f"{title:>20}{size // 1024:>9} KiB  btf__new {first}, again {warm}  read {phase('read', ours)}"
+          f"  types {phase('types', ours)}  index {phase('index', ours)}  {peak / 1e6:.1f} MB {peak / size:.2f}", flush=True)
 
 
 def main():

@@ -92,17 +92,18 @@ ODD = btf(
 def types():
     data = inputs.section(REFERENCES.read_bytes(), ".BTF")
     calls = ["add_string=name", "add_type=2", "string_at=5", "type_name=2", "err_type_name=1", "err_type_name=2"]
-    calls += ["clone_type=2", "clone", "id_of=none", "index=s", "both=s", "fields=2", "boxed", "boxed_members"]
+    calls += ["clone", "id_of=none", "index=s", "both=s", "fields=2"]
     starts = {"err_type_name=1": "Some", "err_type_name=2": "Some", "id_of=none": "Err"}
     rows = [
         CallRow(f"{call}, odd types", (b"", ODD, b""), "types", call, starts=starts.get(call, "Ok")) for call in calls
     ]
     rows += [
         CallRow(f"{call}, types of clang", (b"", data, b""), "types", call, starts=starts.get(call, "Ok"))
-        for call in ["add_string=a_longer_name", "add_type=3", "clone", "clone_type=3", "index=rq", "both=rq"]
+        for call in ["add_string=a_longer_name", "add_type=3", "clone", "index=rq", "both=rq"]
     ]
     for name, held in [("odd types", ODD), ("types of clang", data), ("a kernel's types", KERNEL)]:
         rows.append(CallRow(f"Btf::parse, {name}", (b"", held, b""), "parse_types"))
+        rows.append(CallRow(f"Btf::from_vec, {name}", (b"", held, b""), "take_types"))
     return rows
 
 

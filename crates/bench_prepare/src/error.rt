@@ -14,6 +14,8 @@ pub enum BenchError {
     Types(#[from] BtfError),
     #[error("the object is refused: ebpf-link says why")]
     Refused,
+    #[error("a phase was not noted")]
+    Clock,
     #[error("out of memory")]
     Memory(#[from] AllocError),
 }

@@ -8,8 +8,11 @@ use std::alloc::{AllocError, Global};
 /// How many candidates the names of each seventh type have together.
 fn count_candidates(btf: &Btf, index: &TypeIndex) -> u64 {
     let mut count = 0u64;
-    for ty in btf.types().iter().step_by(7) {
-        let Ok(name) = btf.type_name(ty) else {
+    for id in (0..btf.len()).step_by(7) {
+        let Some(ty) = btf.get(id) else {
+            continue;
+        };
+        let Ok(name) = btf.type_name(&ty) else {
             continue;
         };
         if let Ok(ids) = index.candidates(ty.kind(), name.as_str()) {
@@ -22,7 +25,7 @@ fn count_candidates(btf: &Btf, index: &TypeIndex) -> u64 {
 /// How many types have a size.
 fn count_sized(btf: &Btf) -> u64 {
     let mut count = 0u64;
-    for (id, _ty) in btf.types().iter().enumerate() {
+    for id in 0..btf.len() {
         if btf.type_size(id as u32).is_ok() {
             count = count.wrapping_add(1);
         }
@@ -32,7 +35,7 @@ fn count_sized(btf: &Btf) -> u64 {
 
 /// Prints how many types there are, how many candidates each seventh's name has, and how many types have a size.
 pub fn print_counts(rt: &HostRuntime, btf: &Btf, index: &TypeIndex) -> Result<(), BenchError> {
-    let types = btf.types().len();
+    let types = btf.len();
     let candidates = count_candidates(btf, index);
     let sized = count_sized(btf);
     println!(rt; "types {types}, candidates of each seventh {candidates}, with a size {sized}")?;
@@ -54,7 +57,7 @@ fn type_line(
     btf: &Btf,
     index: &TypeIndex,
     id: u32,
-    ty: &BtfType,
+    ty: &BtfType<'_>,
 ) -> Result<String, BtfError> {
     let name = btf.type_name(ty)?;
     let name = name.as_str();
@@ -71,9 +74,10 @@ fn type_line(
 
 /// Prints the last ten types.
 pub fn print_last(rt: &HostRuntime, btf: &Btf, index: &TypeIndex) -> Result<(), BenchError> {
-    let from = btf.types().len().saturating_sub(10);
-    for (id, ty) in btf.types().iter().enumerate().skip(from) {
-        let text = type_line(rt.alloc(), btf, index, id as u32, ty)?;
+    let from = btf.len().saturating_sub(10);
+    for id in from..btf.len() {
+        let ty = btf.at(id);
+        let text = type_line(rt.alloc(), btf, index, id as u32, &ty)?;
         println!(rt; "{text}")?;
     }
     Ok(())

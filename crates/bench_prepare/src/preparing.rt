@@ -23,7 +23,7 @@ fn read_object(rt: &HostRuntime, path: &str) -> Result<Object, BenchError> {
 /// The types in a file.
 fn read_types(rt: &HostRuntime, path: &str) -> Result<Option<Btf>, BenchError> {
     let bytes = read_bytes(rt, path)?;
-    Ok(Some(Btf::parse(rt.alloc(), &bytes, Endianness::Little)?))
+    Ok(Some(Btf::from_vec(bytes, Endianness::Little)?))
 }
 
 /// The kernel's types, where they are given and the object needs them: it has CO-RE relocations, or externs with a type.
@@ -41,7 +41,7 @@ fn types_for(
 }
 
 /// The lines of the kernel's symbols, which are read where the object needs them; none where they are not given.
-fn symbols(rt: &HostRuntime, sources: &Sources<'_>) -> Result<BufReader<File>, BenchError> {
+pub fn symbols(rt: &HostRuntime, sources: &Sources<'_>) -> Result<BufReader<File>, BenchError> {
     let path = sources.kallsyms.unwrap_or("/dev/null");
     Ok(BufReader::new(rt.alloc(), fs::open(rt, path)?)?)
 }
@@ -78,10 +78,21 @@ fn times(rt: &HostRuntime, sources: &Sources<'_>) -> Result<Vec<u128>, BenchErro
     Ok(times)
 }
 
-/// Prints the least and the median time from opening the file to finished programs, and the most memory that the
+/// Prints the times, in the order of the runs.
+fn print_times(rt: &HostRuntime, times: &[u128]) -> Result<(), BenchError> {
+    print!(rt; "times")?;
+    for time in times {
+        print!(rt; " {time}")?;
+    }
+    println!(rt; " us")?;
+    Ok(())
+}
+
+/// Prints the time of each run, the least and the median time from opening the file to finished programs, and the most memory that the
 /// process held. The kernel's types and symbols are read in that time, where the object needs them.
 pub fn measure_preparing(rt: &HostRuntime, sources: &Sources<'_>) -> Result<(), BenchError> {
     let mut times = times(rt, sources)?;
+    print_times(rt, &times)?;
     times.sort_unstable();
     let runs = times.len();
     let least = times.first().copied().unwrap_or(0);

@@ -1,67 +1,92 @@
 //! How long type information takes to be read, to be indexed, and to be asked.
 
+use crate::clock::Clock;
 use crate::error::BenchError;
 use crate::files::read_bytes;
 use crate::found::{print_counts, print_last};
 use crate::many_types::{KERNEL_GROUPS, many_types};
-use crate::timed::timed;
 use ebpf_btf::{Btf, Endianness};
 use ebpf_candidates::TypeIndex;
 
-/// How often bytes are parsed once more, in memory that the process has already.
-const AGAIN: u32 = 5;
+/// How often type information is read and indexed, the first time in memory that is new to the process.
+const RUNS: u32 = 6;
 
-/// The bytes of a file, or those that are made.
-fn bytes_of(rt: &HostRuntime, word: &str) -> Result<Vec<u8>, BenchError> {
-    if word == "--generated" {
+/// The word for types that are made.
+const GENERATED: &str = "--generated";
+
+/// The bytes that are made, where the word asks for them.
+fn made_bytes(rt: &HostRuntime, word: &str) -> Result<Vec<u8>, BenchError> {
+    if word == GENERATED {
         return Ok(many_types(rt.alloc(), KERNEL_GROUPS)?);
+    }
+    Ok(Vec::new(rt.alloc()))
+}
+
+/// The bytes of a file, or a copy of those that were made.
+fn bytes_of(rt: &HostRuntime, word: &str, made: &[u8]) -> Result<Vec<u8>, BenchError> {
+    if word == GENERATED {
+        return Ok(Vec::from_slice(rt.alloc(), made)?);
     }
     Ok(read_bytes(rt, word)?)
 }
 
-/// The types in bytes.
-fn parse(rt: &HostRuntime, bytes: &[u8]) -> Result<Btf, BenchError> {
-    Ok(Btf::parse(rt.alloc(), bytes, Endianness::Little)?)
-}
-
-/// The index of types.
-fn index<'a>(rt: &HostRuntime, btf: &'a Btf) -> Result<TypeIndex<'a>, BenchError> {
-    Ok(TypeIndex::new(rt.alloc(), btf)?)
-}
-
-/// Parses bytes a few times, and says how long the first time took, and the least of those behind it.
-fn measure_parsing(rt: &HostRuntime, bytes: &[u8]) -> Result<(), BenchError> {
-    let first = timed(rt, || parse(rt, bytes))?;
-    let mut least = u128::MAX;
-    for _run in 0..AGAIN {
-        least = least.min(timed(rt, || parse(rt, bytes))?);
-    }
-    eprintln!(rt; "parse: {first} us")?;
-    eprintln!(rt; "parse again: {least} us")?;
+/// Makes an index of types and lets it go.
+fn index(rt: &HostRuntime, types: &Btf, clock: &mut Clock) -> Result<(), BenchError> {
+    let index = TypeIndex::new(rt.alloc(), types)?;
+    clock.end(rt, "index");
+    drop(index);
+    clock.end(rt, "let go of the index");
     Ok(())
 }
 
-/// Prints what an index of types answers, and says how long that takes.
-fn ask(rt: &HostRuntime, btf: &Btf, index: &TypeIndex<'_>) -> Result<(), BenchError> {
-    let counts = timed(rt, || print_counts(rt, btf, index))?;
-    let last = timed(rt, || print_last(rt, btf, index))?;
-    eprintln!(rt; "candidates and sizes: {counts} us")?;
-    eprintln!(rt; "ten ids by name: {last} us")?;
+/// Copies the types out of bytes, and lets them go.
+fn parse(rt: &HostRuntime, bytes: &[u8], clock: &mut Clock) -> Result<(), BenchError> {
+    clock.begin(rt);
+    let types = Btf::parse(rt.alloc(), bytes, Endianness::Little)?;
+    clock.end_inner(rt, "  a copy of the types");
+    drop(types);
+    clock.end_inner(rt, "  let go of the copy");
     Ok(())
 }
 
-/// Says how long an index of types takes, and asks it.
-fn index_and_ask(rt: &HostRuntime, btf: &Btf) -> Result<(), BenchError> {
-    let time = timed(rt, || index(rt, btf))?;
-    eprintln!(rt; "index: {time} us")?;
-    ask(rt, btf, &index(rt, btf)?)
+/// One run: reads the types, indexes them, and lets all go.
+fn run(rt: &HostRuntime, word: &str, made: &[u8], clock: &mut Clock) -> Result<(), BenchError> {
+    clock.begin(rt);
+    let bytes = bytes_of(rt, word, made)?;
+    clock.end(rt, "read");
+    let types = Btf::from_vec(bytes, Endianness::Little)?;
+    clock.end(rt, "types");
+    index(rt, &types, clock)?;
+    drop(types);
+    clock.end(rt, "let go of the types");
+    Ok(())
+}
+
+/// Prints what an index of types answers.
+fn ask(rt: &HostRuntime, types: &Btf, clock: &mut Clock) -> Result<(), BenchError> {
+    let index = TypeIndex::new(rt.alloc(), types)?;
+    clock.begin(rt);
+    print_counts(rt, types, &index)?;
+    clock.end_inner(rt, "  candidates and sizes");
+    print_last(rt, types, &index)?;
+    clock.end_inner(rt, "  ten ids by name");
+    Ok(())
 }
 
 /// Takes the steps on the `.BTF` of a file, or on bytes that are made. It prints what it found, and on the standard
 /// error how long each step took, in microseconds.
 pub fn measure_types(rt: &HostRuntime, word: &str) -> Result<(), BenchError> {
-    let bytes = bytes_of(rt, word)?;
-    measure_parsing(rt, bytes.as_slice())?;
-    let btf = parse(rt, bytes.as_slice())?;
-    index_and_ask(rt, &btf)
+    let made = made_bytes(rt, word)?;
+    let mut clock = Clock::start(rt)?;
+    for _run in 0..RUNS {
+        run(rt, word, &made, &mut clock)?;
+    }
+    let bytes = bytes_of(rt, word, &made)?;
+    for _run in 0..RUNS {
+        parse(rt, &bytes, &mut clock)?;
+    }
+    ask(rt, &Btf::from_vec(bytes, Endianness::Little)?, &mut clock)?;
+    let text = clock.text()?;
+    eprint!(rt; "{text}")?;
+    Ok(())
 }

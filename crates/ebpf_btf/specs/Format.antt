@@ -1,8 +1,7 @@
 -- The bytes of types (the kernel's Documentation/bpf/btf.rst, 2.2 "Type Encoding").
 -- A type is three words, that is numbers of four bytes: the offset of its name, its info, its size or another
 -- type. Then the words of its kind follow.
-use Rattle.std.specs.Prelude.{◌≡◌, ℕ, ◌+◌, ◌*◌, ◌/◌, ◌%◌, ◌^◌, ◌≤◌, Bool, List, [], ◌∷◌, map, Option, Some, None, ◌==◌, if◌then◌else◌}
-use Rattle.std.specs.List.{range_with_len}
+use Rattle.std.specs.Prelude.{◌≡◌, ℕ, ◌+◌, ◌*◌, ◌/◌, ◌%◌, ◌^◌, ◌≤◌, Bool, List, [], ◌∷◌, length, Option, Some, None, ◌==◌, if◌then◌else◌}
 use Rattle.ebpf_base.specs.declared.endianness.Endianness.{Endianness}
 use Rattle.ebpf_btf.specs.declared.kind.BtfKind.{BtfKind}
 use Rattle.ebpf_btf.specs.declared.kind.BtfKind.TheVariants as kinds
@@ -14,6 +13,7 @@ use Rattle.ebpf_btf.specs.declared.members.DataSecEntry.{DataSecEntry}
 use Rattle.ebpf_btf.specs.declared.types.BtfType.{BtfType}
 use Rattle.ebpf_btf.specs.declared.types.BtfType.TheVariants.{Unknown, Fwd, Const, Volatile, Restrict, Ptr, Typedef, Func, Int, Float, Enum, Array, Struct, Union, FuncProto, Var, DataSec, DeclTag, TypeTag, Enum64}
 use Rattle.ebpf_base.specs.Numbers.{number_at}
+use Rattle.ebpf_btf.specs.Items.{items_at}
 use Rattle.ebpf_btf.specs.Types.{kind_of}
 
 abbrev pub word : Endianness → List ℕ → ℕ → ℕ
@@ -69,10 +69,6 @@ further_words kinds.DataSec n = 3 * n
 further_words kinds.DeclTag n = 1
 further_words kinds.Enum64 n = 3 * n
 further_words _ n = 0
-
--- n items of a size in bytes, one after the other from an offset on
-unfoldable pub items_at : {X : Type 0} → (ℕ → X) → ℕ → ℕ → ℕ → List X
-items_at item size offset n = map (λ k. item (offset + size * k)) (range_with_len 0 n)
 
 unfoldable pub member_at : Endianness → List ℕ → ℕ → BtfMember
 member_at order bytes offset = record {
@@ -152,7 +148,7 @@ pub record IsTypeAt (o : Endianness) (bytes : List ℕ) (offset end : ℕ) (t : 
   pub words : t ≡ spelled o bytes offset (kind_of t)
   pub ends : end ≡ end_of o bytes offset (kind_of t)
 
--- the bytes from an offset up to an end are those of some types, one after the other
-abbrev pub AreTypesAt : Endianness → List ℕ → ℕ → ℕ → List BtfType → Type 0
-AreTypesAt o bytes offset end [] = offset ≡ end
-AreTypesAt o bytes offset end (t ∷ ts) = (next : ℕ) × IsTypeAt o bytes offset next t × (next ≤ end) × AreTypesAt o bytes next end ts
+-- the bytes from an offset on are those of some types, one after the other
+abbrev pub AreTypesAt : Endianness → List ℕ → ℕ → List BtfType → Type 0
+AreTypesAt o bytes offset [] = offset ≡ length bytes
+AreTypesAt o bytes offset (t ∷ ts) = (next : ℕ) × IsTypeAt o bytes offset next t × (next ≤ length bytes) × AreTypesAt o bytes next ts

@@ -1,6 +1,8 @@
 pub mod Additions
 pub mod EssentialNames
 pub mod Format
+pub mod Header
+pub mod Items
 pub mod KindTables
 pub mod Memory
 pub mod Next
@@ -10,5 +12,6 @@ pub mod Strings
 pub mod TypeInfo
 pub mod Types
 pub mod Variants
+pub mod Words
 -- What only private contracts and proofs name.
-pub mod PrivateContracts
+pub mod Offsets

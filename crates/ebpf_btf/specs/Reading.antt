@@ -48,41 +48,45 @@ header_fault o bytes = first_of (
 unfoldable pub strings_in : Endianness → List ℕ → List ℕ
 strings_in o bytes = slice_range bytes (strings_start o bytes) (strings_end o bytes)
 
+-- the types, each byte of them
+unfoldable pub types_part : Endianness → List ℕ → List ℕ
+types_part o bytes = slice_range bytes (types_start o bytes) (types_end o bytes)
+
 -- ---- what bytes spell
 
 -- The header is sound, and its two parts are some types after void, and the strings.
 pub record Spells (o : Endianness) (bytes : List ℕ) (info : TypeInfo) : Type 0 where
   pub header : header_fault o bytes ≡ None
-  pub types : (ts : List BtfType) × (info.types ≡ Unknown ∷ ts) × AreTypesAt o bytes (types_start o bytes) (types_end o bytes) ts
+  pub types : (ts : List BtfType) × (info.types ≡ Unknown ∷ ts) × AreTypesAt o (types_part o bytes) 0 ts
   pub strings : info.strings ≡ strings_in o bytes
 
 -- ---- what is read
 
 -- the type at an offset, of a kind that is known, and the offset after it, where that is not past the end
-abbrev pub up_to : Endianness → List ℕ → ℕ → ℕ → BtfKind → Option (BtfType × ℕ)
-up_to o bytes offset end kind =
-    if nat_lt end (end_of o bytes offset kind) then None else Some (spelled o bytes offset kind, end_of o bytes offset kind)
+abbrev pub up_to : Endianness → List ℕ → ℕ → BtfKind → Option (BtfType × ℕ)
+up_to o bytes offset kind =
+    if nat_lt (length bytes) (end_of o bytes offset kind) then None else Some (spelled o bytes offset kind, end_of o bytes offset kind)
 
--- the first type from an offset up to an end, and the offset after it; none where it is cut or of no kind
-unfoldable pub type_before : Endianness → List ℕ → ℕ → ℕ → Option (BtfType × ℕ)
-type_before o bytes offset end =
-    if nat_lt end (offset + 12) then None
-    else if_some (info_kind (info_at o bytes offset)) (λ kind. up_to o bytes offset end kind) None
+-- the first type from an offset on, and the offset after it; none where it is cut or of no kind
+unfoldable pub type_before : Endianness → List ℕ → ℕ → Option (BtfType × ℕ)
+type_before o bytes offset =
+    if nat_lt (length bytes) (offset + 12) then None
+    else if_some (info_kind (info_at o bytes offset)) (λ kind. up_to o bytes offset kind) None
 
 -- types that follow others
 abbrev pub prepend_types : List BtfType → Option (List BtfType) → Option (List BtfType)
 prepend_types front types = option_map (λ ts. front ++ ts) types
 
--- All types from an offset up to an end, of which there are at most `left`.
-unfoldable pub types_from : ℕ → Endianness → List ℕ → ℕ → ℕ → Option (List BtfType)
-types_from zero o bytes offset end = if offset == end then Some [] else None
-types_from (suc left) o bytes offset end =
-    if offset == end then Some []
-    else if_some (type_before o bytes offset end) (λ found. prepend_types (found.0 ∷ []) (types_from left o bytes found.1 end)) None
+-- All types from an offset on, of which there are at most `left`.
+unfoldable pub types_from : ℕ → Endianness → List ℕ → ℕ → Option (List BtfType)
+types_from zero o bytes offset = if offset == length bytes then Some [] else None
+types_from (suc left) o bytes offset =
+    if offset == length bytes then Some []
+    else if_some (type_before o bytes offset) (λ found. prepend_types (found.0 ∷ []) (types_from left o bytes found.1)) None
 
 -- no more types than bytes stand in the part
-unfoldable pub parsed_types : Endianness → List ℕ → Option (List BtfType)
-parsed_types o bytes = types_from (word o bytes 12) o bytes (types_start o bytes) (types_end o bytes)
+unfoldable pub types_of : Endianness → List ℕ → Option (List BtfType)
+types_of o part = types_from (length part) o part 0
 
 -- with void before the types, and the strings
 abbrev pub with_strings : Endianness → List ℕ → Option (List BtfType) → Result TypeInfo BtfError
@@ -91,4 +95,4 @@ with_strings o bytes (Some ts) = Ok (record { types = ts; strings = strings_in o
 
 -- the type information of some bytes, or their first fault
 unfoldable pub type_info_of : Endianness → List ℕ → Result TypeInfo BtfError
-type_info_of o bytes = if_some (header_fault o bytes) (λ e. Err e) (with_strings o bytes (prepend_types (Unknown ∷ []) (parsed_types o bytes)))
+type_info_of o bytes = if_some (header_fault o bytes) (λ e. Err e) (with_strings o bytes (prepend_types (Unknown ∷ []) (types_of o (types_part o bytes))))

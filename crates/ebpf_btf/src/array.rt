@@ -16,7 +16,7 @@ pub struct BtfArray {
     pub len: u32,
 }
 
-impl BtfType {
+impl<'a> BtfType<'a> {
     /// The elements of an ARRAY; None of others.
     #[tactic(auto, unfolding(crate::specs::Types::array_of))]
     pub fn array(&self) -> Option<BtfArray>

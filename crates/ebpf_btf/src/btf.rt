@@ -1,96 +1,206 @@
-//! Types and their strings.
+//! Types and their strings, as bytes.
 
-ghost use Rattle.std.specs.Prelude.{◌≡◌, ◌<◌, ◌≤◌, ◌^◌, ◌∷◌, ◌++◌, [], drop, length, slice_get, IfOk, IfErr, OnOk, OnErr, Ok, Err, Some};
+ghost use Rattle.std.specs.Prelude.{◌≡◌, ◌==◌, ◌*◌, ◌<◌, ◌≤◌, ◌^◌, ◌∷◌, ◌++◌, ◌-◌, [], drop, length, slice_get, slice_index_or, IfOk, IfErr, OnOk, OnErr, Ok, Err, None, Some, option_map};
+ghost use Rattle.std.specs.List.{list_any};
 ghost use Rattle.std.specs.Option.{option_copied};
 ghost use Rattle.std.specs.Result.{result_ok};
 ghost use Rattle.std.specs.Cow.{cow_str_bytes};
 ghost use Rattle.std.specs.Str.Lossy.{utf8_lossy};
 ghost use Rattle.ebpf_base.specs.Faults.{Refuses, fault_of};
+ghost use Rattle.ebpf_btf.specs.Additions.{with_type, with_string, only_first, too_large_fault};
+ghost use Rattle.ebpf_btf.specs.Header.{order_of};
 ghost use Rattle.ebpf_btf.specs.Memory.{is_memory};
+ghost use Rattle.ebpf_btf.specs.Offsets.{AreBeside, HoldsTypes, beside, held_types, types_here};
+ghost use Rattle.ebpf_btf.specs.Reading.{type_info_of};
 ghost use Rattle.ebpf_btf.specs.Strings.{AreReadableBelow, before_zero, text_at};
 ghost use Rattle.ebpf_btf.specs.TypeInfo.{no_types};
-ghost use Rattle.ebpf_btf.specs.Additions.{with_type, with_string, only_first, too_large_fault};
+ghost use Rattle.ebpf_btf.specs.Types.{kind_of, name_off};
+ghost use Rattle.ebpf_btf.specs.Words.{has_fallback, type_fault, written_fault};
 ghost use Rattle.ebpf_btf.specs.declared.error.BtfError.TheVariants.{OutOfMemory, UnknownBtfType};
 ghost use Rattle.ebpf_btf.specs.declared.types.BtfType.TheVariants.{Unknown};
 
-use crate::clones::copy_list;
 use crate::error::BtfError;
+use crate::fallback::{
+    Enum64Fallback, OffsetFallback, add_fallback, cut_fallbacks, fallback_at, fallback_of,
+    with_fallback,
+};
+use crate::kind::BtfKind;
 use crate::readable::readable_below;
 use crate::strings::{read_bytes, read_text};
 use crate::types::BtfType;
-use ebpf_base::Items;
+use crate::types_iter::TypesIter;
+use crate::view::{TypeHead, head_here, type_here};
+use crate::words::type_bytes;
+use crate::write::with_header;
+use ebpf_base::Endianness;
 use std::alloc::{AllocError, Global};
 use std::borrow::CowStr;
 use std::marker::Model;
 
-/// Types, by their ids, and the strings that have their names.
+/// The length that the bytes of types stay below, and the strings where they are written.
+const LENGTH_LIMIT: usize = 0x1_0000_0000;
+
+/// The number that counts of members, variants, parameters and entries stay below.
+const COUNT_LIMIT: usize = 0x1_0000;
+
+/// Types, by their ids, and the strings that have their names: the bytes of both, and the offset of each type.
 ///
 /// Contracts see the list of the types, from id 0 on, which is `void`, and the bytes of the strings.
 #[derive(Debug, Drop)]
 pub struct Btf {
-    types: Items<BtfType>,
+    bytes: Vec<u8>,
+    /// The types stand in the bytes from here on.
+    start: usize,
+    /// Where each type stands, counted from there, from id 1 on.
+    offsets: Vec<u32>,
+    /// What stands beside the bytes of UNIONs, which no bytes hold.
+    fallbacks: Vec<OffsetFallback>,
     strings: Vec<u8>,
     /// A text can be read at the offsets below, and at no others.
     readable: usize,
+    order: Endianness,
 }
 
 impl Model for Btf {
-    ghost use Rattle.std.specs.Prelude.{◌≡◌, ◌≤◌, ◌^◌, length, slice_get, Some};
+    ghost use Rattle.std.specs.Prelude.{◌∷◌, drop};
+    ghost use Rattle.ebpf_btf.specs.Offsets.{AreBeside, HoldsTypes, held_types};
     ghost use Rattle.ebpf_btf.specs.Strings.{AreReadableBelow};
     ghost use Rattle.ebpf_btf.specs.TypeInfo.{TypeInfo};
     ghost use Rattle.ebpf_btf.specs.declared.types.BtfType.TheVariants.{Unknown};
 
     ghost Value = { TypeInfo };
 
-    ghost view = { λ b. record { types = b.types; strings = b.strings.items } };
+    ghost view = { λ b. record { types = Unknown ∷ held_types b.order (drop b.start b.bytes.items) b.fallbacks.items b.offsets.items; strings = b.strings.items } };
 
-    ghost invariant = { λ b. (length b.types ≤ 2 ^ 32) × (slice_get b.types 0 ≡ Some Unknown) × AreReadableBelow b.strings.items b.readable };
+    ghost invariant = { λ b. HoldsTypes b.order b.bytes.items b.start b.offsets.items × AreBeside (drop b.start b.bytes.items) b.fallbacks.items × AreReadableBelow b.strings.items b.readable };
 }
 
 impl Btf {
-    /// Type information with `void` alone, whose strings are one zero byte: the empty name, at offset 0.
-    /// `OutOfMemory` where memory is refused.
+    /// Type information with `void` alone, whose strings are one zero byte: the empty name, at offset 0. Types are
+    /// added in little-endian words. `OutOfMemory` where memory is refused.
+    #[tactic(auto, using(crate::proofs::Listed::holds_none, crate::proofs::Listed::none_here))]
     pub fn new(alloc: Global) -> Result<Btf, BtfError>
         ensures empty { IfOk result (λ b. b ≡ no_types) }
         ensures memory { IfErr result (λ e. e ≡ OutOfMemory) }
     {
-        let mut types = Items::new(alloc);
-        types.push(BtfType::Unknown)?;
         let mut strings = Vec::new(alloc);
         strings.push(0)?;
-        Ok(Btf::from_parts(types, strings))
+        let none = Vec::new(alloc);
+        Ok(Btf::from_parts(Endianness::Little, none, 0, Vec::new(alloc), strings))
     }
 
-    /// The types, and the strings that have their names.
-    pub(crate) fn from_parts(types: Items<BtfType>, strings: Vec<u8>) -> Btf
-        requires few { length types ≤ 2 ^ 32 }
-        requires void { slice_get types 0 ≡ Some Unknown }
-        ensures types { result.types ≡ types }
+    /// The types that stand in bytes from an offset on, by their offsets, and their strings.
+    #[tactic(auto, using(crate::proofs::Beside::none_beside, crate::proofs::Held::held_alone))]
+    pub(crate) fn from_parts(
+        order: Endianness,
+        bytes: Vec<u8>,
+        start: usize,
+        offsets: Vec<u32>,
+        strings: Vec<u8>,
+    ) -> Btf
+        requires { HoldsTypes order bytes.items start offsets.items }
+        ensures types { result.types ≡ Unknown ∷ types_here order (drop start bytes.items) offsets.items }
         ensures strings { result.strings ≡ strings.items }
     {
         let readable = readable_below(&strings);
+        let fallbacks = Vec::new(*strings.allocator());
         Btf {
-            types,
+            bytes,
+            start,
+            offsets,
+            fallbacks,
             strings,
             readable,
+            order,
         }
     }
 
-    /// The types in order of their ids, from id 0 on, which is `void`.
-    pub fn types(&self) -> &[BtfType]
-        ensures all { result.now ≡ self.now.types }
-        ensures few { length result.now ≤ 2 ^ 32 }
-        ensures void { slice_get result.now 0 ≡ Some Unknown }
+    /// How many types there are, with void.
+    #[inline]
+    #[tactic(auto, using(crate::proofs::Held::held_length))]
+    pub fn len(&self) -> usize
+        ensures all { result ≡ length self.now.types }
+        ensures few { result ≤ 2 ^ 32 }
     {
-        self.types.as_slice()
+        1 + self.offsets.len()
+    }
+
+    /// Whether there is no type, which never is: there is void.
+    pub fn is_empty(&self) -> bool
+        ensures { result ≡ (length self.now.types == 0) }
+    {
+        self.len() == 0
+    }
+
+    /// The type with an id from 0 on, which is `void`; None where there is none.
+    #[inline]
+    #[tactic(auto, using(crate::proofs::Held::held_first, crate::proofs::Held::held_some, crate::proofs::Held::held_none, crate::proofs::Listed::inside_at))]
+    pub fn get(&self, id: usize) -> Option<BtfType<'_>>
+        ensures { result ≡ slice_get self.now.types id }
+    {
+        let _ = &self.offsets;
+        if id == 0 {
+            return Some(BtfType::Unknown);
+        }
+        let Some(offset) = offset_at(&self.offsets, id - 1) else {
+            return None;
+        };
+        let ty = type_here(self.order, behind(&self.bytes, self.start), offset);
+        Some(with_fallback(fallback_at(&self.fallbacks, offset), ty))
+    }
+
+    /// The type with an id from 0 on where there is one.
+    #[inline]
+    #[tactic(auto, using(crate::proofs::Listed::never_none, crate::proofs::InOrder::item_read))]
+    pub fn at(&self, id: usize) -> BtfType<'_>
+        requires { id < length self.now.types }
+        ensures found { slice_get self.now.types id ≡ Some result }
+        ensures item { result ≡ slice_index_or self.now.types id result }
+    {
+        match self.get(id) {
+            Some(ty) => ty,
+            None => BtfType::Unknown,
+        }
+    }
+
+    /// The kind and the name of the type with an id from 0 on; None where there is none.
+    #[inline]
+    #[tactic(auto, using(crate::proofs::Held::held_first, crate::proofs::Held::held_none, crate::proofs::Held::head_kind, crate::proofs::Held::head_name, crate::proofs::Listed::inside_at), unfolding(crate::specs::Types::kind_of, crate::specs::Types::name_off))]
+    pub fn head(&self, id: usize) -> Option<TypeHead>
+        ensures kind { option_map (λ head. head.kind) result ≡ option_map kind_of (slice_get self.now.types id) }
+        ensures name { option_map (λ head. head.name_offset) result ≡ option_map name_off (slice_get self.now.types id) }
+    {
+        let _ = &self.offsets;
+        if id == 0 {
+            return Some(TypeHead {
+                kind: BtfKind::Unknown,
+                name_offset: 0,
+            });
+        }
+        let Some(offset) = offset_at(&self.offsets, id - 1) else {
+            return None;
+        };
+        Some(head_here(self.order, behind(&self.bytes, self.start), offset))
+    }
+
+    /// The types in order of their ids, from id 0 on, which is `void`.
+    #[inline]
+    pub fn types(&self) -> TypesIter<'_>
+        ensures all { result ≡ self.now.types }
+        ensures few { length result ≤ 2 ^ 32 }
+        ensures void { slice_get result 0 ≡ Some Unknown }
+    {
+        let _ = &self.offsets;
+        let _ = self.len();
+        TypesIter::new(self)
     }
 
     /// The type with an id. `UnknownBtfType` where there is none.
-    pub fn type_by_id(&self, type_id: u32) -> Result<&BtfType, BtfError>
-        ensures found { option_copied (result_ok result) ≡ slice_get self.now.types type_id }
+    pub fn type_by_id(&self, type_id: u32) -> Result<BtfType<'_>, BtfError>
+        ensures found { result_ok result ≡ slice_get self.now.types type_id }
         ensures missing { IfErr result (λ e. e ≡ UnknownBtfType type_id) }
     {
-        match self.types.get(type_id as usize) {
+        match self.get(type_id as usize) {
             Some(found) => Ok(found),
             None => Err(BtfError::UnknownBtfType { type_id }),
         }
@@ -149,28 +259,49 @@ impl Btf {
     pub(crate) fn copy(&self) -> Result<Btf, AllocError>
         ensures { IfOk result (λ copy. copy ≡ self.now) }
     {
-        let types = copy_list(&self.types)?;
-        let strings = Vec::from_slice(self.allocator(), &self.strings)?;
+        let alloc = self.allocator();
+        let bytes = Vec::from_slice(alloc, &self.bytes)?;
+        let offsets = Vec::from_slice(alloc, &self.offsets)?;
+        let fallbacks = copy_fallbacks(&self.fallbacks)?;
+        let strings = Vec::from_slice(alloc, &self.strings)?;
         Ok(Btf {
-            types,
+            bytes,
+            start: self.start,
+            offsets,
+            fallbacks,
             strings,
             readable: self.readable,
+            order: self.order,
         })
     }
 
-    /// Adds a type, and gives its id. `TooLarge` where the id is past 32 bits, `OutOfMemory` where memory is
-    /// refused; then nothing changes.
-    pub fn add_type(&mut self, ty: BtfType) -> Result<u32, BtfError>
+    /// Adds a type, and gives its id. `TooLarge` where no words hold it: void, more than 65,535 members, variants,
+    /// parameters or entries, or types of 2^32 bytes. `OutOfMemory` where memory is refused. Then nothing changes.
+    #[tactic(auto, using(crate::proofs::Held::held_with_one, crate::proofs::Held::held_length))]
+    pub fn add_type(&mut self, ty: &BtfType<'_>) -> Result<u32, BtfError>
         ensures id { IfOk result (λ id. id ≡ length self.old.types) }
-        ensures added { OnOk result (self.new ≡ with_type self.old ty) }
-        ensures fault { Refuses is_memory result (too_large_fault (length self.old.types)) }
+        ensures added { OnOk result (self.new ≡ with_type self.old ty.now) }
+        ensures fault { Refuses is_memory result (type_fault self.old ty.now) }
         ensures unchanged { OnErr result (self.new ≡ self.old) }
     {
-        let Ok(id) = u32::try_from(self.types.len()) else {
+        if ty.kind_number() == 0 || ty.count() >= COUNT_LIMIT {
             return Err(BtfError::TooLarge);
-        };
-        self.types.push(ty)?;
-        Ok(id)
+        }
+        let added = type_bytes(*self.strings.allocator(), self.order, ty)?;
+        let id = 1 + self.offsets.len();
+        let offset = behind(&self.bytes, self.start).len();
+        if offset + added.as_slice().len() >= LENGTH_LIMIT {
+            return Err(BtfError::TooLarge);
+        }
+        append(
+            &mut self.bytes,
+            &mut self.offsets,
+            &mut self.fallbacks,
+            added.as_slice(),
+            offset as u32,
+            fallback_of(ty),
+        )?;
+        Ok(id as u32)
     }
 
     /// Adds a text and a zero byte to the strings, and gives the text's offset. `TooLarge` where the offset is
@@ -191,14 +322,112 @@ impl Btf {
 
     /// Takes back what was added: the first types stay, `void` among them, and the first bytes of the strings, so
     /// many of each. Where there are no more all stay. No memory is taken.
+    #[tactic(auto, using(crate::proofs::Held::first_all, crate::proofs::Held::first_some, crate::proofs::Held::held_front, crate::proofs::Tiles::holds_front))]
     pub fn truncate(&mut self, types: usize, strings: usize)
         requires { 0 < types }
         ensures { self.new ≡ only_first self.old types strings }
     {
-        self.types.as_vec_mut().truncate(types);
         self.strings.truncate(strings);
         self.readable = readable_below(&self.strings);
+        let Some(offset) = offset_at(&self.offsets, types - 1) else {
+            return;
+        };
+        self.bytes.truncate(self.start + offset as usize);
+        self.offsets.truncate(types - 1);
+        cut_fallbacks(&mut self.fallbacks, offset);
     }
+
+    /// Whether a UNION stands here that was an enumeration of 64 bits.
+    #[tactic(auto, using(crate::proofs::Held::none_has, crate::proofs::AnyOf::any_here, crate::proofs::AnyOf::any_past, crate::proofs::AnyOf::any_over))]
+    fn has_fallback(&self) -> bool
+        ensures { result ≡ list_any has_fallback self.now.types }
+    {
+        if self.fallbacks.as_slice().is_empty() {
+            return false;
+        }
+        for id in 0..self.len() {
+            if fallback_of(&self.at(id)).is_some() {
+                return true;
+            }
+        }
+        false
+    }
+
+    /// `.BTF` of the types and strings, in the byte order that they are held in, which its magic tells: that of the
+    /// file that they were read from, little-endian of `new`.
+    ///
+    /// `TooLarge` where a UNION was an enumeration, which no file holds, or the strings take 2^32 bytes;
+    /// `OutOfMemory` where memory is refused.
+    #[tactic(auto, using(crate::proofs::Header::header_again, crate::proofs::Header::order_is, crate::proofs::Held::held_plain))]
+    pub fn to_bytes(&self, alloc: Global) -> Result<Vec<u8>, BtfError>
+        ensures again { IfOk result (λ bytes. type_info_of (order_of bytes.items) bytes.items ≡ Ok self.now) }
+        ensures fault { Refuses is_memory result (written_fault self.now) }
+    {
+        if self.has_fallback() || self.strings.len() >= LENGTH_LIMIT {
+            return Err(BtfError::TooLarge);
+        }
+        let types = behind(&self.bytes, self.start);
+        let bytes = with_header(alloc, self.order, types, self.strings.as_slice())?;
+        Ok(bytes)
+    }
+}
+
+impl Clone for Btf {
+    ghost is_clone = { λ old copy. copy ≡ old };
+
+    fn clone(&self) -> Result<Btf, AllocError> {
+        self.copy()
+    }
+}
+
+/// A copy of what stands beside the bytes.
+#[tactic(auto, using(crate::proofs::Copies::same_list))]
+fn copy_fallbacks(fallbacks: &Vec<OffsetFallback>) -> Result<Vec<OffsetFallback>, AllocError>
+    ensures { IfOk result (λ copy. copy.items ≡ fallbacks.now.items) }
+{
+    fallbacks.clone()
+}
+
+/// Appends bytes, an offset, and what stands beside. After a refusal nothing has changed.
+fn append(
+    bytes: &mut Vec<u8>,
+    offsets: &mut Vec<u32>,
+    fallbacks: &mut Vec<OffsetFallback>,
+    added: &[u8],
+    offset: u32,
+    fallback: Option<&Enum64Fallback>,
+) -> Result<(), AllocError>
+    ensures bytes { OnOk result (bytes.new.items ≡ bytes.old.items ++ added.now) }
+    ensures offsets { OnOk result (offsets.new.items ≡ offsets.old.items ++ offset ∷ []) }
+    ensures fallbacks { OnOk result (fallbacks.new.items ≡ fallbacks.old.items ++ beside offset (option_copied fallback.entry)) }
+    ensures unchanged { OnErr result ((bytes.new.items ≡ bytes.old.items) × (offsets.new.items ≡ offsets.old.items) × (fallbacks.new.items ≡ fallbacks.old.items)) }
+{
+    offsets.reserve(1)?;
+    let before = fallbacks.len();
+    add_fallback(fallbacks, offset, fallback)?;
+    if bytes.extend_from_slice(added).is_err() {
+        fallbacks.truncate(before);
+        return Err(AllocError);
+    }
+    offsets.push_reserved(offset);
+    Ok(())
+}
+
+/// The bytes from an offset on.
+#[inline]
+pub(crate) fn behind(bytes: &[u8], start: usize) -> &[u8]
+    requires { start ≤ length bytes.now }
+    ensures { result.now ≡ drop start bytes.now }
+{
+    &bytes[start..]
+}
+
+/// The offset at an index.
+#[inline]
+fn offset_at(offsets: &[u32], index: usize) -> Option<u32>
+    ensures { result ≡ slice_get offsets.now index }
+{
+    offsets.get(index).copied()
 }
 
 /// Appends a text and a zero byte. After a refusal nothing has changed.

@@ -38,7 +38,7 @@ pub enum BtfError {
     MultiLevelMapInMapNotSupported { name: Text },
     #[error("the member values of the map {:?} is an array with a size: declare it with []", .name.as_str())]
     InvalidValuesSpec { name: Text },
-    #[error("BTF is full: no offset or id of 32 bits is left for what is added")]
+    #[error("BTF can't hold that: its offsets and lengths have 32 bits, its counts 16")]
     TooLarge,
     #[error("out of memory")]
     OutOfMemory,

@@ -3,25 +3,28 @@
 
 mod array;
 mod btf;
-mod clones;
 mod error;
 mod fallback;
 mod flavors;
 mod kind;
 pub mod laws;
-mod lists;
+mod list_rows;
 mod lossy;
 mod members;
 mod names;
 mod parse;
-mod read_type;
 mod readable;
 pub mod rows;
 mod steps;
 pub mod strings;
+#[cfg(test)]
+mod tests;
 mod types;
-mod union_members;
+mod types_iter;
 mod variants;
+mod view;
+mod words;
+mod write;
 
 pub use array::BtfArray;
 pub use btf::Btf;
@@ -30,7 +33,9 @@ pub use error::BtfError;
 pub use fallback::{Enum64Fallback, UnionFallback};
 pub use flavors::essential_name;
 pub use kind::BtfKind;
+pub use list_rows::{ListRow, Rows, RowsIter};
 pub use members::{BtfEnum, BtfEnum64, BtfMember, BtfParam, DataSecEntry, Enum64VariantFallback};
 pub use types::BtfType;
-pub use union_members::UnionMembers;
+pub use types_iter::TypesIter;
 pub use variants::BtfVariant;
+pub use view::TypeHead;

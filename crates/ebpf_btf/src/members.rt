@@ -1,5 +1,13 @@
 //! What stands in the lists of types.
 
+ghost use Rattle.ebpf_btf.specs.Format.{member_at, enum_at, enum64_at, param_at, entry_at};
+ghost use Rattle.ebpf_btf.specs.Words.{member_words, enum_words, enum64_words, param_words, entry_words};
+
+use crate::list_rows::ListRow;
+use ebpf_base::Endianness;
+use ebpf_base::numbers::read_u32;
+use std::alloc::AllocError;
+
 /// A member of a STRUCT or UNION (`struct btf_member`).
 #[derive(Clone, Copy, Debug, PartialEq, Eq)]
 pub struct BtfMember {
@@ -59,4 +67,137 @@ pub struct Enum64VariantFallback {
     pub name_offset: u32,
     /// The value; of a signed enumeration its bits.
     pub value: u64,
+}
+
+impl ListRow for BtfMember {
+    ghost SIZE = { 12 };
+
+    const SIZE: usize = 12;
+
+    ghost row_at = { member_at };
+
+    ghost words = { member_words };
+
+    #[tactic(auto, unfolding(crate::specs::Format::member_at))]
+    fn read(order: Endianness, bytes: &[u8], offset: usize) -> BtfMember {
+        BtfMember {
+            name_offset: read_u32(order, bytes, offset),
+            btf_type: read_u32(order, bytes, offset + 4),
+            offset: read_u32(order, bytes, offset + 8),
+        }
+    }
+
+    fn copied(&self) -> BtfMember {
+        *self
+    }
+
+    fn append_words(&self, out: &mut Vec<u32>) -> Result<(), AllocError> {
+        out.extend_from_slice(&[self.name_offset, self.btf_type, self.offset])
+    }
+}
+
+impl ListRow for BtfEnum {
+    ghost SIZE = { 8 };
+
+    const SIZE: usize = 8;
+
+    ghost row_at = { enum_at };
+
+    ghost words = { enum_words };
+
+    #[tactic(auto, unfolding(crate::specs::Format::enum_at))]
+    fn read(order: Endianness, bytes: &[u8], offset: usize) -> BtfEnum {
+        BtfEnum {
+            name_offset: read_u32(order, bytes, offset),
+            value: read_u32(order, bytes, offset + 4),
+        }
+    }
+
+    fn copied(&self) -> BtfEnum {
+        *self
+    }
+
+    fn append_words(&self, out: &mut Vec<u32>) -> Result<(), AllocError> {
+        out.extend_from_slice(&[self.name_offset, self.value])
+    }
+}
+
+impl ListRow for BtfEnum64 {
+    ghost SIZE = { 12 };
+
+    const SIZE: usize = 12;
+
+    ghost row_at = { enum64_at };
+
+    ghost words = { enum64_words };
+
+    #[tactic(auto, unfolding(crate::specs::Format::enum64_at))]
+    fn read(order: Endianness, bytes: &[u8], offset: usize) -> BtfEnum64 {
+        BtfEnum64 {
+            name_offset: read_u32(order, bytes, offset),
+            value_low: read_u32(order, bytes, offset + 4),
+            value_high: read_u32(order, bytes, offset + 8),
+        }
+    }
+
+    fn copied(&self) -> BtfEnum64 {
+        *self
+    }
+
+    fn append_words(&self, out: &mut Vec<u32>) -> Result<(), AllocError> {
+        out.extend_from_slice(&[self.name_offset, self.value_low, self.value_high])
+    }
+}
+
+impl ListRow for BtfParam {
+    ghost SIZE = { 8 };
+
+    const SIZE: usize = 8;
+
+    ghost row_at = { param_at };
+
+    ghost words = { param_words };
+
+    #[tactic(auto, unfolding(crate::specs::Format::param_at))]
+    fn read(order: Endianness, bytes: &[u8], offset: usize) -> BtfParam {
+        BtfParam {
+            name_offset: read_u32(order, bytes, offset),
+            btf_type: read_u32(order, bytes, offset + 4),
+        }
+    }
+
+    fn copied(&self) -> BtfParam {
+        *self
+    }
+
+    fn append_words(&self, out: &mut Vec<u32>) -> Result<(), AllocError> {
+        out.extend_from_slice(&[self.name_offset, self.btf_type])
+    }
+}
+
+impl ListRow for DataSecEntry {
+    ghost SIZE = { 12 };
+
+    const SIZE: usize = 12;
+
+    ghost row_at = { entry_at };
+
+    ghost words = { entry_words };
+
+    #[tactic(auto, unfolding(crate::specs::Format::entry_at))]
+    fn read(order: Endianness, bytes: &[u8], offset: usize) -> DataSecEntry {
+        DataSecEntry {
+            btf_type: read_u32(order, bytes, offset),
+            offset: read_u32(order, bytes, offset + 4),
+            size: read_u32(order, bytes, offset + 8),
+        }
+    }
+
+    fn copied(&self) -> DataSecEntry {
+        *self
+    }
+
+    fn append_words(&self, out: &mut Vec<u32>) -> Result<(), AllocError> {
+        out.extend_from_slice(&[self.btf_type, self.offset, self.size])
+    }
 }

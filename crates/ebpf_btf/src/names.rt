@@ -22,7 +22,7 @@ use std::borrow::CowStr;
 
 /// Whether a type is of a kind.
 #[tactic(auto, unfolding(crate::specs::Types::kind_number))]
-fn is_kind(ty: &BtfType, kind: BtfKind) -> bool
+fn is_kind(ty: &BtfType<'_>, kind: BtfKind) -> bool
     ensures { result ≡ is_kind kind ty.now }
 {
     ty.kind() == kind
@@ -32,7 +32,7 @@ impl Btf {
     /// The name of a type, as `string_at` gives it: the empty text where it has none.
     ///
     /// `InvalidStringOffset` where the name can't be read, `OutOfMemory` as in `string_at`.
-    pub fn type_name(&self, ty: &BtfType) -> Result<CowStr<'_, Global>, BtfError>
+    pub fn type_name(&self, ty: &BtfType<'_>) -> Result<CowStr<'_, Global>, BtfError>
         ensures name { IfOk result (λ name. type_name self.now ty.now ≡ Ok (cow_str_bytes name)) }
         ensures fault { Refuses is_memory result (fault_of (type_name self.now ty.now)) }
     {
@@ -67,7 +67,7 @@ impl Btf {
     }
 
     /// A copy of a type's name, for errors. None where it can't be read, or where memory is refused.
-    pub fn err_type_name(&self, ty: &BtfType) -> Option<Text>
+    pub fn err_type_name(&self, ty: &BtfType<'_>) -> Option<Text>
         ensures { IfSome result (λ name. type_name self.now ty.now ≡ Ok name) }
     {
         let Ok(name) = self.type_name(ty) else {
@@ -80,8 +80,9 @@ impl Btf {
     fn find_named(&self, name: &str, kind: BtfKind) -> Option<u32>
         ensures { result ≡ id_of_name self.now name.now kind }
     {
-        for (id, ty) in self.types().iter().enumerate() {
-            if is_kind(ty, kind) && is_text_at(self.strings(), ty.name_offset(), name) {
+        for id in 0..self.len() {
+            let ty = self.at(id);
+            if is_kind(&ty, kind) && is_text_at(self.strings(), ty.name_offset(), name) {
                 return Some(id as u32);
             }
         }

@@ -1,20 +1,20 @@
 //! `.BTF`, read.
 
-ghost use Rattle.std.specs.Prelude.{◌≡◌, ◌+◌, ◌-◌, ◌<◌, ◌≤◌, ◌^◌, ◌∷◌, List, [], length, slice_get, slice_range, IfOk, IfErr, Ok, None, Some, option_map};
+ghost use Rattle.std.specs.Prelude.{◌≡◌, ◌+◌, ◌*◌, ◌-◌, ◌<◌, ◌≤◌, ◌^◌, ◌∷◌, List, [], length, slice_get, slice_range, drop, IfOk, Ok, None, Some, option_map};
 ghost use Rattle.std.specs.Option.{ok_or};
-ghost use Rattle.ebpf_base.specs.Faults.{Gives, fault_of};
+ghost use Rattle.ebpf_base.specs.Faults.{Gives, Refuses, fault_of};
 ghost use Rattle.ebpf_btf.specs.Memory.{is_memory};
-ghost use Rattle.ebpf_btf.specs.Reading.{Spells, header_fault, types_start, types_end, strings_start, strings_end, types_from, parsed_types, type_info_of, prepend_types};
+ghost use Rattle.ebpf_btf.specs.Offsets.{types_here, HoldsTypes};
+ghost use Rattle.ebpf_btf.specs.Reading.{Spells, header_fault, types_start, types_end, types_part, strings_start, strings_end, strings_in, types_from, types_of, type_info_of, prepend_types};
 ghost use Rattle.ebpf_btf.specs.TypeInfo.{TypeInfo};
 ghost use Rattle.ebpf_btf.specs.declared.error.BtfError.TheVariants.{InvalidTypeInfo};
 ghost use Rattle.ebpf_btf.specs.declared.types.BtfType.TheVariants.{Unknown};
 
 use crate::btf::Btf;
 use crate::error::BtfError;
-use crate::read_type::read_type;
-use crate::types::BtfType;
+use crate::view::next_offset;
+use ebpf_base::Endianness;
 use ebpf_base::numbers::{read_u16, read_u32};
-use ebpf_base::{Endianness, Items};
 use std::alloc::Global;
 
 /// What `.BTF` begins with.
@@ -67,46 +67,56 @@ fn read_header(order: Endianness, bytes: &[u8]) -> Result<PartRanges, BtfError>
     })
 }
 
-/// The types from `start` on, one after the other up to `end`, after void. `InvalidTypeInfo` where one goes past
-/// the end or has no known kind.
-fn read_types(
-    alloc: Global,
-    order: Endianness,
-    bytes: &[u8],
-    start: usize,
-    end: usize,
-) -> Result<Items<BtfType>, BtfError>
-    requires order { start ≤ end }
-    requires inside { end ≤ length bytes.now }
-    ensures types { Gives is_memory result (ok_or (prepend_types (Unknown ∷ []) (types_from (end - start) order bytes.now start end)) InvalidTypeInfo) }
-    ensures few { IfOk result (λ types. length types + start ≤ end + 1) }
-    ensures void { IfOk result (λ types. slice_get types 0 ≡ Some Unknown) }
+/// Where the types of a part stand, one after the other up to its end. `InvalidTypeInfo` where one goes past the end
+/// or has no known kind.
+fn read_offsets(alloc: Global, order: Endianness, part: &[u8]) -> Result<Vec<u32>, BtfError>
+    requires small { length part.now < 2 ^ 32 }
+    ensures found { IfOk result (λ offsets. types_of order part.now ≡ Some (types_here order part.now offsets.items)) }
+    ensures kept { IfOk result (λ offsets. HoldsTypes order part.now 0 offsets.items) }
+    ensures fault { Refuses is_memory result (fault_of (ok_or (types_of order part.now) InvalidTypeInfo)) }
 {
-    let mut types = Vec::with_capacity(alloc, 1 + (end - start) / USUAL_LENGTH)?;
-    types.push(BtfType::Unknown)?;
-    let mut offset = start;
+    let end = part.len() as u32;
+    let mut offsets = Vec::with_capacity(alloc, part.len() / USUAL_LENGTH)?;
+    let mut offset = 0;
     while offset < end {
-        types.reserve(1)?;
-        let (ty, next) = read_type(alloc, order, bytes, offset, end)?;
-        types.push_reserved(ty);
+        let Some(next) = next_offset(order, part, offset) else {
+            return Err(BtfError::InvalidTypeInfo);
+        };
+        offsets.push(offset)?;
         offset = next;
     }
-    Ok(Items::from_vec(types))
+    Ok(offsets)
 }
 
-/// The two parts, read.
-#[tactic(auto, unfolding(crate::specs::Reading::type_info_of, crate::specs::Reading::parsed_types, crate::specs::Reading::strings_in), using(crate::proofs::Spelling::part_length))]
-fn read_parts(alloc: Global, order: Endianness, bytes: &[u8]) -> Result<Btf, BtfError>
-    ensures { Gives is_memory result (type_info_of order bytes.now) }
+/// The two parts, copied.
+#[tactic(auto, unfolding(crate::specs::Reading::type_info_of, crate::specs::Reading::types_part, crate::specs::Reading::strings_in))]
+fn copied(alloc: Global, order: Endianness, data: &[u8]) -> Result<Btf, BtfError>
+    ensures { Gives is_memory result (type_info_of order «data».now) }
 {
-    let parts = read_header(order, bytes)?;
-    let types = read_types(alloc, order, bytes, parts.types_start, parts.types_end)?;
+    let parts = read_header(order, data)?;
+    let part = &data[parts.types_start..parts.types_end];
+    let offsets = read_offsets(alloc, order, part)?;
+    let bytes = Vec::from_slice(alloc, part)?;
+    let strings = Vec::from_slice(alloc, &data[parts.strings_start..parts.strings_end])?;
+    Ok(Btf::from_parts(order, bytes, 0, offsets, strings))
+}
+
+/// The two parts, of which the strings alone are copied.
+#[tactic(auto, unfolding(crate::specs::Reading::type_info_of, crate::specs::Reading::types_part, crate::specs::Reading::strings_in), using(crate::proofs::Cut::part_is))]
+fn taken(order: Endianness, data: Vec<u8>) -> Result<Btf, BtfError>
+    ensures { Gives is_memory result (type_info_of order «data».items) }
+{
+    let alloc = *data.allocator();
+    let mut bytes = data;
+    let parts = read_header(order, &bytes)?;
+    let offsets = read_offsets(alloc, order, &bytes[parts.types_start..parts.types_end])?;
     let strings = Vec::from_slice(alloc, &bytes[parts.strings_start..parts.strings_end])?;
-    Ok(Btf::from_parts(types, strings))
+    bytes.truncate(parts.types_end);
+    Ok(Btf::from_parts(order, bytes, parts.types_start, offsets, strings))
 }
 
 impl Btf {
-    /// The types and strings of `.BTF`. Numbers are read in the order that is given; version and flags of the
+    /// The types and strings of `.BTF`, copied. Numbers are read in the order that is given; version and flags of the
     /// header are not looked at.
     ///
     /// `InvalidHeader`: fewer than 24 bytes, another magic than 0xeb9f, a header length below 24, or a part that
@@ -118,6 +128,18 @@ impl Btf {
         ensures found { IfOk result (λ info. Spells endianness «data».now info) }
         ensures only { (info : TypeInfo) → Spells endianness «data».now info → Gives is_memory result (Ok info) }
     {
-        read_parts(alloc, endianness, data)
+        copied(alloc, endianness, data)
+    }
+
+    /// The types and strings of `.BTF`, which is taken over: the strings alone are copied.
+    ///
+    /// Its faults are those of `parse`.
+    #[tactic(auto, using(crate::proofs::Spelling::found_spelled, crate::proofs::Spelling::only_spelled))]
+    pub fn from_vec(data: Vec<u8>, endianness: Endianness) -> Result<Btf, BtfError>
+        ensures exact { Gives is_memory result (type_info_of endianness «data».items) }
+        ensures found { IfOk result (λ info. Spells endianness «data».items info) }
+        ensures only { (info : TypeInfo) → Spells endianness «data».items info → Gives is_memory result (Ok info) }
+    {
+        taken(endianness, data)
     }
 }

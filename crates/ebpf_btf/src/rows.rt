@@ -1,7 +1,7 @@
 //! Rows of bytes, one after the other, for readers that have measured the bytes.
 
 ghost use Rattle.std.specs.Prelude.{◌≡◌, ◌+◌, ◌*◌, ◌<◌, ◌≤◌, ℕ, List, length, IfOk};
-ghost use Rattle.ebpf_btf.specs.Format.{items_at};
+ghost use Rattle.ebpf_btf.specs.Items.{items_at};
 ghost use Rattle.ebpf_base.specs.declared.endianness.Endianness.{Endianness};
 
 use ebpf_base::{Endianness, Items};

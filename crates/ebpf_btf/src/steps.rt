@@ -2,7 +2,6 @@
 
 ghost use Rattle.std.specs.Prelude.{◌≡◌, ◌<◌, ◌^◌, IfOk};
 ghost use Rattle.ebpf_btf.specs.Steps.{modifier_type_id, own_size, sized_by, repeats, times, resolved, resolved_type, size_of};
-ghost use Rattle.ebpf_btf.specs.Next.{lent};
 
 use crate::btf::Btf;
 use crate::error::BtfError;
@@ -16,7 +15,7 @@ const POINTER_SIZE: u32 = 8;
 
 /// The id of the type that a modifier (TYPEDEF, VOLATILE, CONST, RESTRICT or TYPE_TAG) is on.
 #[tactic(auto, unfolding(crate::specs::Steps::modifier_type_id))]
-fn modifier_type_id(ty: &BtfType) -> Option<u32>
+fn modifier_type_id(ty: &BtfType<'_>) -> Option<u32>
     ensures { result ≡ modifier_type_id ty.now }
 {
     match ty {
@@ -31,7 +30,7 @@ fn modifier_type_id(ty: &BtfType) -> Option<u32>
 
 /// The size that a type has of its own: 8 of a PTR, else the one that it states.
 #[tactic(auto, unfolding(crate::specs::Steps::own_size))]
-fn own_size(ty: &BtfType) -> Option<u32>
+fn own_size(ty: &BtfType<'_>) -> Option<u32>
     ensures { result ≡ own_size ty.now }
 {
     match ty {
@@ -42,7 +41,7 @@ fn own_size(ty: &BtfType) -> Option<u32>
 
 /// The id of the type that another is sized by.
 #[tactic(auto, unfolding(crate::specs::Steps::sized_by))]
-fn sized_by(ty: &BtfType) -> Option<u32>
+fn sized_by(ty: &BtfType<'_>) -> Option<u32>
     ensures { result ≡ sized_by ty.now }
 {
     match ty {
@@ -54,7 +53,7 @@ fn sized_by(ty: &BtfType) -> Option<u32>
 
 /// How many of that type it has.
 #[tactic(auto, unfolding(crate::specs::Steps::repeats))]
-fn repeats(ty: &BtfType) -> u32
+fn repeats(ty: &BtfType<'_>) -> u32
     ensures { result ≡ repeats ty.now }
 {
     match ty {
@@ -82,7 +81,7 @@ impl Btf {
         let mut reached = type_id;
         for _look in 0..LOOKS {
             let ty = self.type_by_id(reached)?;
-            let Some(next) = modifier_type_id(ty) else {
+            let Some(next) = modifier_type_id(&ty) else {
                 return Ok(reached);
             };
             reached = next;
@@ -92,8 +91,8 @@ impl Btf {
 
     /// The first type from the one with an id on that is no TYPEDEF, VOLATILE, CONST, RESTRICT or TYPE_TAG. Its
     /// faults are those of `resolve_type`.
-    pub fn resolved_type(&self, type_id: u32) -> Result<&BtfType, BtfError>
-        ensures { lent result ≡ resolved_type self.now.types type_id }
+    pub fn resolved_type(&self, type_id: u32) -> Result<BtfType<'_>, BtfError>
+        ensures { result ≡ resolved_type self.now.types type_id }
     {
         match self.resolve_type(type_id) {
             Ok(resolved) => self.type_by_id(resolved),
@@ -115,13 +114,16 @@ impl Btf {
         let mut count = 1;
         for _look in 0..LOOKS {
             let ty = self.type_by_id(reached)?;
-            if let Some(size) = own_size(ty) {
+            if let Some(size) = own_size(&ty) {
                 return times(count, size);
             }
-            let Some(next) = sized_by(ty) else {
+            let Some(next) = sized_by(&ty) else {
                 return Err(BtfError::UnexpectedBtfType { type_id: reached });
             };
-            count = times(count, repeats(ty))?;
+            count = match times(count, repeats(&ty)) {
+                Ok(all) => all,
+                Err(e) => return Err(e),
+            };
             reached = next;
         }
         Err(BtfError::MaximumTypeDepth { type_id })

@@ -1,21 +1,20 @@
 //! A type.
 
-ghost use Rattle.std.specs.Prelude.{◌≡◌};
-ghost use Rattle.std.specs.Option.{option_copied};
-ghost use Rattle.ebpf_btf.specs.Types.{kind_of, name_off, size_word, type_word, members_of, has_bit_fields, bit_offset, bit_field_size, is_signed};
+ghost use Rattle.std.specs.Prelude.{◌≡◌, ◌<◌};
+ghost use Rattle.ebpf_btf.specs.Words.{count_of, flag_of};
+ghost use Rattle.ebpf_btf.specs.Types.{kind_number, kind_of, name_off, size_word, type_word, members_of, has_bit_fields, bit_offset, bit_field_size, is_signed};
 
 use crate::fallback::UnionFallback;
 use crate::kind::BtfKind;
+use crate::list_rows::Rows;
 use crate::members::{BtfEnum, BtfEnum64, BtfMember, BtfParam, DataSecEntry};
-use crate::union_members::UnionMembers;
-use ebpf_base::Items;
 
 /// A type (`struct btf_type` and what follows it), by its kind; the kinds are in the order of their numbers.
 ///
 /// `name_offset` is the offset of the name in the strings, 0 where the type has none; `size` is in bytes;
 /// `btf_type` and other fields that end in `_type` are ids of types.
 #[derive(Debug, Drop)]
-pub enum BtfType {
+pub enum BtfType<'a> {
     /// No type, or `void`.
     Unknown,
     /// An integer. `int_data` has the encoding in bits 24 to 27 (1: signed), the bit offset in bits 16 to 23
@@ -42,22 +41,22 @@ pub enum BtfType {
         name_offset: u32,
         size: u32,
         kind_flag: bool,
-        members: Items<BtfMember>,
+        members: Rows<'a, BtfMember>,
     },
     /// A union. Where `kind_flag` is set, members have sizes of bit fields.
     Union {
         name_offset: u32,
         size: u32,
         kind_flag: bool,
-        members: UnionMembers,
-        enum64_fallback: UnionFallback,
+        members: Rows<'a, BtfMember>,
+        enum64_fallback: UnionFallback<'a>,
     },
     /// An enumeration with values of up to 32 bits, signed where `kind_flag` is set.
     Enum {
         name_offset: u32,
         size: u32,
         kind_flag: bool,
-        variants: Items<BtfEnum>,
+        variants: Rows<'a, BtfEnum>,
     },
     /// A struct or, where `kind_flag` is set, a union that is declared and not defined.
     Fwd {
@@ -93,7 +92,7 @@ pub enum BtfType {
     FuncProto {
         name_offset: u32,
         btf_type: u32,
-        params: Items<BtfParam>,
+        params: Rows<'a, BtfParam>,
     },
     /// A variable.
     Var {
@@ -105,7 +104,7 @@ pub enum BtfType {
     DataSec {
         name_offset: u32,
         size: u32,
-        entries: Items<DataSecEntry>,
+        entries: Rows<'a, DataSecEntry>,
     },
     /// A floating point number.
     Float {
@@ -128,11 +127,11 @@ pub enum BtfType {
         name_offset: u32,
         size: u32,
         kind_flag: bool,
-        variants: Items<BtfEnum64>,
+        variants: Rows<'a, BtfEnum64>,
     },
 }
 
-impl BtfType {
+impl<'a> BtfType<'a> {
     /// The kind.
     #[tactic(auto, unfolding(crate::specs::Types::kind_of))]
     pub fn kind(&self) -> BtfKind
@@ -231,12 +230,13 @@ impl BtfType {
 
     /// The members of a STRUCT or UNION, in order; None of others.
     #[tactic(auto, unfolding(crate::specs::Types::members_of))]
-    pub fn members(&self) -> Option<&[BtfMember]>
-        ensures { option_copied result ≡ members_of self.now }
+    pub fn members(&self) -> Option<Rows<'a, BtfMember>>
+        ensures { result ≡ members_of self.now }
     {
         match self {
-            BtfType::Struct { members, .. } => Some(members.as_slice()),
-            BtfType::Union { members, .. } => Some(members.as_slice()),
+            BtfType::Struct { members, .. } | BtfType::Union { members, .. } => {
+                Some(members.copy())
+            }
             _ => None,
         }
     }
@@ -288,6 +288,67 @@ impl BtfType {
             BtfType::Int { int_data, .. } => (int_data >> 24) & 1 == 1,
             BtfType::Enum { kind_flag, .. } | BtfType::Enum64 { kind_flag, .. } => *kind_flag,
             _ => false,
+        }
+    }
+
+    /// The number of the kind in `.BTF`.
+    #[tactic(auto, unfolding(crate::specs::Types::kind_of, crate::specs::Types::kind_number))]
+    pub(crate) fn kind_number(&self) -> u32
+        ensures number { result ≡ kind_number (kind_of self.now) }
+        ensures low { result < 32 }
+    {
+        match self {
+            BtfType::Unknown => 0,
+            BtfType::Int { .. } => 1,
+            BtfType::Ptr { .. } => 2,
+            BtfType::Array { .. } => 3,
+            BtfType::Struct { .. } => 4,
+            BtfType::Union { .. } => 5,
+            BtfType::Enum { .. } => 6,
+            BtfType::Fwd { .. } => 7,
+            BtfType::Typedef { .. } => 8,
+            BtfType::Volatile { .. } => 9,
+            BtfType::Const { .. } => 10,
+            BtfType::Restrict { .. } => 11,
+            BtfType::Func { .. } => 12,
+            BtfType::FuncProto { .. } => 13,
+            BtfType::Var { .. } => 14,
+            BtfType::DataSec { .. } => 15,
+            BtfType::Float { .. } => 16,
+            BtfType::DeclTag { .. } => 17,
+            BtfType::TypeTag { .. } => 18,
+            BtfType::Enum64 { .. } => 19,
+        }
+    }
+
+    /// The flag of the info word, bit 31.
+    #[tactic(auto, unfolding(crate::specs::Words::flag_of))]
+    pub(crate) fn kind_flag(&self) -> bool
+        ensures { result ≡ flag_of self.now }
+    {
+        match self {
+            BtfType::Struct { kind_flag, .. }
+            | BtfType::Union { kind_flag, .. }
+            | BtfType::Enum { kind_flag, .. }
+            | BtfType::Enum64 { kind_flag, .. }
+            | BtfType::Fwd { kind_flag, .. } => *kind_flag,
+            _ => false,
+        }
+    }
+
+    /// How many members, variants, parameters or entries there are.
+    #[tactic(auto, unfolding(crate::specs::Words::count_of))]
+    pub(crate) fn count(&self) -> usize
+        ensures { result ≡ count_of self.now }
+    {
+        match self {
+            BtfType::Struct { members, .. } => members.len(),
+            BtfType::Union { members, .. } => members.len(),
+            BtfType::Enum { variants, .. } => variants.len(),
+            BtfType::Enum64 { variants, .. } => variants.len(),
+            BtfType::FuncProto { params, .. } => params.len(),
+            BtfType::DataSec { entries, .. } => entries.len(),
+            _ => 0,
         }
     }
 }

@@ -66,7 +66,7 @@ fn fallback_variant(fallback: &Enum64Fallback, index: usize) -> Option<BtfVarian
     Some(variant_of_fallback(*variant))
 }
 
-impl BtfType {
+impl<'a> BtfType<'a> {
     /// The number of variants of an ENUM, an ENUM64 or a UNION that was an enumeration of 64 bits; None of others.
     #[tactic(auto, unfolding(crate::specs::Variants::variants_of))]
     pub fn variant_count(&self) -> Option<usize>
@@ -94,8 +94,8 @@ impl BtfType {
                 kind_flag,
                 variants,
                 ..
-            } => Some(variant_of_32(*kind_flag, *variants.get(index)?)),
-            BtfType::Enum64 { variants, .. } => Some(variant_of_64(*variants.get(index)?)),
+            } => Some(variant_of_32(*kind_flag, variants.get(index)?)),
+            BtfType::Enum64 { variants, .. } => Some(variant_of_64(variants.get(index)?)),
             BtfType::Union {
                 enum64_fallback,
                 ..

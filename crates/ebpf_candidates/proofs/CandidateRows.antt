@@ -21,10 +21,12 @@ use Rattle.ebpf_candidates.specs.Candidates.{candidates, is_candidate}
 use Rattle.ebpf_btf.specs.EssentialNames.{essential_name}
 use Rattle.ebpf_btf.specs.Strings.{type_name}
 use Rattle.ebpf_btf.specs.TypeInfo.{TypeInfo}
+use Rattle.ebpf_candidates.specs.SomeKinds.{has_kind}
 use Rattle.ebpf_candidates.specs.TypeRows.{TypeKey, is_before, type_key_cmp, type_key_hash, named_row, row_key_cmp, row_key, readable_name, rows, type_rows_from}
 use Rattle.ebpf_candidates.specs.PrivateContracts.{row_key_total, search_key}
 use Rattle.ebpf_btf.specs.Types.{kind_number, kind_of, is_kind}
 use Rattle.ebpf_candidates.proofs.RowRange.{filter_sorted}
+use Rattle.ebpf_candidates.proofs.SomeKinds.{other_kind}
 
 is_eq-then : (a b : Ordering) → is_eq (ordering_then a b) ≡ (is_eq a && is_eq b)
 is_eq-then Less b = refl
@@ -88,58 +90,66 @@ drop_front (suc id) [] t ts is = cc
 drop_front (suc id) (x ∷ xs) t ts is = drop_front id xs t ts is
 
 -- the rows with a kind and an essential name are those of the candidates
-module _ (info : TypeInfo) (kind : BtfKind) (name : List ℕ) (first : ℕ) (others : List ℕ) (named : essential_name name ≡ first ∷ others) where
+module _ (chosen : List Bool) (info : TypeInfo) (kind : BtfKind) (among : has_kind chosen kind ≡ true) (name : List ℕ) (first : ℕ) (others : List ℕ) (named : essential_name name ≡ first ∷ others) where
   abbrev has : TypeRow → Bool
   has r = is_eq (row_key_cmp (row_key info r) (search_key (kind_number kind) (first ∷ others)))
 
   abbrev Same : ℕ → List BtfType → Type 0
-  Same id ts = map (λ r. r.id) (filter has (type_rows_from info id ts)) ≡ map (λ e. e.0) (filter (λ e. is_candidate info kind name e.1) (enumerate_from id ts))
+  Same id ts = map (λ r. r.id) (filter has (type_rows_from chosen info id ts)) ≡ map (λ e. e.0) (filter (λ e. is_candidate info kind name e.1) (enumerate_from id ts))
+
+  -- of a type of another kind
+  by_other : (id : ℕ) (t : BtfType) (ts : List BtfType) → has_kind chosen (kind_of t) ≡ false → Same (id + 1) ts → Same id (t ∷ ts)
+  by_other id t ts out rest = let other : is_kind kind t ≡ false = other_kind chosen t kind out among in rw (out, other) rest
 
   -- of a type whose name was read
-  by_text : (id : ℕ) (t : BtfType) (ts : List BtfType) (text : List ℕ) → slice_get info.types id ≡ Some t → type_name info t ≡ Ok text → Same (id + 1) ts
+  by_text : (id : ℕ) (t : BtfType) (ts : List BtfType) (text : List ℕ) → has_kind chosen (kind_of t) ≡ true → slice_get info.types id ≡ Some t → type_name info t ≡ Ok text → Same (id + 1) ts
       → (essential : List ℕ) → essential_name text ≡ essential → Same id (t ∷ ts)
-  by_text id t ts text here is rest [] e = rw (is, e, named, never (is_kind kind t)) rest
-  by_text id t ts text here is rest (x ∷ xs) e =
+  by_text id t ts text in_it here is rest [] e = rw (in_it, is, e, named, never (is_kind kind t)) rest
+  by_text id t ts text in_it here is rest (x ∷ xs) e =
       let row : TypeRow = record { hash = type_key_hash (kind_number (kind_of t)) (x ∷ xs); id = id } in
       let wanted : row_key info row ≡ (type_key_hash (kind_number (kind_of t)) (x ∷ xs), record { kind = kind_number (kind_of t); name = x ∷ xs }) = rw (here, is, e) refl in
       let test : has row ≡ (is_kind kind t && bytes_eq (x ∷ xs) (first ∷ others)) =
       ap (λ p. is_eq (row_key_cmp p (search_key (kind_number kind) (first ∷ others)))) wanted ∙ is_search_key (kind_number (kind_of t)) (kind_number kind) (first ∷ others) (x ∷ xs) in
-      rw (is, e, named) (cond_step (has row) _ row _ (id, t) _ test refl rest)
+      rw (in_it, is, e, named) (cond_step (has row) _ row _ (id, t) _ test refl rest)
 
-  by_name : (id : ℕ) (t : BtfType) (ts : List BtfType) → slice_get info.types id ≡ Some t → Same (id + 1) ts
+  by_name : (id : ℕ) (t : BtfType) (ts : List BtfType) → has_kind chosen (kind_of t) ≡ true → slice_get info.types id ≡ Some t → Same (id + 1) ts
       → (r : Result (List ℕ) BtfError) → type_name info t ≡ r → Same id (t ∷ ts)
-  by_name id t ts here rest (Err e) is = rw (is, never (is_kind kind t)) rest
-  by_name id t ts here rest (Ok text) is = by_text id t ts text here is rest (essential_name text) refl
+  by_name id t ts in_it here rest (Err e) is = rw (in_it, is, never (is_kind kind t)) rest
+  by_name id t ts in_it here rest (Ok text) is = by_text id t ts text in_it here is rest (essential_name text) refl
+
+  by_kind : (id : ℕ) (t : BtfType) (ts : List BtfType) → slice_get info.types id ≡ Some t → Same (id + 1) ts → (b : Bool) → has_kind chosen (kind_of t) ≡ b → Same id (t ∷ ts)
+  by_kind id t ts here rest true is = by_name id t ts is here rest (type_name info t) refl
+  by_kind id t ts here rest false is = by_other id t ts is rest
 
   pub rows_found : (id : ℕ) (ts : List BtfType) → drop id info.types ≡ ts → Same id ts
   rows_found id [] at = refl
   rows_found id (t ∷ ts) at =
-      by_name id t ts (get_front id info.types t ts at) (rows_found (id + 1) ts (rw (add-one id) (drop_front id info.types t ts at))) (type_name info t) refl
+      by_kind id t ts (get_front id info.types t ts at) (rows_found (id + 1) ts (rw (add-one id) (drop_front id info.types t ts at))) (has_kind chosen (kind_of t)) refl
 
 -- the ids of the part of the sorted rows that has the key
-pub candidates_found : (info : TypeInfo) (kind : BtfKind) (name : List ℕ) (sorted : List TypeRow) (ids : List ℕ) (low high number : ℕ) (first : ℕ) (others : List ℕ)
-    → number ≡ kind_number kind → essential_name name ≡ first ∷ others → IsStableBy (is_before info) (rows info) sorted → ids ≡ map (λ r. r.id) sorted
+pub candidates_found : (chosen : List Bool) (info : TypeInfo) (kind : BtfKind) → has_kind chosen kind ≡ true → (name : List ℕ) (sorted : List TypeRow) (ids : List ℕ) (low high number : ℕ) (first : ℕ) (others : List ℕ)
+    → number ≡ kind_number kind → essential_name name ≡ first ∷ others → IsStableBy (is_before info) (rows chosen info) sorted → ids ≡ map (λ r. r.id) sorted
     → filter (λ r. is_eq (row_key_cmp (row_key info r) (search_key number (first ∷ others)))) sorted ≡ slice_range sorted low high
     → take (high - low) (drop low ids) ≡ candidates info kind name
-candidates_found info kind name sorted ids low high number first others same_kind named stable same_ids part =
+candidates_found chosen info kind among name sorted ids low high number first others same_kind named stable same_ids part =
     let k = search_key (kind_number kind) (first ∷ others) in
     let there : filter (λ r. is_eq (row_key_cmp (row_key info r) k)) sorted ≡ slice_range sorted low high = rw (← same_kind) part in
-    let sorting : filter (λ r. is_eq (row_key_cmp (row_key info r) k)) sorted ≡ filter (λ r. is_eq (row_key_cmp (row_key info r) k)) (rows info) =
-    filter_sorted row_key_total (row_key info) (rows info) sorted k stable in
+    let sorting : filter (λ r. is_eq (row_key_cmp (row_key info r) k)) sorted ≡ filter (λ r. is_eq (row_key_cmp (row_key info r) k)) (rows chosen info) =
+    filter_sorted row_key_total (row_key info) (rows chosen info) sorted k stable in
     rw same_ids (
     ap (take (high - low)) (drop-map (λ (r : TypeRow). r.id) low sorted)
     ∙ take-map (λ (r : TypeRow). r.id) (high - low) (drop low sorted)
     ∙ ap (λ rs. map (λ (r : TypeRow). r.id) rs) (sym there ∙ sorting)
-    ∙ rows_found info kind name first others named 0 info.types refl)
+    ∙ rows_found chosen info kind among name first others named 0 info.types refl)
 
 -- the same of a text that is not empty
-pub candidates_named : (info : TypeInfo) (kind : BtfKind) (name : List ℕ) (sorted : List TypeRow) (ids : List ℕ) (low high number : ℕ) (text : List ℕ)
-    → number ≡ kind_number kind → text ≡ essential_name name → ((text ≡ []) → ⊥) → IsStableBy (is_before info) (rows info) sorted → ids ≡ map (λ r. r.id) sorted
+pub candidates_named : (chosen : List Bool) (info : TypeInfo) (kind : BtfKind) → has_kind chosen kind ≡ true → (name : List ℕ) (sorted : List TypeRow) (ids : List ℕ) (low high number : ℕ) (text : List ℕ)
+    → number ≡ kind_number kind → text ≡ essential_name name → ((text ≡ []) → ⊥) → IsStableBy (is_before info) (rows chosen info) sorted → ids ≡ map (λ r. r.id) sorted
     → filter (λ r. is_eq (row_key_cmp (row_key info r) (search_key number text))) sorted ≡ slice_range sorted low high
     → take (high - low) (drop low ids) ≡ candidates info kind name
-candidates_named info kind name sorted ids low high number [] same_kind named some stable same_ids part = absurd (some refl)
-candidates_named info kind name sorted ids low high number (x ∷ xs) same_kind named some stable same_ids part =
-    candidates_found info kind name sorted ids low high number x xs same_kind (sym named) stable same_ids part
+candidates_named chosen info kind among name sorted ids low high number [] same_kind named some stable same_ids part = absurd (some refl)
+candidates_named chosen info kind among name sorted ids low high number (x ∷ xs) same_kind named some stable same_ids part =
+    candidates_found chosen info kind among name sorted ids low high number x xs same_kind (sym named) stable same_ids part
 
 -- ---- one pass over the types
 
@@ -147,15 +157,20 @@ pub absent : {A B : Type 0} (f : A → B) (o : Option A) (r : Option B) → opti
 absent f None r is missing = sym is
 absent f (Some x) r is missing = absurd (missing x refl)
 
--- a type without a row is passed over
-pub rows_skip : (info : TypeInfo) (types : List BtfType) (i : ℕ) (t : BtfType) → drop i types ≡ t ∷ drop (i + 1) types
-    → named_row (kind_number (kind_of t)) i (readable_name info t) ≡ None → type_rows_from info (i + 1) (drop (i + 1) types) ≡ type_rows_from info i (drop i types)
-rows_skip info types i t here none = rw (here, none) refl
+-- a type of another kind is passed over
+pub rows_pass : (chosen : List Bool) (info : TypeInfo) (types : List BtfType) (i : ℕ) (t : BtfType) → drop i types ≡ t ∷ drop (i + 1) types
+    → has_kind chosen (kind_of t) ≡ false → type_rows_from chosen info (i + 1) (drop (i + 1) types) ≡ type_rows_from chosen info i (drop i types)
+rows_pass chosen info types i t here out = rw (here, out) refl
+
+-- so is one without a row
+pub rows_skip : (chosen : List Bool) (info : TypeInfo) (types : List BtfType) (i : ℕ) (t : BtfType) → drop i types ≡ t ∷ drop (i + 1) types → has_kind chosen (kind_of t) ≡ true
+    → named_row (kind_number (kind_of t)) i (readable_name info t) ≡ None → type_rows_from chosen info (i + 1) (drop (i + 1) types) ≡ type_rows_from chosen info i (drop i types)
+rows_skip chosen info types i t here among none = rw (here, among, none) refl
 
 -- and a row is the next
-pub rows_more : (info : TypeInfo) (types : List BtfType) (i : ℕ) (t : BtfType) (front : List TypeRow) (row : TypeRow) → drop i types ≡ t ∷ drop (i + 1) types
-    → named_row (kind_number (kind_of t)) i (readable_name info t) ≡ Some row → (front ++ row ∷ []) ++ type_rows_from info (i + 1) (drop (i + 1) types) ≡ front ++ type_rows_from info i (drop i types)
-rows_more info types i t front row here some = rw (here, some) (append_assoc front (row ∷ []) (type_rows_from info (i + 1) (drop (i + 1) types)))
+pub rows_more : (chosen : List Bool) (info : TypeInfo) (types : List BtfType) (i : ℕ) (t : BtfType) (front : List TypeRow) (row : TypeRow) → drop i types ≡ t ∷ drop (i + 1) types → has_kind chosen (kind_of t) ≡ true
+    → named_row (kind_number (kind_of t)) i (readable_name info t) ≡ Some row → (front ++ row ∷ []) ++ type_rows_from chosen info (i + 1) (drop (i + 1) types) ≡ front ++ type_rows_from chosen info i (drop i types)
+rows_more chosen info types i t front row here among some = rw (here, among, some) (append_assoc front (row ∷ []) (type_rows_from chosen info (i + 1) (drop (i + 1) types)))
 
 pub named : (kind i : ℕ) (name : List ℕ) → ((name ≡ []) → ⊥) → named_row kind i (Some name) ≡ Some (record { hash = type_key_hash kind name; id = i })
 named kind i [] some = absurd (some refl)

@@ -1,6 +1,7 @@
 -- One pair of a comparison of types, and one pair of parameters.
-use Rattle.std.proofs.Common.{◌≡◌, ℕ, zero, suc, true, false, List, [], ◌∷◌, if◌then◌else◌, Option, Some, None, Result, Ok, Err, ◌⊎◌, inl, inr, refl, sym, ◌∙◌}
+use Rattle.std.proofs.Common.{◌≡◌, ◌==◌, ◌&&◌, ℕ, zero, suc, Bool, true, false, List, [], ◌∷◌, length, arith, if◌then◌else◌, Option, Some, None, Result, Ok, Err, ◌⊎◌, inl, inr, refl, sym, ◌∙◌}
 use Rattle.std.specs.List.{zip}
+use Rattle.std.proofs.lemmas.Bool.Decides.{nat_tests}
 use Rattle.ebpf_candidates.specs.declared.compatible_types.Verdict.{Verdict}
 use Rattle.ebpf_candidates.specs.declared.compatible_types.Verdict.TheVariants.{Alike, Different}
 use Rattle.ebpf_btf.specs.declared.error.BtfError.{BtfError}
@@ -9,8 +10,9 @@ use Rattle.ebpf_btf.specs.declared.members.BtfParam.{BtfParam}
 use Rattle.ebpf_candidates.specs.declared.pair.Pair.{Pair}
 use Rattle.ebpf_btf.specs.declared.types.BtfType.{BtfType}
 use Rattle.ebpf_btf.specs.Steps.{resolved_type}
+use Rattle.ebpf_btf.specs.Types.{kind_of}
 use Rattle.ebpf_candidates.specs.Comparisons.{compared_from, inner_alike, if_alike, params_alike, parts_alike}
-use Rattle.ebpf_candidates.specs.Compatibility.{shallow_alike, both, inner_type_id, inner_pair, if_resolved, pair_of, params_of}
+use Rattle.ebpf_candidates.specs.Compatibility.{shallow_alike, both, both_begin_at_0, is_compared, same_kind, inner_type_id, inner_pair, if_resolved, pair_of, params_of}
 
 -- ---- a pair
 
@@ -53,6 +55,16 @@ module _ (levels : ℕ) (local target : List BtfType) (root left : ℕ) (pair : 
   pub compared_parts : (a b : BtfType) → resolved_type local pair.local ≡ Ok a → resolved_type target pair.target ≡ Ok b
       → shallow_alike a b ≡ true → compared_from levels local target root left pair ≡ parts_alike (compared_from n local target root) m a b
   compared_parts a b one other same = rw (compared_look, one, other, same) refl
+
+-- types that are alike have as many parameters
+second : (p q : Bool) → (p && q) ≡ true → q ≡ true
+second true q is = is
+second false q is = cc
+
+pub same_count : (a b : BtfType) → shallow_alike a b ≡ true → length (params_of a) ≡ length (params_of b)
+same_count a b alike =
+    let counts : (length (params_of a) == length (params_of b)) ≡ true = second (same_kind a b && is_compared (kind_of a) && both_begin_at_0 a b) _ alike in
+    grind (arith, nat_tests)
 
 -- ---- the parameters that are left
 

@@ -4,10 +4,12 @@ pub mod CandidateRows
 pub mod Comparing
 pub mod Fields
 pub mod FoundPairs
+pub mod Heads
 pub mod OddTexts
 pub mod OneName
 pub mod Refusals
 pub mod RowRange
+pub mod SomeKinds
 pub mod Unions
 pub mod UnreadNames
 pub mod WithoutNames

@@ -15,10 +15,9 @@ use Rattle.std.proofs.lemmas.Str.Ascii.{IsAscii-from_all}
 use Rattle.ebpf_btf.specs.Next.{if_some}
 use Rattle.ebpf_candidates.specs.OddNames.{odd_at, odd_name, odd_text}
 use Rattle.std.specs.Result.{result_ok}
-use Rattle.ebpf_btf.specs.declared.types.BtfType.{BtfType}
 use Rattle.ebpf_btf.specs.EssentialNames.{essential_name}
 use Rattle.ebpf_btf.specs.Strings.{before_zero, text_at, text_or_fault}
-use Rattle.ebpf_candidates.specs.TypeRows.{readable_name}
+use Rattle.ebpf_candidates.specs.PrivateContracts.{odd_text_at, readable_at}
 use Rattle.ebpf_btf.specs.TypeInfo.{TypeInfo}
 use Rattle.ebpf_btf.specs.Types.{name_off}
 
@@ -47,11 +46,11 @@ odd_none bytes is = by_test (is_utf8 bytes) refl is
     by_test false e same = cc
 
 -- a name that is not odd is read as it stands
-pub readable_plain : (info : TypeInfo) (t : BtfType) → odd_name info t ≡ None → option_map essential_name (before_zero (drop (name_off t) info.strings)) ≡ readable_name info t
+pub readable_plain : (strings : List ℕ) (offset : ℕ) → odd_text_at strings offset ≡ None → option_map essential_name (before_zero (drop offset strings)) ≡ readable_at strings offset
 unfolding text_at
-readable_plain info t plain = by_bytes (before_zero (drop (name_off t) info.strings)) plain
+readable_plain strings offset plain = by_bytes (before_zero (drop offset strings)) plain
   where
-    by_bytes : (o : Option (List ℕ)) → if_some o odd_text None ≡ None → option_map essential_name o ≡ option_map essential_name (result_ok (text_or_fault (name_off t) o))
+    by_bytes : (o : Option (List ℕ)) → if_some o odd_text None ≡ None → option_map essential_name o ≡ option_map essential_name (result_ok (text_or_fault offset o))
     by_bytes None same = refl
     by_bytes (Some bytes) same = ap (λ text. Some (essential_name text)) (sym (odd_none bytes same))
 

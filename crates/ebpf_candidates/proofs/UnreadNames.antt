@@ -24,7 +24,12 @@ or_else_assoc (Some e) b c = refl
 
 -- ---- one pass over the types
 
--- a name that can be read is passed over
+-- a type of another kind is passed over
+pub unread_pass : (info : TypeInfo) (kind : BtfKind) (types : List BtfType) (i : ℕ) (t : BtfType) → drop i types ≡ t ∷ drop (i + 1) types
+    → is_kind kind t ≡ false → unreadable_from info kind (i + 1) (drop (i + 1) types) ≡ unreadable_from info kind i (drop i types)
+unread_pass info kind types i t here other = rw (here, other) refl
+
+-- so is a name that can be read
 pub unread_skip : (info : TypeInfo) (kind : BtfKind) (types : List BtfType) (i : ℕ) (t : BtfType) (text : List ℕ) → drop i types ≡ t ∷ drop (i + 1) types
     → Some text ≡ result_ok (type_name info t) → unreadable_from info kind (i + 1) (drop (i + 1) types) ≡ unreadable_from info kind i (drop i types)
 unread_skip info kind types i t text here readable = by_name (type_name info t) refl readable

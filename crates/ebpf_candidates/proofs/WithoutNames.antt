@@ -58,7 +58,12 @@ pub has_name : (o : Option (List ℕ)) (name : List ℕ) → o ≡ Some name →
 has_name o [] is some = absurd (some refl)
 has_name o (x ∷ xs) is some = ap is_none is
 
--- a type that has a name, or one that can't be read, is passed over
+-- a type of another kind is passed over
+pub anonymous_pass : (info : TypeInfo) (kind : BtfKind) (types : List BtfType) (i : ℕ) (t : BtfType) → drop i types ≡ t ∷ drop (i + 1) types
+    → is_kind kind t ≡ false → anonymous_from info kind (i + 1) (drop (i + 1) types) ≡ anonymous_from info kind i (drop i types)
+anonymous_pass info kind types i t here other = rw (here, other) refl
+
+-- so is one that has a name, or one that can't be read
 pub anonymous_skip : (info : TypeInfo) (kind : BtfKind) (types : List BtfType) (i : ℕ) (t : BtfType) → drop i types ≡ t ∷ drop (i + 1) types
     → is_none (readable_name info t) ≡ false → anonymous_from info kind (i + 1) (drop (i + 1) types) ≡ anonymous_from info kind i (drop i types)
 anonymous_skip info kind types i t here other =

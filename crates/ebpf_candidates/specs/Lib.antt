@@ -1,6 +1,7 @@
 pub mod Candidates
 pub mod Compatibility
 pub mod OddNames
+pub mod SomeKinds
 pub mod TypeRows
 -- What only private contracts and proofs name.
 pub mod Comparisons

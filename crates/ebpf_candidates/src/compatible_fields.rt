@@ -23,7 +23,7 @@ fn is_composite(kind: BtfKind) -> bool
 
 /// The type of the elements of an ARRAY.
 #[tactic(auto, unfolding(crate::specs::Compatibility::element))]
-fn element(ty: &BtfType) -> Option<u32>
+fn element(ty: &BtfType<'_>) -> Option<u32>
     ensures { result ≡ element ty.now }
 {
     match ty {
@@ -34,7 +34,7 @@ fn element(ty: &BtfType) -> Option<u32>
 
 /// Whether the name of a type, its flavor aside, is a text, its flavor aside, or one of the two is empty.
 #[tactic(auto, using(crate::proofs::Fields::no_flavor))]
-fn is_named_alike(btf: &Btf, ty: &BtfType, name: &str) -> Result<bool, BtfError>
+fn is_named_alike(btf: &Btf, ty: &BtfType<'_>, name: &str) -> Result<bool, BtfError>
     ensures { result ≡ if_ok (type_name btf.now ty.now) (λ read. Ok (names_fit (essential_name name.now) (essential_name read))) }
 {
     let offset = ty.name_offset();
@@ -47,9 +47,9 @@ fn is_named_alike(btf: &Btf, ty: &BtfType, name: &str) -> Result<bool, BtfError>
 /// Whether two types have names that are equal, their flavors aside, or of which one is empty.
 fn are_named_alike(
     local: &Btf,
-    local_type: &BtfType,
+    local_type: &BtfType<'_>,
     target: &Btf,
-    target_type: &BtfType,
+    target_type: &BtfType<'_>,
 ) -> Result<bool, BtfError>
     ensures { Gives is_memory result (are_named_alike local.now target.now local_type.now target_type.now) }
 {
@@ -61,9 +61,9 @@ fn are_named_alike(
 #[tactic(auto, unfolding(crate::specs::Compatibility::decided_by))]
 fn types_fit(
     local: &Btf,
-    local_type: &BtfType,
+    local_type: &BtfType<'_>,
     target: &Btf,
-    target_type: &BtfType,
+    target_type: &BtfType<'_>,
 ) -> Result<bool, BtfError>
     ensures { Gives is_memory result (types_fit local.now target.now local_type.now target_type.now) }
 {
@@ -108,8 +108,8 @@ pub fn fields_are_compatible(
     for _level in 0..FIELD_LEVELS {
         let local_type = local.resolved_type(pair.local)?;
         let target_type = target.resolved_type(pair.target)?;
-        let Some(elements) = both(element(local_type), element(target_type)) else {
-            return types_fit(local, local_type, target, target_type);
+        let Some(elements) = both(element(&local_type), element(&target_type)) else {
+            return types_fit(local, &local_type, target, &target_type);
         };
         pair = elements;
     }

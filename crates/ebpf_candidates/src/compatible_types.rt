@@ -6,7 +6,7 @@ ghost use Rattle.ebpf_candidates.specs.Compatibility.{shallow_alike, first_end, 
 ghost use Rattle.ebpf_btf.specs.declared.error.BtfError.TheVariants.{MaximumTypeDepth};
 
 use crate::pair::{Pair, both, both_begin_at_0, same_kind};
-use ebpf_btf::{Btf, BtfError, BtfKind, BtfParam, BtfType};
+use ebpf_btf::{Btf, BtfError, BtfKind, BtfParam, BtfType, Rows};
 
 /// How many levels of pairs there may be: the one of the pair given, and 32 below it.
 const TYPE_LEVELS: u32 = 33;
@@ -52,18 +52,18 @@ fn is_compared(kind: BtfKind) -> bool
 
 /// The parameters of a FUNC_PROTO; other types have none.
 #[tactic(auto, unfolding(crate::specs::Compatibility::params_of))]
-fn params_of(ty: &BtfType) -> &[BtfParam]
-    ensures { result.now ≡ params_of ty.now }
+fn params_of<'a>(ty: &BtfType<'a>) -> Rows<'a, BtfParam>
+    ensures { result ≡ params_of ty.now }
 {
     match ty {
-        BtfType::FuncProto { params, .. } => params.as_slice(),
-        _ => &[],
+        BtfType::FuncProto { params, .. } => params.copy(),
+        _ => Rows::of(&[]),
     }
 }
 
 /// The inner type of a PTR, an ARRAY or a FUNC_PROTO: what it points to, its elements, its result.
 #[tactic(auto, unfolding(crate::specs::Compatibility::inner_type_id))]
-fn inner_type_id(ty: &BtfType) -> Option<u32>
+fn inner_type_id(ty: &BtfType<'_>) -> Option<u32>
     ensures { result ≡ inner_type_id ty.now }
 {
     match ty {
@@ -74,7 +74,7 @@ fn inner_type_id(ty: &BtfType) -> Option<u32>
 }
 
 /// Whether two types are alike, their inner types aside.
-fn shallow_alike(local: &BtfType, target: &BtfType) -> bool
+fn shallow_alike(local: &BtfType<'_>, target: &BtfType<'_>) -> bool
     ensures { result ≡ shallow_alike local.now target.now }
 {
     same_kind(local, target)
@@ -95,21 +95,22 @@ fn compare(sides: Sides<'_>, levels: u32, left: u32, pair: Pair) -> Result<Verdi
     }
     let local = sides.local.resolved_type(pair.local)?;
     let target = sides.target.resolved_type(pair.target)?;
-    if !shallow_alike(local, target) {
+    if !shallow_alike(&local, &target) {
         return Ok(Verdict::Different);
     }
     let mut left = left - 1;
-    for (one, other) in params_of(local).iter().zip(params_of(target)) {
+    let (params, others) = (params_of(&local), params_of(&target));
+    for k in 0..params.len() {
         let types = Pair {
-            local: one.btf_type,
-            target: other.btf_type,
+            local: params.at(k).btf_type,
+            target: others.at(k).btf_type,
         };
         match compare(sides, levels - 1, left, types)? {
             Verdict::Alike { left: rest } => left = rest,
             Verdict::Different => return Ok(Verdict::Different),
         }
     }
-    match both(inner_type_id(local), inner_type_id(target)) {
+    match both(inner_type_id(&local), inner_type_id(&target)) {
         Some(types) => compare(sides, levels - 1, left, types),
         None => Ok(Verdict::Alike { left }),
     }
@@ -153,7 +154,9 @@ pub fn types_are_compatible(
 ) -> Result<bool, BtfError>
     ensures { result ≡ types_compatible local.now local_id target.now target_id }
 {
-    if !same_kind(local.type_by_id(local_id)?, target.type_by_id(target_id)?) {
+    let local_type = local.type_by_id(local_id)?;
+    let target_type = target.type_by_id(target_id)?;
+    if !same_kind(&local_type, &target_type) {
         return Ok(false);
     }
     let sides = Sides {

@@ -1,7 +1,9 @@
 //! The kinds of types by their numbers.
 
-ghost use Rattle.std.specs.Prelude.{◌≡◌, ◌<◌};
+ghost use Rattle.std.specs.Prelude.{◌≡◌, ◌<◌, length, true};
 ghost use Rattle.ebpf_btf.specs.Types.{kind_number};
+ghost use Rattle.ebpf_btf.specs.declared.kind.BtfKind.{BtfKind};
+ghost use Rattle.ebpf_candidates.specs.SomeKinds.{has_kind, is_one_of};
 
 use ebpf_btf::BtfKind;
 
@@ -15,4 +17,35 @@ pub fn kind_number(kind: BtfKind) -> u8
     ensures few { result < 20 }
 {
     kind as u8
+}
+
+/// Some kinds: for each, at its number, whether it is one of them.
+pub type SomeKinds = [bool; KINDS];
+
+/// Every kind.
+pub fn every_kind() -> SomeKinds
+    ensures few { length result ≡ 20 }
+    ensures all { (kind : BtfKind) → has_kind result kind ≡ true }
+{
+    [true; KINDS]
+}
+
+/// The kinds of a list.
+pub fn kinds_of(list: &[BtfKind]) -> SomeKinds
+    ensures few { length result ≡ 20 }
+    ensures listed { (kind : BtfKind) → has_kind result kind ≡ is_one_of list.now kind }
+{
+    let mut kinds = [false; KINDS];
+    for kind in list {
+        kinds[kind_number(*kind) as usize] = true;
+    }
+    kinds
+}
+
+/// Whether a kind is one of some.
+pub fn has_kind(kinds: &SomeKinds, kind: BtfKind) -> bool
+    requires { length kinds.now ≡ 20 }
+    ensures { result ≡ has_kind kinds.now kind }
+{
+    kinds[kind_number(kind) as usize]
 }

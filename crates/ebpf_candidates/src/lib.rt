@@ -16,4 +16,4 @@ mod unreadable;
 
 pub use compatible_fields::fields_are_compatible;
 pub use compatible_types::types_are_compatible;
-pub use type_index::TypeIndex;
+pub use type_index::{KindsIndex, TypeIndex};

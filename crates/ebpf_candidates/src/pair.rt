@@ -24,7 +24,7 @@ pub fn both(local: Option<u32>, target: Option<u32>) -> Option<Pair>
 
 /// Whether two types are of one kind.
 #[tactic(auto, unfolding(ebpf_btf::specs::Types::kind_number))]
-pub fn same_kind(local: &BtfType, target: &BtfType) -> bool
+pub fn same_kind(local: &BtfType<'_>, target: &BtfType<'_>) -> bool
     ensures { result ≡ same_kind local.now target.now }
 {
     local.kind() as u8 == target.kind() as u8
@@ -32,7 +32,7 @@ pub fn same_kind(local: &BtfType, target: &BtfType) -> bool
 
 /// The bit of its bytes at which an INT begins; others begin at 0.
 #[tactic(auto, unfolding(crate::specs::Compatibility::first_bit))]
-fn first_bit(ty: &BtfType) -> u32
+fn first_bit(ty: &BtfType<'_>) -> u32
     ensures { result ≡ first_bit ty.now }
 {
     match ty {
@@ -42,7 +42,7 @@ fn first_bit(ty: &BtfType) -> u32
 }
 
 /// Whether two types begin at bit 0 of their bytes.
-pub fn both_begin_at_0(local: &BtfType, target: &BtfType) -> bool
+pub fn both_begin_at_0(local: &BtfType<'_>, target: &BtfType<'_>) -> bool
     ensures { result ≡ both_begin_at_0 local.now target.now }
 {
     first_bit(local) == 0 && first_bit(target) == 0

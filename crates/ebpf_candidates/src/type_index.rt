@@ -1,9 +1,11 @@
 //! Types by kind and name.
 
-ghost use Rattle.std.specs.Prelude.{◌≡◌, [], length, IfOk, IfErr, OnOk, None, map, slice_index_or};
+ghost use Rattle.std.specs.Prelude.{◌≡◌, ◌&&◌, [], length, IfOk, IfErr, OnOk, None, is_some, map, slice_index_or, true};
 ghost use Rattle.std.specs.List.Sorted.{IsSortedBy, IsStableBy};
+ghost use Rattle.std.specs.Option.{ForSome};
 ghost use Rattle.ebpf_base.specs.Faults.{fault_of, Refuses};
 ghost use Rattle.ebpf_candidates.specs.Candidates.{candidates, candidates_fault, candidates_of_both, candidates_of_both_fault};
+ghost use Rattle.ebpf_candidates.specs.SomeKinds.{has_kind, is_one_of};
 ghost use Rattle.ebpf_btf.specs.Memory.{is_memory};
 ghost use Rattle.ebpf_candidates.specs.TypeRows.{is_before, rows, unreadable_from};
 ghost use Rattle.ebpf_btf.specs.Types.{kind_number};
@@ -12,7 +14,7 @@ ghost use Rattle.ebpf_btf.specs.declared.kind.BtfKind.{BtfKind};
 
 use crate::anonymous::{AnonymousTypes, add_anonymous, no_anonymous_types};
 use crate::id_union::union;
-use crate::kinds::{KINDS, kind_number};
+use crate::kinds::{KINDS, SomeKinds, every_kind, has_kind, kind_number, kinds_of};
 use crate::type_names::TypeNames;
 use crate::type_row::{TypeRow, order_of_rows, row_range, type_key_hash};
 use crate::unreadable::{UnreadableName, UnreadableNames, keep_first, lower};
@@ -28,32 +30,39 @@ struct Found {
     unreadable: UnreadableNames,
 }
 
-/// The rows of the types that have names, by id, the ids of those that have none, and the offsets of the first names
-/// that can't be read.
-fn read_rows(alloc: Global, names: &TypeNames<'_>) -> Result<Found, AllocError>
-    ensures rows { IfOk result (λ found. found.rows.items ≡ rows names.now) }
-    ensures anonymous { IfOk result (λ found. (kind : BtfKind) → slice_index_or found.anonymous.items (kind_number kind) [] ≡ candidates names.now kind []) }
-    ensures unread { IfOk result (λ found. (kind : BtfKind) → slice_index_or found.unreadable (kind_number kind) None ≡ unreadable_from names.now kind 0 names.now.types) }
+/// Of the types of some kinds: the rows of those that have names, by id, the ids of those that have none, and the offsets
+/// of the first names that can't be read. Names of other kinds aren't looked at.
+fn read_rows(alloc: Global, names: &TypeNames<'_>, kinds: &SomeKinds) -> Result<Found, AllocError>
+    requires { length kinds.now ≡ 20 }
+    ensures rows { IfOk result (λ found. found.rows.items ≡ rows kinds.now names.now) }
+    ensures anonymous { IfOk result (λ found. (kind : BtfKind) → has_kind kinds.now kind ≡ true → slice_index_or found.anonymous.items (kind_number kind) [] ≡ candidates names.now kind []) }
+    ensures unread { IfOk result (λ found. (kind : BtfKind) → has_kind kinds.now kind ≡ true → slice_index_or found.unreadable (kind_number kind) None ≡ unreadable_from names.now kind 0 names.now.types) }
     ensures kinds { IfOk result (λ found. (length found.anonymous.items ≡ 20) × (length found.unreadable ≡ 20)) }
 {
     let mut rows = Vec::new(alloc);
     let mut anonymous = no_anonymous_types(alloc)?;
     let mut unreadable: UnreadableNames = [None; KINDS];
-    for (id, ty) in names.btf().types().iter().enumerate() {
-        let Some(name) = names.name(id, ty) else {
+    for id in 0..names.btf().len() {
+        let Some(head) = names.btf().head(id) else {
+            continue;
+        };
+        if !has_kind(kinds, head.kind) {
+            continue;
+        }
+        let Some(name) = names.name(id, head.name_offset) else {
             let first = UnreadableName {
                 id: id as u32,
-                offset: ty.name_offset(),
+                offset: head.name_offset,
             };
-            keep_first(&mut unreadable, ty.kind(), first);
+            keep_first(&mut unreadable, head.kind, first);
             continue;
         };
         if name.is_empty() {
-            add_anonymous(&mut anonymous, ty.kind(), id as u32)?;
+            add_anonymous(&mut anonymous, head.kind, id as u32)?;
             continue;
         }
         rows.push(TypeRow {
-            hash: type_key_hash(kind_number(ty.kind()), name),
+            hash: type_key_hash(kind_number(head.kind), name),
             id: id as u32,
         })?;
     }
@@ -86,70 +95,82 @@ fn ids_of_rows(alloc: Global, rows: &[TypeRow]) -> Result<Vec<u32>, AllocError>
     Ok(ids)
 }
 
-/// Types by kind and name, the names without what follows three underscores.
+/// The index of types of some kinds.
+fn index_of<'a>(alloc: Global, btf: &'a Btf, kinds: SomeKinds) -> Result<KindsIndex<'a>, BtfError>
+    requires { length kinds ≡ 20 }
+    ensures types { IfOk result (λ index. index.info ≡ btf.now) }
+    ensures kinds { IfOk result (λ index. index.kinds ≡ kinds) }
+    ensures memory { IfErr result (λ e. e ≡ OutOfMemory) }
+{
+    let names = TypeNames::new(alloc, btf)?;
+    let Found {
+        mut rows,
+        anonymous,
+        unreadable,
+    } = read_rows(alloc, &names, &kinds)?;
+    sort_rows(&names, &mut rows)?;
+    let ids = ids_of_rows(alloc, &rows)?;
+    Ok(KindsIndex {
+        names,
+        kinds,
+        rows,
+        ids,
+        anonymous,
+        unreadable,
+    })
+}
+
+/// Types of some kinds by kind and name, the names without what follows three underscores.
 ///
-/// Contracts see the type information that it was made for.
+/// Contracts see the type information that it was made for, and the kinds.
 #[derive(Drop)]
-pub struct TypeIndex<'a> {
+pub struct KindsIndex<'a> {
     names: TypeNames<'a>,
+    kinds: SomeKinds,
     rows: Vec<TypeRow>,
     ids: Vec<u32>,
     anonymous: AnonymousTypes,
     unreadable: UnreadableNames,
 }
 
-impl<'a> Model for TypeIndex<'a> {
-    ghost use Rattle.ebpf_btf.specs.TypeInfo.{TypeInfo};
+impl<'a> Model for KindsIndex<'a> {
+    ghost use Rattle.ebpf_candidates.specs.SomeKinds.{IndexedKinds};
     ghost use Rattle.ebpf_candidates.specs.TypeRows.{IsIndex};
 
-    ghost Value = { TypeInfo };
+    ghost Value = { IndexedKinds };
 
-    ghost view = { λ x. x.names };
+    ghost view = { λ x. record { info = x.names; kinds = x.kinds } };
 
-    ghost invariant = { λ x. IsIndex x.names x.rows.items x.ids.items x.anonymous.items x.unreadable };
+    ghost invariant = { λ x. IsIndex x.kinds x.names x.rows.items x.ids.items x.anonymous.items x.unreadable };
 }
 
-impl<'a> TypeIndex<'a> {
-    /// The index of some types: one pass over them, a sort, and a copy of each name that is not UTF-8.
-    /// `OutOfMemory` where memory is refused.
-    pub fn new(alloc: Global, btf: &'a Btf) -> Result<TypeIndex<'a>, BtfError>
-        ensures types { IfOk result (λ index. index ≡ btf.now) }
-        ensures memory { IfErr result (λ e. e ≡ OutOfMemory) }
-    {
-        let names = TypeNames::new(alloc, btf)?;
-        let Found {
-            mut rows,
-            anonymous,
-            unreadable,
-        } = read_rows(alloc, &names)?;
-        sort_rows(&names, &mut rows)?;
-        let ids = ids_of_rows(alloc, &rows)?;
-        Ok(TypeIndex {
-            names,
-            rows,
-            ids,
-            anonymous,
-            unreadable,
-        })
-    }
-
+impl<'a> KindsIndex<'a> {
     /// The types that it was made for.
     pub fn btf(&self) -> &'a Btf
-        ensures { result.now ≡ self.now }
+        ensures { result.now ≡ self.now.info }
     {
         self.names.btf()
     }
 
+    /// Whether it has the types of a kind.
+    pub fn has(&self, kind: BtfKind) -> bool
+        ensures { result ≡ has_kind self.now.kinds kind }
+    {
+        has_kind(&self.kinds, kind)
+    }
+
     /// The first type of a kind whose name can't be read.
     fn unreadable_of(&self, kind: BtfKind) -> Option<UnreadableName>
-        ensures { result ≡ unreadable_from self.now kind 0 self.now.types }
+        requires { has_kind self.now.kinds kind ≡ true }
+        ensures { result ≡ unreadable_from self.now.info kind 0 self.now.info.types }
     {
         self.unreadable[kind_number(kind) as usize]
     }
 
     /// The ids of the types of a kind and name, names that can't be read aside.
     fn ids_of(&self, kind: BtfKind, name: &str) -> &[u32]
-        ensures { result.now ≡ candidates self.now kind name.now }
+        requires { has_kind self.now.kinds kind ≡ true }
+        ensures { result.now ≡ candidates self.now.info kind name.now }
     {
         let number = kind_number(kind);
         let name = essential_name(name.as_bytes());
@@ -160,16 +181,12 @@ impl<'a> TypeIndex<'a> {
         &self.ids[start..end]
     }
 
-    /// The ids, in increasing order, of the types of a kind whose name before the first three underscores equals
-    /// that of `name`. Names are compared as `Btf::string_at` gives them. No memory is taken, and the cost grows
-    /// by the logarithm of the number of types.
-    ///
-    /// `InvalidStringOffset` where the name of a type of this kind can't be read, with the offset of the name that
-    /// has the lowest id; names of other kinds play no part.
+    /// The candidates of a kind that it has.
     #[tactic(auto, using(crate::proofs::UnreadNames::fault_of_kind))]
-    pub fn candidates(&self, kind: BtfKind, name: &str) -> Result<&[u32], BtfError>
-        ensures ids { IfOk result (λ ids. ids.now ≡ candidates self.now kind name.now) }
-        ensures fault { fault_of result ≡ candidates_fault self.now kind }
+    fn candidates_of(&self, kind: BtfKind, name: &str) -> Result<&[u32], BtfError>
+        requires { has_kind self.now.kinds kind ≡ true }
+        ensures ids { IfOk result (λ ids. ids.now ≡ candidates self.now.info kind name.now) }
+        ensures fault { fault_of result ≡ candidates_fault self.now.info kind }
     {
         match self.unreadable_of(kind) {
             Some(unreadable) => Err(unreadable.fault()),
@@ -177,12 +194,130 @@ impl<'a> TypeIndex<'a> {
         }
     }
 
+    /// The candidates of either of two kinds that it has.
+    #[tactic(auto, using(crate::proofs::UnreadNames::fault_of_kinds, crate::proofs::Unions::union_candidates))]
+    fn candidates_of_two(
+        &self,
+        alloc: Global,
+        first: BtfKind,
+        second: BtfKind,
+        name: &str,
+    ) -> Result<Vec<u32>, BtfError>
+        requires first { has_kind self.now.kinds first ≡ true }
+        requires second { has_kind self.now.kinds second ≡ true }
+        ensures ids { IfOk result (λ ids. ids.items ≡ candidates_of_both self.now.info first second name.now) }
+        ensures fault { Refuses is_memory result (candidates_of_both_fault self.now.info first second) }
+    {
+        match lower(self.unreadable_of(first), self.unreadable_of(second)) {
+            Some(unreadable) => Err(unreadable.fault()),
+            None => {
+                let ids = union(alloc, self.ids_of(first, name), self.ids_of(second, name))?;
+                Ok(ids)
+            }
+        }
+    }
+
+    /// As `TypeIndex::candidates`. None of a kind that it doesn't have.
+    pub fn candidates(&self, kind: BtfKind, name: &str) -> Option<Result<&[u32], BtfError>>
+        ensures has { is_some result ≡ has_kind self.now.kinds kind }
+        ensures ids { ForSome result (λ found. IfOk found (λ ids. ids.now ≡ candidates self.now.info kind name.now)) }
+        ensures fault { ForSome result (λ found. fault_of found ≡ candidates_fault self.now.info kind) }
+    {
+        if !self.has(kind) {
+            return None;
+        }
+        Some(self.candidates_of(kind, name))
+    }
+
+    /// As `TypeIndex::candidates_of_both`. None where it doesn't have both kinds.
+    pub fn candidates_of_both(
+        &self,
+        alloc: Global,
+        first: BtfKind,
+        second: BtfKind,
+        name: &str,
+    ) -> Option<Result<Vec<u32>, BtfError>>
+        ensures has { is_some result ≡ (has_kind self.now.kinds first && has_kind self.now.kinds second) }
+        ensures ids { ForSome result (λ found. IfOk found (λ ids. ids.items ≡ candidates_of_both self.now.info first second name.now)) }
+        ensures fault { ForSome result (λ found. Refuses is_memory found (candidates_of_both_fault self.now.info first second)) }
+    {
+        if !self.has(first) || !self.has(second) {
+            return None;
+        }
+        Some(self.candidates_of_two(alloc, first, second, name))
+    }
+}
+
+/// Types by kind and name, the names without what follows three underscores.
+///
+/// Contracts see the type information that it was made for.
+#[derive(Drop)]
+pub struct TypeIndex<'a> {
+    index: KindsIndex<'a>,
+}
+
+impl<'a> Model for TypeIndex<'a> {
+    ghost use Rattle.std.specs.Prelude.{◌≡◌, true};
+    ghost use Rattle.ebpf_btf.specs.TypeInfo.{TypeInfo};
+    ghost use Rattle.ebpf_btf.specs.declared.kind.BtfKind.{BtfKind};
+    ghost use Rattle.ebpf_candidates.specs.SomeKinds.{has_kind};
+
+    ghost Value = { TypeInfo };
+
+    ghost view = { λ x. x.index.info };
+
+    ghost invariant = { λ x. (kind : BtfKind) → has_kind x.index.kinds kind ≡ true };
+}
+
+impl<'a> TypeIndex<'a> {
+    /// The index of some types: one pass over them, a sort, and a copy of each name that is not UTF-8.
+    /// `OutOfMemory` where memory is refused.
+    pub fn new(alloc: Global, btf: &'a Btf) -> Result<TypeIndex<'a>, BtfError>
+        ensures types { IfOk result (λ index. index ≡ btf.now) }
+        ensures memory { IfErr result (λ e. e ≡ OutOfMemory) }
+    {
+        let index = index_of(alloc, btf, every_kind())?;
+        Ok(TypeIndex { index })
+    }
+
+    /// The index of the types of some kinds: as `new`, but that types of other kinds are passed over.
+    pub fn of_kinds(
+        alloc: Global,
+        btf: &'a Btf,
+        kinds: &[BtfKind],
+    ) -> Result<KindsIndex<'a>, BtfError>
+        ensures types { IfOk result (λ index. index.info ≡ btf.now) }
+        ensures kinds { IfOk result (λ index. (kind : BtfKind) → has_kind index.kinds kind ≡ is_one_of kinds.now kind) }
+        ensures memory { IfErr result (λ e. e ≡ OutOfMemory) }
+    {
+        index_of(alloc, btf, kinds_of(kinds))
+    }
+
+    /// The types that it was made for.
+    pub fn btf(&self) -> &'a Btf
+        ensures { result.now ≡ self.now }
+    {
+        self.index.btf()
+    }
+
+    /// The ids, in increasing order, of the types of a kind whose name before the first three underscores equals
+    /// that of `name`. Names are compared as `Btf::string_at` gives them. No memory is taken, and the cost grows
+    /// by the logarithm of the number of types.
+    ///
+    /// `InvalidStringOffset` where the name of a type of this kind can't be read, with the offset of the name that
+    /// has the lowest id; names of other kinds play no part.
+    pub fn candidates(&self, kind: BtfKind, name: &str) -> Result<&[u32], BtfError>
+        ensures ids { IfOk result (λ ids. ids.now ≡ candidates self.now kind name.now) }
+        ensures fault { fault_of result ≡ candidates_fault self.now kind }
+    {
+        self.index.candidates_of(kind, name)
+    }
+
     /// The ids of the types of either of two kinds with a name's essential part, lowest first: an enumeration of 64 bits
     /// may stand for an ENUM64 or a UNION.
     ///
     /// `InvalidStringOffset` where the name of a type of either kind can't be read, with the offset of the name that
     /// has the lowest id; `OutOfMemory` where memory for the list is refused.
-    #[tactic(auto, using(crate::proofs::UnreadNames::fault_of_kinds, crate::proofs::Unions::union_candidates))]
     pub fn candidates_of_both(
         &self,
         alloc: Global,
@@ -193,12 +328,6 @@ impl<'a> TypeIndex<'a> {
         ensures ids { IfOk result (λ ids. ids.items ≡ candidates_of_both self.now first second name.now) }
         ensures fault { Refuses is_memory result (candidates_of_both_fault self.now first second) }
     {
-        match lower(self.unreadable_of(first), self.unreadable_of(second)) {
-            Some(unreadable) => Err(unreadable.fault()),
-            None => {
-                let ids = union(alloc, self.ids_of(first, name), self.ids_of(second, name))?;
-                Ok(ids)
-            }
-        }
+        self.index.candidates_of_two(alloc, first, second, name)
     }
 }

@@ -1,16 +1,18 @@
 //! The names of types without their flavor, by the types' ids.
 
-ghost use Rattle.std.specs.Prelude.{◌≡◌, ◌<◌, ℕ, All, Some, IfOk, slice_get};
+ghost use Rattle.std.specs.Prelude.{◌≡◌, ◌<◌, ℕ, All, Some, IfOk, option_map, slice_get};
 ghost use Rattle.std.specs.Bool.{OnTrue};
 ghost use Rattle.std.specs.FinMap.{get};
 ghost use Rattle.std.specs.Option.{option_copied};
-ghost use Rattle.ebpf_candidates.specs.OddNames.{odd_at, odd_name};
-ghost use Rattle.ebpf_candidates.specs.TypeRows.{type_key_at, readable_name};
+ghost use Rattle.ebpf_btf.specs.Types.{name_off};
+ghost use Rattle.ebpf_candidates.specs.OddNames.{odd_at};
+ghost use Rattle.ebpf_candidates.specs.PrivateContracts.{odd_text_at, readable_at};
+ghost use Rattle.ebpf_candidates.specs.TypeRows.{type_key_at};
 
 use crate::kinds::kind_number;
 use crate::name_looks::essential_at;
 use ebpf_base::{ByOffset, Text};
-use ebpf_btf::{Btf, BtfType, essential_name};
+use ebpf_btf::{Btf, essential_name};
 use std::alloc::{AllocError, Global};
 use std::marker::Model;
 
@@ -27,12 +29,12 @@ fn is_ascii(bytes: &[u8]) -> bool
     greatest < 128
 }
 
-/// The text that a type's name is read as, where the name is not UTF-8.
+/// The text that the name at an offset is read as, where it is not UTF-8.
 #[tactic(auto, using(crate::proofs::OddTexts::odd_utf8, crate::proofs::OddTexts::odd_other))]
-fn odd_name(alloc: Global, btf: &Btf, ty: &BtfType) -> Result<Option<Text>, AllocError>
-    ensures { IfOk result (λ name. name ≡ odd_name btf.now ty.now) }
+fn odd_text_at(alloc: Global, btf: &Btf, offset: u32) -> Result<Option<Text>, AllocError>
+    ensures { IfOk result (λ name. name ≡ odd_text_at btf.now.strings offset) }
 {
-    let Ok(bytes) = btf.bytes_at(ty.name_offset()) else {
+    let Ok(bytes) = btf.bytes_at(offset) else {
         return Ok(None);
     };
     match str::from_utf8(bytes) {
@@ -44,13 +46,24 @@ fn odd_name(alloc: Global, btf: &Btf, ty: &BtfType) -> Result<Option<Text>, Allo
     }
 }
 
+/// That of the name of the type with an id.
+#[tactic(auto, using(crate::proofs::Heads::odd_headed, crate::proofs::Heads::odd_headless))]
+fn odd_at(alloc: Global, btf: &Btf, id: usize) -> Result<Option<Text>, AllocError>
+    ensures { IfOk result (λ name. name ≡ odd_at btf.now id) }
+{
+    match btf.head(id) {
+        Some(head) => odd_text_at(alloc, btf, head.name_offset),
+        None => Ok(None),
+    }
+}
+
 /// These texts by the types' ids.
 fn gather_odd_names(alloc: Global, btf: &Btf) -> Result<ByOffset<Text>, AllocError>
     ensures { IfOk result (λ odd. (id : ℕ) → get odd id ≡ odd_at btf.now id) }
 {
     let mut odd = ByOffset::new(alloc);
-    for (id, ty) in btf.types().iter().enumerate() {
-        let Some(name) = odd_name(alloc, btf, ty)? else {
+    for id in 0..btf.len() {
+        let Some(name) = odd_at(alloc, btf, id)? else {
             continue;
         };
         odd.insert(id as u64, name)?;
@@ -107,16 +120,16 @@ impl<'a> TypeNames<'a> {
         self.btf
     }
 
-    /// The essential name of the type with an id. None where it can't be read.
-    #[tactic(auto, using(crate::proofs::OddTexts::odd_some, crate::proofs::OddTexts::odd_none))]
-    pub fn name(&self, id: usize, ty: &BtfType) -> Option<&[u8]>
-        requires { slice_get self.now.types id ≡ Some ty.now }
-        ensures { option_copied result ≡ readable_name self.now ty.now }
+    /// The essential name of the type with an id, whose name is at an offset. None where it can't be read.
+    #[tactic(auto, using(crate::proofs::OddTexts::odd_some, crate::proofs::OddTexts::odd_none, crate::proofs::Heads::odd_headed))]
+    pub fn name(&self, id: usize, offset: u32) -> Option<&[u8]>
+        requires { option_map name_off (slice_get self.now.types id) ≡ Some offset }
+        ensures { option_copied result ≡ readable_at self.now.strings offset }
     {
         if self.odd.is_empty() {
-            return essential_at(self.btf.strings(), ty.name_offset());
+            return essential_at(self.btf.strings(), offset);
         }
-        let Ok(bytes) = self.btf.bytes_at(ty.name_offset()) else {
+        let Ok(bytes) = self.btf.bytes_at(offset) else {
             return None;
         };
         match self.odd.get(id as u64) {
@@ -126,15 +139,16 @@ impl<'a> TypeNames<'a> {
     }
 
     /// The number of the kind and the essential name of the type with an id.
+    #[tactic(auto, using(crate::proofs::Heads::key_headed, crate::proofs::Heads::key_headless))]
     pub fn type_key(&self, id: u32) -> (u8, &[u8])
         ensures kind { result.0 ≡ (type_key_at self.now id).kind }
         ensures name { result.1.now ≡ (type_key_at self.now id).name }
     {
-        let Some(ty) = self.btf.types().get(id as usize) else {
+        let Some(head) = self.btf.head(id as usize) else {
             return (0, &[]);
         };
-        let kind = kind_number(ty.kind());
-        match self.name(id as usize, ty) {
+        let kind = kind_number(head.kind);
+        match self.name(id as usize, head.name_offset) {
             Some(name) => (kind, name),
             None => (kind, &[]),
         }
@@ -142,14 +156,14 @@ impl<'a> TypeNames<'a> {
 
     /// Whether the types with two ids are of one kind and have their names at one offset: then no name need be
     /// compared.
-    #[tactic(auto, using(crate::proofs::OneName::same_key))]
+    #[tactic(auto, using(crate::proofs::Heads::same_key))]
     pub fn is_one_name(&self, left: u32, right: u32) -> bool
         ensures { OnTrue result (type_key_at self.now left ≡ type_key_at self.now right) }
     {
-        let types = self.btf.types();
-        let (Some(left), Some(right)) = (types.get(left as usize), types.get(right as usize)) else {
+        let (left, right) = (self.btf.head(left as usize), self.btf.head(right as usize));
+        let (Some(left), Some(right)) = (left, right) else {
             return false;
         };
-        left.name_offset() == right.name_offset() && left.kind() == right.kind()
+        left.name_offset == right.name_offset && left.kind == right.kind
     }
 }

@@ -1,6 +1,6 @@
 //! What `ebpf-inspect` does once its files are open.
 
-ghost use Rattle.std.specs.Prelude.{◌≡◌, ◌≤◌, ⊤, ℕ, List, true, Some, None, IfOk, IfErr, OnOk, IsSome, MatchBool, MatchOption};
+ghost use Rattle.std.specs.Prelude.{◌≡◌, ◌≤◌, ⊤, ℕ, List, true, Some, None, IfOk, IfErr, OnOk, IsSome, MatchBool, MatchOption, option_map};
 ghost use Rattle.std.specs.Io.KnownBytes.{Appends};
 ghost use Rattle.std.specs.Option.{option_copied};
 ghost use Rattle.ebpf_commands.specs.Failures.{is_outside, is_writers, IsFailureOf, IsPreparingFailure};
@@ -132,13 +132,13 @@ fn inspect_all<K: SymbolSource>(
 fn inspected<K: SymbolSource>(
     alloc: Global,
     file: &[u8],
-    btf: Option<&[u8]>,
+    btf: Option<Vec<u8>>,
     kallsyms: K,
 ) -> Result<Items<ProgramReport>, Failure<'static>>
-    ensures inspected { IfOk result (HasInspected file.now (option_copied btf.entry) (K.source kallsyms)) }
-    ensures refused { IfErr result (λ f. MatchBool (is_outside f) ⊤ (IsFailureOf file.now (option_copied btf.entry) (K.source kallsyms) None f)) }
+    ensures inspected { IfOk result (HasInspected file.now (option_map (λ bytes. bytes.items) btf) (K.source kallsyms)) }
+    ensures refused { IfErr result (λ f. MatchBool (is_outside f) ⊤ (IsFailureOf file.now (option_map (λ bytes. bytes.items) btf) (K.source kallsyms) None f)) }
 {
-    let types = match read_types(alloc, btf) {
+    let types = match read_types(btf) {
         Ok(types) => types,
         Err(error) => return Err(Failure::Btf(error)),
     };
@@ -161,12 +161,12 @@ pub fn print_reports<'a, K: SymbolSource, W: Write>(
     alloc: Global,
     program: Option<&'a str>,
     file: &[u8],
-    btf: Option<&[u8]>,
+    btf: Option<Vec<u8>>,
     kallsyms: K,
     out: &mut W,
 ) -> Result<(), Failure<'a>>
-    ensures done { OnOk result (HasListed file.now (option_copied btf.entry) (K.source kallsyms) (option_copied program.entry) (W.contents out.old) (W.contents out.new)) }
-    ensures refused { IfErr result (λ f. MatchBool (is_outside f) ⊤ (IsFailureOf file.now (option_copied btf.entry) (K.source kallsyms) (option_copied program.entry) f)) }
+    ensures done { OnOk result (HasListed file.now (option_map (λ bytes. bytes.items) btf) (K.source kallsyms) (option_copied program.entry) (W.contents out.old) (W.contents out.new)) }
+    ensures refused { IfErr result (λ f. MatchBool (is_outside f) ⊤ (IsFailureOf file.now (option_map (λ bytes. bytes.items) btf) (K.source kallsyms) (option_copied program.entry) f)) }
     ensures untouched { IfErr result (λ f. MatchBool (is_writers f) ⊤ (out.new ≡ out.old)) }
 {
     let reports = match inspected(alloc, file, btf, kallsyms) {
@@ -185,13 +185,13 @@ pub fn run_inspect<K: SymbolSource, O: Write, E: Write>(
     alloc: Global,
     words: &Words,
     file: &[u8],
-    btf: Option<&[u8]>,
+    btf: Option<Vec<u8>>,
     kallsyms: K,
     out: &mut O,
     err: &mut E,
 ) -> u8
     ensures status { result ≤ 1 }
-    ensures done { result ≡ 0 → HasListed file.now (option_copied btf.entry) (K.source kallsyms) words.now.program (O.contents out.old) (O.contents out.new) }
+    ensures done { result ≡ 0 → HasListed file.now (option_map (λ bytes. bytes.items) btf) (K.source kallsyms) words.now.program (O.contents out.old) (O.contents out.new) }
 {
     match print_reports(alloc, words.program(), file, btf, kallsyms, out) {
         Ok(()) => 0,

@@ -1,6 +1,6 @@
 //! What `ebpf-link` does once its files are open.
 
-ghost use Rattle.std.specs.Prelude.{◌≡◌, ◌≤◌, ⊤, ℕ, List, true, None, IfOk, IfErr, OnOk, IsSome, MatchBool, MatchOption};
+ghost use Rattle.std.specs.Prelude.{◌≡◌, ◌≤◌, ⊤, ℕ, List, true, None, IfOk, IfErr, OnOk, IsSome, MatchBool, MatchOption, option_map};
 ghost use Rattle.std.specs.Io.KnownBytes.{Appends, Keeps};
 ghost use Rattle.std.specs.List.{flat_map};
 ghost use Rattle.std.specs.Option.{option_copied};
@@ -159,13 +159,13 @@ pub fn prepare_all<K: SymbolSource>(
 fn prepared<K: SymbolSource>(
     alloc: Global,
     file: &[u8],
-    btf: Option<&[u8]>,
+    btf: Option<Vec<u8>>,
     kallsyms: K,
 ) -> Result<Object, Failure<'static>>
-    ensures linked { IfOk result (IsFileLinked file.now (option_copied btf.entry) (K.source kallsyms)) }
-    ensures refused { IfErr result (λ f. MatchBool (is_outside f) ⊤ (IsFailureOf file.now (option_copied btf.entry) (K.source kallsyms) None f)) }
+    ensures linked { IfOk result (IsFileLinked file.now (option_map (λ bytes. bytes.items) btf) (K.source kallsyms)) }
+    ensures refused { IfErr result (λ f. MatchBool (is_outside f) ⊤ (IsFailureOf file.now (option_map (λ bytes. bytes.items) btf) (K.source kallsyms) None f)) }
 {
-    let types = match read_types(alloc, btf) {
+    let types = match read_types(btf) {
         Ok(types) => types,
         Err(error) => return Err(Failure::Btf(error)),
     };
@@ -188,12 +188,12 @@ pub fn print_programs<'a, K: SymbolSource, W: Write>(
     alloc: Global,
     program: Option<&'a str>,
     file: &[u8],
-    btf: Option<&[u8]>,
+    btf: Option<Vec<u8>>,
     kallsyms: K,
     out: &mut W,
 ) -> Result<(), Failure<'a>>
-    ensures done { OnOk result (HasPrinted file.now (option_copied btf.entry) (K.source kallsyms) (option_copied program.entry) (W.contents out.old) (W.contents out.new)) }
-    ensures refused { IfErr result (λ f. MatchBool (is_outside f) ⊤ (IsFailureOf file.now (option_copied btf.entry) (K.source kallsyms) (option_copied program.entry) f)) }
+    ensures done { OnOk result (HasPrinted file.now (option_map (λ bytes. bytes.items) btf) (K.source kallsyms) (option_copied program.entry) (W.contents out.old) (W.contents out.new)) }
+    ensures refused { IfErr result (λ f. MatchBool (is_outside f) ⊤ (IsFailureOf file.now (option_map (λ bytes. bytes.items) btf) (K.source kallsyms) (option_copied program.entry) f)) }
     ensures untouched { IfErr result (λ f. MatchBool (is_writers f) ⊤ (out.new ≡ out.old)) }
 {
     let object = match prepared(alloc, file, btf, kallsyms) {
@@ -215,13 +215,13 @@ pub fn run_link<K: SymbolSource, O: Write, E: Write>(
     alloc: Global,
     words: &Words,
     file: &[u8],
-    btf: Option<&[u8]>,
+    btf: Option<Vec<u8>>,
     kallsyms: K,
     out: &mut O,
     err: &mut E,
 ) -> u8
     ensures status { result ≤ 1 }
-    ensures done { result ≡ 0 → HasPrinted file.now (option_copied btf.entry) (K.source kallsyms) words.now.program (O.contents out.old) (O.contents out.new) }
+    ensures done { result ≡ 0 → HasPrinted file.now (option_map (λ bytes. bytes.items) btf) (K.source kallsyms) words.now.program (O.contents out.old) (O.contents out.new) }
 {
     match print_programs(alloc, words.program(), file, btf, kallsyms, out) {
         Ok(()) => 0,

@@ -18,7 +18,7 @@ pub trait Command {
         alloc: Global,
         words: &Words,
         file: &[u8],
-        btf: Option<&[u8]>,
+        btf: Option<Vec<u8>>,
         kallsyms: K,
         out: &mut O,
         err: &mut E,
@@ -79,7 +79,7 @@ fn run_with<C: Command, K: BufRead + Drop>(
     rt: &HostRuntime,
     words: &Words,
     file: &[u8],
-    btf: Option<&[u8]>,
+    btf: Option<Vec<u8>>,
     kallsyms: K,
 ) -> u8 {
     let Ok(mut out) = BufWriter::new(rt.alloc(), rt.stdout()) else {
@@ -97,7 +97,12 @@ fn run_with<C: Command, K: BufRead + Drop>(
 }
 
 /// Opens the file of the kernel's symbols and hands all on. Without one there are no lines.
-fn run_symbols<C: Command>(rt: &HostRuntime, words: &Words, file: &[u8], btf: Option<&[u8]>) -> u8 {
+fn run_symbols<C: Command>(
+    rt: &HostRuntime,
+    words: &Words,
+    file: &[u8],
+    btf: Option<Vec<u8>>,
+) -> u8 {
     let Some(path) = &words.kallsyms else {
         let none: &[u8] = &[];
         return run_with::<C, &[u8]>(rt, words, file, btf, none);
@@ -115,11 +120,7 @@ fn run_symbols<C: Command>(rt: &HostRuntime, words: &Words, file: &[u8], btf: Op
 fn run_files<C: Command>(rt: &HostRuntime, words: &Words) -> Result<u8, u8> {
     let file = read_file::<C>(rt, words.file.as_str())?;
     let btf = read_option::<C>(rt, &words.btf)?;
-    let types = match &btf {
-        Some(bytes) => Some(bytes.as_slice()),
-        None => None,
-    };
-    Ok(run_symbols::<C>(rt, words, file.as_slice(), types))
+    Ok(run_symbols::<C>(rt, words, file.as_slice(), btf))
 }
 
 /// Runs a program of the command line: gathers its words, opens the files that they name in the order FILE, types,

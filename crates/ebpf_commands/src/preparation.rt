@@ -1,6 +1,6 @@
 //! What preparing a file takes: the kernel's types, and descriptors of the file's own maps.
 
-ghost use Rattle.std.specs.Prelude.{◌≡◌, map, pos, true, Some, IfOk};
+ghost use Rattle.std.specs.Prelude.{◌≡◌, map, option_map, pos, true, Some, IfOk};
 ghost use Rattle.std.specs.FinMap.{entries};
 ghost use Rattle.std.specs.Map.{keys_of};
 ghost use Rattle.std.specs.Option.{option_copied};
@@ -31,13 +31,13 @@ pub fn numbered_descriptors(alloc: Global, names: &[Text]) -> Result<Vec<(&str, 
 }
 
 /// The kernel's types, where bytes of them are given.
-pub fn read_types(alloc: Global, bytes: Option<&[u8]>) -> Result<Option<Btf>, BtfError>
-    ensures { Gives types_memory result (kernel_types (option_copied bytes.entry)) }
+pub fn read_types(bytes: Option<Vec<u8>>) -> Result<Option<Btf>, BtfError>
+    ensures { Gives types_memory result (kernel_types (option_map (λ bytes. bytes.items) bytes)) }
 {
     let Some(bytes) = bytes else {
         return Ok(None);
     };
-    match Btf::parse(alloc, bytes, Endianness::Little) {
+    match Btf::from_vec(bytes, Endianness::Little) {
         Ok(types) => Ok(Some(types)),
         Err(error) => Err(error),
     }

@@ -1,6 +1,7 @@
 -- What a search answers, whose two sides are those of a record.
-use Rattle.std.proofs.Common.{◌≡◌, true, false, Result, Ok, Err, refl, sym, subst, ◌∙◌}
+use Rattle.std.proofs.Common.{◌≡◌, ℕ, List, true, false, Result, Ok, Err, refl, sym, subst, ◌∙◌}
 use Rattle.std.specs.Result.{IsErrAnd}
+use Rattle.ebpf_btf.specs.declared.types.BtfType.{BtfType}
 use Rattle.ebpf_btf.specs.TypeInfo.{TypeInfo}
 use Rattle.ebpf_ext.specs.declared.relocation.Relocation.{Relocation}
 use Rattle.ebpf_core.specs.declared.error.RelocationError.{RelocationError}
@@ -10,7 +11,7 @@ use Rattle.ebpf_base.specs.Results.{if_ok}
 use Rattle.ebpf_core.specs.Answers.{Tells, of_types, without_texts}
 use Rattle.ebpf_core.specs.LocalPaths.{local_path}
 use Rattle.ebpf_core.specs.Outcomes.{outcome_among}
-use Rattle.ebpf_core.specs.Searches.{candidates_for, is_local, itself, outcome_of}
+use Rattle.ebpf_core.specs.Searches.{candidates_for, candidates_named, is_local, itself, outcome_of}
 use Rattle.ebpf_core.specs.Sides.{Sides}
 use Rattle.ebpf_core.proofs.Refusals.{refused_by}
 
@@ -48,3 +49,13 @@ module _ (local target : TypeInfo) (r : Relocation) where
         let here : Tells answer (if_ok (of_types (candidates_for local target r.type_id)) (outcome_among local target r path)) =
         subst (λ (t : Sides). Tells answer (if_ok (of_types (candidates_for t.local t.target r.type_id)) (outcome_among t.local t.target r path))) (same ∙ sym view) given in
         subst (λ (t : Sides). Tells answer (stated t)) view (rw (over_ids path is other) here)
+
+-- what an index of the kernel's types answers
+pub over_index : (local target info : TypeInfo) (s : Sides) → record { local = local; target = target } ≡ s → info ≡ target
+    → (r : Relocation) (path : LocalPath) (t : BtfType) (name : List ℕ) (answer : Result Outcome RelocationError)
+    → Tells answer (if_ok (of_types (candidates_named info t name)) (outcome_among local info r path))
+    → Tells answer (if_ok (of_types (candidates_named s.target t name)) (outcome_among s.local s.target r path))
+over_index local target info s view same r path t name answer given =
+    let here : Tells answer (if_ok (of_types (candidates_named target t name)) (outcome_among local target r path)) =
+    subst (λ (i : TypeInfo). Tells answer (if_ok (of_types (candidates_named i t name)) (outcome_among local i r path))) same given in
+    subst (λ (u : Sides). Tells answer (if_ok (of_types (candidates_named u.target t name)) (outcome_among u.local u.target r path))) view here

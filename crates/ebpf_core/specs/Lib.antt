@@ -14,3 +14,4 @@ pub mod Refused
 pub mod Searches
 pub mod Sides
 pub mod RelocationBases
+pub mod SearchedKinds

@@ -1,7 +1,6 @@
 //! What a record learns of a field.
 
 ghost use Rattle.std.specs.Prelude.{◌≡◌, ◌*◌, ◌<◌, ◌≤◌, ◌^◌, IfOk};
-ghost use Rattle.std.specs.Option.{option_copied};
 ghost use Rattle.ebpf_btf.specs.Steps.{size_of};
 ghost use Rattle.ebpf_core.specs.Fields.{member_number, class_of, element_value, field_value, member_extent, loaded_field, member_with_index, member_field_value, shift, place_end_value, value_of_member, value_with};
 
@@ -60,7 +59,7 @@ impl From<BtfError> for FieldFault {
 
 /// The class of a type.
 #[tactic(auto, unfolding(crate::specs::Fields::class_of))]
-fn class_of(ty: &BtfType) -> FieldClass
+fn class_of(ty: &BtfType<'_>) -> FieldClass
     ensures { result ≡ class_of ty.now }
 {
     match ty {
@@ -71,7 +70,7 @@ fn class_of(ty: &BtfType) -> FieldClass
 }
 
 /// What is loaded of a field of a type and size.
-fn loaded_field(ty: &BtfType, size: u32) -> LoadedField
+fn loaded_field(ty: &BtfType<'_>, size: u32) -> LoadedField
     ensures { result ≡ loaded_field ty.now size }
 {
     LoadedField {
@@ -90,11 +89,11 @@ fn shift(bits: u64) -> Result<u64, BtfError>
 /// Where a member lies whose resolved type has the id `type_id`, and what is loaded where it is no bit field.
 fn member_extent(
     btf: &Btf,
-    parent: &BtfType,
+    parent: &BtfType<'_>,
     member: &BtfMember,
     bits: u32,
     type_id: u32,
-    ty: &BtfType,
+    ty: &BtfType<'_>,
 ) -> Result<(Extent, Option<LoadedField>), BtfError>
     ensures value { result ≡ member_extent parent.now member.now bits ty.now (size_of btf.now.types type_id) }
     ensures low { IfOk result (λ place. place.0.start * 8 ≤ bits) }
@@ -151,14 +150,14 @@ fn member_field_value(
     btf: &Btf,
     kind: RelocationKind,
     bits: u32,
-    parent: &BtfType,
+    parent: &BtfType<'_>,
     member: &BtfMember,
 ) -> Result<FieldValue, BtfError>
     ensures { result ≡ member_field_value btf.now kind bits parent.now member.now }
 {
     let type_id = btf.resolve_type(member.btf_type)?;
     let ty = btf.type_by_id(type_id)?;
-    let (extent, loaded) = member_extent(btf, parent, member, bits, type_id, ty)?;
+    let (extent, loaded) = member_extent(btf, parent, member, bits, type_id, &ty)?;
     let number = member_number(kind, ty.is_signed(), bits, extent)?;
     Ok(value_with(kind, number, loaded))
 }
@@ -176,7 +175,7 @@ fn element_value(
         RelocationKind::FieldByteOffset => {
             let size = btf.type_size(type_id)?;
             let ty = btf.resolved_type(type_id)?;
-            Ok(value_with(kind, u64::from(bits / 8), Some(loaded_field(ty, size))))
+            Ok(value_with(kind, u64::from(bits / 8), Some(loaded_field(&ty, size))))
         }
         RelocationKind::FieldByteSize => {
             let size = btf.type_size(type_id)?;
@@ -187,8 +186,8 @@ fn element_value(
 }
 
 /// The member of a type with a number.
-fn member_with_index(ty: &BtfType, index: usize) -> Option<&BtfMember>
-    ensures { option_copied result ≡ member_with_index ty.now index }
+fn member_with_index(ty: &BtfType<'_>, index: usize) -> Option<BtfMember>
+    ensures { result ≡ member_with_index ty.now index }
 {
     ty.members()?.get(index)
 }
@@ -204,8 +203,8 @@ fn value_of_member(
     ensures { result ≡ value_of_member btf.now kind bits parent index }
 {
     let ty = btf.type_by_id(parent)?;
-    match member_with_index(ty, index) {
-        Some(member) => member_field_value(btf, kind, bits, ty, member),
+    match member_with_index(&ty, index) {
+        Some(member) => member_field_value(btf, kind, bits, &ty, &member),
         None => Err(BtfError::InvalidTypeInfo),
     }
 }

@@ -1,7 +1,6 @@
 //! The way to a field of a local type.
 
 ghost use Rattle.std.specs.Prelude.{◌≡◌, ◌∷◌, ◌++◌, [], IfOk, Ok};
-ghost use Rattle.std.specs.Option.{option_copied};
 ghost use Rattle.ebpf_core.specs.Answers.{Tells};
 ghost use Rattle.ebpf_core.specs.LocalPaths.{ends_struct, field_path, into_array, into_members, is_element, ends_type, part_step, spot_reached, spot_at_element, spot_at_member, type_of_step, spot_after};
 
@@ -10,7 +9,7 @@ use crate::faults::{invalid_access_index, invalid_access_string, invalid_kind};
 use crate::paths::NamedPath;
 use crate::wording::{Request, kind_words, path_words};
 use ebpf_base::{Items, Text};
-use ebpf_btf::{Btf, BtfArray, BtfError, BtfMember, BtfType};
+use ebpf_btf::{Btf, BtfArray, BtfError, BtfMember, BtfType, Rows};
 use ebpf_places::{Place, PlaceEnd, Step};
 use std::alloc::Global;
 
@@ -70,7 +69,7 @@ fn spot_at_element(
 
 /// Whether a number is that of the last member of a STRUCT.
 #[tactic(auto, unfolding(crate::specs::LocalPaths::ends_type))]
-fn ends_type(index: usize, ty: &BtfType) -> bool
+fn ends_type(index: usize, ty: &BtfType<'_>) -> bool
     ensures { result ≡ ends_type index ty.now }
 {
     match ty {
@@ -80,8 +79,8 @@ fn ends_type(index: usize, ty: &BtfType) -> bool
 }
 
 /// The type of a step: the type of an element, or the one that a member stands in.
-fn type_of_step(local: &Btf, end: PlaceEnd) -> Option<&BtfType>
-    ensures { option_copied result ≡ type_of_step local.now.types end }
+fn type_of_step(local: &Btf, end: PlaceEnd) -> Option<BtfType<'_>>
+    ensures { result ≡ type_of_step local.now.types end }
 {
     match end {
         PlaceEnd::Element { type_id } => local.resolved_type(type_id).ok(),
@@ -94,7 +93,7 @@ fn ends_struct(local: &Btf, from: &LocalSpot) -> bool
     ensures { result ≡ ends_struct local.now.types from.now }
 {
     match type_of_step(local, from.place.end) {
-        Some(ty) => ends_type(from.index, ty),
+        Some(ty) => ends_type(from.index, &ty),
         None => false,
     }
 }
@@ -137,7 +136,7 @@ fn spot_at_member(
     local: &Btf,
     from: LocalSpot,
     parent: u32,
-    ty: &BtfType,
+    ty: &BtfType<'_>,
     index: usize,
     member: &BtfMember,
 ) -> Result<LocalSpot, RelocationError>
@@ -176,14 +175,14 @@ fn into_members(
     request: Request<'_>,
     from: LocalSpot,
     parent: u32,
-    ty: &BtfType,
-    members: &[BtfMember],
+    ty: &BtfType<'_>,
+    members: &Rows<'_, BtfMember>,
     index: usize,
 ) -> Result<LocalSpot, RelocationError>
     ensures { Tells result (into_members local.now request.entry.access.now from parent ty.now members.now index) }
 {
     match members.get(index) {
-        Some(member) => spot_at_member(alloc, local, from, parent, ty, index, member),
+        Some(member) => spot_at_member(alloc, local, from, parent, ty, index, &member),
         None => {
             let place = path_words(alloc, request.type_name, from.steps.as_slice())?;
             let len = members.len();
@@ -206,7 +205,7 @@ fn part_step(
     let type_id = local.resolve_type(from.type_id)?;
     let ty = local.type_by_id(type_id)?;
     if let Some(members) = ty.members() {
-        return into_members(alloc, local, request, from, type_id, ty, members, part);
+        return into_members(alloc, local, request, from, type_id, &ty, &members, part);
     }
     if let Some(array) = ty.array() {
         return into_array(alloc, local, request, from, array, part);

@@ -40,13 +40,14 @@ pub struct Match {
 pub fn type_name_at(alloc: Global, btf: &Btf, type_id: u32) -> Result<Text, RelocationError>
     ensures { Tells result (of_types (type_name_at btf.now type_id)) }
 {
-    let name = btf.type_name(btf.type_by_id(type_id)?)?;
+    let ty = btf.type_by_id(type_id)?;
+    let name = btf.type_name(&ty)?;
     Ok(Text::from_str(alloc, name.as_str())?)
 }
 
 /// The value of the first variant of a type that has a name, flavors aside.
 #[tactic(auto, using(crate::proofs::VariantSteps::variant_passed, crate::proofs::VariantSteps::variant_has_name, crate::proofs::VariantSteps::variant_fault, crate::proofs::VariantSteps::variant_missing, crate::proofs::VariantSteps::variants_over))]
-fn first_variant(target: &Btf, name: &str, ty: &BtfType) -> Result<Option<u64>, BtfError>
+fn first_variant(target: &Btf, name: &str, ty: &BtfType<'_>) -> Result<Option<u64>, BtfError>
     ensures { result ≡ first_variant target.now name.now (unwrap_or (variants_of ty.now) []) }
 {
     for index in 0..ty.variant_count().unwrap_or(0) {
@@ -65,7 +66,7 @@ fn variant_in(target: &Btf, name: &str, candidate: u32) -> Result<Option<u64>, B
     ensures { result ≡ variant_in target.now name.now candidate }
 {
     let ty = target.resolved_type(candidate)?;
-    first_variant(target, name, ty)
+    first_variant(target, name, &ty)
 }
 
 /// The refusal of a candidate in which a limit was reached.

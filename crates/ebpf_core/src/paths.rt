@@ -78,7 +78,7 @@ fn variant_path(
     alloc: Global,
     local: &Btf,
     request: Request<'_>,
-    ty: &BtfType,
+    ty: &BtfType<'_>,
     parts: &[usize],
 ) -> Result<NamedPath, RelocationError>
     ensures { Tells result (variant_path local.now request.entry.number request.entry.access.now ty.now parts.now) }
@@ -119,7 +119,7 @@ fn path_for(
         RelocationBasis::WholeType => type_path(alloc, request.access, parts),
         RelocationBasis::Variant => {
             let ty = local.type_by_id(type_id)?;
-            variant_path(alloc, local, request, ty, parts)
+            variant_path(alloc, local, request, &ty, parts)
         }
         RelocationBasis::Field => field_path(alloc, local, request, type_id, parts),
     }
@@ -134,7 +134,8 @@ fn local_side(
 ) -> Result<LocalPath, RelocationError>
     ensures { Tells result (local_path local.now relocation.now) }
 {
-    let type_name = local.type_name(local.type_by_id(relocation.type_id)?)?;
+    let ty = local.type_by_id(relocation.type_id)?;
+    let type_name = local.type_name(&ty)?;
     let access = local.string_at(relocation.access_str_off)?;
     let parts = accessors(alloc, type_name.as_str(), access.as_str())?;
     let type_id = local.resolve_type(relocation.type_id)?;

@@ -1,19 +1,27 @@
 //! Records over the types of a kernel, one after the other.
 
-ghost use Rattle.std.specs.Prelude.{◌≡◌, IfErr, MatchBool, Ok, ⊤};
+ghost use Rattle.std.specs.Prelude.{◌≡◌, All, IfErr, IfOk, MatchBool, Ok, true, ⊤};
+ghost use Rattle.std.specs.Option.{ForSome};
+ghost use Rattle.ebpf_base.specs.Faults.{Refuses, fault_of};
 ghost use Rattle.ebpf_base.specs.Results.{if_ok};
+ghost use Rattle.ebpf_btf.specs.Memory.{is_memory as is_memory_of_types};
+ghost use Rattle.ebpf_btf.specs.TypeInfo.{TypeInfo};
+ghost use Rattle.ebpf_btf.specs.declared.error.BtfError.TheVariants.{OutOfMemory};
+ghost use Rattle.ebpf_candidates.specs.Candidates.{candidates, candidates_fault, candidates_of_both, candidates_of_both_fault};
+ghost use Rattle.ebpf_candidates.specs.SomeKinds.{has_kind};
 ghost use Rattle.ebpf_core.specs.Answers.{Tells, of_types, without_texts};
 ghost use Rattle.ebpf_core.specs.Questions.{question_of};
 ghost use Rattle.ebpf_core.specs.Memory.{is_memory};
 ghost use Rattle.ebpf_core.specs.Outcomes.{outcome_among};
 ghost use Rattle.ebpf_core.specs.Refused.{OutcomeIsRefused};
 ghost use Rattle.ebpf_core.specs.Searches.{candidates_for, candidates_named, is_local, outcome_of, was_enum64};
+ghost use Rattle.ebpf_core.specs.SearchedKinds.{searched_kinds};
 
 use crate::error::RelocationError;
 use crate::outcome::{Outcome, outcome_among};
 use crate::paths::{LocalPath, local_path};
-use ebpf_btf::{Btf, BtfKind, BtfType};
-use ebpf_candidates::TypeIndex;
+use ebpf_btf::{Btf, BtfError, BtfKind, BtfType};
+use ebpf_candidates::{KindsIndex, TypeIndex};
 use ebpf_ext::{Relocation, RelocationKind};
 use std::alloc::{AllocError, Global};
 use std::collections::BTreeMap;
@@ -28,46 +36,113 @@ fn is_local(kind: RelocationKind) -> bool
 
 /// Whether a type is an enumeration of 64 bits that was made a UNION.
 #[tactic(auto, unfolding(ebpf_btf::specs::Types::kind_number))]
-fn was_enum64(ty: &BtfType) -> bool
+fn was_enum64(ty: &BtfType<'_>) -> bool
     ensures { result ≡ was_enum64 ty.now }
 {
     ty.kind() == BtfKind::Union && ty.variant_count().is_some()
 }
 
-/// What a record comes to over the target types of the kind and name of a local type.
+/// The kinds of the target types that a local type may stand for: its own, twice, or two.
+fn searched_kinds(ty: &BtfType<'_>) -> (BtfKind, BtfKind)
+    ensures { result ≡ searched_kinds ty.now }
+{
+    if was_enum64(ty) {
+        return (BtfKind::Union, BtfKind::Enum64);
+    }
+    (ty.kind(), ty.kind())
+}
+
+/// The candidates of a kind that an index has.
+fn ids_of_kind<'b>(
+    index: &'b KindsIndex<'_>,
+    kind: BtfKind,
+    name: &str,
+) -> Result<&'b [u32], BtfError>
+    requires { has_kind index.now.kinds kind ≡ true }
+    ensures ids { IfOk result (λ ids. ids.now ≡ candidates index.now.info kind name.now) }
+    ensures fault { fault_of result ≡ candidates_fault index.now.info kind }
+{
+    match index.candidates(kind, name) {
+        Some(found) => found,
+        None => unreachable!(),
+    }
+}
+
+/// The candidates of either of two kinds that an index has.
+fn ids_of_both(
+    alloc: Global,
+    index: &KindsIndex<'_>,
+    first: BtfKind,
+    second: BtfKind,
+    name: &str,
+) -> Result<Vec<u32>, BtfError>
+    requires first { has_kind index.now.kinds first ≡ true }
+    requires second { has_kind index.now.kinds second ≡ true }
+    ensures ids { IfOk result (λ ids. ids.items ≡ candidates_of_both index.now.info first second name.now) }
+    ensures fault { Refuses is_memory_of_types result (candidates_of_both_fault index.now.info first second) }
+{
+    match index.candidates_of_both(alloc, first, second, name) {
+        Some(found) => found,
+        None => unreachable!(),
+    }
+}
+
+/// What a record comes to over the target types of the kind and name of a local type. They are looked for in an index
+/// that has the kinds.
 #[tactic(auto, unfolding(crate::specs::Searches::candidates_named))]
 fn outcome_named(
     alloc: Global,
     local: &Btf,
-    index: &TypeIndex<'_>,
+    index: &KindsIndex<'_>,
     relocation: &Relocation,
     path: &LocalPath,
-    ty: &BtfType,
+    ty: &BtfType<'_>,
     name: &str,
 ) -> Result<Outcome, RelocationError>
-    ensures { Tells result (if_ok (of_types (candidates_named index.now ty.now name.now)) (outcome_among local.now index.now relocation.now path.now)) }
+    requires first { has_kind index.now.kinds (searched_kinds ty.now).0 ≡ true }
+    requires second { has_kind index.now.kinds (searched_kinds ty.now).1 ≡ true }
+    ensures { Tells result (if_ok (of_types (candidates_named index.now.info ty.now name.now)) (outcome_among local.now index.now.info relocation.now path.now)) }
 {
     if was_enum64(ty) {
-        let ids = index.candidates_of_both(alloc, BtfKind::Union, BtfKind::Enum64, name)?;
+        let ids = ids_of_both(alloc, index, BtfKind::Union, BtfKind::Enum64, name)?;
         return outcome_among(alloc, local, index.btf(), relocation, path, ids.as_slice());
     }
-    let ids = index.candidates(ty.kind(), name)?;
+    let ids = ids_of_kind(index, ty.kind(), name)?;
     outcome_among(alloc, local, index.btf(), relocation, path, ids)
 }
 
-/// What a record comes to over the target types that its local type may stand for.
-fn outcome_over(
+/// The index of the types of two kinds.
+#[tactic(auto, using(crate::proofs::SearchedKinds::one_of_first, crate::proofs::SearchedKinds::one_of_second))]
+fn index_of<'a>(
     alloc: Global,
-    local: &Btf,
-    index: &TypeIndex<'_>,
-    relocation: &Relocation,
-    path: &LocalPath,
-) -> Result<Outcome, RelocationError>
-    ensures { Tells result (if_ok (of_types (candidates_for local.now index.now relocation.now.type_id)) (outcome_among local.now index.now relocation.now path.now)) }
+    btf: &'a Btf,
+    first: BtfKind,
+    second: BtfKind,
+) -> Result<KindsIndex<'a>, BtfError>
+    ensures first { IfOk result (λ index. has_kind index.kinds first ≡ true) }
+    ensures second { IfOk result (λ index. has_kind index.kinds second ≡ true) }
+    ensures types { IfOk result (λ index. index.info ≡ btf.now) }
+    ensures memory { IfErr result (λ e. e ≡ OutOfMemory) }
 {
-    let ty = local.type_by_id(relocation.type_id)?;
-    let name = local.type_name(ty)?;
-    outcome_named(alloc, local, index, relocation, path, ty, name.as_str())
+    TypeIndex::of_kinds(alloc, btf, &[first, second])
+}
+
+/// The first index that has two kinds.
+fn index_with<'a, 'b>(
+    indices: &'b [KindsIndex<'a>],
+    first: BtfKind,
+    second: BtfKind,
+) -> Option<&'b KindsIndex<'a>>
+    ensures first { ForSome result (λ index. has_kind index.now.kinds first ≡ true) }
+    ensures second { ForSome result (λ index. has_kind index.now.kinds second ≡ true) }
+    ensures types { (info : TypeInfo) → All (λ index. index.info ≡ info) indices.now → ForSome result (λ index. index.now.info ≡ info) }
+{
+    for index in indices {
+        if index.has(first) && index.has(second) {
+            return Some(index);
+        }
+    }
+    None
 }
 
 /// The question of a record, by which its outcome is cached: its type and its access string, and the number of its kind.
@@ -83,21 +158,20 @@ fn question_of(relocation: &Relocation) -> Question
     )
 }
 
-/// The types of an object, and those of a kernel in which they are looked for, record by record. The index of the
-/// kernel's types is made at the first record that searches. Outcomes are cached by their questions.
+/// The types of an object, and those of a kernel in which they are looked for, record by record. The kernel's types of
+/// a kind are indexed at the first record that searches them. Outcomes are cached by their questions.
 ///
 /// Contracts see the two sides alone.
 #[derive(Drop)]
 pub struct CoreSearch<'a> {
     local: &'a Btf,
     target: &'a Btf,
-    index: Option<TypeIndex<'a>>,
+    indices: Vec<KindsIndex<'a>>,
     cached: BTreeMap<Question, Outcome>,
 }
 
 impl<'a> Model for CoreSearch<'a> {
-    ghost use Rattle.std.specs.Prelude.{◌≡◌};
-    ghost use Rattle.std.specs.Option.{ForSome};
+    ghost use Rattle.std.specs.Prelude.{◌≡◌, All};
     ghost use Rattle.ebpf_core.specs.Questions.{OutcomesAreCached};
     ghost use Rattle.ebpf_core.specs.Sides.{Sides};
 
@@ -105,7 +179,7 @@ impl<'a> Model for CoreSearch<'a> {
 
     ghost view = { λ s. record { local = s.local.now; target = s.target.now } };
 
-    ghost invariant = { λ s. ForSome s.index (λ index. index ≡ s.target.now) × OutcomesAreCached s.local.now s.target.now s.cached };
+    ghost invariant = { λ s. All (λ index. index.info ≡ s.target.now) s.indices.items × OutcomesAreCached s.local.now s.target.now s.cached };
 }
 
 impl<'a> CoreSearch<'a> {
@@ -117,9 +191,40 @@ impl<'a> CoreSearch<'a> {
         CoreSearch {
             local,
             target,
-            index: None,
+            indices: Vec::new(alloc),
             cached: BTreeMap::new(alloc),
         }
+    }
+
+    /// Keeps an index of the kernel's types.
+    fn keep(&mut self, index: KindsIndex<'a>) -> Result<(), AllocError>
+        requires { index.info ≡ self.old.target }
+        ensures { self.new ≡ self.old }
+    {
+        self.indices.push(index)?;
+        Ok(())
+    }
+
+    /// What a record comes to over the kernel's types of the kind and name of a local type.
+    fn search_named(
+        &mut self,
+        alloc: Global,
+        relocation: &Relocation,
+        path: &LocalPath,
+        ty: &BtfType<'_>,
+        name: &str,
+    ) -> Result<Outcome, RelocationError>
+        ensures outcome { Tells result (if_ok (of_types (candidates_named self.old.target ty.now name.now)) (outcome_among self.old.local self.old.target relocation.now path.now)) }
+        ensures stays { self.new ≡ self.old }
+    {
+        let (first, second) = searched_kinds(ty);
+        if let Some(index) = index_with(&self.indices, first, second) {
+            return outcome_named(alloc, self.local, index, relocation, path, ty, name);
+        }
+        let index = index_of(alloc, self.target, first, second)?;
+        let outcome = outcome_named(alloc, self.local, &index, relocation, path, ty, name);
+        self.keep(index)?;
+        outcome
     }
 
     /// What a record comes to over the kernel's types that its local type may stand for.
@@ -132,13 +237,10 @@ impl<'a> CoreSearch<'a> {
         ensures outcome { Tells result (if_ok (of_types (candidates_for self.old.local self.old.target relocation.now.type_id)) (outcome_among self.old.local self.old.target relocation.now path.now)) }
         ensures stays { self.new ≡ self.old }
     {
-        let index = match self.index.take() {
-            Some(index) => index,
-            None => TypeIndex::new(alloc, self.target)?,
-        };
-        let outcome = outcome_over(alloc, self.local, &index, relocation, path);
-        self.index = Some(index);
-        outcome
+        let local = self.local;
+        let ty = local.type_by_id(relocation.type_id)?;
+        let name = local.type_name(&ty)?;
+        self.search_named(alloc, relocation, path, &ty, name.as_str())
     }
 
     /// What a record comes to, whatever is cached.

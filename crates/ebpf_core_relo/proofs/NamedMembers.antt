@@ -1,6 +1,6 @@
 -- Whether a name stands among members, one member after the other.
-use Rattle.std.proofs.Common.{◌≡◌, ℕ, zero, suc, ◌+◌, ◌-◌, ◌<◌, ◌≤◌, Bool, false, ◌||◌, List, [], ◌∷◌, length, drop, refl, sym, ap, ◌∙◌, get_or, arith}
-use Rattle.std.specs.Prelude.{◌≢◌, if◌then◌else◌}
+use Rattle.std.proofs.Common.{◌≡◌, ℕ, zero, suc, ◌+◌, ◌-◌, ◌<◌, ◌≤◌, Bool, false, ◌||◌, List, [], ◌∷◌, length, drop, refl, sym, ap, ◌∙◌, arith}
+use Rattle.std.specs.Prelude.{◌≢◌, if◌then◌else◌, slice_index_or}
 use Rattle.std.specs.List.{list_any}
 use Rattle.std.proofs.lemmas.Bool.{eq-eqb, ne_eqb}
 use Rattle.std.proofs.lemmas.List.{drop_all}
@@ -28,22 +28,20 @@ module _ (target : TypeInfo) (name : List ℕ) where
       ∙ ap (λ test. test || list_any (is_or_has target name (below levels)) ms) is
       ∙ ap (λ rest. b || rest) (sym (has_any levels ms))
 
-  module _ (levels : ℕ) (ms : List BtfMember) (i : ℕ) (d : BtfMember) (inside : i < length ms) where
-    abbrev here : BtfMember
-    here = get_or ms i d
-
-    at : (b : Bool) → is_or_has target name (below levels) here ≡ b → has_member target name levels (drop i ms) ≡ (b || has_member target name levels (drop (i + 1) ms))
-    at b is = ap (has_member target name levels) (rest_at ms i d inside) ∙ one_more levels here (drop (i + 1) ms) b is
+  module _ (levels : ℕ) (ms : List BtfMember) (i : ℕ) (m : BtfMember) (inside : i < length ms) (here : m ≡ slice_index_or ms i m) where
+    at : (b : Bool) → is_or_has target name (below levels) m ≡ b → has_member target name levels (drop i ms) ≡ (b || has_member target name levels (drop (i + 1) ms))
+    at b is =
+        ap (has_member target name levels) (rest_at ms i m inside ∙ ap (λ x. x ∷ drop (i + 1) ms) (sym here)) ∙ one_more levels m (drop (i + 1) ms) b is
 
     -- a member with a name
-    named : here.name_offset ≢ 0 → (b : Bool) → b ≡ is_text name (text_at target.strings here.name_offset) → is_or_has target name (below levels) here ≡ b
+    named : m.name_offset ≢ 0 → (b : Bool) → b ≡ is_text name (text_at target.strings m.name_offset) → is_or_has target name (below levels) m ≡ b
     named some b is =
-        ap (λ test. if test then below levels here.btf_type else is_text name (text_at target.strings here.name_offset)) (ne_eqb here.name_offset 0 some) ∙ sym is
+        ap (λ test. if test then below levels m.btf_type else is_text name (text_at target.strings m.name_offset)) (ne_eqb m.name_offset 0 some) ∙ sym is
 
     -- one without
-    unnamed : here.name_offset ≡ 0 → is_or_has target name (below levels) here ≡ below levels here.btf_type
+    unnamed : m.name_offset ≡ 0 → is_or_has target name (below levels) m ≡ below levels m.btf_type
     unnamed none =
-        ap (λ test. if test then below levels here.btf_type else is_text name (text_at target.strings here.name_offset)) (eq-eqb here.name_offset 0 none)
+        ap (λ test. if test then below levels m.btf_type else is_text name (text_at target.strings m.name_offset)) (eq-eqb m.name_offset 0 none)
 
     below_is : (n : ℕ) (id : ℕ) → n ≢ 0 → below n id ≡ has_member target name (n - 1) (members_of_id target id)
     below_is zero id some = absurd (some refl)
@@ -52,16 +50,16 @@ module _ (target : TypeInfo) (name : List ℕ) where
     nothing_below : (n : ℕ) (id : ℕ) → n ≡ 0 → below n id ≡ false
     nothing_below n id none = ap (λ k. below k id) none
 
-    pub has_name : here.name_offset ≢ 0 → (b : Bool) → b ≡ is_text name (text_at target.strings here.name_offset)
+    pub has_name : m.name_offset ≢ 0 → (b : Bool) → b ≡ is_text name (text_at target.strings m.name_offset)
         → has_member target name levels (drop i ms) ≡ (b || has_member target name levels (drop (i + 1) ms))
     has_name some b is = at b (named some b is)
 
-    pub has_none : here.name_offset ≡ 0 → levels ≡ 0 → has_member target name levels (drop i ms) ≡ has_member target name levels (drop (i + 1) ms)
-    has_none none last = at false (unnamed none ∙ nothing_below levels here.btf_type last)
+    pub has_none : m.name_offset ≡ 0 → levels ≡ 0 → has_member target name levels (drop i ms) ≡ has_member target name levels (drop (i + 1) ms)
+    has_none none last = at false (unnamed none ∙ nothing_below levels m.btf_type last)
 
-    pub has_inside : here.name_offset ≡ 0 → levels ≢ 0 → (b : Bool) → b ≡ has_member target name (levels - 1) (members_of_id target here.btf_type)
+    pub has_inside : m.name_offset ≡ 0 → levels ≢ 0 → (b : Bool) → b ≡ has_member target name (levels - 1) (members_of_id target m.btf_type)
         → has_member target name levels (drop i ms) ≡ (b || has_member target name levels (drop (i + 1) ms))
-    has_inside none some b is = at b (unnamed none ∙ below_is levels here.btf_type some ∙ sym is)
+    has_inside none some b is = at b (unnamed none ∙ below_is levels m.btf_type some ∙ sym is)
 
   -- at the end
   pub none_left : (levels : ℕ) (ms : List BtfMember) (i : ℕ) → length ms ≤ i → has_member target name levels (drop i ms) ≡ false

@@ -7,7 +7,7 @@ ghost use Rattle.ebpf_core_relo.specs.Absences.{absence_among, field_absence, ha
 
 use crate::furthest::furthest_candidate;
 use crate::memory::unless_memory_of_places;
-use ebpf_btf::{Btf, BtfMember};
+use ebpf_btf::{Btf, BtfMember, Rows};
 use ebpf_core::NamedPath;
 use ebpf_places::{PlaceEnd, Step, place_in};
 use std::alloc::AllocError;
@@ -41,23 +41,24 @@ fn has_name(target: &Btf, name: &str, member: &BtfMember) -> bool
 }
 
 /// The members of the type that an id stands for; none of one that is no STRUCT or UNION.
-fn members_of_id(target: &Btf, type_id: u32) -> &[BtfMember]
-    ensures { result.now ≡ members_of_id target.now type_id }
+fn members_of_id(target: &Btf, type_id: u32) -> Rows<'_, BtfMember>
+    ensures { result ≡ members_of_id target.now type_id }
 {
     let Ok(ty) = target.resolved_type(type_id) else {
-        return &[];
+        return Rows::of(&[]);
     };
-    ty.members().unwrap_or(&[])
+    ty.members().unwrap_or(Rows::of(&[]))
 }
 
 /// Whether a type has a member of a name. Unnamed members are looked into, so many levels down.
-#[tactic(auto, unfolding(crate::specs::Absences::has_member))]
 fn has_member(target: &Btf, name: &str, type_id: u32, levels: u32) -> bool
     ensures { result ≡ has_member target.now name.now levels (members_of_id target.now type_id) }
 {
-    for member in members_of_id(target, type_id) {
+    let members = members_of_id(target, type_id);
+    for k in 0..members.len() {
+        let member = members.at(k);
         if member.name_offset != 0 {
-            if has_name(target, name, member) {
+            if has_name(target, name, &member) {
                 return true;
             }
             continue;
@@ -79,7 +80,7 @@ fn type_of_end(target: &Btf, end: PlaceEnd) -> Option<u32>
     match end {
         PlaceEnd::Element { type_id } => Some(type_id),
         PlaceEnd::Member { parent, index } => {
-            let members = target.types().get(parent as usize)?.members()?;
+            let members = target.get(parent as usize)?.members()?;
             Some(members.get(index)?.btf_type)
         }
     }

@@ -18,7 +18,7 @@ use std::marker::Model;
 
 /// Whether a type is an enumeration of 64 bits that was made a UNION.
 #[tactic(auto, unfolding(ebpf_btf::specs::Types::kind_number))]
-fn was_enum64(ty: &BtfType) -> bool
+fn was_enum64(ty: &BtfType<'_>) -> bool
     ensures { result ≡ was_enum64 ty.now }
 {
     ty.kind() == BtfKind::Union && ty.variant_count().is_some()
@@ -31,7 +31,7 @@ fn absence_named(
     local: &Btf,
     index: &TypeIndex<'_>,
     path: &NamedPath,
-    ty: &BtfType,
+    ty: &BtfType<'_>,
     name: &str,
 ) -> Result<Absence, AllocError>
     ensures { IfOk result (λ absence. absence ≡ absence_in local.now index.now path.now (candidates_named index.now ty.now name.now)) }
@@ -64,14 +64,14 @@ fn absence_over(
     let Ok(ty) = local.type_by_id(type_id) else {
         return Ok(Absence::NoType);
     };
-    let name = match local.type_name(ty) {
+    let name = match local.type_name(&ty) {
         Ok(name) => name,
         Err(error) => {
             unless_memory_of_types(error)?;
             return Ok(Absence::NoType);
         }
     };
-    absence_named(alloc, local, index, path, ty, name.as_str())
+    absence_named(alloc, local, index, path, &ty, name.as_str())
 }
 
 /// What a record asks, by which its absence is kept: its type and its access string, and the number of its kind.

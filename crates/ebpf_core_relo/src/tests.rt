@@ -1,6 +1,6 @@
 use crate::{RecordOutcome, RecordOutcomes, RecordResult, record_outcomes};
 use ebpf_base::{ByKey, ByName, Items, Text};
-use ebpf_btf::{Btf, BtfEnum, BtfError, BtfMember, BtfType, Endianness};
+use ebpf_btf::{Btf, BtfEnum, BtfError, BtfMember, BtfType, Endianness, Rows};
 use ebpf_elf::SectionIndex;
 use ebpf_ext::{BtfExt, FuncSecInfo, LineSecInfo};
 use ebpf_model::Function;
@@ -36,12 +36,12 @@ fn add_name(btf: &mut Btf, name: &str) -> Result<u32, BtfError> {
 /// An integer and a pointer.
 fn start(alloc: Global) -> Result<Btf, BtfError> {
     let mut btf = Btf::new(alloc)?;
-    btf.add_type(BtfType::Int {
+    btf.add_type(&BtfType::Int {
         name_offset: 0,
         size: 4,
         int_data: 32,
     })?;
-    btf.add_type(BtfType::Ptr {
+    btf.add_type(&BtfType::Ptr {
         name_offset: 0,
         btf_type: 0,
     })?;
@@ -67,35 +67,35 @@ fn add_struct(
         offset = offset.saturating_add(64);
     }
     let name_offset = add_name(btf, name)?;
-    btf.add_type(BtfType::Struct {
+    btf.add_type(&BtfType::Struct {
         name_offset,
         size: offset / 8,
         kind_flag: false,
-        members: Items::from_vec(all),
+        members: Rows::of(all.as_slice()),
     })
 }
 
 /// A name for a type.
 fn add_typedef(btf: &mut Btf, name: &str, btf_type: u32) -> Result<u32, BtfError> {
     let name_offset = add_name(btf, name)?;
-    btf.add_type(BtfType::Typedef {
+    btf.add_type(&BtfType::Typedef {
         name_offset,
         btf_type,
     })
 }
 
 /// An enumeration of one variant.
-fn add_enum(alloc: Global, btf: &mut Btf, name: &str, variant: &str) -> Result<u32, BtfError> {
+fn add_enum(btf: &mut Btf, name: &str, variant: &str) -> Result<u32, BtfError> {
     let variant = BtfEnum {
         name_offset: add_name(btf, variant)?,
         value: 7,
     };
     let name_offset = add_name(btf, name)?;
-    btf.add_type(BtfType::Enum {
+    btf.add_type(&BtfType::Enum {
         name_offset,
         size: 4,
         kind_flag: false,
-        variants: Items::from_vec([variant].to_vec(alloc)?),
+        variants: Rows::of(&[variant]),
     })
 }
 
@@ -264,7 +264,7 @@ fn add_types(alloc: Global, btf: &mut Btf) -> Result<Types, BtfError> {
         fields: add_fields(alloc, btf)?,
         gone: add_struct(alloc, btf, "gone", &[("a", INT)])?,
         name: add_typedef(btf, "name", INT)?,
-        variants: add_enum(alloc, btf, "e", "X")?,
+        variants: add_enum(btf, "e", "X")?,
     })
 }
 
@@ -277,7 +277,7 @@ fn other_types(alloc: Global) -> Result<Btf, BtfError> {
     let members = [("c", INT), ("", unnamed), ("i", large)];
     add_struct(alloc, &mut btf, "s", &members)?;
     add_typedef(&mut btf, "name", POINTER)?;
-    add_enum(alloc, &mut btf, "e", "Y")?;
+    add_enum(&mut btf, "e", "Y")?;
     Ok(btf)
 }
 

@@ -1,6 +1,5 @@
 -- Definitions that are made member by member.
-use Rattle.std.proofs.Common.{◌≡◌, ℕ, suc, arith, ◌+◌, ◌<◌, ◌≤◌, List, [], ◌∷◌, length, drop, Option, Some, None, Result, Ok, Err, refl, sym, ap, ◌∙◌}
-use Rattle.std.proofs.Math.Seq.{drop-cons}
+use Rattle.std.proofs.Common.{◌≡◌, ℕ, ◌+◌, ◌<◌, ◌≤◌, List, [], ◌∷◌, length, drop, Option, Some, None, Result, Ok, Err, refl, sym, ap, ◌∙◌}
 use Rattle.std.specs.Prelude.{slice_index_or, unwrap_or}
 use Rattle.ebpf_base.specs.Faults.{or_else}
 use Rattle.ebpf_base.specs.Results.{if_ok}
@@ -56,12 +55,11 @@ module _ (says : BtfMember → Result MemberValue BtfError) where
   -- ---- in a walk
 
   pub more_given : (d e : MapDefinitions) (members : List BtfMember) (i : ℕ) (m : BtfMember) (s : MemberValue)
-      → i < length members → says (slice_index_or members i m) ≡ Ok s → e ≡ with_all d (s ∷ [])
+      → i < length members → m ≡ slice_index_or members i m → says m ≡ Ok s → e ≡ with_all d (s ∷ [])
       → with_members says d (drop i members) ≡ with_members says e (drop (i + 1) members)
-  more_given d e members i m s below is with_it =
-      let on : suc i ≡ i + 1 = omega arith in
-      ap (with_members says d) (drop-cons members i m below ∙ ap (λ n. slice_index_or members i m ∷ drop n members) on)
-      ∙ with_first d (slice_index_or members i m) s (drop (i + 1) members) is
+  more_given d e members i m s below here is with_it =
+      ap (with_members says d) (rest_more members i m below here)
+      ∙ with_first d m s (drop (i + 1) members) is
       ∙ ap (λ (f : MapDefinitions). with_members says f (drop (i + 1) members)) (sym with_it)
 
   pub fault_given : (d : MapDefinitions) (members : List BtfMember) (i : ℕ) (m : BtfMember) (e : BtfError)

@@ -2,6 +2,7 @@ pub mod Added
 pub mod Beginnings
 pub mod LaterMembers
 pub mod AllGiven
+pub mod OnlyItem
 pub mod KnownStructs
 pub mod NamedSections
 pub mod ExternNames

@@ -42,7 +42,9 @@ fn add_sections(
 {
     for id in ids {
         let entries = datasec_entries_at(btf, *id);
-        add_entries(alloc, found, btf, reading, known, section, symbols, entries)?;
+        add_entries(
+            alloc, found, btf, reading, known, section, symbols, &entries,
+        )?;
     }
     Ok(())
 }

@@ -1,19 +1,18 @@
 //! The DATASECs of a name.
 
 ghost use Rattle.std.specs.Prelude.{◌≡◌, IfOk, IfErr, Some, option_map};
-ghost use Rattle.std.specs.Option.{option_copied};
 ghost use Rattle.ebpf_base.specs.Faults.{first_some};
 ghost use Rattle.ebpf_declarations.specs.DataSections.{Named, UnreadableName, datasec_entries, datasec_match};
 
-use ebpf_btf::{Btf, BtfError, BtfType, DataSecEntry};
+use ebpf_btf::{Btf, BtfError, BtfType, DataSecEntry, Rows};
 
 /// The entries of a DATASEC.
 #[tactic(auto, unfolding(crate::specs::DataSections::datasec_entries))]
-pub fn datasec_entries(ty: &BtfType) -> Option<&[DataSecEntry]>
-    ensures { option_copied result ≡ datasec_entries ty.now }
+pub fn datasec_entries<'a>(ty: &BtfType<'a>) -> Option<Rows<'a, DataSecEntry>>
+    ensures { result ≡ datasec_entries ty.now }
 {
     match ty {
-        BtfType::DataSec { entries, .. } => Some(entries.as_slice()),
+        BtfType::DataSec { entries, .. } => Some(entries.copy()),
         _ => None,
     }
 }
@@ -23,9 +22,9 @@ pub fn datasec_entries(ty: &BtfType) -> Option<&[DataSecEntry]>
 pub fn section_entries<'a>(
     btf: &Btf,
     wanted: &str,
-    ty: &'a BtfType,
-) -> Result<Option<&'a [DataSecEntry]>, BtfError>
-    ensures found { IfOk result (λ found. datasec_match btf.now wanted.now ty.now ≡ option_map Named (option_copied found)) }
+    ty: &BtfType<'a>,
+) -> Result<Option<Rows<'a, DataSecEntry>>, BtfError>
+    ensures found { IfOk result (λ found. datasec_match btf.now wanted.now ty.now ≡ option_map Named found) }
     ensures fault { IfErr result (λ e. datasec_match btf.now wanted.now ty.now ≡ Some (UnreadableName e)) }
 {
     let Some(entries) = datasec_entries(ty) else {
@@ -39,12 +38,16 @@ pub fn section_entries<'a>(
 
 /// The entries of the first DATASEC with this name.
 #[tactic(auto, using(ebpf_base::proofs::Walks::rest_more, ebpf_base::proofs::Walks::rest_none))]
-pub fn first_entries<'a>(btf: &'a Btf, wanted: &str) -> Result<Option<&'a [DataSecEntry]>, BtfError>
-    ensures found { IfOk result (λ found. first_some (datasec_match btf.now wanted.now) btf.now.types ≡ option_map Named (option_copied found)) }
+pub fn first_entries<'a>(
+    btf: &'a Btf,
+    wanted: &str,
+) -> Result<Option<Rows<'a, DataSecEntry>>, BtfError>
+    ensures found { IfOk result (λ found. first_some (datasec_match btf.now wanted.now) btf.now.types ≡ option_map Named found) }
     ensures fault { IfErr result (λ e. first_some (datasec_match btf.now wanted.now) btf.now.types ≡ Some (UnreadableName e)) }
 {
-    for ty in btf.types() {
-        if let Some(entries) = section_entries(btf, wanted, ty)? {
+    for id in 0..btf.len() {
+        let ty = btf.at(id);
+        if let Some(entries) = section_entries(btf, wanted, &ty)? {
             return Ok(Some(entries));
         }
     }

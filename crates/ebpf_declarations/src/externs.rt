@@ -1,6 +1,6 @@
 //! The externs of an object.
 
-ghost use Rattle.std.specs.Prelude.{◌≡◌, None, IfOk, OnOk, OnErr, is_some};
+ghost use Rattle.std.specs.Prelude.{◌≡◌, None, IfOk, IfErr, OnOk, OnErr, is_some, true};
 ghost use Rattle.std.specs.FinMap as map;
 ghost use Rattle.std.specs.List.{flat_map};
 ghost use Rattle.ebpf_base.specs.Faults.{Refuses, fault_of, first_some, or_else};
@@ -15,7 +15,7 @@ use crate::extern_names::weak_at;
 use crate::externs_by_name::by_name;
 use crate::placeholders::add_placeholder;
 use ebpf_base::{ByName, Items};
-use ebpf_btf::{Btf, BtfError, BtfType, DataSecEntry};
+use ebpf_btf::{Btf, BtfError, BtfType, DataSecEntry, Rows};
 use ebpf_model::ExternDesc;
 use std::alloc::Global;
 use std::collections::BTreeMap;
@@ -24,7 +24,7 @@ use std::collections::BTreeMap;
 const EXTERNS: &str = ".ksyms";
 
 #[tactic(auto, unfolding(crate::specs::Externs::is_function))]
-fn is_function(ty: &BtfType) -> bool
+fn is_function(ty: &BtfType<'_>) -> bool
     ensures { result ≡ is_function ty.now }
 {
     matches!(ty, BtfType::Func { .. })
@@ -32,7 +32,7 @@ fn is_function(ty: &BtfType) -> bool
 
 /// The id of the type that a FUNC or VAR holds.
 #[tactic(auto, unfolding(crate::specs::Externs::func_or_var_type))]
-fn func_or_var_type(ty: &BtfType) -> Option<u32>
+fn func_or_var_type(ty: &BtfType<'_>) -> Option<u32>
     ensures { result ≡ func_or_var_type ty.now }
 {
     match ty {
@@ -56,7 +56,7 @@ fn function_or_fault(btf: &Btf, entry: &DataSecEntry) -> Option<FunctionOrFault>
     ensures { result ≡ function_or_fault btf.now entry.now }
 {
     match btf.type_by_id(entry.btf_type) {
-        Ok(ty) if is_function(ty) => Some(FunctionOrFault::Function),
+        Ok(ty) if is_function(&ty) => Some(FunctionOrFault::Function),
         Ok(_) => None,
         Err(error) => Some(FunctionOrFault::UnreadableType(error)),
     }
@@ -103,7 +103,7 @@ fn extern_of(
     ensures known { OnOk result (RemembersWeak btf.now (map.get weak.now) known.new) }
 {
     let ty = btf.type_by_id(entry.btf_type)?;
-    let Some(type_id) = func_or_var_type(ty) else {
+    let Some(type_id) = func_or_var_type(&ty) else {
         return Err(BtfError::InvalidDatasec);
     };
     let name = ty.name_offset();
@@ -111,7 +111,7 @@ fn extern_of(
     let resolved = btf.resolve_type(type_id)?;
     let declared = ExternDesc {
         btf_id: entry.btf_type,
-        is_typed: is_function(ty) || resolved != 0,
+        is_typed: is_function(&ty) || resolved != 0,
         is_weak,
         kernel_btf_id: None,
         ksym_addr: None,
@@ -171,6 +171,18 @@ fn add_externs(
     entries_externs(alloc, btf, weak, entries)
 }
 
+/// A copy of entries.
+fn copy_entries(
+    alloc: Global,
+    entries: &Rows<'_, DataSecEntry>,
+) -> Result<Vec<DataSecEntry>, BtfError>
+    ensures copy { IfOk result (λ copy. copy.items ≡ entries.now) }
+    ensures memory { IfErr result (λ e. is_memory e ≡ true) }
+{
+    let copy = entries.iter().collect(alloc)?;
+    Ok(copy)
+}
+
 /// Whether types may declare externs: they have a DATASEC `.ksyms`, or one before it whose name can't be read.
 pub fn may_declare_externs(btf: &Btf) -> bool
     ensures { result ≡ is_some (ksyms_datasec btf.now) }
@@ -199,10 +211,10 @@ pub fn collect_externs(
     ensures unchanged { OnErr result (btf.new ≡ btf.old) }
 {
     let entries = match first_entries(btf, EXTERNS)? {
-        Some(entries) => Vec::from_slice(alloc, entries)?,
+        Some(entries) => copy_entries(alloc, &entries)?,
         None => return Ok(ByName::new(alloc)),
     };
-    let types = btf.types().len();
+    let types = btf.len();
     let strings = btf.string_len();
     let added = add_externs(alloc, btf, weak, &entries);
     if added.is_err() {

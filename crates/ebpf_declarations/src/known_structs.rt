@@ -52,7 +52,7 @@ fn read_struct(
     ensures known { OnOk result (RemembersInner reading btf.now inner_maps.new) }
 {
     let members = members_at(btf, struct_id)?;
-    definitions(alloc, btf, reading, inner_maps, name, members)
+    definitions(alloc, btf, reading, inner_maps, name, &members)
 }
 
 /// What the struct with an id says of the map with a name, read at the first map that the struct declares.

@@ -1,13 +1,13 @@
 //! The structs that declare maps.
 
-ghost use Rattle.std.specs.Prelude.{◌≡◌, IfOk, Ok};
-ghost use Rattle.ebpf_base.specs.Faults.{Gives, fault_of};
+ghost use Rattle.std.specs.Prelude.{◌≡◌};
+ghost use Rattle.ebpf_base.specs.Faults.{Gives};
 ghost use Rattle.ebpf_btf.specs.Memory.{is_memory};
 ghost use Rattle.ebpf_declarations.specs.MapMembers.{is_prototype_at, members_at, pointee_struct, inner_map_struct};
 
 use crate::map_types::{pointee, struct_members, unexpected};
 use ebpf_base::Text;
-use ebpf_btf::{Btf, BtfError, BtfMember, BtfType};
+use ebpf_btf::{Btf, BtfError, BtfMember, BtfType, Rows};
 use std::alloc::Global;
 
 /// Whether the type with an id is one of functions.
@@ -20,14 +20,13 @@ pub fn is_prototype_at(btf: &Btf, type_id: u32) -> bool
 
 /// The members of the STRUCT with an id.
 #[tactic(auto, unfolding(crate::specs::MapMembers::members_at))]
-pub fn members_at(btf: &Btf, type_id: u32) -> Result<&[BtfMember], BtfError>
-    ensures members { IfOk result (λ members. members_at btf.now.types type_id ≡ Ok members.now) }
-    ensures fault { fault_of result ≡ fault_of (members_at btf.now.types type_id) }
+pub fn members_at(btf: &Btf, type_id: u32) -> Result<Rows<'_, BtfMember>, BtfError>
+    ensures { result ≡ members_at btf.now.types type_id }
 {
     let ty = btf.type_by_id(type_id)?;
-    match struct_members(ty) {
+    match struct_members(&ty) {
         Some(members) => Ok(members),
-        None => Err(unexpected(ty)),
+        None => Err(unexpected(&ty)),
     }
 }
 
@@ -37,9 +36,9 @@ fn pointee_struct(btf: &Btf, type_id: u32) -> Result<u32, BtfError>
     ensures { result ≡ pointee_struct btf.now.types type_id }
 {
     let pointer = btf.resolved_type(type_id)?;
-    match pointee(pointer) {
+    match pointee(&pointer) {
         Some(target) => btf.resolve_type(target),
-        None => Err(unexpected(pointer)),
+        None => Err(unexpected(&pointer)),
     }
 }
 
@@ -50,7 +49,7 @@ pub fn inner_map_struct(alloc: Global, btf: &Btf, name: &str, type_id: u32) -> R
 {
     let ty = btf.type_by_id(type_id)?;
     let Some(array) = ty.array() else {
-        return Err(unexpected(ty));
+        return Err(unexpected(&ty));
     };
     if array.len == 0 {
         return pointee_struct(btf, array.element_type);

@@ -1,15 +1,14 @@
 //! The types that the members of a map's struct lead to.
 
 ghost use Rattle.std.specs.Prelude.{◌≡◌, Some};
-ghost use Rattle.std.specs.Option.{option_copied};
 ghost use Rattle.ebpf_base.specs.Faults.{Gives};
 ghost use Rattle.ebpf_btf.specs.Memory.{is_memory};
 ghost use Rattle.ebpf_declarations.specs.MapMembers.{unexpected, pointee, struct_members, number, extended_enum_value, sole_value, own_number, sized_type};
 
-use ebpf_btf::{Btf, BtfError, BtfMember, BtfType};
+use ebpf_btf::{Btf, BtfError, BtfMember, BtfType, Rows};
 
 /// The error of a type that is of another kind than the wanted one.
-pub fn unexpected(ty: &BtfType) -> BtfError
+pub fn unexpected(ty: &BtfType<'_>) -> BtfError
     ensures { result ≡ unexpected ty.now }
 {
     BtfError::UnexpectedBtfType {
@@ -19,7 +18,7 @@ pub fn unexpected(ty: &BtfType) -> BtfError
 
 /// What a PTR points to.
 #[tactic(auto, unfolding(crate::specs::MapMembers::pointee))]
-pub fn pointee(ty: &BtfType) -> Option<u32>
+pub fn pointee(ty: &BtfType<'_>) -> Option<u32>
     ensures { result ≡ pointee ty.now }
 {
     match ty {
@@ -30,11 +29,11 @@ pub fn pointee(ty: &BtfType) -> Option<u32>
 
 /// The members of a STRUCT.
 #[tactic(auto, unfolding(crate::specs::MapMembers::struct_members))]
-pub fn struct_members(ty: &BtfType) -> Option<&[BtfMember]>
-    ensures { option_copied result ≡ struct_members ty.now }
+pub fn struct_members<'a>(ty: &BtfType<'a>) -> Option<Rows<'a, BtfMember>>
+    ensures { result ≡ struct_members ty.now }
 {
     match ty {
-        BtfType::Struct { members, .. } => Some(members.as_slice()),
+        BtfType::Struct { members, .. } => Some(members.copy()),
         _ => None,
     }
 }
@@ -45,13 +44,13 @@ pub fn number(btf: &Btf, type_id: u32) -> Result<u32, BtfError>
     ensures { result ≡ number btf.now.types type_id }
 {
     let pointer = btf.type_by_id(type_id)?;
-    let Some(target) = pointee(pointer) else {
-        return Err(unexpected(pointer));
+    let Some(target) = pointee(&pointer) else {
+        return Err(unexpected(&pointer));
     };
     let target = btf.type_by_id(target)?;
     match target.array() {
         Some(array) => Ok(array.len),
-        None => Err(unexpected(target)),
+        None => Err(unexpected(&target)),
     }
 }
 
@@ -66,19 +65,25 @@ fn extended_enum_value(value: u32) -> u64
 }
 
 /// The number that an ENUM or ENUM64 of one value is.
-#[tactic(auto, unfolding(crate::specs::MapMembers::sole_value))]
-fn sole_value(ty: &BtfType) -> Option<u64>
+#[tactic(auto, unfolding(crate::specs::MapMembers::sole_value), using(crate::proofs::OnlyItem::only_item))]
+fn sole_value(ty: &BtfType<'_>) -> Option<u64>
     ensures { result ≡ sole_value ty.now }
 {
     match ty {
-        BtfType::Enum { variants, .. } => match variants.as_slice() {
-            [only] => Some(extended_enum_value(only.value)),
-            _ => None,
-        },
-        BtfType::Enum64 { variants, .. } => match variants.as_slice() {
-            [only] => Some(only.value_high as u64 * 0x1_0000_0000 + only.value_low as u64),
-            _ => None,
-        },
+        BtfType::Enum { variants, .. } => {
+            if variants.len() != 1 {
+                return None;
+            }
+            let only = variants.at(0);
+            Some(extended_enum_value(only.value))
+        }
+        BtfType::Enum64 { variants, .. } => {
+            if variants.len() != 1 {
+                return None;
+            }
+            let only = variants.at(0);
+            Some(only.value_high as u64 * 0x1_0000_0000 + only.value_low as u64)
+        }
         _ => None,
     }
 }
@@ -88,10 +93,10 @@ fn sole_value(ty: &BtfType) -> Option<u64>
 pub fn own_number(btf: &Btf, type_id: u32) -> Option<u64>
     ensures { result ≡ own_number btf.now.types type_id }
 {
-    match btf.resolved_type(type_id) {
-        Ok(ty) => sole_value(ty),
-        Err(_) => None,
-    }
+    let Ok(ty) = btf.resolved_type(type_id) else {
+        return None;
+    };
+    sole_value(&ty)
 }
 
 /// The type that a member spells, and its size in bytes.
@@ -99,7 +104,8 @@ pub fn own_number(btf: &Btf, type_id: u32) -> Option<u64>
 pub fn sized_type(btf: &Btf, type_id: u32) -> Result<(u32, u32), BtfError>
     ensures { result ≡ sized_type btf.now.types type_id }
 {
-    let Some(spelled) = pointee(btf.type_by_id(type_id)?) else {
+    let pointer = btf.type_by_id(type_id)?;
+    let Some(spelled) = pointee(&pointer) else {
         return Err(BtfError::UnexpectedBtfType { type_id });
     };
     let size = btf.type_size(spelled)?;

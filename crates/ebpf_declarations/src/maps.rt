@@ -13,14 +13,14 @@ use crate::error::parse_error;
 use crate::known_structs::{KnownStructs, struct_definitions};
 use crate::map_types::unexpected;
 use ebpf_base::{ByName, Items, Text};
-use ebpf_btf::{Btf, BtfError, BtfType, DataSecEntry};
+use ebpf_btf::{Btf, BtfError, BtfType, DataSecEntry, Rows};
 use ebpf_parts::maps::{BtfMap, Map};
 use ebpf_parts::{ParseError, Reading, Section};
 use std::alloc::Global;
 
 /// The id of the type that a VAR holds.
 #[tactic(auto, unfolding(crate::specs::Maps::variable))]
-pub fn variable(ty: &BtfType) -> Option<u32>
+pub fn variable(ty: &BtfType<'_>) -> Option<u32>
     ensures { result ≡ variable ty.now }
 {
     match ty {
@@ -43,10 +43,10 @@ pub fn declared(
     ensures known { OnOk result (Knows reading btf.now known.new) }
 {
     let ty = btf.type_by_id(entry.btf_type)?;
-    let Some(struct_id) = variable(ty) else {
-        return Err(unexpected(ty));
+    let Some(struct_id) = variable(&ty) else {
+        return Err(unexpected(&ty));
     };
-    let name = Text::from_str(alloc, btf.type_name(ty)?.as_str())?;
+    let name = Text::from_str(alloc, btf.type_name(&ty)?.as_str())?;
     let struct_id = btf.resolve_type(struct_id)?;
     let definitions = struct_definitions(alloc, btf, reading, known, name.as_str(), struct_id)?;
     Ok((name, definitions))
@@ -106,15 +106,16 @@ pub fn add_entries(
     known: &mut KnownStructs,
     section: &Section<'_>,
     symbols: &ByName<usize>,
-    entries: &[DataSecEntry],
+    entries: &Rows<'_, DataSecEntry>,
 ) -> Result<(), ParseError>
     requires { Knows reading btf.now known.old }
     ensures known { OnOk result (Knows reading btf.now known.new) }
     ensures added { OnOk result (found.new ≡ found.old ++ entries_maps reading btf.now (map.get symbols.now) section.now.index.0 entries.now) }
     ensures fault { Refuses is_memory result (entries_fault reading btf.now (map.get symbols.now) section.now.index.0 entries.now) }
 {
-    for entry in entries {
-        found.push(entry_map(alloc, btf, reading, known, section, symbols, entry)?)?;
+    for index in 0..entries.len() {
+        let entry = entries.at(index);
+        found.push(entry_map(alloc, btf, reading, known, section, symbols, &entry)?)?;
     }
     Ok(())
 }

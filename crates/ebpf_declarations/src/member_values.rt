@@ -12,7 +12,7 @@ use crate::map_structs::{inner_map_struct, is_prototype_at, members_at};
 use crate::map_types::{number, own_number, sized_type};
 use crate::member_value::MemberValue;
 use ebpf_base::Text;
-use ebpf_btf::{Btf, BtfError, BtfMember};
+use ebpf_btf::{Btf, BtfError, BtfMember, Rows};
 use ebpf_parts::Reading;
 use ebpf_parts::maps::{BtfMapDef, PinningType};
 use std::alloc::Global;
@@ -133,13 +133,14 @@ fn inner_definition(
     btf: &Btf,
     reading: Reading,
     name: &str,
-    members: &[BtfMember],
+    members: &Rows<'_, BtfMember>,
 ) -> Result<BtfMapDef, BtfError>
     ensures { Gives is_memory result (inner_definition reading btf.now name.now members.now) }
 {
     let mut all = MapDefinitions::none();
-    for member in members {
-        all = all.with(inner_member_value(alloc, btf, reading, name, member)?);
+    for index in 0..members.len() {
+        let member = members.at(index);
+        all = all.with(inner_member_value(alloc, btf, reading, name, &member)?);
     }
     Ok(all.def)
 }
@@ -155,7 +156,7 @@ fn read_inner_struct(
     ensures { Gives is_memory result (inner_struct_definition reading btf.now name.now struct_id) }
 {
     let members = members_at(btf, struct_id)?;
-    inner_definition(alloc, btf, reading, name, members)
+    inner_definition(alloc, btf, reading, name, &members)
 }
 
 /// What the struct with an id says of the maps that the map with a name holds, read at the first map that holds such
@@ -232,15 +233,16 @@ pub fn definitions(
     reading: Reading,
     known: &mut BTreeMap<u32, BtfMapDef>,
     name: &str,
-    members: &[BtfMember],
+    members: &Rows<'_, BtfMember>,
 ) -> Result<MapDefinitions, BtfError>
     requires { RemembersInner reading btf.now known.old }
     ensures says { Gives is_memory result (definitions reading btf.now name.now members.now) }
     ensures known { OnOk result (RemembersInner reading btf.now known.new) }
 {
     let mut all = MapDefinitions::none();
-    for member in members {
-        all = all.with(member_value(alloc, btf, reading, known, name, member)?);
+    for index in 0..members.len() {
+        let member = members.at(index);
+        all = all.with(member_value(alloc, btf, reading, known, name, &member)?);
     }
     Ok(all)
 }

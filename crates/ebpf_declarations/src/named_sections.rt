@@ -9,7 +9,7 @@ ghost use Rattle.std.specs.FinMap.{get};
 use crate::data_sections::datasec_entries;
 use ebpf_base::{ByName, Items};
 use ebpf_btf::strings::{first_zero, near_bytes};
-use ebpf_btf::{Btf, BtfError, BtfType, DataSecEntry};
+use ebpf_btf::{Btf, BtfError, BtfType, DataSecEntry, Rows};
 use std::alloc::Global;
 
 /// The DATASECs of some names.
@@ -23,18 +23,21 @@ pub struct NamedSections {
 
 /// The entries of the DATASEC with an id.
 #[tactic(auto, unfolding(crate::specs::NamedSections::datasec_entries_at))]
-pub fn datasec_entries_at(btf: &Btf, id: u32) -> &[DataSecEntry]
-    ensures { result.now ≡ datasec_entries_at btf.now.types id }
+pub fn datasec_entries_at(btf: &Btf, id: u32) -> Rows<'_, DataSecEntry>
+    ensures { result ≡ datasec_entries_at btf.now.types id }
 {
     let Ok(ty) = btf.type_by_id(id) else {
-        return &[];
+        return Rows::of(&[]);
     };
-    datasec_entries(ty).unwrap_or(&[])
+    match datasec_entries(&ty) {
+        Some(entries) => entries,
+        None => Rows::of(&[]),
+    }
 }
 
 /// Whether a type is a DATASEC.
 #[tactic(auto, unfolding(crate::specs::DataSections::datasec_entries))]
-fn is_section(ty: &BtfType) -> bool
+fn is_section(ty: &BtfType<'_>) -> bool
     ensures { result ≡ is_some (datasec_entries ty.now) }
 {
     matches!(ty, BtfType::DataSec { .. })
@@ -60,7 +63,7 @@ fn scan_type(
     btf: &Btf,
     longest: usize,
     id: u32,
-    ty: &BtfType,
+    ty: &BtfType<'_>,
 ) -> Result<bool, BtfError>
     requires { NamesAreWithin longest by_name.old }
     ensures looked { IfOk result (λ readable. IsScanned btf.now ty.now id by_name.old by_name.new readable) }
@@ -107,8 +110,9 @@ fn gather_into(
     ensures memory { IfErr result (λ e. is_memory e ≡ true) }
 {
     let mut by_name = by_name;
-    for (id, ty) in btf.types().iter().enumerate() {
-        if !scan_type(&mut by_name, btf, longest, id as u32, ty)? {
+    for id in 0..btf.len() {
+        let ty = btf.at(id);
+        if !scan_type(&mut by_name, btf, longest, id as u32, &ty)? {
             return Ok(NamedSections {
                 by_name,
                 unreadable: Some(ty.name_offset() as usize),

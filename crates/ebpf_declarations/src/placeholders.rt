@@ -1,6 +1,6 @@
 //! What stands in the types for functions of the kernel.
 
-ghost use Rattle.std.specs.Prelude.{◌≡◌, ◌<◌, ◌^◌, length, IfOk, OnOk, Some};
+ghost use Rattle.std.specs.Prelude.{◌≡◌, ◌<◌, ◌^◌, length, IfOk, IfSome, OnOk, Some};
 ghost use Rattle.std.specs.List.{position};
 ghost use Rattle.ebpf_base.specs.Faults.{Refuses};
 ghost use Rattle.ebpf_btf.specs.Memory.{is_memory};
@@ -19,7 +19,7 @@ const SIGNED_WORD: u32 = 0x0100_0020;
 const GLOBAL: u32 = 1;
 
 #[tactic(auto, unfolding(crate::specs::Placeholders::is_word))]
-fn is_word(ty: &BtfType) -> bool
+fn is_word(ty: &BtfType<'_>) -> bool
     ensures { result ≡ is_word ty.now }
 {
     match ty {
@@ -29,10 +29,18 @@ fn is_word(ty: &BtfType) -> bool
 }
 
 /// The number of the first INT of 4 bytes.
-fn word_id(types: &[BtfType]) -> Option<usize>
-    ensures { result ≡ position is_word types.now }
+#[tactic(auto, using(ebpf_base::proofs::Walks::rest_more, ebpf_base::proofs::Walks::rest_none))]
+fn word_id(btf: &Btf) -> Option<usize>
+    ensures first { result ≡ position is_word btf.now.types }
+    ensures few { IfSome result (λ id. id < 2 ^ 32) }
 {
-    types.iter().position(|ty| is_word(ty))
+    for id in 0..btf.len() {
+        let ty = btf.at(id);
+        if is_word(&ty) {
+            return Some(id);
+        }
+    }
+    None
 }
 
 /// The id of the first INT of 4 bytes; where there is none, `int` is added.
@@ -43,11 +51,11 @@ fn add_word(btf: &mut Btf) -> Result<u32, BtfError>
     ensures fault { Refuses is_memory result (word_fault btf.old) }
     ensures begins { Begins btf.old btf.new }
 {
-    if let Some(id) = word_id(btf.types()) {
+    if let Some(id) = word_id(btf) {
         return Ok(id as u32);
     }
     let name_offset = btf.add_string("int")?;
-    btf.add_type(BtfType::Int {
+    btf.add_type(&BtfType::Int {
         name_offset,
         size: WORD,
         int_data: SIGNED_WORD,
@@ -62,7 +70,7 @@ pub fn add_placeholder(btf: &mut Btf) -> Result<(), BtfError>
 {
     let word = add_word(btf)?;
     let name_offset = btf.add_string("ksym_func_placeholder")?;
-    btf.add_type(BtfType::Var {
+    btf.add_type(&BtfType::Var {
         name_offset,
         btf_type: word,
         linkage: GLOBAL,

@@ -18,7 +18,7 @@ use crate::known_structs::{KnownStructs, struct_definitions};
 use crate::maps::{declared, variable};
 use crate::named_sections::{NamedSections, datasec_entries_at};
 use ebpf_base::ByName;
-use ebpf_btf::{Btf, BtfError, DataSecEntry};
+use ebpf_btf::{Btf, BtfError, DataSecEntry, Rows};
 use ebpf_parts::Reading;
 use std::alloc::Global;
 
@@ -30,7 +30,7 @@ fn known_name(distinct: &DistinctMaps, btf: &Btf, entry: &DataSecEntry) -> Optio
     let Ok(ty) = btf.type_by_id(entry.btf_type) else {
         return None;
     };
-    let struct_id = variable(ty)?;
+    let struct_id = variable(&ty)?;
     let number = distinct.offsets.get(&ty.name_offset())?;
     Some((*number, struct_id))
 }
@@ -134,7 +134,7 @@ fn add_entries(
     reading: Reading,
     known: &mut KnownStructs,
     symbols: &ByName<usize>,
-    entries: &[DataSecEntry],
+    entries: &Rows<'_, DataSecEntry>,
 ) -> Result<(), BtfError>
     requires named { AreNamed distinct.old }
     requires remembers { RemembersNames btf.now distinct.old }
@@ -143,8 +143,9 @@ fn add_entries(
     ensures remembers { OnOk result (RemembersNames btf.now distinct.new) }
     ensures added { OnOk result (Adds distinct.old distinct.new (λ symbols section. entries_maps reading btf.now symbols section entries.now) (λ symbols section. entries_fault reading btf.now symbols section entries.now)) }
 {
-    for entry in entries {
-        add_entry(alloc, distinct, btf, reading, known, symbols, entry)?;
+    for index in 0..entries.len() {
+        let entry = entries.at(index);
+        add_entry(alloc, distinct, btf, reading, known, symbols, &entry)?;
     }
     Ok(())
 }
@@ -166,15 +167,8 @@ fn add_sections(
     ensures added { OnOk result (Adds distinct.old distinct.new (λ symbols section. ids_maps reading btf.now symbols section ids.now) (λ symbols section. ids_fault reading btf.now symbols section ids.now)) }
 {
     for id in ids {
-        add_entries(
-            alloc,
-            distinct,
-            btf,
-            reading,
-            known,
-            symbols,
-            datasec_entries_at(btf, *id),
-        )?;
+        let entries = datasec_entries_at(btf, *id);
+        add_entries(alloc, distinct, btf, reading, known, symbols, &entries)?;
     }
     Ok(())
 }

@@ -12,7 +12,8 @@ use Rattle.ebpf_ext.specs.declared.ext_infos.bpf_line_info.{bpf_line_info}
 use Rattle.ebpf_ext.specs.declared.ext_infos.FuncSecInfo.{FuncSecInfo}
 use Rattle.ebpf_ext.specs.declared.ext_infos.LineSecInfo.{LineSecInfo}
 use Rattle.ebpf_ext.specs.declared.relocation.Relocation.{Relocation}
-use Rattle.ebpf_btf.specs.Format.{items_at, word}
+use Rattle.ebpf_btf.specs.Format.{word}
+use Rattle.ebpf_btf.specs.Items.{items_at}
 use Rattle.ebpf_btf.specs.Reading.{header_length, magic}
 use Rattle.ebpf_ext.specs.RelocationKinds.{relocation_kind}
 use Rattle.ebpf_base.specs.Results.{if_ok}

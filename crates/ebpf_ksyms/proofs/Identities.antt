@@ -6,17 +6,17 @@ use Rattle.ebpf_base.specs.Faults.{or_else}
 use Rattle.ebpf_base.proofs.Faults.{or_else-None}
 use Rattle.ebpf_btf.specs.Strings.{is_named, is_text, type_name}
 use Rattle.ebpf_btf.specs.TypeInfo.{TypeInfo}
-use Rattle.ebpf_btf.specs.Types.{is_kind, kind_number, kind_of}
+use Rattle.ebpf_btf.specs.Types.{is_kind, kind_number, kind_of, name_off}
 use Rattle.ebpf_btf.specs.declared.kind.BtfKind.{BtfKind}
 use Rattle.ebpf_btf.specs.declared.kind.BtfKind.TheVariants as kinds
 use Rattle.ebpf_btf.specs.declared.types.BtfType.{BtfType}
-use Rattle.ebpf_btf.specs.declared.types.BtfType.TheVariants.{Unknown, Fwd, Const, Volatile, Restrict, Ptr, Typedef, Func, Int, Float, Enum, Array, Struct, Union, FuncProto, Var, DataSec, DeclTag, TypeTag, Enum64}
+use Rattle.ebpf_btf.specs.declared.types.BtfType.TheVariants.{Func, Var}
 use Rattle.ebpf_ksyms.specs.declared.ids.Ids.{Ids}
 use Rattle.ebpf_ksyms.specs.declared.lookup_key.Sort.{Sort}
 use Rattle.ebpf_ksyms.specs.declared.lookup_key.Sort.TheVariants.{Function, Variable}
 use Rattle.ebpf_ksyms.specs.Ids.{finished, ids_in, sort_of, with_sort, with_type_ids}
 use Rattle.ebpf_ksyms.specs.Named.{is_one_of}
-use Rattle.ebpf_ksyms.specs.PrivateContracts.{only_at}
+use Rattle.ebpf_ksyms.specs.PrivateContracts.{only_at, sort_of_kind, with_head_ids}
 
 is_function : Option Sort → Bool
 is_function (Some Function) = true
@@ -87,3 +87,17 @@ pub all-types : (kernel : TypeInfo) (names : List (List ℕ)) (name : List ℕ) 
 all-types kernel names name known e =
     ap (option_map (finished kernel name 0 kernel.types)) e
     ∙ elim (is_one_of names name) as (λ b. option_map (finished kernel name 0 kernel.types) (cond b (Some (record { function = None; variable = None })) None) ≡ cond b (Some (ids_in kernel name)) None) [ true ↦ refl | false ↦ refl ]
+
+-- a type by its kind and the offset of its name
+sort_by_kind : (t : BtfType) → sort_of t ≡ sort_of_kind (kind_of t)
+unfolding sort_of kind_of sort_of_kind
+sort_by_kind (Func _ _) = refl
+sort_by_kind (Var _ _ _) = refl
+sort_by_kind _ = refl
+
+pub by_head : (kernel : TypeInfo) (name : List ℕ) (id : ℕ) (t : BtfType) (kind : BtfKind) (offset : ℕ) (before : Option Ids) → kind_of t ≡ kind → name_off t ≡ offset
+    → option_map (with_head_ids kernel name id kind offset) before ≡ option_map (with_type_ids kernel name id t) before
+by_head kernel name id t kind offset before of_kind named =
+    ap (λ k. option_map (with_head_ids kernel name id k offset) before) (sym of_kind)
+    ∙ ap (λ n. option_map (with_head_ids kernel name id (kind_of t) n) before) (sym named)
+    ∙ ap (λ sort. option_map (λ ids. cond (is_text name (type_name kernel t)) (with_sort ids id sort) ids) before) (sym (sort_by_kind t))

@@ -2,14 +2,14 @@
 
 ghost use Rattle.std.specs.Prelude.{◌≡◌, ℕ, List, IfOk, IfErr, OnOk, option_map};
 ghost use Rattle.ebpf_base.specs.Keys.{lent_bytes};
-ghost use Rattle.ebpf_ksyms.specs.Ids.{ids_in, id_at, sort_of, with_lower_id, with_type_ids};
-ghost use Rattle.ebpf_ksyms.specs.PrivateContracts.{value_named, only_at};
+ghost use Rattle.ebpf_ksyms.specs.Ids.{ids_in, id_at, with_lower_id};
+ghost use Rattle.ebpf_ksyms.specs.PrivateContracts.{value_named, only_at, sort_of_kind, with_head_ids};
 ghost use Rattle.ebpf_ksyms.specs.declared.error.KsymsError.TheVariants.{OutOfMemory};
 
 use crate::error::KsymsError;
 use crate::lookup_key::Sort;
 use crate::named::Named;
-use ebpf_btf::{Btf, BtfError, BtfKind, BtfType};
+use ebpf_btf::{Btf, BtfError, BtfKind, TypeHead};
 use std::alloc::Global;
 
 /// The lowest ids that have a name.
@@ -40,14 +40,14 @@ pub fn id_at(ids: &Named<'_, Ids>, sort: Sort, name: &str) -> Option<u32>
     }
 }
 
-/// Whether a type is a function or a variable.
-#[tactic(auto, unfolding(crate::specs::Ids::sort_of))]
-fn sort_of(ty: &BtfType) -> Option<Sort>
-    ensures { result ≡ sort_of ty.now }
+/// Whether types of a kind are functions or variables.
+#[tactic(auto, unfolding(crate::specs::PrivateContracts::sort_of_kind))]
+fn sort_of_kind(kind: BtfKind) -> Option<Sort>
+    ensures { result ≡ sort_of_kind kind }
 {
-    match ty {
-        BtfType::Func { .. } => Some(Sort::Function),
-        BtfType::Var { .. } => Some(Sort::Variable),
+    match kind {
+        BtfKind::Func => Some(Sort::Function),
+        BtfKind::Var => Some(Sort::Variable),
         _ => None,
     }
 }
@@ -73,15 +73,15 @@ fn add_kernel_type(
     kernel: &Btf,
     ids: &mut Named<'_, Ids>,
     id: u32,
-    ty: &BtfType,
+    head: TypeHead,
 ) -> Result<(), KsymsError>
-    ensures ok { OnOk result ((q : List ℕ) → value_named ids.new q ≡ option_map (with_type_ids kernel.now q id ty.now) (value_named ids.old q)) }
+    ensures ok { OnOk result ((q : List ℕ) → value_named ids.new q ≡ option_map (with_head_ids kernel.now q id head.kind head.name_offset) (value_named ids.old q)) }
     ensures memory { IfErr result (λ e. e ≡ OutOfMemory) }
 {
-    let Some(sort) = sort_of(ty) else {
+    let Some(sort) = sort_of_kind(head.kind) else {
         return Ok(());
     };
-    let name = match kernel.type_name(ty) {
+    let name = match kernel.string_at(head.name_offset) {
         Ok(name) => name,
         Err(BtfError::OutOfMemory) => return Err(KsymsError::OutOfMemory),
         Err(_) => return Ok(()),
@@ -105,8 +105,11 @@ pub fn ids_in<'a>(
     if names.is_empty() {
         return Ok(ids);
     }
-    for (id, ty) in kernel.types().iter().enumerate() {
-        add_kernel_type(kernel, &mut ids, id as u32, ty)?;
+    for id in 0..kernel.len() {
+        let Some(head) = kernel.head(id) else {
+            continue;
+        };
+        add_kernel_type(kernel, &mut ids, id as u32, head)?;
     }
     Ok(ids)
 }

@@ -45,7 +45,7 @@ fn without_flavor(name: &str) -> &str
 
 /// What an extern with a name and a type is looked up by; none where it is neither a FUNC nor a VAR.
 #[tactic(auto, unfolding(crate::specs::KernelOutcomes::lookup_key_of))]
-pub fn lookup_key_of<'a>(name: &'a str, ty: &BtfType) -> Option<LookupKey<'a>>
+pub fn lookup_key_of<'a>(name: &'a str, ty: &BtfType<'_>) -> Option<LookupKey<'a>>
     ensures { result ≡ lookup_key_of name.now ty.now }
 {
     match ty {

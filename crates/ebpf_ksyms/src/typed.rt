@@ -24,7 +24,7 @@ use ebpf_model::ExternDesc;
 use std::alloc::{AllocError, Global};
 
 /// The type id of a FUNC or a VAR.
-fn type_id_of(ty: &BtfType) -> u32
+fn type_id_of(ty: &BtfType<'_>) -> u32
     ensures { result ≡ unwrap_or (type_word ty.now) 0 }
 {
     ty.btf_type().unwrap_or(0)
@@ -36,7 +36,8 @@ fn are_types_compatible(local: &Btf, type_id: u32, kernel: &Btf, id: u32) -> Res
     ensures { result ≡ are_types_compatible local.now type_id kernel.now id }
 {
     let one = local.resolve_type(type_id)?;
-    let other = kernel.resolve_type(type_id_of(kernel.type_by_id(id)?))?;
+    let ty = kernel.type_by_id(id)?;
+    let other = kernel.resolve_type(type_id_of(&ty))?;
     types_are_compatible(local, one, kernel, other)
 }
 
@@ -120,7 +121,7 @@ fn outcome(
         Ok(ty) => ty,
         Err(error) => return Err(KsymsError::of_types(error)),
     };
-    let Some(lookup_key) = lookup_key_of(entry.name, ty) else {
+    let Some(lookup_key) = lookup_key_of(entry.name, &ty) else {
         return Err(KsymsError::InvalidExternType {
             name: Text::from_str(alloc, entry.name)?,
         });
@@ -187,7 +188,7 @@ fn lookup_name<'a>(local: &Btf, entry: &NamedExtern<'a>) -> Option<&'a str>
         return None;
     }
     let ty = local.type_by_id(entry.desc.btf_id).ok()?;
-    Some(lookup_key_of(entry.name, ty)?.name)
+    Some(lookup_key_of(entry.name, &ty)?.name)
 }
 
 /// The names that externs are looked up by in the kernel.

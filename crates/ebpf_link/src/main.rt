@@ -16,7 +16,7 @@ impl Command for Link {
         alloc: Global,
         words: &Words,
         file: &[u8],
-        btf: Option<&[u8]>,
+        btf: Option<Vec<u8>>,
         kallsyms: K,
         out: &mut O,
         err: &mut E,

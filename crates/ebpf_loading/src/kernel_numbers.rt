@@ -9,35 +9,35 @@ ghost use Rattle.ebpf_loading.specs.KernelNumbers.{enumeration, enumerators_of, 
 use crate::named::is_named;
 use crate::texts::{as_text, without_prefix};
 use ebpf_btf::strings::is_text_at;
-use ebpf_btf::{Btf, BtfEnum, BtfKind, BtfType};
+use ebpf_btf::{Btf, BtfEnum, BtfKind, BtfType, Rows};
 use std::marker::Model;
 
 /// The enumerators of the first enumerations with the names.
-#[derive(Clone, Copy)]
+#[derive(Drop)]
 struct Enumerations<'a> {
-    helpers: Option<&'a [BtfEnum]>,
-    map_types: Option<&'a [BtfEnum]>,
+    helpers: Option<Rows<'a, BtfEnum>>,
+    map_types: Option<Rows<'a, BtfEnum>>,
 }
 
 /// The enumerators of an ENUM; other types have none.
 #[tactic(auto, unfolding(crate::specs::KernelNumbers::enumerators_of))]
-fn enumerators_of(ty: &BtfType) -> &[BtfEnum]
-    ensures { result.now ≡ enumerators_of ty.now }
+fn enumerators_of<'a>(ty: &BtfType<'a>) -> Rows<'a, BtfEnum>
+    ensures { result ≡ enumerators_of ty.now }
 {
     match ty {
-        BtfType::Enum { variants, .. } => variants.as_slice(),
-        _ => &[],
+        BtfType::Enum { variants, .. } => variants.copy(),
+        _ => Rows::of(&[]),
     }
 }
 
 /// What was found, or else the enumerators of one more type, where it is the enumeration of this name.
 fn found_or<'a>(
-    found: Option<&'a [BtfEnum]>,
+    found: Option<Rows<'a, BtfEnum>>,
     types: &Btf,
     name: &str,
-    ty: &'a BtfType,
-) -> Option<&'a [BtfEnum]>
-    ensures { option_copied result ≡ or_else (option_copied found.entry) (named_enumerators types.now name.now ty.now) }
+    ty: &BtfType<'a>,
+) -> Option<Rows<'a, BtfEnum>>
+    ensures { result ≡ or_else found.entry (named_enumerators types.now name.now ty.now) }
 {
     if found.is_some() {
         return found;
@@ -50,14 +50,15 @@ fn found_or<'a>(
 
 /// Both enumerations, by one pass over the types.
 fn enumerations_in(types: &Btf) -> Enumerations<'_>
-    ensures helpers { option_copied result.helpers ≡ enumeration types.now helpers.enumeration }
-    ensures map_types { option_copied result.map_types ≡ enumeration types.now map_type_numbering.enumeration }
+    ensures helpers { result.helpers ≡ enumeration types.now helpers.enumeration }
+    ensures map_types { result.map_types ≡ enumeration types.now map_type_numbering.enumeration }
 {
     let mut helpers = None;
     let mut map_types = None;
-    for ty in types.types() {
-        helpers = found_or(helpers, types, "bpf_func_id", ty);
-        map_types = found_or(map_types, types, "bpf_map_type", ty);
+    for id in 0..types.len() {
+        let ty = types.at(id);
+        helpers = found_or(helpers, types, "bpf_func_id", &ty);
+        map_types = found_or(map_types, types, "bpf_map_type", &ty);
     }
     Enumerations { helpers, map_types }
 }
@@ -69,27 +70,30 @@ fn has_number(types: &Btf, end: &str, number: u32, enumerator: &BtfEnum) -> bool
     enumerator.value == number && !is_text_at(types.strings(), enumerator.name_offset, end)
 }
 
-/// Whether one of some enumerators has a number.
-fn have_number(types: &Btf, end: &str, number: u32, enumerators: &[BtfEnum]) -> bool
-    ensures { result ≡ list_any (has_number types.now end.now number) enumerators.now }
-{
-    enumerators
-        .iter()
-        .any(|enumerator| has_number(types, end, number, enumerator))
-}
-
 /// The first of some enumerators that has a number.
-fn first_with<'a>(
+fn first_with(
     types: &Btf,
     end: &str,
     number: u32,
-    enumerators: &'a [BtfEnum],
-) -> Option<&'a BtfEnum>
-    ensures { option_copied result ≡ find (has_number types.now end.now number) enumerators.now }
+    enumerators: &Rows<'_, BtfEnum>,
+) -> Option<BtfEnum>
+    ensures { result ≡ find (has_number types.now end.now number) enumerators.now }
 {
-    enumerators
-        .iter()
-        .find(|enumerator| has_number(types, end, number, enumerator))
+    for k in 0..enumerators.len() {
+        let enumerator = enumerators.at(k);
+        if has_number(types, end, number, &enumerator) {
+            return Some(enumerator);
+        }
+    }
+    None
+}
+
+/// Whether one of some enumerators has a number.
+#[tactic(auto, using(crate::proofs::FirstFound::any_found))]
+fn have_number(types: &Btf, end: &str, number: u32, enumerators: &Rows<'_, BtfEnum>) -> bool
+    ensures { result ≡ list_any (has_number types.now end.now number) enumerators.now }
+{
+    first_with(types, end, number, enumerators).is_some()
 }
 
 /// The name that an enumerator gives a helper.
@@ -111,7 +115,6 @@ pub struct KernelNumbers<'a> {
 
 impl<'a> Model for KernelNumbers<'a> {
     ghost use Rattle.std.specs.Prelude.{◌≡◌};
-    ghost use Rattle.std.specs.Option.{option_copied};
     ghost use Rattle.ebpf_btf.specs.TypeInfo.{TypeInfo};
     ghost use Rattle.ebpf_loading.specs.KernelNumbers.{enumeration, helpers, map_type_numbering};
 
@@ -119,7 +122,7 @@ impl<'a> Model for KernelNumbers<'a> {
 
     ghost view = { λ k. k.types.now };
 
-    ghost invariant = { λ k. (option_copied k.found.helpers ≡ enumeration k.types.now helpers.enumeration) × (option_copied k.found.map_types ≡ enumeration k.types.now map_type_numbering.enumeration) };
+    ghost invariant = { λ k. (k.found.helpers ≡ enumeration k.types.now helpers.enumeration) × (k.found.map_types ≡ enumeration k.types.now map_type_numbering.enumeration) };
 }
 
 impl<'a> KernelNumbers<'a> {
@@ -139,7 +142,7 @@ impl<'a> KernelNumbers<'a> {
     pub fn knows_helper(&self, number: u32) -> Option<bool>
         ensures { result ≡ knows_helper self.now number }
     {
-        match self.found.helpers {
+        match &self.found.helpers {
             Some(all) => Some(have_number(self.types, "__BPF_FUNC_MAX_ID", number, all)),
             None => None,
         }
@@ -152,7 +155,7 @@ impl<'a> KernelNumbers<'a> {
     pub fn knows_map_type(&self, number: u32) -> Option<bool>
         ensures { result ≡ knows_map_type self.now number }
     {
-        match self.found.map_types {
+        match &self.found.map_types {
             Some(all) => Some(have_number(self.types, "__MAX_BPF_MAP_TYPE", number, all)),
             None => None,
         }
@@ -165,10 +168,8 @@ impl<'a> KernelNumbers<'a> {
     pub fn helper_name(&self, number: u32) -> Option<&'a str>
         ensures { option_copied result ≡ helper_name self.now number }
     {
-        let all = self.found.helpers?;
-        name_by(
-            self.types,
-            first_with(self.types, "__BPF_FUNC_MAX_ID", number, all)?,
-        )
+        let all = self.found.helpers.as_ref()?;
+        let enumerator = first_with(self.types, "__BPF_FUNC_MAX_ID", number, all)?;
+        name_by(self.types, &enumerator)
     }
 }

@@ -75,10 +75,10 @@ fn is_data(kind: EbpfSectionKind) -> bool
 fn stated_size(types: &Btf, type_id: u32) -> u32
     ensures { result ≡ stated_size types.now type_id }
 {
-    match types.type_by_id(type_id) {
-        Ok(ty) => ty.size().unwrap_or(0),
-        Err(_) => 0,
-    }
+    let Ok(ty) = types.type_by_id(type_id) else {
+        return 0;
+    };
+    ty.size().unwrap_or(0)
 }
 
 /// Whether a DATASEC is the type of a map's value, by its size.

@@ -9,14 +9,14 @@ use ebpf_btf::{Btf, BtfKind, BtfType};
 
 /// Whether a type is of a kind.
 #[tactic(auto, unfolding(ebpf_btf::specs::Types::kind_number))]
-fn is_kind(ty: &BtfType, kind: BtfKind) -> bool
+fn is_kind(ty: &BtfType<'_>, kind: BtfKind) -> bool
     ensures { result ≡ is_kind kind ty.now }
 {
     ty.kind() == kind
 }
 
 /// Whether a type is of a kind and has a name. One that can't be read is none.
-pub fn is_named(types: &Btf, name: &str, kind: BtfKind, ty: &BtfType) -> bool
+pub fn is_named(types: &Btf, name: &str, kind: BtfKind, ty: &BtfType<'_>) -> bool
     ensures { result ≡ is_named types.now name.now kind ty.now }
 {
     is_kind(ty, kind) && is_text_at(types.strings(), ty.name_offset(), name)
@@ -26,8 +26,9 @@ pub fn is_named(types: &Btf, name: &str, kind: BtfKind, ty: &BtfType) -> bool
 pub fn id_of_name(types: &Btf, name: &str, kind: BtfKind) -> Option<u32>
     ensures { result ≡ id_of_name types.now name.now kind }
 {
-    for (id, ty) in types.types().iter().enumerate() {
-        if is_named(types, name, kind, ty) {
+    for id in 0..types.len() {
+        let ty = types.at(id);
+        if is_named(types, name, kind, &ty) {
             return Some(id as u32);
         }
     }

@@ -1,9 +1,10 @@
 -- One member of a search.
-use Rattle.std.proofs.Common.{◌≡◌, ℕ, zero, suc, ◌+◌, ◌-◌, ◌<◌, ◌≤◌, if◌then◌else◌, List, [], ◌∷◌, ◌++◌, Option, Some, None, Result, Ok, Err, refl, sym, ap, ◌∙◌, arith, drop, get_or, length, drop-cons, add-one}
+use Rattle.std.proofs.Common.{◌≡◌, ℕ, zero, suc, ◌+◌, ◌-◌, ◌<◌, ◌≤◌, if◌then◌else◌, List, [], ◌∷◌, ◌++◌, Option, Some, None, Result, Ok, Err, refl, sym, ap, ◌∙◌, arith, drop, length, add-one}
 use Rattle.std.proofs.lemmas.List.{drop_all}
-use Rattle.std.specs.List.{flat_map}
+use Rattle.std.specs.List.{flat_map, slice_get}
 use Rattle.ebpf_btf.specs.declared.members.BtfMember.{BtfMember}
 use Rattle.ebpf_btf.specs.declared.types.BtfType.{BtfType}
+use Rattle.ebpf_candidates.proofs.Heads.{drop_found}
 use Rattle.ebpf_places.specs.declared.fault.PlaceFault.{PlaceFault}
 use Rattle.ebpf_places.specs.declared.fault.PlaceFault.TheVariants.{NestingLevel}
 use Rattle.ebpf_places.specs.declared.role.Role.{Role}
@@ -95,21 +96,21 @@ left_from id t i ms = members_from id t i (drop i ms)
 
 -- a search that has come to a member of a type
 module _ (member_search : MemberSearch) (parent : ℕ) (t : BtfType) (ms : List BtfMember) (l inside bits i left : ℕ) where
-  pub arm : (n : ℕ) (d : BtfMember) (role : Result Role PlaceFault) → i < length ms → left ≡ n + 1
-      → member_search.role_of inside (indexed_member parent t (i, get_or ms i d)) ≡ role
+  pub arm : (n : ℕ) (x : BtfMember) (role : Result Role PlaceFault) → slice_get ms i ≡ Some x → left ≡ n + 1
+      → member_search.role_of inside (indexed_member parent t (i, x)) ≡ role
       → run_search member_search left (view member_search l inside bits (left_from parent t i ms))
-      ≡ at_role member_search role (view_entry inside bits (indexed_member parent t (i, get_or ms i d))) n
-      (λ id. lower member_search l (inside + 1) (bits + (indexed_member parent t (i, get_or ms i d)).bits) (member_search.members_of id)) (view member_search l inside bits (left_from parent t (i + 1) ms))
-  arm n d role lt e is =
-      let m : Member = indexed_member parent t (i, get_or ms i d) in
-      let split : left_from parent t i ms ≡ m ∷ left_from parent t (i + 1) ms = rw (drop-cons ms i d lt, add-one i) refl in
+      ≡ at_role member_search role (view_entry inside bits (indexed_member parent t (i, x))) n
+      (λ id. lower member_search l (inside + 1) (bits + (indexed_member parent t (i, x)).bits) (member_search.members_of id)) (view member_search l inside bits (left_from parent t (i + 1) ms))
+  arm n x role here e is =
+      let m : Member = indexed_member parent t (i, x) in
+      let split : left_from parent t i ms ≡ m ∷ left_from parent t (i + 1) ms = rw (drop_found ms i x here) refl in
       rw (split, e, add-one n, ← is) (view_step member_search l inside bits m (left_from parent t (i + 1) ms) n)
 
   -- no entries are left, and there is one more
-  pub full : (d : BtfMember) → i < length ms → left ≡ 0 → run_search member_search left (view member_search l inside bits (left_from parent t i ms)) ≡ Err NestingLevel
-  full d lt e =
-      let m : Member = indexed_member parent t (i, get_or ms i d) in
-      let split : left_from parent t i ms ≡ m ∷ left_from parent t (i + 1) ms = rw (drop-cons ms i d lt, add-one i) refl in
+  pub full : (x : BtfMember) → slice_get ms i ≡ Some x → left ≡ 0 → run_search member_search left (view member_search l inside bits (left_from parent t i ms)) ≡ Err NestingLevel
+  full x here e =
+      let m : Member = indexed_member parent t (i, x) in
+      let split : left_from parent t i ms ≡ m ∷ left_from parent t (i + 1) ms = rw (drop_found ms i x here) refl in
       rw (split, e) (full_at member_search l inside bits m (left_from parent t (i + 1) ms))
 
 -- no members are left
@@ -124,15 +125,15 @@ pub past : (member_search : MemberSearch) (parent : ℕ) (t : BtfType) (ms : Lis
 past member_search parent t ms l inside bits i left le = rw (drop_all i ms le) (none_left member_search l inside bits left)
 
 -- an anonymous member, in whose type the search came to this
-pub entered : (member_search : MemberSearch) (parent : ℕ) (t : BtfType) (ms : List BtfMember) (inside bits i left n : ℕ) (d : BtfMember) (id b : ℕ) (vs : List Member) (r : Result Answer PlaceFault)
-    → i < length ms → left ≡ n + 1 → inside < 64 → member_search.role_of inside (indexed_member parent t (i, get_or ms i d)) ≡ Ok (Anonymous id)
-    → vs ≡ member_search.members_of id → b ≡ bits + (indexed_member parent t (i, get_or ms i d)).bits
+pub entered : (member_search : MemberSearch) (parent : ℕ) (t : BtfType) (ms : List BtfMember) (inside bits i left n : ℕ) (x : BtfMember) (id b : ℕ) (vs : List Member) (r : Result Answer PlaceFault)
+    → slice_get ms i ≡ Some x → left ≡ n + 1 → inside < 64 → member_search.role_of inside (indexed_member parent t (i, x)) ≡ Ok (Anonymous id)
+    → vs ≡ member_search.members_of id → b ≡ bits + (indexed_member parent t (i, x)).bits
     → run_search member_search n (view member_search (64 - (inside + 1)) (inside + 1) b vs) ≡ r
     → run_search member_search left (view member_search (64 - inside) inside bits (left_from parent t i ms))
     ≡ after r (λ rest. run_search member_search rest (view member_search (64 - inside) inside bits (left_from parent t (i + 1) ms)))
-entered member_search parent t ms inside bits i left n d id b vs r lt e below_deepest is members bits_is inner =
+entered member_search parent t ms inside bits i left n x id b vs r here e below_deepest is members bits_is inner =
     let level : 64 - inside ≡ suc (64 - (inside + 1)) = omega arith in
-    rw level (arm member_search parent t ms (suc (64 - (inside + 1))) inside bits i left n d (Ok (Anonymous id)) lt e is
+    rw level (arm member_search parent t ms (suc (64 - (inside + 1))) inside bits i left n x (Ok (Anonymous id)) here e is
     ∙ ap (λ (a : Result Answer PlaceFault). after a (λ rest. run_search member_search rest (view member_search (suc (64 - (inside + 1))) inside bits (left_from parent t (i + 1) ms)))) (rw (← bits_is, ← members) inner))
 
 -- no members

@@ -60,13 +60,14 @@ fn search(
         return Ok(Answer::Absent { left: entries });
     };
     let mut left = entries;
-    for (index, member) in members.iter().enumerate() {
+    for index in 0..members.len() {
+        let member = members.at(index);
         if left == 0 {
             return Err(PlaceFault::NestingLevel);
         }
         left -= 1;
-        let role = role_of(wanted, inside, member)?;
-        let bits = bits + u64::from(ty.member_bit_offset(member));
+        let role = role_of(wanted, inside, &member)?;
+        let bits = bits + u64::from(ty.member_bit_offset(&member));
         match role {
             Role::Other => continue,
             Role::Misfit => return Ok(Answer::Absent { left }),

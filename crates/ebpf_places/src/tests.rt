@@ -1,6 +1,6 @@
 use crate::{Place, PlaceFault, Step, place_in};
-use ebpf_base::{Items, Text};
-use ebpf_btf::{Btf, BtfError, BtfMember, BtfType};
+use ebpf_base::Text;
+use ebpf_btf::{Btf, BtfError, BtfMember, BtfType, Rows};
 use std::alloc::{AllocError, Global};
 use std::test::Fail;
 
@@ -8,7 +8,7 @@ use std::test::Fail;
 const A: u32 = 1;
 
 fn add_int(btf: &mut Btf) -> Result<u32, BtfError> {
-    btf.add_type(BtfType::Int {
+    btf.add_type(&BtfType::Int {
         name_offset: 0,
         size: 4,
         int_data: 32,
@@ -16,18 +16,18 @@ fn add_int(btf: &mut Btf) -> Result<u32, BtfError> {
 }
 
 fn add_pointer(btf: &mut Btf) -> Result<u32, BtfError> {
-    btf.add_type(BtfType::Ptr {
+    btf.add_type(&BtfType::Ptr {
         name_offset: 0,
         btf_type: 0,
     })
 }
 
-fn add_struct(alloc: Global, btf: &mut Btf, members: &[BtfMember]) -> Result<u32, BtfError> {
-    btf.add_type(BtfType::Struct {
+fn add_struct(btf: &mut Btf, members: &[BtfMember]) -> Result<u32, BtfError> {
+    btf.add_type(&BtfType::Struct {
         name_offset: 0,
         size: 8,
         kind_flag: false,
-        members: Items::from_vec(members.to_vec(alloc)?),
+        members: Rows::of(members),
     })
 }
 
@@ -40,21 +40,18 @@ fn member(name_offset: u32, btf_type: u32, offset: u32) -> BtfMember {
 }
 
 /// A type inside so many structs, in each as the anonymous member at bit 8.
-fn add_levels(alloc: Global, btf: &mut Btf, innermost: u32, levels: u32) -> Result<u32, BtfError> {
+fn add_levels(btf: &mut Btf, innermost: u32, levels: u32) -> Result<u32, BtfError> {
     let mut id = innermost;
     for _level in 0..levels {
-        id = add_struct(alloc, btf, &[member(0, id, 8)])?;
+        id = add_struct(btf, &[member(0, id, 8)])?;
     }
     Ok(id)
 }
 
-/// So many structs, each of two anonymous members of the one before, the first of an empty struct.
-fn add_pairs(alloc: Global, btf: &mut Btf, structs: u32) -> Result<u32, BtfError> {
-    let mut id = add_struct(alloc, btf, &[])?;
-    for _level in 0..structs {
-        id = add_struct(alloc, btf, &[member(0, id, 0), member(0, id, 0)])?;
-    }
-    Ok(id)
+/// A struct of so many members with a name.
+fn add_others(alloc: Global, btf: &mut Btf, name: u32, count: usize) -> Result<u32, BtfError> {
+    let members = vec![in alloc; member(name, 1, 0); count]?;
+    add_struct(btf, &members)
 }
 
 /// The root index 0 and then the member `a`, whose local type is the type 1.
@@ -86,23 +83,22 @@ fn start(alloc: Global) -> Result<Btf, BtfError> {
 /// What looking for `a` comes to where it lies inside so many anonymous members.
 fn at_level(alloc: Global, levels: u32) -> Result<String, BtfError> {
     let mut btf = start(alloc)?;
-    let innermost = add_struct(alloc, &mut btf, &[member(A, 1, 32)])?;
-    let root = add_levels(alloc, &mut btf, innermost, levels)?;
+    let innermost = add_struct(&mut btf, &[member(A, 1, 32)])?;
+    let root = add_levels(&mut btf, innermost, levels)?;
     Ok(debug_text(alloc, place_in(&btf, &btf, root, &path_to_a(alloc)?))?)
 }
 
-/// What looking for `a` comes to behind an anonymous member with so many structs of pairs, and as many named ones.
-fn behind_pairs(alloc: Global, structs: u32, others: u32) -> Result<String, BtfError> {
+/// What looking for `a` comes to behind 16 anonymous members of 65,534 others each, and so many others.
+fn behind_others(alloc: Global, others: u32) -> Result<String, BtfError> {
     let mut btf = start(alloc)?;
     let other = btf.add_string("b")?;
-    let pairs = add_pairs(alloc, &mut btf, structs)?;
-    let mut members = Vec::new(alloc);
-    members.push(member(0, pairs, 0))?;
+    let inner = add_others(alloc, &mut btf, other, 65_534)?;
+    let mut members = vec![in alloc; member(0, inner, 0); 16]?;
     for _other in 0..others {
         members.push(member(other, 1, 64))?;
     }
     members.push(member(A, 1, 96))?;
-    let root = add_struct(alloc, &mut btf, &members)?;
+    let root = add_struct(&mut btf, &members)?;
     Ok(debug_text(alloc, place_in(&btf, &btf, root, &path_to_a(alloc)?))?)
 }
 
@@ -120,11 +116,10 @@ fn goes_down_64_levels(rt: HostRuntime) -> Result<(), Fail> {
 fn looks_at_1_048_576_members(rt: HostRuntime) -> Result<(), Fail> {
     let alloc = rt.alloc();
     assert_eq!(rt;
-        behind_pairs(alloc, 19, 0)?.as_str(),
-        "Ok(Some(Place { bits: 96, end: Member { parent: 22, index: 1 } }))"
+        behind_others(alloc, 15)?.as_str(),
+        "Ok(Some(Place { bits: 96, end: Member { parent: 3, index: 31 } }))"
     );
-    assert_eq!(rt; behind_pairs(alloc, 19, 1)?.as_str(), "Err(NestingLevel)");
-    assert_eq!(rt; behind_pairs(alloc, 20, 0)?.as_str(), "Err(NestingLevel)");
+    assert_eq!(rt; behind_others(alloc, 16)?.as_str(), "Err(NestingLevel)");
     Ok(())
 }
 
@@ -134,8 +129,8 @@ fn passes_a_misfit_in_an_inner_type(rt: HostRuntime) -> Result<(), Fail> {
     let alloc = rt.alloc();
     let mut btf = start(alloc)?;
     let pointer = add_pointer(&mut btf)?;
-    let inner = add_struct(alloc, &mut btf, &[member(A, pointer, 0), member(A, 1, 64)])?;
-    let root = add_struct(alloc, &mut btf, &[member(0, inner, 0), member(A, 1, 96)])?;
+    let inner = add_struct(&mut btf, &[member(A, pointer, 0), member(A, 1, 64)])?;
+    let root = add_struct(&mut btf, &[member(0, inner, 0), member(A, 1, 96)])?;
     let found = debug_text(alloc, place_in(&btf, &btf, root, &path_to_a(alloc)?))?;
     assert_eq!(rt;
         found.as_str(),

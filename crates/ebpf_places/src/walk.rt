@@ -26,7 +26,7 @@ pub struct Spot {
 
 /// Whether a member is the last one of a STRUCT.
 #[tactic(auto, unfolding(crate::specs::Places::is_last_of))]
-fn is_last_of(index: usize, ty: &BtfType) -> bool
+fn is_last_of(index: usize, ty: &BtfType<'_>) -> bool
     ensures { result ≡ is_last_of index ty.now }
 {
     match ty {
@@ -42,7 +42,7 @@ fn ends_in_last_member(target: &Btf, end: PlaceEnd) -> bool
     match end {
         PlaceEnd::Element { .. } => false,
         PlaceEnd::Member { parent, index } => match type_at(target, parent) {
-            Some(ty) => is_last_of(index, ty),
+            Some(ty) => is_last_of(index, &ty),
             None => false,
         },
     }

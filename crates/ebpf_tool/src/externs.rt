@@ -82,8 +82,8 @@ fn reason_of(alloc: Global, answer: &Answer) -> Result<String, AllocError> {
 /// Whether the type that a local function or variable holds stands for the one that the kernel's holds.
 fn holds_alike(local: &Btf, held: u32, kernel: &Btf, id: u32) -> Result<bool, BtfError> {
     let one = local.resolve_type(held)?;
-    let other = kernel.type_by_id(id)?.btf_type().unwrap_or(0);
-    let other = kernel.resolve_type(other)?;
+    let symbol = kernel.type_by_id(id)?;
+    let other = kernel.resolve_type(symbol.btf_type().unwrap_or(0))?;
     types_are_compatible(local, one, kernel, other)
 }
 
@@ -116,10 +116,10 @@ fn answer_of(
 ) -> Answer {
     match local.type_by_id(known.btf_id) {
         Ok(BtfType::Func { btf_type, .. }) => {
-            answer_for(local, kernel, symbols, name, Sort::Function, *btf_type)
+            answer_for(local, kernel, symbols, name, Sort::Function, btf_type)
         }
         Ok(BtfType::Var { btf_type, .. }) => {
-            answer_for(local, kernel, symbols, name, Sort::Variable, *btf_type)
+            answer_for(local, kernel, symbols, name, Sort::Variable, btf_type)
         }
         Ok(_) => Answer::Unreadable(BtfError::InvalidDatasec),
         Err(error) => Answer::Unreadable(error),

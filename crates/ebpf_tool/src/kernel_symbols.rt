@@ -1,7 +1,7 @@
 //! The functions and variables of a kernel, by their names.
 
 use ebpf_base::ByName;
-use ebpf_btf::{Btf, BtfType};
+use ebpf_btf::{Btf, BtfKind};
 use ebpf_model::ExternDesc;
 use std::alloc::{AllocError, Global};
 
@@ -51,13 +51,16 @@ fn looked_up_names(alloc: Global, externs: &ByName<ExternDesc>) -> Result<ByName
 }
 
 /// Notes the id of a type, where it is a function or a variable and the first of its name.
-fn note_type(names: &mut ByName<Ids>, kernel: &Btf, ty: &BtfType, id: u32) {
-    let is_function = match ty {
-        BtfType::Func { .. } => true,
-        BtfType::Var { .. } => false,
+fn note_type(names: &mut ByName<Ids>, kernel: &Btf, id: u32) {
+    let Some(head) = kernel.head(id as usize) else {
+        return;
+    };
+    let is_function = match head.kind {
+        BtfKind::Func => true,
+        BtfKind::Var => false,
         _ => return,
     };
-    let Ok(bytes) = kernel.bytes_at(ty.name_offset()) else {
+    let Ok(bytes) = kernel.bytes_at(head.name_offset) else {
         return;
     };
     let Ok(name) = str::from_utf8(bytes) else {
@@ -84,8 +87,8 @@ impl KernelSymbols {
         if by_name.is_empty() {
             return Ok(KernelSymbols { by_name });
         }
-        for (id, ty) in kernel.types().iter().enumerate() {
-            note_type(&mut by_name, kernel, ty, id as u32);
+        for id in 0..kernel.len() {
+            note_type(&mut by_name, kernel, id as u32);
         }
         Ok(KernelSymbols { by_name })
     }

@@ -54,29 +54,37 @@ fn section_types(bytes: &[u8]) -> Result<&[u8], KernelError> {
     }
 }
 
-/// The raw types that a file has: itself, or the section `.BTF` of an ELF file.
-fn raw_types(bytes: &[u8]) -> Result<&[u8], KernelError> {
-    if is_elf(bytes) {
-        return section_types(bytes);
+/// Raw types have to begin as such, and to be of a byte order.
+fn check_order(raw: &[u8], order: Endianness) -> Result<(), KernelError> {
+    match order_of(raw) {
+        Some(stated) if stated == order => Ok(()),
+        Some(_) => Err(KernelError::OtherByteOrder),
+        None => Err(KernelError::NoTypes),
     }
-    Ok(bytes)
 }
 
-/// The types of a kernel in a file's bytes: raw ones, or those of the section `.BTF` of an ELF file.
+/// The types of the section `.BTF` of an ELF file.
+fn types_in_section(alloc: Global, bytes: &[u8], order: Endianness) -> Result<Btf, KernelError> {
+    let raw = section_types(bytes)?;
+    check_order(raw, order)?;
+    match Btf::parse(alloc, raw, order) {
+        Ok(types) => Ok(types),
+        Err(error) => Err(KernelError::Types(error)),
+    }
+}
+
+/// The types of a kernel in a file's bytes: raw ones, which keep the bytes, or those of the section `.BTF` of an ELF file.
 ///
 /// # Errors
 ///
 /// `Elf` and `NoSection` of an ELF file; `NoTypes` where the types don't begin as such; `OtherByteOrder` where they are
 /// of the other order than `order`; `Types` where they can't be read, also for want of memory.
-pub fn kernel_types(alloc: Global, bytes: &[u8], order: Endianness) -> Result<Btf, KernelError> {
-    let raw = raw_types(bytes)?;
-    let Some(stated) = order_of(raw) else {
-        return Err(KernelError::NoTypes);
-    };
-    if stated != order {
-        return Err(KernelError::OtherByteOrder);
+pub fn kernel_types(alloc: Global, bytes: Vec<u8>, order: Endianness) -> Result<Btf, KernelError> {
+    if is_elf(&bytes) {
+        return types_in_section(alloc, &bytes, order);
     }
-    match Btf::parse(alloc, raw, order) {
+    check_order(&bytes, order)?;
+    match Btf::from_vec(bytes, order) {
         Ok(types) => Ok(types),
         Err(error) => Err(KernelError::Types(error)),
     }

@@ -37,13 +37,13 @@ fn asks_scalar_size(local: &Btf, relocation: &Relocation, path: &NamedPath) -> b
     let Some(type_id) = sized_type(local, relocation, path) else {
         return false;
     };
-    match local.resolved_type(type_id) {
-        Ok(ty) => matches!(
-            ty.kind(),
-            BtfKind::Int | BtfKind::Enum | BtfKind::Enum64 | BtfKind::Ptr
-        ),
-        Err(_) => false,
-    }
+    let Ok(ty) = local.resolved_type(type_id) else {
+        return false;
+    };
+    matches!(
+        ty.kind(),
+        BtfKind::Int | BtfKind::Enum | BtfKind::Enum64 | BtfKind::Ptr
+    )
 }
 
 /// Whether a record's value is told where a kernel has another one: of an enumerator, and of the size of an integer, an

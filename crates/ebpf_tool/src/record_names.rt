@@ -41,7 +41,7 @@ fn add_type(name: &mut String, local: &Btf, type_id: u32) -> Result<(), AllocErr
     };
     name.push_str(kind_word(ty.kind()))?;
     name.push_str(" ")?;
-    let Ok(text) = local.type_name(ty) else {
+    let Ok(text) = local.type_name(&ty) else {
         return name.push_str("<anon>");
     };
     if text.as_str().is_empty() {

@@ -123,11 +123,8 @@ fn judge_file(rt: &HostRuntime, session: &mut Session, name: Text) -> Result<(),
             return Ok(session.note_unread(name, Text::from_string(sentence))?);
         }
     };
-    match kernel_types(alloc, &bytes, session.loaded.object.endianness) {
-        Ok(kernel) => {
-            drop(bytes);
-            Ok(session.judge(alloc, name, &kernel)?)
-        }
+    match kernel_types(alloc, bytes, session.loaded.object.endianness) {
+        Ok(kernel) => Ok(session.judge(alloc, name, &kernel)?),
         Err(error) => {
             let sentence = format!(in alloc; "{error}")?;
             Ok(session.note_unread(name, Text::from_string(sentence))?)

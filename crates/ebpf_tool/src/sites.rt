@@ -204,10 +204,10 @@ fn has_sign(local: &Btf, relocation: &Relocation) -> bool {
     if relocation.kind != RelocationKind::EnumVariantValue {
         return false;
     }
-    match local.resolved_type(relocation.type_id) {
-        Ok(ty) => ty.is_signed() || ty.kind() != BtfKind::Enum64,
-        Err(_) => true,
-    }
+    let Ok(ty) = local.resolved_type(relocation.type_id) else {
+        return true;
+    };
+    ty.is_signed() || ty.kind() != BtfKind::Enum64
 }
 
 /// Notes a value of a kind where it is another one than the object's own.

@@ -1,7 +1,7 @@
 //! The externs that the kernel's configuration gives.
 
 use ebpf_base::{Items, Text};
-use ebpf_btf::{Btf, BtfKind, BtfType, DataSecEntry};
+use ebpf_btf::{Btf, BtfKind, BtfType, DataSecEntry, Rows};
 use ebpf_object::Object;
 use std::alloc::{AllocError, Global};
 
@@ -9,16 +9,11 @@ use std::alloc::{AllocError, Global};
 const SETTINGS: &str = ".kconfig";
 
 /// The entries of the first DATASEC of settings.
-fn settings_in(types: &Btf) -> &[DataSecEntry] {
-    let Ok(id) = types.id_by_type_name_kind(SETTINGS, BtfKind::DataSec) else {
-        return &[];
-    };
-    let Ok(ty) = types.type_by_id(id) else {
-        return &[];
-    };
-    match ty {
-        BtfType::DataSec { entries, .. } => entries.as_slice(),
-        _ => &[],
+fn settings_in(types: &Btf) -> Option<Rows<'_, DataSecEntry>> {
+    let id = types.id_by_type_name_kind(SETTINGS, BtfKind::DataSec).ok()?;
+    match types.type_by_id(id).ok()? {
+        BtfType::DataSec { entries, .. } => Some(entries),
+        _ => None,
     }
 }
 
@@ -27,7 +22,7 @@ fn name_of(alloc: Global, types: &Btf, entry: &DataSecEntry) -> Result<Option<Te
     let Ok(ty) = types.type_by_id(entry.btf_type) else {
         return Ok(None);
     };
-    match types.type_name(ty) {
+    match types.type_name(&ty) {
         Ok(name) => Ok(Some(Text::from_str(alloc, name.as_str())?)),
         Err(_) => Ok(None),
     }
@@ -39,8 +34,11 @@ pub fn wanted_settings(alloc: Global, object: &Object) -> Result<Items<Text>, Al
     let Some(types) = &object.btf else {
         return Ok(names);
     };
-    for entry in settings_in(types) {
-        let Some(name) = name_of(alloc, types, entry)? else {
+    let Some(entries) = settings_in(types) else {
+        return Ok(names);
+    };
+    for entry in entries.iter() {
+        let Some(name) = name_of(alloc, types, &entry)? else {
             continue;
         };
         names.push(name)?;

@@ -135,11 +135,11 @@ fn go_for_kernel(
 fn go_with_types(
     rt: &HostRuntime,
     object: &Object,
-    types: &[u8],
+    types: Vec<u8>,
     symbols: &[u8],
     lines: &str,
 ) -> io::Result<()> {
-    match preparing::kernel_types(rt.alloc(), types) {
+    match preparing::kernel_types(types) {
         Ok(kernel) => go_for_kernel(rt, object, &kernel, symbols, lines),
         Err(error) => println!(rt; "refused: {error}"),
     }
@@ -163,7 +163,7 @@ fn print_file(rt: &HostRuntime, file: &[u8], object: &Object) -> io::Result<()> 
 fn go_on(
     rt: &HostRuntime,
     object: &Object,
-    types: &[u8],
+    types: Vec<u8>,
     symbols: &[u8],
     lines: &str,
 ) -> io::Result<()> {
@@ -176,7 +176,7 @@ fn go_with(
     rt: &HostRuntime,
     file: &[u8],
     object: Object,
-    types: &[u8],
+    types: Vec<u8>,
     symbols: &[u8],
     lines: &str,
 ) -> io::Result<()> {
@@ -193,7 +193,7 @@ fn go_with(
 fn go_through(
     rt: &HostRuntime,
     file: &[u8],
-    types: &[u8],
+    types: Vec<u8>,
     symbols: &[u8],
     lines: &str,
 ) -> io::Result<()> {
@@ -217,6 +217,6 @@ fn main(rt: HostRuntime) -> io::Result<()> {
     let types = fs::read(&rt, types.as_str())?;
     let symbols = fs::read(&rt, symbols.as_str())?;
     let lines = fs::read_to_string(&rt, lines.as_str())?;
-    go_through(&rt, &file, &types, &symbols, lines.as_str())?;
+    go_through(&rt, &file, types, &symbols, lines.as_str())?;
     go_cut(&rt, &file)
 }

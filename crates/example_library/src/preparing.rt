@@ -11,8 +11,8 @@ pub fn parsed(alloc: Global, file: &[u8]) -> Result<Object, ParseError> {
 }
 
 /// The kernel's types, as /sys/kernel/btf/vmlinux has them.
-pub fn kernel_types(alloc: Global, bytes: &[u8]) -> Result<Btf, BtfError> {
-    Btf::parse(alloc, bytes, Endianness::Little)
+pub fn kernel_types(bytes: Vec<u8>) -> Result<Btf, BtfError> {
+    Btf::from_vec(bytes, Endianness::Little)
 }
 
 /// A copy of the object after the steps; the object stays as it is.

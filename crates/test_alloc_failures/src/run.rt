@@ -7,7 +7,7 @@ use crate::object::{on_object, parse};
 use crate::prepared::{inspect_file, prepare_file};
 use crate::small::on_small;
 use crate::still_file::on_file;
-use crate::types::{on_types, parse_types};
+use crate::types::{on_types, parse_types, take_types};
 use ebpf_btf::{Btf, Endianness};
 use std::io;
 
@@ -67,6 +67,10 @@ pub fn run(rt: &HostRuntime, files: &Files, subject: &str, calls: &[String]) -> 
     }
     if subject == "parse_types" {
         return parse_types(rt, bytes, last_of(calls));
+    }
+    if subject == "take_types" {
+        let bytes = Vec::from_slice(rt.alloc(), bytes)?;
+        return take_types(rt, bytes, last_of(calls));
     }
     match Btf::parse(rt.alloc(), bytes, Endianness::Little) {
         Ok(mut types) => with_types(rt, files, &mut types, subject, calls),

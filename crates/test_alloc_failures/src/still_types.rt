@@ -2,12 +2,26 @@
 
 use crate::call::Call;
 use crate::still::mix;
-use ebpf_btf::{Btf, BtfType};
+use ebpf_btf::{Btf, BtfMember, BtfType, Rows};
 use ebpf_candidates::types_are_compatible;
 use std::io;
 
+/// What is read of the members of a type.
+fn of_members(seen: u64, ty: &BtfType<'_>, members: &Rows<'_, BtfMember>) -> u64 {
+    let mut seen = seen;
+    for k in 0..members.len() {
+        let member = members.at(k);
+        let offset = u64::from(ty.member_bit_offset(&member));
+        seen = mix(
+            seen,
+            &[offset, u64::from(ty.member_bit_field_size(&member))],
+        );
+    }
+    seen
+}
+
 /// What is read of a type.
-fn of_type(seen: u64, ty: &BtfType) -> u64 {
+fn of_type(seen: u64, ty: &BtfType<'_>) -> u64 {
     let numbers = [
         u64::from(ty.name_offset()),
         u64::from(ty.size().unwrap_or(0)),
@@ -15,12 +29,11 @@ fn of_type(seen: u64, ty: &BtfType) -> u64 {
         u64::from(ty.is_signed()),
         ty.variant_count().unwrap_or(0) as u64,
     ];
-    let mut seen = mix(seen, &numbers);
-    for member in ty.members().unwrap_or(&[]) {
-        let offset = u64::from(ty.member_bit_offset(member));
-        seen = mix(seen, &[offset, u64::from(ty.member_bit_field_size(member))]);
+    let seen = mix(seen, &numbers);
+    match ty.members() {
+        Some(members) => of_members(seen, ty, &members),
+        None => seen,
     }
-    seen
 }
 
 /// What is read of the type with an id.
@@ -33,14 +46,14 @@ fn of_id(seen: u64, types: &Btf, id: u32) -> u64 {
         &[u64::from(resolved), u64::from(size), u64::from(fits)],
     );
     match types.type_by_id(id) {
-        Ok(ty) => of_type(seen, ty),
+        Ok(ty) => of_type(seen, &ty),
         Err(_) => seen,
     }
 }
 
 /// What is read of the first types.
 fn of_types(types: &Btf) -> u64 {
-    let mut seen = types.types().len() as u64;
+    let mut seen = types.len() as u64;
     for id in 0..100 {
         seen = of_id(seen, types, id);
     }

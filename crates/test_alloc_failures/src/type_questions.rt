@@ -2,8 +2,7 @@
 
 use crate::call::Call;
 use crate::still_types::read_types;
-use ebpf_base::Items;
-use ebpf_btf::{Btf, BtfError, BtfKind, BtfType, Enum64Fallback, UnionFallback, UnionMembers};
+use ebpf_btf::{Btf, BtfError, BtfKind, BtfType};
 use ebpf_candidates::{TypeIndex, fields_are_compatible};
 use std::alloc::Global;
 use std::io;
@@ -16,23 +15,21 @@ fn string_at(rt: &HostRuntime, types: &Btf, call: Call<'_>) -> io::Result<()> {
 }
 
 /// The name of a type.
-fn type_name(rt: &HostRuntime, types: &Btf, ty: &BtfType, call: Call<'_>) -> io::Result<()> {
+fn type_name(rt: &HostRuntime, types: &Btf, ty: &BtfType<'_>, call: Call<'_>) -> io::Result<()> {
     call.begin(rt);
     let answer = types.type_name(ty);
     call.tell(rt, &answer)
 }
 
 /// The name of a type for an error.
-fn err_type_name(rt: &HostRuntime, types: &Btf, ty: &BtfType, call: Call<'_>) -> io::Result<()> {
+fn err_type_name(
+    rt: &HostRuntime,
+    types: &Btf,
+    ty: &BtfType<'_>,
+    call: Call<'_>,
+) -> io::Result<()> {
     call.begin(rt);
     let answer = types.err_type_name(ty);
-    call.tell(rt, &answer)
-}
-
-/// A copy of a type.
-fn clone_type(rt: &HostRuntime, ty: &BtfType, call: Call<'_>) -> io::Result<()> {
-    call.begin(rt);
-    let answer: Result<_, _> = ty.clone();
     call.tell(rt, &answer)
 }
 
@@ -103,31 +100,11 @@ fn with_index(rt: &HostRuntime, types: &Btf, call: Call<'_>) -> io::Result<()> {
     }
 }
 
-/// What an enumeration of 64 bits held, in memory of its own.
-fn boxed(rt: &HostRuntime, call: Call<'_>) -> io::Result<()> {
-    let contents = Enum64Fallback {
-        signed: true,
-        variants: Items::new(rt.alloc()),
-    };
-    call.begin(rt);
-    let answer = UnionFallback::new(rt.alloc(), Some(contents));
-    call.tell(rt, &answer)
-}
-
-/// The members of a UNION, in memory of their own.
-fn boxed_members(rt: &HostRuntime, call: Call<'_>) -> io::Result<()> {
-    let members = Items::new(rt.alloc());
-    call.begin(rt);
-    let answer = UnionMembers::new(rt.alloc(), members);
-    call.tell(rt, &answer)
-}
-
 /// A question about a type.
-fn of_type(rt: &HostRuntime, types: &Btf, ty: &BtfType, call: Call<'_>) -> io::Result<()> {
+fn of_type(rt: &HostRuntime, types: &Btf, ty: &BtfType<'_>, call: Call<'_>) -> io::Result<()> {
     match call.name {
         "type_name" => type_name(rt, types, ty, call),
         "err_type_name" => err_type_name(rt, types, ty, call),
-        "clone_type" => clone_type(rt, ty, call),
         _ => call.miss(rt),
     }
 }
@@ -135,7 +112,7 @@ fn of_type(rt: &HostRuntime, types: &Btf, ty: &BtfType, call: Call<'_>) -> io::R
 /// A question about the type whose id the word is.
 fn with_type(rt: &HostRuntime, types: &Btf, call: Call<'_>) -> io::Result<()> {
     match types.type_by_id(call.number()) {
-        Ok(ty) => of_type(rt, types, ty, call),
+        Ok(ty) => of_type(rt, types, &ty, call),
         Err(_) => println!(rt; "no such type"),
     }
 }
@@ -150,8 +127,6 @@ pub fn ask(rt: &HostRuntime, types: &Btf, call: Call<'_>) -> io::Result<()> {
         "both" | "candidates" => with_index(rt, types, call),
         "fields" => fields(rt, types, call.number(), call),
         "still" => read_types(rt, types, call),
-        "boxed" => boxed(rt, call),
-        "boxed_members" => boxed_members(rt, call),
         _ => with_type(rt, types, call),
     }
 }

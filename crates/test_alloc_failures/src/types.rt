@@ -12,6 +12,13 @@ pub fn parse_types(rt: &HostRuntime, bytes: &[u8], call: Call<'_>) -> io::Result
     call.tell(rt, &answer)
 }
 
+/// Takes bytes over as types.
+pub fn take_types(rt: &HostRuntime, bytes: Vec<u8>, call: Call<'_>) -> io::Result<()> {
+    call.begin(rt);
+    let answer = Btf::from_vec(bytes, Endianness::Little);
+    call.tell(rt, &answer)
+}
+
 /// Adds the word to the strings.
 fn add_string(rt: &HostRuntime, types: &mut Btf, call: Call<'_>) -> io::Result<()> {
     call.begin(rt);
@@ -20,7 +27,7 @@ fn add_string(rt: &HostRuntime, types: &mut Btf, call: Call<'_>) -> io::Result<(
 }
 
 /// Adds a type.
-fn add(rt: &HostRuntime, types: &mut Btf, ty: BtfType, call: Call<'_>) -> io::Result<()> {
+fn add(rt: &HostRuntime, types: &mut Btf, ty: &BtfType<'_>, call: Call<'_>) -> io::Result<()> {
     call.begin(rt);
     let answer = types.add_type(ty);
     call.tell(rt, &answer)
@@ -28,9 +35,13 @@ fn add(rt: &HostRuntime, types: &mut Btf, ty: BtfType, call: Call<'_>) -> io::Re
 
 /// Adds the type again whose id the word is.
 fn add_type(rt: &HostRuntime, types: &mut Btf, call: Call<'_>) -> io::Result<()> {
-    match types.type_by_id(call.number()).map(|ty| ty.clone()) {
-        Ok(Ok(again)) => add(rt, types, again, call),
-        _ => println!(rt; "no such type"),
+    let copy: Result<Btf, _> = types.clone();
+    let Ok(copy) = copy else {
+        return println!(rt; "no copy");
+    };
+    match copy.type_by_id(call.number()) {
+        Ok(again) => add(rt, types, &again, call),
+        Err(_) => println!(rt; "no such type"),
     }
 }
 

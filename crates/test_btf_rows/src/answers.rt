@@ -17,7 +17,7 @@ pub fn text_of(
     }
 }
 
-fn error_name(alloc: Global, btf: &Btf, ty: &BtfType) -> Result<String, AllocError> {
+fn error_name(alloc: Global, btf: &Btf, ty: &BtfType<'_>) -> Result<String, AllocError> {
     match btf.err_type_name(ty) {
         Some(text) => String::from_str(alloc, text.as_str()),
         None => String::from_str(alloc, "None"),
@@ -25,7 +25,7 @@ fn error_name(alloc: Global, btf: &Btf, ty: &BtfType) -> Result<String, AllocErr
 }
 
 /// The number of members, and where one with the offset word 0x03000005 would stand.
-fn members(alloc: Global, ty: &BtfType) -> Result<String, AllocError> {
+fn members(alloc: Global, ty: &BtfType<'_>) -> Result<String, AllocError> {
     let member = BtfMember {
         name_offset: 0,
         btf_type: 1,
@@ -43,7 +43,7 @@ fn members(alloc: Global, ty: &BtfType) -> Result<String, AllocError> {
 }
 
 /// The kind, the offset of the name, the size, the id that is held, and what is said of members.
-fn accessors(alloc: Global, ty: &BtfType) -> Result<String, AllocError> {
+fn accessors(alloc: Global, ty: &BtfType<'_>) -> Result<String, AllocError> {
     let kind = ty.kind();
     let name = ty.name_offset();
     let size = ty.size();
@@ -59,9 +59,9 @@ fn of_type(alloc: Global, btf: &Btf, question: &str, id: u32) -> Result<String, 
         Err(error) => return shown(alloc, error),
     };
     match question {
-        "accessors" => accessors(alloc, ty),
-        "name" => text_of(alloc, btf.type_name(ty)),
-        "error_name" => error_name(alloc, btf, ty),
+        "accessors" => accessors(alloc, &ty),
+        "name" => text_of(alloc, btf.type_name(&ty)),
+        "error_name" => error_name(alloc, btf, &ty),
         _ => shown(alloc, ty),
     }
 }
@@ -88,7 +88,7 @@ fn of_number(alloc: Global, btf: &Btf, question: &str, number: u32) -> Result<St
 /// The answer to a question.
 fn answer(alloc: Global, btf: &Btf, action: &Action<'_>) -> Result<String, AllocError> {
     match (action.name, action.small_number(0)) {
-        ("count", _) => shown(alloc, btf.types().len()),
+        ("count", _) => shown(alloc, btf.len()),
         ("id", _) => id(alloc, btf, action),
         (question, Some(number)) => of_number(alloc, btf, question, number),
         _ => no_action(alloc),

@@ -7,7 +7,7 @@ use test_cases::{Action, Files, changed, front, tally_each, value_or_error};
 /// How many types bytes have, or why they can't be read.
 fn count(alloc: Global, bytes: &[u8]) -> Result<String, AllocError> {
     let parsed = Btf::parse(alloc, bytes, Endianness::Little);
-    value_or_error(alloc, parsed.map(|btf| btf.types().len()))
+    value_or_error(alloc, parsed.map(|btf| btf.len()))
 }
 
 /// What the first bytes give, for each length from one number up to another.

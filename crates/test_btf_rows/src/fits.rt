@@ -29,7 +29,7 @@ fn with_each(
     target: &Btf,
 ) -> Result<String, AllocError> {
     let mut text = String::from_str(alloc, "with each:")?;
-    for (other, _ty) in target.types().iter().enumerate() {
+    for other in 0..target.len() {
         let found = value_or_error(alloc, fit(of_fields, local, local_id, target, other as u32))?;
         write!(text, " {found}")?;
     }

@@ -7,7 +7,7 @@ use crate::ext::{ext_prefixes, on_ext};
 use crate::fits::fits;
 use ebpf_btf::{Btf, BtfError, Endianness};
 use std::alloc::{AllocError, Global};
-use test_cases::{Action, Files, shown};
+use test_cases::{Action, Files, beside_copy, shown};
 
 /// The bytes of a file and their order: those of `big NAME`, if that has any, are big endian, and those of `NAME` little.
 pub fn ordered<'a>(files: &'a Files, big_name: &str, little_name: &str) -> (&'a [u8], Endianness) {
@@ -20,9 +20,15 @@ pub fn ordered<'a>(files: &'a Files, big_name: &str, little_name: &str) -> (&'a 
 }
 
 /// The types of a case.
-pub fn types(alloc: Global, files: &Files) -> Result<Btf, BtfError> {
+fn types(alloc: Global, files: &Files) -> Result<Btf, BtfError> {
     let (bytes, order) = ordered(files, "big types", "types");
     Btf::parse(alloc, bytes, order)
+}
+
+/// The types of a case, which keep its bytes.
+fn kept_types(alloc: Global, files: &Files) -> Result<Btf, BtfError> {
+    let (bytes, order) = ordered(files, "big types", "types");
+    Btf::from_vec(Vec::from_slice(alloc, bytes)?, order)
 }
 
 /// What an action gives of these types.
@@ -42,10 +48,23 @@ fn of_types(
     }
 }
 
-/// What an action gives of the types of its case, or why there are none.
-pub fn on_types(alloc: Global, files: &Files, action: &Action<'_>) -> Result<String, AllocError> {
-    match types(alloc, files) {
+/// What an action gives of types, or why there are none.
+fn of_read(
+    alloc: Global,
+    files: &Files,
+    types: Result<Btf, BtfError>,
+    action: &Action<'_>,
+) -> Result<String, AllocError> {
+    match types {
         Ok(btf) => of_types(alloc, files, &btf, action),
         Err(error) => shown(alloc, error),
     }
+}
+
+/// What an action gives of the types of its case, or why there are none; and what it gives of types that keep the bytes,
+/// where that is something else.
+pub fn on_types(alloc: Global, files: &Files, action: &Action<'_>) -> Result<String, AllocError> {
+    let answered = of_read(alloc, files, types(alloc, files), action)?;
+    let of_kept = of_read(alloc, files, kept_types(alloc, files), action)?;
+    beside_copy(answered, of_kept)
 }

@@ -79,7 +79,7 @@ impl Line for ExternDesc {
 }
 
 /// A line for a type, with its name.
-fn put_type(text: &mut String, btf: &Btf, id: usize, ty: &BtfType) -> Result<(), AllocError> {
+fn put_type(text: &mut String, btf: &Btf, id: usize, ty: &BtfType<'_>) -> Result<(), AllocError> {
     match btf.type_name(ty) {
         Ok(name) => writeln!(text, "{id} {name}: {ty:?}"),
         Err(error) => writeln!(text, "{id} {error:?}: {ty:?}"),
@@ -88,8 +88,8 @@ fn put_type(text: &mut String, btf: &Btf, id: usize, ty: &BtfType) -> Result<(),
 
 /// A line for each type from an id on.
 pub fn put_types(text: &mut String, btf: &Btf, from: usize) -> Result<(), AllocError> {
-    for (id, ty) in btf.types().iter().enumerate().skip(from) {
-        put_type(text, btf, id, ty)?;
+    for id in from..btf.len() {
+        put_type(text, btf, id, &btf.at(id))?;
     }
     Ok(())
 }

@@ -36,8 +36,15 @@ fn words_of(alloc: Global, action: &Action<'_>) -> Result<Words, AllocError> {
 }
 
 /// The kernel's types, where the action names a file of them.
-fn types_of<'a>(files: &'a Files, action: &Action<'_>) -> Option<&'a [u8]> {
-    Some(files.get(named(action, "types")?))
+fn types_of(
+    alloc: Global,
+    files: &Files,
+    action: &Action<'_>,
+) -> Result<Option<Vec<u8>>, AllocError> {
+    match named(action, "types") {
+        Some(name) => Ok(Some(Vec::from_slice(alloc, files.get(name))?)),
+        None => Ok(None),
+    }
 }
 
 /// Runs `ebpf-link` or `ebpf-inspect`: its status.
@@ -46,10 +53,10 @@ fn run(
     files: &Files,
     action: &Action<'_>,
     words: &Words,
+    types: Option<Vec<u8>>,
     out: &mut Vec<u8>,
     err: &mut Vec<u8>,
 ) -> u8 {
-    let types = types_of(files, action);
     let (object, kallsyms) = (files.get("object"), files.get("kallsyms"));
     if action.name == "link" {
         run_link(alloc, words, object, types, kallsyms, out, err)
@@ -70,6 +77,7 @@ pub fn printed(alloc: Global, files: &Files, action: &Action<'_>) -> Result<Stri
     let words = words_of(alloc, action)?;
     let mut out = Vec::new(alloc);
     let mut err = Vec::new(alloc);
-    let status = run(alloc, files, action, &words, &mut out, &mut err);
+    let types = types_of(alloc, files, action)?;
+    let status = run(alloc, files, action, &words, types, &mut out, &mut err);
     output_text(alloc, status, &out, &err)
 }

@@ -8,7 +8,7 @@ use std::test::Fail;
 
 fn add_function(types: &mut Btf, name: &str) -> Result<u32, BtfError> {
     let name_offset = types.add_string(name)?;
-    types.add_type(BtfType::Func {
+    types.add_type(&BtfType::Func {
         name_offset,
         btf_type: 0,
     })
@@ -16,7 +16,7 @@ fn add_function(types: &mut Btf, name: &str) -> Result<u32, BtfError> {
 
 fn add_typedef(types: &mut Btf, name: &str) -> Result<u32, BtfError> {
     let name_offset = types.add_string(name)?;
-    types.add_type(BtfType::Typedef {
+    types.add_type(&BtfType::Typedef {
         name_offset,
         btf_type: 0,
     })
@@ -24,7 +24,7 @@ fn add_typedef(types: &mut Btf, name: &str) -> Result<u32, BtfError> {
 
 fn add_variable(types: &mut Btf, name: &str) -> Result<u32, BtfError> {
     let name_offset = types.add_string(name)?;
-    types.add_type(BtfType::Var {
+    types.add_type(&BtfType::Var {
         name_offset,
         btf_type: 0,
         linkage: 1,
@@ -34,7 +34,7 @@ fn add_variable(types: &mut Btf, name: &str) -> Result<u32, BtfError> {
 /// Types with the ids 1 to 9; the name of type 1 can't be read.
 fn kernel(alloc: Global) -> Result<Btf, BtfError> {
     let mut types = Btf::new(alloc)?;
-    types.add_type(BtfType::Func {
+    types.add_type(&BtfType::Func {
         name_offset: 9999,
         btf_type: 0,
     })?;

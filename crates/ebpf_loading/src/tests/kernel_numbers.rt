@@ -1,8 +1,7 @@
 // Numbers that a kernel knows, by small enumerations.
 
 use crate::KernelNumbers;
-use ebpf_base::Items;
-use ebpf_btf::{Btf, BtfEnum, BtfError, BtfType};
+use ebpf_btf::{Btf, BtfEnum, BtfError, BtfType, Rows};
 use std::alloc::Global;
 use std::test::Fail;
 
@@ -13,7 +12,7 @@ fn add_enumeration(
     enumerators: &[(&str, u32)],
 ) -> Result<u32, BtfError> {
     let name_offset = types.add_string(name)?;
-    let mut variants = Items::new(alloc);
+    let mut variants = Vec::new(alloc);
     for (name, value) in enumerators {
         let name_offset = types.add_string(name)?;
         variants.push(BtfEnum {
@@ -21,11 +20,11 @@ fn add_enumeration(
             value: *value,
         })?;
     }
-    types.add_type(BtfType::Enum {
+    types.add_type(&BtfType::Enum {
         name_offset,
         size: 4,
         kind_flag: false,
-        variants,
+        variants: Rows::of(&variants),
     })
 }
 
@@ -33,7 +32,7 @@ fn add_enumeration(
 fn kernel(alloc: Global) -> Result<Btf, BtfError> {
     let mut types = Btf::new(alloc)?;
     let name_offset = types.add_string("bpf_func_id")?;
-    types.add_type(BtfType::Typedef {
+    types.add_type(&BtfType::Typedef {
         name_offset,
         btf_type: 2,
     })?;

@@ -2,7 +2,7 @@
 
 use crate::{MapTypeIds, map_types};
 use ebpf_base::Items;
-use ebpf_btf::{Btf, BtfError, BtfType};
+use ebpf_btf::{Btf, BtfError, BtfType, Rows};
 use ebpf_parts::EbpfSectionKind;
 use ebpf_parts::maps::{
     BtfMap, BtfMapDef, LegacyMap, Map, PinningType, bpf_map_def, bpf_map_info, parse_map_info,
@@ -15,17 +15,17 @@ use std::test::Fail;
 fn object_types(alloc: Global) -> Result<Btf, BtfError> {
     let mut types = Btf::new(alloc)?;
     let name_offset = types.add_string(".bss")?;
-    types.add_type(BtfType::Var {
+    types.add_type(&BtfType::Var {
         name_offset,
         btf_type: 0,
         linkage: 1,
     })?;
     for (name, size) in [(".bss", 0), (".data", 8), (".rodata", 4), (".bss", 8)] {
         let name_offset = types.add_string(name)?;
-        types.add_type(BtfType::DataSec {
+        types.add_type(&BtfType::DataSec {
             name_offset,
             size,
-            entries: Items::new(alloc),
+            entries: Rows::of(&[]),
         })?;
     }
     Ok(types)

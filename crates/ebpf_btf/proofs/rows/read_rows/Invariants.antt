@@ -1,5 +1,5 @@
 use Rattle.std.proofs.Common.{◌≡◌, ◌≤◌, vec_capacity, vec_len}
-use Rattle.ebpf_btf.specs.Format.{items_at}
+use Rattle.ebpf_btf.specs.Items.{items_at}
 use Rattle.ebpf_btf.proofs.rows.read_rows.Given as goal
 
 abbrev pub invariant-loop-k : goal.invariant-loop-k

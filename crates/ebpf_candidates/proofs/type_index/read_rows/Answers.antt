@@ -1,11 +1,15 @@
-use Rattle.std.proofs.Common.{◌≡◌, ℕ, ◌<◌, ◌+◌, ◌∷◌, [], length, drop, get_or, None, Some, ap, sym, ◌∙◌}
-use Rattle.std.proofs.lemmas.List.{drop_more}
+use Rattle.std.proofs.Common.{◌≡◌, ℕ, ◌<◌, ◌+◌, ◌∷◌, [], length, drop, None, Some, ap, sym, ◌∙◌, true, false, arith}
+use Rattle.std.specs.Prelude.{option_map, slice_get}
 use Rattle.ebpf_candidates.specs.declared.type_row.TypeRow.{TypeRow}
-use Rattle.ebpf_btf.specs.Types.{kind_number, kind_of}
+use Rattle.ebpf_btf.specs.Types.{kind_number, kind_of, name_off}
+use Rattle.ebpf_candidates.specs.PrivateContracts.{readable_at}
+use Rattle.ebpf_candidates.specs.SomeKinds.{has_kind}
 use Rattle.ebpf_candidates.specs.TypeRows.{type_key_hash, named_row, readable_name}
-use Rattle.ebpf_candidates.proofs.CandidateRows.{named, rows_more, rows_skip}
-use Rattle.ebpf_candidates.proofs.UnreadNames.{unread_more, unread_past, unreadable_none}
-use Rattle.ebpf_candidates.proofs.WithoutNames.{has_name, is_none, anonymous_more, anonymous_skip, no_bytes, some_bytes}
+use Rattle.ebpf_candidates.proofs.CandidateRows.{named, rows_more, rows_pass, rows_skip}
+use Rattle.ebpf_candidates.proofs.Heads.{headed, is_there, drop_found}
+use Rattle.ebpf_candidates.proofs.SomeKinds.{other_kind}
+use Rattle.ebpf_candidates.proofs.UnreadNames.{unread_more, unread_pass, unread_past, unreadable_none}
+use Rattle.ebpf_candidates.proofs.WithoutNames.{has_name, is_none, anonymous_more, anonymous_pass, anonymous_skip, no_bytes, some_bytes}
 use Rattle.ebpf_candidates.proofs.type_index.read_rows.Goals as goal
 
 abbrev a_row : ℕ → ℕ → TypeRow
@@ -13,17 +17,40 @@ a_row hash id = record { hash = hash; id = id }
 
 pub loop-id-preserved-in_default : goal.loop-id-preserved-in_default
 loop-id-preserved-in_default c =
+    let below : c.loop-id.id < length c.args.names.now.types = rw (← c.btf.ensures) (omega arith) in
+    let none : option_map kind_of (slice_get c.args.names.now.types c.loop-id.id) ≡ None = rw (← c.btf-in-loop-id.ensures) (sym (rw c.in_default.is at c.head.ensures.kind)) in
+    absurd (is_there c.args.names.now.types c.loop-id.id below none)
+
+pub loop-id-preserved-then-not-has_kind : goal.loop-id-preserved-then-not-has_kind
+loop-id-preserved-then-not-has_kind c =
     let info = c.args.names.now in
     let i = c.loop-id.id in
-    let t = c.ty-item.result in
-    let below : i < length info.types = rw (← c.btf.ensures, ← c.types-ty-items.ensures.all) c.loop-id-test.true in
-    let item : get_or info.types i t ≡ t = cc in
-    let here : drop i info.types ≡ t ∷ drop (i + 1) info.types = rw item at (drop_more info.types i t below) in
-    let none : readable_name info t ≡ None = sym c.in_default.ensures in
+    let kind : option_map kind_of (slice_get info.types i) ≡ Some c.in-Some.head.kind = rw (← c.btf-in-loop-id.ensures) (sym (rw c.in-Some.is at c.head.ensures.kind)) in
+    let name : option_map name_off (slice_get info.types i) ≡ Some c.in-Some.head.name_offset = rw (← c.btf-in-loop-id.ensures) (sym (rw c.in-Some.is at c.head.ensures.name)) in
+    let head = headed (slice_get info.types i) c.in-Some.head.kind c.in-Some.head.name_offset kind name in
+    let here : drop i info.types ≡ head.ty ∷ drop (i + 1) info.types = drop_found info.types i head.ty head.is in
+    let out : has_kind c.args.kinds.now (kind_of head.ty) ≡ false = ap (has_kind c.args.kinds.now) head.of_kind ∙ sym c.if-not-has_kind.ensures in
     record {
-      rows = rw (rows_skip info info.types i t here (ap (named_row (kind_number (kind_of t)) i) none)) c.loop-id.invariant.rows;
-      without = λ kind. rw (anonymous_skip info kind info.types i t here (ap is_none none)) (c.loop-id.invariant.without kind);
-      unread = λ kind. unread_more info kind info.types i t _ _ _ here (unreadable_none info t none) (rw (← c.kind.ensures, ← c.name_offset.ensures) (c.keep_first.ensures.first kind)) (c.loop-id.invariant.unread kind);
+      rows = rw (rows_pass c.args.kinds.now info info.types i head.ty here out) c.loop-id.invariant.rows;
+      without = λ kind among. rw (anonymous_pass info kind info.types i head.ty here (other_kind c.args.kinds.now head.ty kind out among)) (c.loop-id.invariant.without kind among);
+      unread = λ kind among. rw (unread_pass info kind info.types i head.ty here (other_kind c.args.kinds.now head.ty kind out among)) (c.loop-id.invariant.unread kind among);
+      kinds = c.loop-id.invariant.kinds;
+    }
+
+pub loop-id-preserved-in_default-name : goal.loop-id-preserved-in_default-name
+loop-id-preserved-in_default-name c =
+    let info = c.args.names.now in
+    let i = c.loop-id.id in
+    let kind : option_map kind_of (slice_get info.types i) ≡ Some c.in-Some.head.kind = rw (← c.btf-in-loop-id.ensures) (sym (rw c.in-Some.is at c.head.ensures.kind)) in
+    let name : option_map name_off (slice_get info.types i) ≡ Some c.in-Some.head.name_offset = rw (← c.btf-in-loop-id.ensures) (sym (rw c.in-Some.is at c.head.ensures.name)) in
+    let head = headed (slice_get info.types i) c.in-Some.head.kind c.in-Some.head.name_offset kind name in
+    let here : drop i info.types ≡ head.ty ∷ drop (i + 1) info.types = drop_found info.types i head.ty head.is in
+    let in_it : has_kind c.args.kinds.now (kind_of head.ty) ≡ true = ap (has_kind c.args.kinds.now) head.of_kind ∙ sym c.if-not-has_kind.ensures in
+    let none : readable_name info head.ty ≡ None = ap (readable_at info.strings) head.named ∙ sym c.in_default-name.ensures in
+    record {
+      rows = rw (rows_skip c.args.kinds.now info info.types i head.ty here in_it (ap (named_row (kind_number (kind_of head.ty)) i) none)) c.loop-id.invariant.rows;
+      without = λ kind among. rw (anonymous_skip info kind info.types i head.ty here (ap is_none none)) (c.loop-id.invariant.without kind among);
+      unread = λ kind among. unread_more info kind info.types i head.ty _ _ _ here (unreadable_none info head.ty none) (rw (head.of_kind, head.named) (c.keep_first.ensures.first kind)) (c.loop-id.invariant.unread kind among);
       kinds = (c.loop-id.invariant.kinds.0, c.keep_first.ensures.kinds);
     }
 
@@ -31,16 +58,17 @@ pub loop-id-preserved-then-is_empty : goal.loop-id-preserved-then-is_empty
 loop-id-preserved-then-is_empty c =
     let info = c.args.names.now in
     let i = c.loop-id.id in
-    let t = c.ty-item.result in
-    let below : i < length info.types = rw (← c.btf.ensures, ← c.types-ty-items.ensures.all) c.loop-id-test.true in
-    let item : get_or info.types i t ≡ t = cc in
-    let here : drop i info.types ≡ t ∷ drop (i + 1) info.types = rw item at (drop_more info.types i t below) in
-    let empty : c.in-Some.name.now ≡ [] = no_bytes c.in-Some.name.now c.if-is_empty.ensures in
-    let none : readable_name info t ≡ Some [] = sym c.in-Some.ensures ∙ ap Some empty in
+    let kind : option_map kind_of (slice_get info.types i) ≡ Some c.in-Some.head.kind = rw (← c.btf-in-loop-id.ensures) (sym (rw c.in-Some.is at c.head.ensures.kind)) in
+    let name : option_map name_off (slice_get info.types i) ≡ Some c.in-Some.head.name_offset = rw (← c.btf-in-loop-id.ensures) (sym (rw c.in-Some.is at c.head.ensures.name)) in
+    let head = headed (slice_get info.types i) c.in-Some.head.kind c.in-Some.head.name_offset kind name in
+    let here : drop i info.types ≡ head.ty ∷ drop (i + 1) info.types = drop_found info.types i head.ty head.is in
+    let in_it : has_kind c.args.kinds.now (kind_of head.ty) ≡ true = ap (has_kind c.args.kinds.now) head.of_kind ∙ sym c.if-not-has_kind.ensures in
+    let empty : c.in-Some-name.name.now ≡ [] = no_bytes c.in-Some-name.name.now c.if-is_empty.ensures in
+    let none : readable_name info head.ty ≡ Some [] = ap (readable_at info.strings) head.named ∙ sym c.in-Some-name.ensures ∙ ap Some empty in
     record {
-      rows = rw (rows_skip info info.types i t here (ap (named_row (kind_number (kind_of t)) i) none)) c.loop-id.invariant.rows;
-      without = λ kind. anonymous_more info kind info.types i t _ _ _ here none (rw (← c.kind-then-is_empty.ensures) (c.in_ok-add_anonymous.ensures.added kind)) (c.loop-id.invariant.without kind);
-      unread = λ kind. rw (unread_past info kind info.types i t [] here none) (c.loop-id.invariant.unread kind);
+      rows = rw (rows_skip c.args.kinds.now info info.types i head.ty here in_it (ap (named_row (kind_number (kind_of head.ty)) i) none)) c.loop-id.invariant.rows;
+      without = λ kind among. anonymous_more info kind info.types i head.ty _ _ _ here none (rw head.of_kind (c.in_ok-add_anonymous.ensures.added kind)) (c.loop-id.invariant.without kind among);
+      unread = λ kind among. rw (unread_past info kind info.types i head.ty [] here none) (c.loop-id.invariant.unread kind among);
       kinds = (c.in_ok-add_anonymous.ensures.kinds, c.loop-id.invariant.kinds.1);
     }
 
@@ -48,19 +76,20 @@ pub loop-id-preserved : goal.loop-id-preserved
 loop-id-preserved c =
     let info = c.args.names.now in
     let i = c.loop-id.id in
-    let t = c.ty-item.result in
-    let below : i < length info.types = rw (← c.btf.ensures, ← c.types-ty-items.ensures.all) c.loop-id-test.true in
-    let item : get_or info.types i t ≡ t = cc in
-    let here : drop i info.types ≡ t ∷ drop (i + 1) info.types = rw item at (drop_more info.types i t below) in
-    let some : (c.in-Some.name.now ≡ []) → ⊥ = some_bytes c.in-Some.name.now c.if-is_empty.ensures in
-    let name : readable_name info t ≡ Some c.in-Some.name.now = sym c.in-Some.ensures in
-    let number : c.kind_number.result ≡ kind_number (kind_of t) = c.kind_number.ensures.number ∙ ap kind_number c.kind-in-loop-id.ensures in
-    let hash : type_key_hash (kind_number (kind_of t)) c.in-Some.name.now ≡ c.type_key_hash.result = ap (λ k. type_key_hash k c.in-Some.name.now) (sym number) ∙ sym c.type_key_hash.ensures in
-    let row : named_row (kind_number (kind_of t)) i (readable_name info t) ≡ Some (record { hash = c.type_key_hash.result; id = i }) =
-    ap (named_row (kind_number (kind_of t)) i) name ∙ named (kind_number (kind_of t)) i c.in-Some.name.now some ∙ ap (λ (h : ℕ). Some (a_row h i)) hash in
+    let kind : option_map kind_of (slice_get info.types i) ≡ Some c.in-Some.head.kind = rw (← c.btf-in-loop-id.ensures) (sym (rw c.in-Some.is at c.head.ensures.kind)) in
+    let name : option_map name_off (slice_get info.types i) ≡ Some c.in-Some.head.name_offset = rw (← c.btf-in-loop-id.ensures) (sym (rw c.in-Some.is at c.head.ensures.name)) in
+    let head = headed (slice_get info.types i) c.in-Some.head.kind c.in-Some.head.name_offset kind name in
+    let here : drop i info.types ≡ head.ty ∷ drop (i + 1) info.types = drop_found info.types i head.ty head.is in
+    let in_it : has_kind c.args.kinds.now (kind_of head.ty) ≡ true = ap (has_kind c.args.kinds.now) head.of_kind ∙ sym c.if-not-has_kind.ensures in
+    let some : (c.in-Some-name.name.now ≡ []) → ⊥ = some_bytes c.in-Some-name.name.now c.if-is_empty.ensures in
+    let text : readable_name info head.ty ≡ Some c.in-Some-name.name.now = ap (readable_at info.strings) head.named ∙ sym c.in-Some-name.ensures in
+    let number : c.kind_number.result ≡ kind_number (kind_of head.ty) = c.kind_number.ensures.number ∙ ap kind_number (sym head.of_kind) in
+    let hash : type_key_hash (kind_number (kind_of head.ty)) c.in-Some-name.name.now ≡ c.type_key_hash.result = ap (λ k. type_key_hash k c.in-Some-name.name.now) (sym number) ∙ sym c.type_key_hash.ensures in
+    let row : named_row (kind_number (kind_of head.ty)) i (readable_name info head.ty) ≡ Some (record { hash = c.type_key_hash.result; id = i }) =
+    ap (named_row (kind_number (kind_of head.ty)) i) text ∙ named (kind_number (kind_of head.ty)) i c.in-Some-name.name.now some ∙ ap (λ (h : ℕ). Some (a_row h i)) hash in
     record {
-      rows = rw c.in_ok-push.ensures.items (rows_more info info.types i t _ _ here row ∙ c.loop-id.invariant.rows);
-      without = λ kind. rw (anonymous_skip info kind info.types i t here (has_name _ c.in-Some.name.now name some)) (c.loop-id.invariant.without kind);
-      unread = λ kind. rw (unread_past info kind info.types i t _ here name) (c.loop-id.invariant.unread kind);
+      rows = rw c.in_ok-push.ensures.items (rows_more c.args.kinds.now info info.types i head.ty _ _ here in_it row ∙ c.loop-id.invariant.rows);
+      without = λ kind among. rw (anonymous_skip info kind info.types i head.ty here (has_name _ c.in-Some-name.name.now text some)) (c.loop-id.invariant.without kind among);
+      unread = λ kind among. rw (unread_past info kind info.types i head.ty _ here text) (c.loop-id.invariant.unread kind among);
       kinds = c.loop-id.invariant.kinds;
     }

@@ -1,4 +1,5 @@
 use Rattle.std.specs.Option.{option_copied}
+use Rattle.std.specs.Prelude.{option_map}
 use Rattle.ebpf_commands.proofs.Refusing.{lacking, there}
 use Rattle.ebpf_commands.proofs.link.print_programs.Goals as goal
 
@@ -13,5 +14,5 @@ returns-in-Ok-print_object-clause-done g c =
 
 pub returns-clause-refused : goal.returns-clause-refused
 returns-clause-refused g c =
-    lacking c.args.file.now (option_copied c.args.btf) (g.K.SymbolSource.source c.args.kallsyms) c.in-Ok.object c.in-Ok.ensures.linked (option_copied c.args.program) c.in-Err-print_object.failure
+    lacking c.args.file.now (option_map (λ bytes. bytes.items) c.args.btf) (g.K.SymbolSource.source c.args.kallsyms) c.in-Ok.object c.in-Ok.ensures.linked (option_copied c.args.program) c.in-Err-print_object.failure
     c.in-Err-print_object.ensures.refused

@@ -6,5 +6,5 @@ abbrev pub decreases-has_member : goal.decreases-has_member
 decreases-has_member l = l.levels
 
 -- whether the name stands among the members that are left is whether it stands among all
-abbrev pub invariant-loop-member : goal.invariant-loop-member
-invariant-loop-member l = has_member l.target l.name l.levels (members_of_id l.target l.type_id) ≡ has_member l.target l.name l.levels (drop l.member-index l.member-items)
+abbrev pub invariant-loop-k : goal.invariant-loop-k
+invariant-loop-k l = has_member l.target l.name l.levels (members_of_id l.target l.type_id) ≡ has_member l.target l.name l.levels (drop l.k l.members)

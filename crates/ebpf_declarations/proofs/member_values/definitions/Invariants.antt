@@ -4,8 +4,8 @@ use Rattle.ebpf_declarations.specs.Maps.{member_value, with_members, definitions
 use Rattle.ebpf_declarations.proofs.member_values.definitions.Given as goal
 
 -- with what the members from here on say it is what all say
-abbrev pub invariant-loop-member : goal.invariant-loop-member
-invariant-loop-member l = record {
+abbrev pub invariant-loop-index : goal.invariant-loop-index
+invariant-loop-index l = record {
   known : RemembersInner l.reading l.btf l.known;
-  says : with_members (member_value l.reading l.btf l.name) l.all (drop l.member-index l.members) ≡ definitions l.fn.reading l.fn.btf l.fn.name l.fn.members;
+  says : with_members (member_value l.reading l.btf l.name) l.all (drop l.index l.members) ≡ definitions l.fn.reading l.fn.btf l.fn.name l.fn.members;
 }

@@ -1,4 +1,4 @@
-use Rattle.std.proofs.Common.{refl}
+use Rattle.std.proofs.Common.{◌<◌, ◌≤◌, length, arith}
 use Rattle.ebpf_btf.specs.declared.members.DataSecEntry.{DataSecEntry}
 use Rattle.ebpf_declarations.specs.Attempts.{given}
 use Rattle.ebpf_declarations.specs.Maps.{entry_map}
@@ -6,22 +6,25 @@ use Rattle.ebpf_base.specs.Faults.{fault_of}
 use Rattle.ebpf_declarations.proofs.Distinct.{entries_more, none_added, all_added}
 use Rattle.ebpf_declarations.proofs.section_maps.add_entries.Goals as goal
 
-pub loop-entry-init : goal.loop-entry-init
-loop-entry-init c = record {
+pub loop-index-init : goal.loop-index-init
+loop-index-init c = record {
   known = c.requires.known;
   remembers = c.requires.remembers;
   added = none_added (λ (entry : DataSecEntry) symbols section. given (entry_map c.args.reading c.args.btf.now symbols section entry)) (λ entry symbols section. fault_of (entry_map c.args.reading c.args.btf.now symbols section entry)) c.args.distinct.now c.requires.named;
 }
 
-pub loop-entry-preserved : goal.loop-entry-preserved
-loop-entry-preserved c = record {
-  known = c.in_ok-add_entry.ensures.known;
-  remembers = c.in_ok-add_entry.ensures.remembers;
-  added = entries_more c.args.reading c.args.btf.now c.args.distinct.now c.loop-entry.distinct c.add_entry.new.distinct c.args.entries.now c.loop-entry.entry-index _ _
-      c.loop-entry-test.true c.loop-entry.invariant.added refl c.in_ok-add_entry.ensures.added;
-}
+pub loop-index-preserved : goal.loop-index-preserved
+loop-index-preserved c =
+    let below : c.loop-index.index < length c.args.entries.now = omega (arith, c.loop-index-test.true, c.len-index-end.ensures) in
+    record {
+      known = c.in_ok-add_entry.ensures.known;
+      remembers = c.in_ok-add_entry.ensures.remembers;
+      added = entries_more c.args.reading c.args.btf.now c.args.distinct.now c.loop-index.distinct c.add_entry.new.distinct c.args.entries.now c.loop-index.index c.at-entry.result c.at-entry.result
+          below c.loop-index.invariant.added c.at-entry.ensures.item c.in_ok-add_entry.ensures.added;
+    }
 
 pub returns-clause-added : goal.returns-clause-added
 returns-clause-added c =
-    all_added (λ (entry : DataSecEntry) symbols section. given (entry_map c.args.reading c.args.btf.now symbols section entry)) (λ entry symbols section. fault_of (entry_map c.args.reading c.args.btf.now symbols section entry)) c.args.distinct.now c.loop-entry.distinct c.args.entries.now c.loop-entry.entry-index
-    c.loop-entry-test.false c.loop-entry.invariant.added
+    let past : length c.args.entries.now ≤ c.loop-index.index = omega (arith, c.loop-index-test.false, c.len-index-end.ensures) in
+    all_added (λ (entry : DataSecEntry) symbols section. given (entry_map c.args.reading c.args.btf.now symbols section entry)) (λ entry symbols section. fault_of (entry_map c.args.reading c.args.btf.now symbols section entry)) c.args.distinct.now c.loop-index.distinct c.args.entries.now c.loop-index.index
+    past c.loop-index.invariant.added

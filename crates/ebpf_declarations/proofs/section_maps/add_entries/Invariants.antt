@@ -5,9 +5,9 @@ use Rattle.ebpf_declarations.specs.Maps.{entries_maps, entries_fault}
 use Rattle.ebpf_declarations.proofs.section_maps.add_entries.Given as goal
 
 -- what the entries so far declare is added
-abbrev pub invariant-loop-entry : goal.invariant-loop-entry
-invariant-loop-entry l = record {
+abbrev pub invariant-loop-index : goal.invariant-loop-index
+invariant-loop-index l = record {
   known : Knows l.reading l.btf l.known;
   remembers : RemembersNames l.btf l.distinct;
-  added : Adds l.fn.distinct l.distinct (λ symbols section. entries_maps l.reading l.btf symbols section (take l.entry-index l.entries)) (λ symbols section. entries_fault l.reading l.btf symbols section (take l.entry-index l.entries));
+  added : Adds l.fn.distinct l.distinct (λ symbols section. entries_maps l.reading l.btf symbols section (take l.index l.entries)) (λ symbols section. entries_fault l.reading l.btf symbols section (take l.index l.entries));
 }

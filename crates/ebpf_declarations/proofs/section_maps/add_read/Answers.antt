@@ -16,9 +16,9 @@ always (Err e) q = tt
 pub returns-clause-remembers : goal.returns-clause-remembers
 returns-clause-remembers c =
     let info = c.args.btf.now in
-    let type : type_at info.types c.args.entry.now.btf_type ≡ Ok c.in_ok-type_by_id.field-0.now = search rules in
+    let type : type_at info.types c.args.entry.now.btf_type ≡ Ok c.in_ok-type_by_id.field-0 = search rules in
     let named : text_at info.strings c.name_offset-offset.result ≡ Ok c.in_ok-name.name =
-    ap (text_at info.strings) c.name_offset-offset.ensures ∙ declared_name c.args.reading info c.args.entry.now c.in_ok-type_by_id.field-0.now c.in_ok-name.name c.in_ok-name.definitions c.in_ok-name.ensures.declared type in
+    ap (text_at info.strings) c.name_offset-offset.ensures ∙ declared_name c.args.reading info c.args.entry.now c.in_ok-type_by_id.field-0 c.in_ok-name.name c.in_ok-name.definitions c.in_ok-name.ensures.declared type in
     let before = still_remembered info c.args.distinct.now c.add.new.self c.in_ok-name.name c.in_ok-name.definitions c.requires.remembers c.in_ok-number.ensures.added in
     when_ok c.remember.result (one_remembered info c.add.new.self c.remember.new.self c.in_ok-name.name c.name_offset-offset.result c.in_ok-number.number before named c.in_ok-number.ensures.number
     record { names = c.remember.ensures.names; last = c.remember.ensures.last; numbers = c.remember.ensures.numbers }) c.remember.ensures.remembered

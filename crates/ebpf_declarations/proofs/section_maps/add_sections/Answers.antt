@@ -8,8 +8,8 @@ pub loop-id-preserved : goal.loop-id-preserved
 loop-id-preserved c = record {
   known = c.in_ok-add_entries.ensures.known;
   remembers = c.in_ok-add_entries.ensures.remembers;
-  added = sections_more c.args.reading c.args.btf.now c.args.distinct.now c.loop-id.distinct c.add_entries.new.distinct c.args.ids.now c.loop-id.id-index _ c.datasec_entries_at.result.now
-      c.loop-id-test.true c.loop-id.invariant.added c.datasec_entries_at.ensures c.in_ok-add_entries.ensures.added;
+  added = sections_more c.args.reading c.args.btf.now c.args.distinct.now c.loop-id.distinct c.add_entries.new.distinct c.args.ids.now c.loop-id.id-index _ c.datasec_entries_at-entries.result
+      c.loop-id-test.true c.loop-id.invariant.added c.datasec_entries_at-entries.ensures c.in_ok-add_entries.ensures.added;
 }
 
 pub returns-clause-added : goal.returns-clause-added

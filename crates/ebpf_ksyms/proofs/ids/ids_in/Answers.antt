@@ -1,17 +1,24 @@
-use Rattle.std.proofs.Common.{◌≡◌, ◌+◌, ◌<◌, ◌∷◌, length, ap, sym, subst, ◌∙◌, drop, get_or}
-use Rattle.std.specs.Prelude.{option_map}
+use Rattle.std.proofs.Common.{◌≡◌, ◌+◌, ◌<◌, length, ap, sym, ◌∙◌, drop, None, arith}
+use Rattle.std.specs.Prelude.{option_map, slice_get}
+use Rattle.ebpf_btf.specs.Types.{kind_of}
+use Rattle.ebpf_candidates.proofs.Heads.{drop_found, headed, is_there}
 use Rattle.ebpf_ksyms.specs.Ids.{finished}
 use Rattle.ebpf_ksyms.specs.PrivateContracts.{value_named}
-use Rattle.ebpf_ksyms.proofs.Identities.{more-types}
-use Rattle.ebpf_ksyms.proofs.Values.{drop-here}
+use Rattle.ebpf_ksyms.proofs.Identities.{by_head, more-types}
 use Rattle.ebpf_ksyms.proofs.ids.ids_in.Goals as goal
+
+pub loop-id-preserved-in_default : goal.loop-id-preserved-in_default
+loop-id-preserved-in_default c =
+    let below : c.loop-id.id < length c.args.kernel.now.types = omega arith in
+    let none : option_map kind_of (slice_get c.args.kernel.now.types c.loop-id.id) ≡ None = sym (rw c.in_default.is at c.head.ensures.kind) in
+    absurd (is_there c.args.kernel.now.types c.loop-id.id below none)
 
 pub loop-id-preserved : goal.loop-id-preserved
 loop-id-preserved c = λ q.
-    let same = c.types-ty-items.ensures.all in
-    let inside : c.loop-id.id < length c.args.kernel.now.types = subst (λ ts. c.loop-id.id < length ts) same c.loop-id-test.true in
-    let is : c.ty-item.result ≡ get_or c.args.kernel.now.types c.loop-id.id c.ty-item.result = subst (λ ts. c.ty-item.result ≡ get_or ts c.loop-id.id c.ty-item.result) same c.ty-item.is in
-    let here = drop-here c.args.kernel.now.types c.loop-id.id c.ty-item.result inside is in
-    sym (more-types c.args.kernel.now q c.loop-id.id c.ty-item.result (drop (c.loop-id.id + 1) c.args.kernel.now.types) (value_named c.loop-id.ids q) (value_named c.add_kernel_type.new.ids q) (c.in_ok-add_kernel_type.ensures.ok q))
-    ∙ ap (λ ts. option_map (finished c.args.kernel.now q c.loop-id.id ts) (value_named c.loop-id.ids q)) (sym here)
+    let info = c.args.kernel.now in
+    let i = c.loop-id.id in
+    let head = headed (slice_get info.types i) c.in-Some.head.kind c.in-Some.head.name_offset (sym (rw c.in-Some.is at c.head.ensures.kind)) (sym (rw c.in-Some.is at c.head.ensures.name)) in
+    let with_it = c.in_ok-add_kernel_type.ensures.ok q ∙ by_head info q i head.ty c.in-Some.head.kind c.in-Some.head.name_offset (value_named c.loop-id.ids q) head.of_kind head.named in
+    sym (more-types info q i head.ty (drop (i + 1) info.types) (value_named c.loop-id.ids q) (value_named c.add_kernel_type.new.ids q) with_it)
+    ∙ ap (λ ts. option_map (finished info q i ts) (value_named c.loop-id.ids q)) (sym (drop_found info.types i head.ty head.is))
     ∙ c.loop-id.invariant q

@@ -1,12 +1,11 @@
 use Rattle.std.proofs.Common.{◌≡◌, drop}
-use Rattle.std.specs.Option.{option_copied}
 use Rattle.ebpf_base.specs.Faults.{first_some, or_else}
 use Rattle.ebpf_loading.specs.KernelNumbers.{enumeration, helpers, map_type_numbering, named_enumerators}
 use Rattle.ebpf_loading.proofs.kernel_numbers.enumerations_in.Given as goal
 
 -- what was found, or else what the types that are left have, is what all have
-abbrev pub invariant-loop-ty : goal.invariant-loop-ty
-invariant-loop-ty l = record {
-  helpers : or_else (option_copied l.helpers) (first_some (named_enumerators l.types helpers.enumeration) (drop l.ty-index l.types.types)) ≡ enumeration l.types helpers.enumeration;
-  map_types : or_else (option_copied l.map_types) (first_some (named_enumerators l.types map_type_numbering.enumeration) (drop l.ty-index l.types.types)) ≡ enumeration l.types map_type_numbering.enumeration;
+abbrev pub invariant-loop-id : goal.invariant-loop-id
+invariant-loop-id l = record {
+  helpers : or_else l.helpers (first_some (named_enumerators l.types helpers.enumeration) (drop l.id l.types.types)) ≡ enumeration l.types helpers.enumeration;
+  map_types : or_else l.map_types (first_some (named_enumerators l.types map_type_numbering.enumeration) (drop l.id l.types.types)) ≡ enumeration l.types map_type_numbering.enumeration;
 }

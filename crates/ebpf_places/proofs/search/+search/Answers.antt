@@ -21,30 +21,30 @@ loop-index-init t c = all_left _ _ _ _ _ _ _ _ _ (its_members _ _ _ _ (sym c.in-
 pub returns-then-left-eq0-clause-gives : goal.returns-then-left-eq0-clause-gives
 returns-then-left-eq0-clause-gives t c =
     c.loop-index.invariant
-    ∙ full (member_search c.args.wanted.local.now c.args.wanted.target.now c.args.wanted.name.now c.args.wanted.local_type) c.args.parent c.in-Some.ty.now c.in-Some-members.members.now (64 - c.args.inside) c.args.inside c.args.bits c.loop-index.index c.loop-index.left (record { name_offset = 0; btf_type = 0; offset = 0 }) (omega arith) (omega arith)
+    ∙ full (member_search c.args.wanted.local.now c.args.wanted.target.now c.args.wanted.name.now c.args.wanted.local_type) c.args.parent c.in-Some.ty c.in-Some-members.members (64 - c.args.inside) c.args.inside c.args.bits c.loop-index.index c.loop-index.left c.at-member.result c.at-member.ensures.found (omega arith)
 
 pub returns-in_err-role-clause-gives : goal.returns-in_err-role-clause-gives
 returns-in_err-role-clause-gives t c =
     refused is_memory is_memory c.in_err-role.field-0.0 c.in_err-role.field-0.0 _ c.from_residual.result _
     (handed_on c.from_residual.result c.in_err-role.field-0.0 c.from_residual.ensures.1) refl
     (λ is. c.loop-index.invariant
-    ∙ arm (member_search c.args.wanted.local.now c.args.wanted.target.now c.args.wanted.name.now c.args.wanted.local_type) c.args.parent c.in-Some.ty.now c.in-Some-members.members.now (64 - c.args.inside) c.args.inside c.args.bits c.loop-index.index c.loop-index.left (c.loop-index.left - 1) (record { name_offset = 0; btf_type = 0; offset = 0 }) (Err c.in_err-role.field-0.0) (omega arith) (omega arith) (known_role c.args.wanted.local.now c.args.wanted.target.now c.args.wanted.name.now c.args.wanted.local_type c.args.inside _ ∙ is))
+    ∙ arm (member_search c.args.wanted.local.now c.args.wanted.target.now c.args.wanted.name.now c.args.wanted.local_type) c.args.parent c.in-Some.ty c.in-Some-members.members (64 - c.args.inside) c.args.inside c.args.bits c.loop-index.index c.loop-index.left (c.loop-index.left - 1) c.at-member.result (Err c.in_err-role.field-0.0) c.at-member.ensures.found (omega arith) (known_role c.args.wanted.local.now c.args.wanted.target.now c.args.wanted.name.now c.args.wanted.local_type c.args.inside _ ∙ is))
     c.in_err-role.ensures
 
 pub loop-index-preserved-in-Other : goal.loop-index-preserved-in-Other
 loop-index-preserved-in-Other t c =
     c.loop-index.invariant
-    ∙ arm (member_search c.args.wanted.local.now c.args.wanted.target.now c.args.wanted.name.now c.args.wanted.local_type) c.args.parent c.in-Some.ty.now c.in-Some-members.members.now (64 - c.args.inside) c.args.inside c.args.bits c.loop-index.index c.loop-index.left (c.loop-index.left - 1) (record { name_offset = 0; btf_type = 0; offset = 0 }) (Ok Other) (omega arith) (omega arith) (known_role c.args.wanted.local.now c.args.wanted.target.now c.args.wanted.name.now c.args.wanted.local_type c.args.inside _ ∙ c.in_ok-role.ensures ∙ ap Ok c.in-Other.is)
+    ∙ arm (member_search c.args.wanted.local.now c.args.wanted.target.now c.args.wanted.name.now c.args.wanted.local_type) c.args.parent c.in-Some.ty c.in-Some-members.members (64 - c.args.inside) c.args.inside c.args.bits c.loop-index.index c.loop-index.left (c.loop-index.left - 1) c.at-member.result (Ok Other) c.at-member.ensures.found (omega arith) (known_role c.args.wanted.local.now c.args.wanted.target.now c.args.wanted.name.now c.args.wanted.local_type c.args.inside _ ∙ c.in_ok-role.ensures ∙ ap Ok c.in-Other.is)
 
 pub returns-in-Misfit-clause-gives : goal.returns-in-Misfit-clause-gives
 returns-in-Misfit-clause-gives t c =
     c.loop-index.invariant
-    ∙ arm (member_search c.args.wanted.local.now c.args.wanted.target.now c.args.wanted.name.now c.args.wanted.local_type) c.args.parent c.in-Some.ty.now c.in-Some-members.members.now (64 - c.args.inside) c.args.inside c.args.bits c.loop-index.index c.loop-index.left (c.loop-index.left - 1) (record { name_offset = 0; btf_type = 0; offset = 0 }) (Ok Misfit) (omega arith) (omega arith) (known_role c.args.wanted.local.now c.args.wanted.target.now c.args.wanted.name.now c.args.wanted.local_type c.args.inside _ ∙ c.in_ok-role.ensures ∙ ap Ok c.in-Misfit.is)
+    ∙ arm (member_search c.args.wanted.local.now c.args.wanted.target.now c.args.wanted.name.now c.args.wanted.local_type) c.args.parent c.in-Some.ty c.in-Some-members.members (64 - c.args.inside) c.args.inside c.args.bits c.loop-index.index c.loop-index.left (c.loop-index.left - 1) c.at-member.result (Ok Misfit) c.at-member.ensures.found (omega arith) (known_role c.args.wanted.local.now c.args.wanted.target.now c.args.wanted.name.now c.args.wanted.local_type c.args.inside _ ∙ c.in_ok-role.ensures ∙ ap Ok c.in-Misfit.is)
 
 pub returns-in-Fitting-clause-gives : goal.returns-in-Fitting-clause-gives
 returns-in-Fitting-clause-gives t c =
     rw (c.from.ensures, c.member_bit_offset.ensures) (c.loop-index.invariant
-    ∙ arm (member_search c.args.wanted.local.now c.args.wanted.target.now c.args.wanted.name.now c.args.wanted.local_type) c.args.parent c.in-Some.ty.now c.in-Some-members.members.now (64 - c.args.inside) c.args.inside c.args.bits c.loop-index.index c.loop-index.left (c.loop-index.left - 1) (record { name_offset = 0; btf_type = 0; offset = 0 }) (Ok Fitting) (omega arith) (omega arith) (known_role c.args.wanted.local.now c.args.wanted.target.now c.args.wanted.name.now c.args.wanted.local_type c.args.inside _ ∙ c.in_ok-role.ensures ∙ ap Ok c.in-Fitting.is))
+    ∙ arm (member_search c.args.wanted.local.now c.args.wanted.target.now c.args.wanted.name.now c.args.wanted.local_type) c.args.parent c.in-Some.ty c.in-Some-members.members (64 - c.args.inside) c.args.inside c.args.bits c.loop-index.index c.loop-index.left (c.loop-index.left - 1) c.at-member.result (Ok Fitting) c.at-member.ensures.found (omega arith) (known_role c.args.wanted.local.now c.args.wanted.target.now c.args.wanted.name.now c.args.wanted.local_type c.args.inside _ ∙ c.in_ok-role.ensures ∙ ap Ok c.in-Fitting.is))
 
 pub returns-in_err-answer-in-Anonymous-clause-gives : goal.returns-in_err-answer-in-Anonymous-clause-gives
 returns-in_err-answer-in-Anonymous-clause-gives t c =
@@ -52,23 +52,23 @@ returns-in_err-answer-in-Anonymous-clause-gives t c =
     refused is_memory is_memory c.in_err-answer-in-Anonymous.field-0.0 c.in_err-answer-in-Anonymous.field-0.0 _ c.from_residual-in_err-answer-in-Anonymous.result _
     (handed_on c.from_residual-in_err-answer-in-Anonymous.result c.in_err-answer-in-Anonymous.field-0.0 c.from_residual-in_err-answer-in-Anonymous.ensures.1) refl
     (λ is. c.loop-index.invariant
-    ∙ entered (member_search c.args.wanted.local.now c.args.wanted.target.now c.args.wanted.name.now c.args.wanted.local_type) c.args.parent c.in-Some.ty.now c.in-Some-members.members.now c.args.inside c.args.bits c.loop-index.index c.loop-index.left (c.loop-index.left - 1) (record { name_offset = 0; btf_type = 0; offset = 0 }) c.in-Anonymous.type_id (c.args.bits + c.from.result) _ (Err c.in_err-answer-in-Anonymous.field-0.0) (omega arith) (omega arith) (shallow c.args.wanted.local.now c.args.wanted.target.now c.args.wanted.name.now c.args.wanted.local_type c.args.inside _ c.in-Anonymous.type_id role_is) role_is (sym (known_members c.args.wanted.local.now c.args.wanted.target.now c.args.wanted.name.now c.args.wanted.local_type c.in-Anonymous.type_id)) (rw (c.from.ensures, c.member_bit_offset.ensures) refl) is)
+    ∙ entered (member_search c.args.wanted.local.now c.args.wanted.target.now c.args.wanted.name.now c.args.wanted.local_type) c.args.parent c.in-Some.ty c.in-Some-members.members c.args.inside c.args.bits c.loop-index.index c.loop-index.left (c.loop-index.left - 1) c.at-member.result c.in-Anonymous.type_id (c.args.bits + c.from.result) _ (Err c.in_err-answer-in-Anonymous.field-0.0) c.at-member.ensures.found (omega arith) (shallow c.args.wanted.local.now c.args.wanted.target.now c.args.wanted.name.now c.args.wanted.local_type c.args.inside _ c.in-Anonymous.type_id role_is) role_is (sym (known_members c.args.wanted.local.now c.args.wanted.target.now c.args.wanted.name.now c.args.wanted.local_type c.in-Anonymous.type_id)) (rw (c.from.ensures, c.member_bit_offset.ensures) refl) is)
     c.in_err-answer-in-Anonymous.ensures.gives
 
 pub returns-in-Found-clause-gives : goal.returns-in-Found-clause-gives
 returns-in-Found-clause-gives t c =
     let role_is = known_role c.args.wanted.local.now c.args.wanted.target.now c.args.wanted.name.now c.args.wanted.local_type c.args.inside _ ∙ c.in_ok-role.ensures ∙ ap Ok c.in-Anonymous.is in
     c.loop-index.invariant
-    ∙ entered (member_search c.args.wanted.local.now c.args.wanted.target.now c.args.wanted.name.now c.args.wanted.local_type) c.args.parent c.in-Some.ty.now c.in-Some-members.members.now c.args.inside c.args.bits c.loop-index.index c.loop-index.left (c.loop-index.left - 1) (record { name_offset = 0; btf_type = 0; offset = 0 }) c.in-Anonymous.type_id (c.args.bits + c.from.result) _ (Ok (Found c.in-Found.field-0)) (omega arith) (omega arith) (shallow c.args.wanted.local.now c.args.wanted.target.now c.args.wanted.name.now c.args.wanted.local_type c.args.inside _ c.in-Anonymous.type_id role_is) role_is (sym (known_members c.args.wanted.local.now c.args.wanted.target.now c.args.wanted.name.now c.args.wanted.local_type c.in-Anonymous.type_id)) (rw (c.from.ensures, c.member_bit_offset.ensures) refl) (c.in_ok-answer-in-Anonymous.ensures.gives ∙ ap Ok c.in-Found.is)
+    ∙ entered (member_search c.args.wanted.local.now c.args.wanted.target.now c.args.wanted.name.now c.args.wanted.local_type) c.args.parent c.in-Some.ty c.in-Some-members.members c.args.inside c.args.bits c.loop-index.index c.loop-index.left (c.loop-index.left - 1) c.at-member.result c.in-Anonymous.type_id (c.args.bits + c.from.result) _ (Ok (Found c.in-Found.field-0)) c.at-member.ensures.found (omega arith) (shallow c.args.wanted.local.now c.args.wanted.target.now c.args.wanted.name.now c.args.wanted.local_type c.args.inside _ c.in-Anonymous.type_id role_is) role_is (sym (known_members c.args.wanted.local.now c.args.wanted.target.now c.args.wanted.name.now c.args.wanted.local_type c.in-Anonymous.type_id)) (rw (c.from.ensures, c.member_bit_offset.ensures) refl) (c.in_ok-answer-in-Anonymous.ensures.gives ∙ ap Ok c.in-Found.is)
     ∙ ap Ok (sym c.in-Found.is)
 
 pub loop-index-preserved : goal.loop-index-preserved
 loop-index-preserved t c =
     let role_is = known_role c.args.wanted.local.now c.args.wanted.target.now c.args.wanted.name.now c.args.wanted.local_type c.args.inside _ ∙ c.in_ok-role.ensures ∙ ap Ok c.in-Anonymous.is in
     c.loop-index.invariant
-    ∙ entered (member_search c.args.wanted.local.now c.args.wanted.target.now c.args.wanted.name.now c.args.wanted.local_type) c.args.parent c.in-Some.ty.now c.in-Some-members.members.now c.args.inside c.args.bits c.loop-index.index c.loop-index.left (c.loop-index.left - 1) (record { name_offset = 0; btf_type = 0; offset = 0 }) c.in-Anonymous.type_id (c.args.bits + c.from.result) _ (Ok (Absent c.in-Absent.rest)) (omega arith) (omega arith) (shallow c.args.wanted.local.now c.args.wanted.target.now c.args.wanted.name.now c.args.wanted.local_type c.args.inside _ c.in-Anonymous.type_id role_is) role_is (sym (known_members c.args.wanted.local.now c.args.wanted.target.now c.args.wanted.name.now c.args.wanted.local_type c.in-Anonymous.type_id)) (rw (c.from.ensures, c.member_bit_offset.ensures) refl) (c.in_ok-answer-in-Anonymous.ensures.gives ∙ ap Ok c.in-Absent.is)
+    ∙ entered (member_search c.args.wanted.local.now c.args.wanted.target.now c.args.wanted.name.now c.args.wanted.local_type) c.args.parent c.in-Some.ty c.in-Some-members.members c.args.inside c.args.bits c.loop-index.index c.loop-index.left (c.loop-index.left - 1) c.at-member.result c.in-Anonymous.type_id (c.args.bits + c.from.result) _ (Ok (Absent c.in-Absent.rest)) c.at-member.ensures.found (omega arith) (shallow c.args.wanted.local.now c.args.wanted.target.now c.args.wanted.name.now c.args.wanted.local_type c.args.inside _ c.in-Anonymous.type_id role_is) role_is (sym (known_members c.args.wanted.local.now c.args.wanted.target.now c.args.wanted.name.now c.args.wanted.local_type c.in-Anonymous.type_id)) (rw (c.from.ensures, c.member_bit_offset.ensures) refl) (c.in_ok-answer-in-Anonymous.ensures.gives ∙ ap Ok c.in-Absent.is)
 
 pub returns-clause-gives : goal.returns-clause-gives
 returns-clause-gives t c =
     c.loop-index.invariant
-    ∙ past (member_search c.args.wanted.local.now c.args.wanted.target.now c.args.wanted.name.now c.args.wanted.local_type) c.args.parent c.in-Some.ty.now c.in-Some-members.members.now (64 - c.args.inside) c.args.inside c.args.bits c.loop-index.index c.loop-index.left (omega arith)
+    ∙ past (member_search c.args.wanted.local.now c.args.wanted.target.now c.args.wanted.name.now c.args.wanted.local_type) c.args.parent c.in-Some.ty c.in-Some-members.members (64 - c.args.inside) c.args.inside c.args.bits c.loop-index.index c.loop-index.left (omega arith)
