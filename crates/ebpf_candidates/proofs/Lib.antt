@@ -5,6 +5,7 @@ pub mod Comparing
 pub mod Fields
 pub mod FoundPairs
 pub mod Heads
+pub mod NameMarks
 pub mod OddTexts
 pub mod OneName
 pub mod Refusals

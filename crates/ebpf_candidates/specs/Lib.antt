@@ -1,5 +1,7 @@
 pub mod Candidates
 pub mod Compatibility
+pub mod IndexedTypes
+pub mod NameMarks
 pub mod OddNames
 pub mod SomeKinds
 pub mod TypeRows

@@ -1,8 +1,7 @@
--- Some kinds of types, and an index of the types of these.
+-- Some kinds of types.
 use Rattle.std.specs.Prelude.{◌==◌, Bool, false, List, slice_index_or}
 use Rattle.std.specs.List.{list_any}
 use Rattle.ebpf_btf.specs.declared.kind.BtfKind.{BtfKind}
-use Rattle.ebpf_btf.specs.TypeInfo.{TypeInfo}
 use Rattle.ebpf_btf.specs.Types.{kind_number}
 
 -- whether a kind is one of some
@@ -12,8 +11,3 @@ is_one_of kinds kind = list_any (λ k. kind_number k == kind_number kind) kinds
 -- the same of kinds that are given as a list which tells, at each kind's number, whether it is one of them
 abbrev pub has_kind : List Bool → BtfKind → Bool
 has_kind kinds kind = slice_index_or kinds (kind_number kind) false
-
--- the types that an index was made for, and the kinds of which it has them
-pub record IndexedKinds : Type 0 where
-  pub info : TypeInfo
-  pub kinds : List Bool

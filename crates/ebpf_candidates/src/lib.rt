@@ -8,7 +8,10 @@ mod id_union;
 mod kinds;
 pub mod laws;
 mod name_looks;
+mod name_marks;
 mod pair;
+#[cfg(test)]
+mod tests;
 mod type_index;
 mod type_names;
 mod type_row;

@@ -1,22 +1,26 @@
 //! Types by kind and name.
 
-ghost use Rattle.std.specs.Prelude.{◌≡◌, ◌&&◌, [], length, IfOk, IfErr, OnOk, None, is_some, map, slice_index_or, true};
+ghost use Rattle.std.specs.Prelude.{◌≡◌, ◌<◌, ◌&&◌, ℕ, List, [], length, IfOk, IfErr, OnOk, None, Some, Ok, is_some, map, slice_get, slice_index_or, true};
 ghost use Rattle.std.specs.List.Sorted.{IsSortedBy, IsStableBy};
 ghost use Rattle.std.specs.Option.{ForSome};
 ghost use Rattle.ebpf_base.specs.Faults.{fault_of, Refuses};
 ghost use Rattle.ebpf_candidates.specs.Candidates.{candidates, candidates_fault, candidates_of_both, candidates_of_both_fault};
+ghost use Rattle.ebpf_candidates.specs.IndexedTypes.{has_named};
 ghost use Rattle.ebpf_candidates.specs.SomeKinds.{has_kind, is_one_of};
 ghost use Rattle.ebpf_btf.specs.Memory.{is_memory};
 ghost use Rattle.ebpf_candidates.specs.TypeRows.{is_before, rows, unreadable_from};
-ghost use Rattle.ebpf_btf.specs.Types.{kind_number};
+ghost use Rattle.ebpf_btf.specs.Strings.{type_name};
+ghost use Rattle.ebpf_btf.specs.Types.{kind_number, kind_of};
 ghost use Rattle.ebpf_btf.specs.declared.error.BtfError.TheVariants.{OutOfMemory};
 ghost use Rattle.ebpf_btf.specs.declared.kind.BtfKind.{BtfKind};
+ghost use Rattle.ebpf_btf.specs.declared.types.BtfType.{BtfType};
 
 use crate::anonymous::{AnonymousTypes, add_anonymous, no_anonymous_types};
 use crate::id_union::union;
 use crate::kinds::{KINDS, SomeKinds, every_kind, has_kind, kind_number, kinds_of};
+use crate::name_marks::{every_name, is_marked, name_hash, names_of};
 use crate::type_names::TypeNames;
-use crate::type_row::{TypeRow, order_of_rows, row_range, type_key_hash};
+use crate::type_row::{TypeRow, order_of_rows, row_range};
 use crate::unreadable::{UnreadableName, UnreadableNames, keep_first, lower};
 use ebpf_btf::{Btf, BtfError, BtfKind, essential_name};
 use std::alloc::{AllocError, Global};
@@ -30,11 +34,17 @@ struct Found {
     unreadable: UnreadableNames,
 }
 
-/// Of the types of some kinds: the rows of those that have names, by id, the ids of those that have none, and the offsets
-/// of the first names that can't be read. Names of other kinds aren't looked at.
-fn read_rows(alloc: Global, names: &TypeNames<'_>, kinds: &SomeKinds) -> Result<Found, AllocError>
-    requires { length kinds.now ≡ 20 }
-    ensures rows { IfOk result (λ found. found.rows.items ≡ rows kinds.now names.now) }
+/// Of the types of some kinds: the rows of those that have marked names, by id, the ids of those that have none, and the
+/// offsets of the first names that can't be read. Names of other kinds aren't looked at.
+fn read_rows(
+    alloc: Global,
+    names: &TypeNames<'_>,
+    kinds: &SomeKinds,
+    marks: &[bool],
+) -> Result<Found, AllocError>
+    requires kinds { length kinds.now ≡ 20 }
+    requires marks { 0 < length marks.now }
+    ensures rows { IfOk result (λ found. found.rows.items ≡ rows kinds.now marks.now names.now) }
     ensures anonymous { IfOk result (λ found. (kind : BtfKind) → has_kind kinds.now kind ≡ true → slice_index_or found.anonymous.items (kind_number kind) [] ≡ candidates names.now kind []) }
     ensures unread { IfOk result (λ found. (kind : BtfKind) → has_kind kinds.now kind ≡ true → slice_index_or found.unreadable (kind_number kind) None ≡ unreadable_from names.now kind 0 names.now.types) }
     ensures kinds { IfOk result (λ found. (length found.anonymous.items ≡ 20) × (length found.unreadable ≡ 20)) }
@@ -61,8 +71,12 @@ fn read_rows(alloc: Global, names: &TypeNames<'_>, kinds: &SomeKinds) -> Result<
             add_anonymous(&mut anonymous, head.kind, id as u32)?;
             continue;
         }
+        let hash = name_hash(name);
+        if !is_marked(marks, hash) {
+            continue;
+        }
         rows.push(TypeRow {
-            hash: type_key_hash(kind_number(head.kind), name),
+            hash,
             id: id as u32,
         })?;
     }
@@ -95,11 +109,18 @@ fn ids_of_rows(alloc: Global, rows: &[TypeRow]) -> Result<Vec<u32>, AllocError>
     Ok(ids)
 }
 
-/// The index of types of some kinds.
-fn index_of<'a>(alloc: Global, btf: &'a Btf, kinds: SomeKinds) -> Result<KindsIndex<'a>, BtfError>
-    requires { length kinds ≡ 20 }
+/// The index of types of some kinds that have marked names.
+fn index_of<'a>(
+    alloc: Global,
+    btf: &'a Btf,
+    kinds: SomeKinds,
+    marks: Vec<bool>,
+) -> Result<KindsIndex<'a>, BtfError>
+    requires kinds { length kinds ≡ 20 }
+    requires marks { 0 < length marks.items }
     ensures types { IfOk result (λ index. index.info ≡ btf.now) }
     ensures kinds { IfOk result (λ index. index.kinds ≡ kinds) }
+    ensures marks { IfOk result (λ index. index.marks ≡ marks.items) }
     ensures memory { IfErr result (λ e. e ≡ OutOfMemory) }
 {
     let names = TypeNames::new(alloc, btf)?;
@@ -107,12 +128,13 @@ fn index_of<'a>(alloc: Global, btf: &'a Btf, kinds: SomeKinds) -> Result<KindsIn
         mut rows,
         anonymous,
         unreadable,
-    } = read_rows(alloc, &names, &kinds)?;
+    } = read_rows(alloc, &names, &kinds, &marks)?;
     sort_rows(&names, &mut rows)?;
     let ids = ids_of_rows(alloc, &rows)?;
     Ok(KindsIndex {
         names,
         kinds,
+        marks,
         rows,
         ids,
         anonymous,
@@ -120,13 +142,15 @@ fn index_of<'a>(alloc: Global, btf: &'a Btf, kinds: SomeKinds) -> Result<KindsIn
     })
 }
 
-/// Types of some kinds by kind and name, the names without what follows three underscores.
+/// Types of some kinds by kind and name, the names without what follows three underscores: of all names, or of those
+/// that an object's types have.
 ///
-/// Contracts see the type information that it was made for, and the kinds.
+/// Contracts see the type information that it was made for, the kinds, and the marks of the names.
 #[derive(Drop)]
 pub struct KindsIndex<'a> {
     names: TypeNames<'a>,
     kinds: SomeKinds,
+    marks: Vec<bool>,
     rows: Vec<TypeRow>,
     ids: Vec<u32>,
     anonymous: AnonymousTypes,
@@ -134,14 +158,14 @@ pub struct KindsIndex<'a> {
 }
 
 impl<'a> Model for KindsIndex<'a> {
-    ghost use Rattle.ebpf_candidates.specs.SomeKinds.{IndexedKinds};
+    ghost use Rattle.ebpf_candidates.specs.IndexedTypes.{IndexedTypes};
     ghost use Rattle.ebpf_candidates.specs.TypeRows.{IsIndex};
 
-    ghost Value = { IndexedKinds };
+    ghost Value = { IndexedTypes };
 
-    ghost view = { λ x. record { info = x.names; kinds = x.kinds } };
+    ghost view = { λ x. record { info = x.names; kinds = x.kinds; marks = x.marks.items } };
 
-    ghost invariant = { λ x. IsIndex x.kinds x.names x.rows.items x.ids.items x.anonymous.items x.unreadable };
+    ghost invariant = { λ x. IsIndex x.kinds x.marks.items x.names x.rows.items x.ids.items x.anonymous.items x.unreadable };
 }
 
 impl<'a> KindsIndex<'a> {
@@ -152,11 +176,12 @@ impl<'a> KindsIndex<'a> {
         self.names.btf()
     }
 
-    /// Whether it has the types of a kind.
-    pub fn has(&self, kind: BtfKind) -> bool
-        ensures { result ≡ has_kind self.now.kinds kind }
+    /// Whether it has the types of a kind and of a name.
+    pub fn has(&self, kind: BtfKind, name: &str) -> bool
+        ensures { result ≡ has_named self.now kind name.now }
     {
-        has_kind(&self.kinds, kind)
+        let name = essential_name(name.as_bytes());
+        has_kind(&self.kinds, kind) && is_marked(&self.marks, name_hash(name))
     }
 
     /// The first type of a kind whose name can't be read.
@@ -169,7 +194,7 @@ impl<'a> KindsIndex<'a> {
 
     /// The ids of the types of a kind and name, names that can't be read aside.
     fn ids_of(&self, kind: BtfKind, name: &str) -> &[u32]
-        requires { has_kind self.now.kinds kind ≡ true }
+        requires { has_named self.now kind name.now ≡ true }
         ensures { result.now ≡ candidates self.now.info kind name.now }
     {
         let number = kind_number(kind);
@@ -181,10 +206,10 @@ impl<'a> KindsIndex<'a> {
         &self.ids[start..end]
     }
 
-    /// The candidates of a kind that it has.
+    /// The candidates of a kind and a name that it has.
     #[tactic(auto, using(crate::proofs::UnreadNames::fault_of_kind))]
     fn candidates_of(&self, kind: BtfKind, name: &str) -> Result<&[u32], BtfError>
-        requires { has_kind self.now.kinds kind ≡ true }
+        requires { has_named self.now kind name.now ≡ true }
         ensures ids { IfOk result (λ ids. ids.now ≡ candidates self.now.info kind name.now) }
         ensures fault { fault_of result ≡ candidates_fault self.now.info kind }
     {
@@ -194,7 +219,7 @@ impl<'a> KindsIndex<'a> {
         }
     }
 
-    /// The candidates of either of two kinds that it has.
+    /// The candidates of either of two kinds that it has, of a name that it has.
     #[tactic(auto, using(crate::proofs::UnreadNames::fault_of_kinds, crate::proofs::Unions::union_candidates))]
     fn candidates_of_two(
         &self,
@@ -203,8 +228,8 @@ impl<'a> KindsIndex<'a> {
         second: BtfKind,
         name: &str,
     ) -> Result<Vec<u32>, BtfError>
-        requires first { has_kind self.now.kinds first ≡ true }
-        requires second { has_kind self.now.kinds second ≡ true }
+        requires first { has_named self.now first name.now ≡ true }
+        requires second { has_named self.now second name.now ≡ true }
         ensures ids { IfOk result (λ ids. ids.items ≡ candidates_of_both self.now.info first second name.now) }
         ensures fault { Refuses is_memory result (candidates_of_both_fault self.now.info first second) }
     {
@@ -217,19 +242,19 @@ impl<'a> KindsIndex<'a> {
         }
     }
 
-    /// As `TypeIndex::candidates`. None of a kind that it doesn't have.
+    /// As `TypeIndex::candidates`. None of a kind or a name that it doesn't have.
     pub fn candidates(&self, kind: BtfKind, name: &str) -> Option<Result<&[u32], BtfError>>
-        ensures has { is_some result ≡ has_kind self.now.kinds kind }
+        ensures has { is_some result ≡ has_named self.now kind name.now }
         ensures ids { ForSome result (λ found. IfOk found (λ ids. ids.now ≡ candidates self.now.info kind name.now)) }
         ensures fault { ForSome result (λ found. fault_of found ≡ candidates_fault self.now.info kind) }
     {
-        if !self.has(kind) {
+        if !self.has(kind, name) {
             return None;
         }
         Some(self.candidates_of(kind, name))
     }
 
-    /// As `TypeIndex::candidates_of_both`. None where it doesn't have both kinds.
+    /// As `TypeIndex::candidates_of_both`. None where it doesn't have both kinds, or the name.
     pub fn candidates_of_both(
         &self,
         alloc: Global,
@@ -237,11 +262,11 @@ impl<'a> KindsIndex<'a> {
         second: BtfKind,
         name: &str,
     ) -> Option<Result<Vec<u32>, BtfError>>
-        ensures has { is_some result ≡ (has_kind self.now.kinds first && has_kind self.now.kinds second) }
+        ensures has { is_some result ≡ (has_named self.now first name.now && has_named self.now second name.now) }
         ensures ids { ForSome result (λ found. IfOk found (λ ids. ids.items ≡ candidates_of_both self.now.info first second name.now)) }
         ensures fault { ForSome result (λ found. Refuses is_memory found (candidates_of_both_fault self.now.info first second)) }
     {
-        if !self.has(first) || !self.has(second) {
+        if !self.has(first, name) || !self.has(second, name) {
             return None;
         }
         Some(self.candidates_of_two(alloc, first, second, name))
@@ -257,16 +282,16 @@ pub struct TypeIndex<'a> {
 }
 
 impl<'a> Model for TypeIndex<'a> {
-    ghost use Rattle.std.specs.Prelude.{◌≡◌, true};
+    ghost use Rattle.std.specs.Prelude.{◌≡◌, ℕ, List, true};
     ghost use Rattle.ebpf_btf.specs.TypeInfo.{TypeInfo};
     ghost use Rattle.ebpf_btf.specs.declared.kind.BtfKind.{BtfKind};
-    ghost use Rattle.ebpf_candidates.specs.SomeKinds.{has_kind};
+    ghost use Rattle.ebpf_candidates.specs.IndexedTypes.{has_named};
 
     ghost Value = { TypeInfo };
 
     ghost view = { λ x. x.index.info };
 
-    ghost invariant = { λ x. (kind : BtfKind) → has_kind x.index.kinds kind ≡ true };
+    ghost invariant = { λ x. (kind : BtfKind) (name : List ℕ) → has_named x.index kind name ≡ true };
 }
 
 impl<'a> TypeIndex<'a> {
@@ -276,7 +301,8 @@ impl<'a> TypeIndex<'a> {
         ensures types { IfOk result (λ index. index ≡ btf.now) }
         ensures memory { IfErr result (λ e. e ≡ OutOfMemory) }
     {
-        let index = index_of(alloc, btf, every_kind())?;
+        let marks = every_name(alloc)?;
+        let index = index_of(alloc, btf, every_kind(), marks)?;
         Ok(TypeIndex { index })
     }
 
@@ -287,10 +313,31 @@ impl<'a> TypeIndex<'a> {
         kinds: &[BtfKind],
     ) -> Result<KindsIndex<'a>, BtfError>
         ensures types { IfOk result (λ index. index.info ≡ btf.now) }
-        ensures kinds { IfOk result (λ index. (kind : BtfKind) → has_kind index.kinds kind ≡ is_one_of kinds.now kind) }
+        ensures kinds { IfOk result (λ index. (kind : BtfKind) (name : List ℕ) → has_named index kind name ≡ is_one_of kinds.now kind) }
         ensures memory { IfErr result (λ e. e ≡ OutOfMemory) }
     {
-        index_of(alloc, btf, kinds_of(kinds))
+        let marks = every_name(alloc)?;
+        index_of(alloc, btf, kinds_of(kinds), marks)
+    }
+
+    /// The index of the types of some kinds that may stand for those of `local`: as `of_kinds`, but that types of other
+    /// names than those that types of `local` of these kinds have may be passed over. One pass over the types of
+    /// both, and a sort of those that are kept.
+    pub fn of_names(
+        alloc: Global,
+        btf: &'a Btf,
+        kinds: &[BtfKind],
+        local: &Btf,
+    ) -> Result<KindsIndex<'a>, BtfError>
+        ensures types { IfOk result (λ index. index.info ≡ btf.now) }
+        ensures names { IfOk result (λ index. (kind : BtfKind) (id : ℕ) (t : BtfType) (name : List ℕ) → is_one_of kinds.now kind ≡ true → slice_get local.now.types id ≡ Some t
+            → is_one_of kinds.now (kind_of t) ≡ true → type_name local.now t ≡ Ok name → has_named index kind name ≡ true) }
+        ensures kinds { IfOk result (λ index. (kind : BtfKind) (name : List ℕ) → has_named index kind name ≡ true → is_one_of kinds.now kind ≡ true) }
+        ensures memory { IfErr result (λ e. e ≡ OutOfMemory) }
+    {
+        let kinds = kinds_of(kinds);
+        let marks = names_of(alloc, local, &kinds)?;
+        index_of(alloc, btf, kinds, marks)
     }
 
     /// The types that it was made for.

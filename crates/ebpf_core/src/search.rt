@@ -8,14 +8,14 @@ ghost use Rattle.ebpf_btf.specs.Memory.{is_memory as is_memory_of_types};
 ghost use Rattle.ebpf_btf.specs.TypeInfo.{TypeInfo};
 ghost use Rattle.ebpf_btf.specs.declared.error.BtfError.TheVariants.{OutOfMemory};
 ghost use Rattle.ebpf_candidates.specs.Candidates.{candidates, candidates_fault, candidates_of_both, candidates_of_both_fault};
-ghost use Rattle.ebpf_candidates.specs.SomeKinds.{has_kind};
+ghost use Rattle.ebpf_candidates.specs.IndexedTypes.{has_named};
 ghost use Rattle.ebpf_core.specs.Answers.{Tells, of_types, without_texts};
 ghost use Rattle.ebpf_core.specs.Questions.{question_of};
 ghost use Rattle.ebpf_core.specs.Memory.{is_memory};
 ghost use Rattle.ebpf_core.specs.Outcomes.{outcome_among};
 ghost use Rattle.ebpf_core.specs.Refused.{OutcomeIsRefused};
 ghost use Rattle.ebpf_core.specs.Searches.{candidates_for, candidates_named, is_local, outcome_of, was_enum64};
-ghost use Rattle.ebpf_core.specs.SearchedKinds.{searched_kinds};
+ghost use Rattle.ebpf_core.specs.SearchedKinds.{searched_kinds, HasLocalNames, IsLocalType};
 
 use crate::error::RelocationError;
 use crate::outcome::{Outcome, outcome_among};
@@ -52,13 +52,13 @@ fn searched_kinds(ty: &BtfType<'_>) -> (BtfKind, BtfKind)
     (ty.kind(), ty.kind())
 }
 
-/// The candidates of a kind that an index has.
+/// The candidates of a kind and a name that an index has.
 fn ids_of_kind<'b>(
     index: &'b KindsIndex<'_>,
     kind: BtfKind,
     name: &str,
 ) -> Result<&'b [u32], BtfError>
-    requires { has_kind index.now.kinds kind ≡ true }
+    requires { has_named index.now kind name.now ≡ true }
     ensures ids { IfOk result (λ ids. ids.now ≡ candidates index.now.info kind name.now) }
     ensures fault { fault_of result ≡ candidates_fault index.now.info kind }
 {
@@ -68,7 +68,7 @@ fn ids_of_kind<'b>(
     }
 }
 
-/// The candidates of either of two kinds that an index has.
+/// The candidates of either of two kinds, of a name, that an index has.
 fn ids_of_both(
     alloc: Global,
     index: &KindsIndex<'_>,
@@ -76,8 +76,8 @@ fn ids_of_both(
     second: BtfKind,
     name: &str,
 ) -> Result<Vec<u32>, BtfError>
-    requires first { has_kind index.now.kinds first ≡ true }
-    requires second { has_kind index.now.kinds second ≡ true }
+    requires first { has_named index.now first name.now ≡ true }
+    requires second { has_named index.now second name.now ≡ true }
     ensures ids { IfOk result (λ ids. ids.items ≡ candidates_of_both index.now.info first second name.now) }
     ensures fault { Refuses is_memory_of_types result (candidates_of_both_fault index.now.info first second) }
 {
@@ -88,7 +88,7 @@ fn ids_of_both(
 }
 
 /// What a record comes to over the target types of the kind and name of a local type. They are looked for in an index
-/// that has the kinds.
+/// that has them.
 #[tactic(auto, unfolding(crate::specs::Searches::candidates_named))]
 fn outcome_named(
     alloc: Global,
@@ -99,8 +99,8 @@ fn outcome_named(
     ty: &BtfType<'_>,
     name: &str,
 ) -> Result<Outcome, RelocationError>
-    requires first { has_kind index.now.kinds (searched_kinds ty.now).0 ≡ true }
-    requires second { has_kind index.now.kinds (searched_kinds ty.now).1 ≡ true }
+    requires first { has_named index.now (searched_kinds ty.now).0 name.now ≡ true }
+    requires second { has_named index.now (searched_kinds ty.now).1 name.now ≡ true }
     ensures { Tells result (if_ok (of_types (candidates_named index.now.info ty.now name.now)) (outcome_among local.now index.now.info relocation.now path.now)) }
 {
     if was_enum64(ty) {
@@ -111,34 +111,35 @@ fn outcome_named(
     outcome_among(alloc, local, index.btf(), relocation, path, ids)
 }
 
-/// The index of the types of two kinds.
-#[tactic(auto, using(crate::proofs::SearchedKinds::one_of_first, crate::proofs::SearchedKinds::one_of_second))]
+/// The index of the target types of two kinds that have names of local ones.
+#[tactic(auto, using(crate::proofs::SearchedKinds::local_names))]
 fn index_of<'a>(
     alloc: Global,
-    btf: &'a Btf,
+    local: &Btf,
+    target: &'a Btf,
     first: BtfKind,
     second: BtfKind,
 ) -> Result<KindsIndex<'a>, BtfError>
-    ensures first { IfOk result (λ index. has_kind index.kinds first ≡ true) }
-    ensures second { IfOk result (λ index. has_kind index.kinds second ≡ true) }
-    ensures types { IfOk result (λ index. index.info ≡ btf.now) }
+    ensures names { IfOk result (λ index. HasLocalNames index local.now first second) }
+    ensures types { IfOk result (λ index. index.info ≡ target.now) }
     ensures memory { IfErr result (λ e. e ≡ OutOfMemory) }
 {
-    TypeIndex::of_kinds(alloc, btf, &[first, second])
+    TypeIndex::of_names(alloc, target, &[first, second], local)
 }
 
-/// The first index that has two kinds.
+/// The first index that has the types of two kinds and of a name.
 fn index_with<'a, 'b>(
     indices: &'b [KindsIndex<'a>],
     first: BtfKind,
     second: BtfKind,
+    name: &str,
 ) -> Option<&'b KindsIndex<'a>>
-    ensures first { ForSome result (λ index. has_kind index.now.kinds first ≡ true) }
-    ensures second { ForSome result (λ index. has_kind index.now.kinds second ≡ true) }
+    ensures first { ForSome result (λ index. has_named index.now first name.now ≡ true) }
+    ensures second { ForSome result (λ index. has_named index.now second name.now ≡ true) }
     ensures types { (info : TypeInfo) → All (λ index. index.info ≡ info) indices.now → ForSome result (λ index. index.now.info ≡ info) }
 {
     for index in indices {
-        if index.has(first) && index.has(second) {
+        if index.has(first, name) && index.has(second, name) {
             return Some(index);
         }
     }
@@ -159,7 +160,8 @@ fn question_of(relocation: &Relocation) -> Question
 }
 
 /// The types of an object, and those of a kernel in which they are looked for, record by record. The kernel's types of
-/// a kind are indexed at the first record that searches them. Outcomes are cached by their questions.
+/// a kind are indexed at the first record that searches them, those alone whose names the object's types have. Outcomes
+/// are cached by their questions.
 ///
 /// Contracts see the two sides alone.
 #[derive(Drop)]
@@ -214,14 +216,15 @@ impl<'a> CoreSearch<'a> {
         ty: &BtfType<'_>,
         name: &str,
     ) -> Result<Outcome, RelocationError>
+        requires { IsLocalType self.old.local ty.now name.now }
         ensures outcome { Tells result (if_ok (of_types (candidates_named self.old.target ty.now name.now)) (outcome_among self.old.local self.old.target relocation.now path.now)) }
         ensures stays { self.new ≡ self.old }
     {
         let (first, second) = searched_kinds(ty);
-        if let Some(index) = index_with(&self.indices, first, second) {
+        if let Some(index) = index_with(&self.indices, first, second, name) {
             return outcome_named(alloc, self.local, index, relocation, path, ty, name);
         }
-        let index = index_of(alloc, self.target, first, second)?;
+        let index = index_of(alloc, self.local, self.target, first, second)?;
         let outcome = outcome_named(alloc, self.local, &index, relocation, path, ty, name);
         self.keep(index)?;
         outcome

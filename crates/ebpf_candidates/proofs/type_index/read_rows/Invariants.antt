@@ -11,7 +11,7 @@ use Rattle.ebpf_candidates.proofs.type_index.read_rows.Given as goal
 
 abbrev pub invariant-loop-id : goal.invariant-loop-id
 invariant-loop-id l = record {
-  rows : l.rows.items ++ type_rows_from l.kinds l.names l.id (drop l.id l.names.types) ≡ rows l.kinds l.names;
+  rows : l.rows.items ++ type_rows_from l.kinds l.marks l.names l.id (drop l.id l.names.types) ≡ rows l.kinds l.marks l.names;
   without : (kind : BtfKind) → has_kind l.kinds kind ≡ true → slice_index_or l.anonymous.items (kind_number kind) [] ++ anonymous_from l.names kind l.id (drop l.id l.names.types) ≡ candidates l.names kind [];
   unread : (kind : BtfKind) → has_kind l.kinds kind ≡ true → or_else (slice_index_or l.unreadable (kind_number kind) None) (unreadable_from l.names kind l.id (drop l.id l.names.types)) ≡ unreadable_from l.names kind 0 l.names.types;
   kinds : (length l.anonymous.items ≡ 20) × (length l.unreadable ≡ 20);
