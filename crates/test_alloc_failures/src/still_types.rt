@@ -45,10 +45,10 @@ fn of_id(seen: u64, types: &Btf, id: u32) -> u64 {
         seen,
         &[u64::from(resolved), u64::from(size), u64::from(fits)],
     );
-    match types.type_by_id(id) {
-        Ok(ty) => of_type(seen, &ty),
-        Err(_) => seen,
-    }
+    let Ok(ty) = types.type_by_id(id) else {
+        return seen;
+    };
+    of_type(seen, &ty)
 }
 
 /// What is read of the first types.

@@ -111,10 +111,10 @@ fn of_type(rt: &HostRuntime, types: &Btf, ty: &BtfType<'_>, call: Call<'_>) -> i
 
 /// A question about the type whose id the word is.
 fn with_type(rt: &HostRuntime, types: &Btf, call: Call<'_>) -> io::Result<()> {
-    match types.type_by_id(call.number()) {
-        Ok(ty) => of_type(rt, types, &ty, call),
-        Err(_) => println!(rt; "no such type"),
-    }
+    let Ok(ty) = types.type_by_id(call.number()) else {
+        return println!(rt; "no such type");
+    };
+    of_type(rt, types, &ty, call)
 }
 
 /// Answers a question about types.
