@@ -1,4 +1,4 @@
-use Rattle.std.proofs.Common.{◌≡◌, ◌<◌, length}
+use Rattle.std.proofs.Common.{◌<◌, length}
 use Rattle.ebpf_candidates.specs.NameMarks.{NamesBelowAreMarked}
 use Rattle.ebpf_candidates.proofs.name_marks.names_of.Given as goal
 

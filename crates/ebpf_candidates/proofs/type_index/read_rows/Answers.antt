@@ -1,7 +1,7 @@
 use Rattle.std.proofs.Common.{◌≡◌, ℕ, ◌<◌, ◌+◌, ◌∷◌, [], length, drop, None, Some, ap, sym, ◌∙◌, true, false, arith}
 use Rattle.std.specs.Prelude.{option_map, slice_get}
 use Rattle.ebpf_candidates.specs.declared.type_row.TypeRow.{TypeRow}
-use Rattle.ebpf_btf.specs.Types.{kind_number, kind_of, name_off}
+use Rattle.ebpf_btf.specs.Types.{kind_of, name_off}
 use Rattle.ebpf_candidates.specs.PrivateContracts.{readable_at}
 use Rattle.ebpf_candidates.specs.SomeKinds.{has_kind}
 use Rattle.ebpf_candidates.specs.NameMarks.{is_marked, name_hash}

@@ -3,7 +3,7 @@ use Rattle.std.proofs.lemmas.List.{get_or_read}
 use Rattle.ebpf_btf.specs.EssentialNames.{essential_name}
 use Rattle.ebpf_candidates.specs.Candidates.{candidates}
 use Rattle.ebpf_candidates.specs.IndexedTypes.{IndexedTypes, has_named}
-use Rattle.ebpf_candidates.specs.NameMarks.{is_marked, is_name_marked, name_hash}
+use Rattle.ebpf_candidates.specs.NameMarks.{is_marked, name_hash}
 use Rattle.ebpf_candidates.specs.SomeKinds.{has_kind}
 use Rattle.ebpf_candidates.proofs.CandidateRows.{candidates_named}
 use Rattle.ebpf_candidates.proofs.NameMarks.{first_holds, second_holds}
