@@ -1,1 +1,2 @@
+pub mod InStep
 pub mod Shapes

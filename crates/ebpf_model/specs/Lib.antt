@@ -3,3 +3,4 @@ pub mod Memory
 pub mod Shapes
 pub mod Symbols
 pub mod TextSections
+pub mod Walks

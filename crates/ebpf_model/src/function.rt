@@ -1,6 +1,6 @@
 //! The functions of an object.
 
-ghost use Rattle.std.specs.Prelude.{◌≡◌, IfOk};
+ghost use Rattle.std.specs.Prelude.{◌≡◌, ◌+◌, ◌*◌, length, IfOk};
 
 use ebpf_base::{Items, Text};
 use ebpf_elf::SectionIndex;
@@ -29,6 +29,15 @@ pub struct Function {
     pub func_info_rec_size: u32,
     /// The size of a record on lines in the file, in bytes; 0 without one.
     pub line_info_rec_size: u32,
+}
+
+impl Function {
+    /// Where it ends in its section, in bytes.
+    pub fn end(&self) -> u128
+        ensures { result ≡ self.now.section_offset + 8 * length self.now.instructions }
+    {
+        self.section_offset as u128 + 8 * self.instructions.len() as u128
+    }
 }
 
 /// A copy of func info.

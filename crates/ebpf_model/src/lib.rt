@@ -1,4 +1,5 @@
-//! The types that an object's parts are: functions, symbols, externs, programs, and what relocation of slots refuses.
+//! The types that an object's parts are: functions, symbols, externs, programs, what relocation of slots refuses, and a
+//! walk over the relocations.
 #![tactic(auto)]
 
 mod error;
@@ -6,6 +7,7 @@ mod extern_desc;
 mod function;
 mod program;
 mod symbol;
+mod walk;
 
 pub use ebpf_parts::Relocation;
 pub use error::{EbpfRelocationError, RelocationError};
@@ -13,3 +15,4 @@ pub use extern_desc::ExternDesc;
 pub use function::Function;
 pub use program::Program;
 pub use symbol::Symbol;
+pub use walk::Walk;

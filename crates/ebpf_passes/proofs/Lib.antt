@@ -7,3 +7,4 @@ pub mod Scans
 pub mod Shapes
 pub mod Tables
 pub mod Unmoved
+pub mod Walking

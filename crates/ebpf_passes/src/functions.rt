@@ -4,6 +4,7 @@ ghost use Rattle.std.specs.Prelude.{◌≡◌, true, false, IfOk, OnOk, OnErr, I
 ghost use Rattle.ebpf_base.specs.Faults.{Refuses};
 ghost use Rattle.ebpf_base.specs.Mapped.{map_values};
 ghost use Rattle.ebpf_model.specs.Memory.{is_memory_at};
+ghost use Rattle.ebpf_model.specs.Walks.{IsReady};
 ghost use Rattle.ebpf_passes.specs.Relocated.{relocated, function_fault, first_fault, out_of_memory};
 ghost use Rattle.ebpf_passes.specs.Rules.{rule_edit_of, rule_symbols};
 
@@ -12,26 +13,31 @@ use crate::rule::Rule;
 use crate::search::edits_or_refusal;
 use crate::slots::write_slots;
 use ebpf_base::{ByKey, ByOffset, BySection};
-use ebpf_model::{EbpfRelocationError, Function};
+use ebpf_model::{EbpfRelocationError, Function, Walk};
 use ebpf_parts::Relocation;
 use std::alloc::Global;
 
-/// Refuses for the first relocation of a function that can't be applied; else tells whether one of them edits a slot.
+/// Refuses for the first relocation of a function that can't be applied; else tells whether one of them edits a slot. The
+/// walk goes on to the function, and to its end.
 #[tactic(auto, unfolding(crate::specs::Relocated::relocated))]
-fn check_function(
+fn check_function<'a>(
     alloc: Global,
     rule: &Rule<'_>,
-    relocations: &BySection<ByOffset<Relocation>>,
+    relocations: &'a BySection<ByOffset<Relocation>>,
+    walk: &mut Walk<'a>,
     function: &Function,
 ) -> Result<bool, EbpfRelocationError>
+    requires { IsReady relocations.now walk.old }
     ensures stays { IfOk result (λ edits. edits ≡ false → relocated (rule_edit_of rule.now) relocations.now function.now ≡ function.now) }
     ensures fault { Refuses is_memory_at result (function_fault (rule_edit_of rule.now) (rule_symbols rule.now) relocations.now function.now) }
     ensures memory { IfErr result (λ e. is_memory_at e ≡ true → e ≡ out_of_memory) }
+    ensures ready { OnOk result (IsReady relocations.now walk.new) }
 {
-    let Some(section_relocations) = relocations.get(function.section_index.0) else {
+    walk.go_to(relocations, function);
+    let Some(section_relocations) = walk.section_relocations() else {
         return Ok(false);
     };
-    match edits_or_refusal(rule, section_relocations, function) {
+    match edits_or_refusal(rule, walk, function) {
         Ok(edits) => Ok(edits),
         Err(refusal) => Err(refused(
             alloc,
@@ -57,8 +63,9 @@ fn check_functions(
     ensures memory { IfErr result (λ e. is_memory_at e ≡ true → e ≡ out_of_memory) }
 {
     let mut edits = false;
+    let mut walk = Walk::new(relocations);
     for (_, function) in functions.iter() {
-        let edited = check_function(alloc, rule, relocations, function)?;
+        let edited = check_function(alloc, rule, relocations, &mut walk, function)?;
         edits = edits || edited;
     }
     Ok(edits)

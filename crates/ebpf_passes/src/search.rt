@@ -1,7 +1,9 @@
 //! The first relocation of a function that can't be applied, and whether one of them edits a slot.
 
-ghost use Rattle.std.specs.Prelude.{◌≡◌, ◌/◌, ◌<◌, ◌^◌, length, None, Ok, false, IfOk};
+ghost use Rattle.std.specs.Prelude.{◌≡◌, ◌+◌, ◌*◌, ◌/◌, ◌<◌, ◌^◌, length, unwrap_or, None, Ok, false, IfOk, OnOk};
+ghost use Rattle.std.specs.FinMap.{empty};
 ghost use Rattle.ebpf_base.specs.Faults.{fault_of};
+ghost use Rattle.ebpf_model.specs.Walks.{walked_relocations, IsBefore};
 ghost use Rattle.ebpf_passes.specs.Edits.{slots_after};
 ghost use Rattle.ebpf_passes.specs.Relocated.{first_refusal, edit_at};
 ghost use Rattle.ebpf_passes.specs.Rules.{rule_edit_of};
@@ -11,8 +13,7 @@ ghost use Rattle.ebpf_passes.specs.declared.edit.Edit.TheVariants.{Stay};
 use crate::edit::Edit;
 use crate::refusal::{Fault, Refusal};
 use crate::rule::Rule;
-use ebpf_base::ByOffset;
-use ebpf_model::Function;
+use ebpf_model::{Function, Walk};
 use ebpf_parts::Relocation;
 use ebpf_parts::insn::bpf_insn;
 
@@ -60,38 +61,44 @@ fn edit_of(
     rule.edit(relocation, slot, at + 1 < slots.len())
 }
 
-/// Whether a relocation of a function edits its slots; else the first one, by offset, that can't be applied.
+/// Whether a relocation of a function edits its slots; else the first one, by offset, that can't be applied. The walk,
+/// which has not passed the function, goes on to its end.
 #[tactic(auto, using(crate::proofs::Idle::stays_on, crate::proofs::Idle::stays_past, crate::proofs::Idle::stays_all))]
 pub fn edits_or_refusal(
     rule: &Rule<'_>,
-    section_relocations: &ByOffset<Relocation>,
+    walk: &mut Walk<'_>,
     function: &Function,
 ) -> Result<bool, Refusal>
-    ensures refusal { fault_of result ≡ first_refusal (rule_edit_of rule.now) section_relocations.now function.now }
-    ensures stays { IfOk result (λ edits. edits ≡ false → slots_after (edit_at (rule_edit_of rule.now) section_relocations.now function.now.section_offset (length function.now.instructions)) function.now.instructions ≡ function.now.instructions) }
+    requires { IsBefore walk.old function.now.section_offset }
+    ensures refusal { fault_of result ≡ first_refusal (rule_edit_of rule.now) (unwrap_or (walked_relocations walk.old) empty) function.now }
+    ensures stays { IfOk result (λ edits. edits ≡ false → slots_after (edit_at (rule_edit_of rule.now) (unwrap_or (walked_relocations walk.old) empty) function.now.section_offset (length function.now.instructions)) function.now.instructions ≡ function.now.instructions) }
+    ensures others { walk.new ≡ record walk.old { next = walk.new.next; ahead = walk.new.ahead } }
+    ensures before { OnOk result (IsBefore walk.new (function.now.section_offset + 8 * length function.now.instructions)) }
 {
     let slots = function.instructions.as_slice();
     let start = function.section_offset as u64;
     let mut pending = None;
     let mut edits = false;
-    for (offset, relocation) in section_relocations.from_offset(start) {
+    walk.pass_all(start);
+    while let Some((offset, relocation)) = walk.peek() {
         let distance = offset.saturating_sub(start);
         if distance / 8 >= slots.len() as u64 {
             return Ok(edits);
         }
-        match edit_of(rule, slots, pending, distance, *relocation) {
+        match edit_of(rule, slots, pending, distance, relocation) {
             Ok(edit) => {
                 pending = pending_of((distance / 8) as usize, edit);
                 edits = edits || !edit.stays();
             }
             Err(fault) => {
                 return Err(Refusal {
-                    offset: *offset,
-                    relocation: *relocation,
+                    offset,
+                    relocation,
                     fault,
                 });
             }
         }
+        walk.pass();
     }
     Ok(edits)
 }

@@ -5,11 +5,11 @@ use Rattle.ebpf_linker.specs.declared.reference.Target.{Target}
 use Rattle.ebpf_base.proofs.Walks.{rest_more, rest_none}
 use Rattle.ebpf_parts.specs.declared.insn.bpf_insn.{bpf_insn}
 use Rattle.ebpf_model.specs.declared.function.Function.{Function}
-use Rattle.ebpf_reloc.specs.declared.walk.Walk.{Walk}
+use Rattle.ebpf_model.specs.declared.walk.Walk.{Walk}
 use Rattle.ebpf_reloc.specs.PrivateContracts.{calls_by, calls_of, calls_from, with_call}
 use Rattle.ebpf_reloc.specs.SlotTargets.{LinkableValue}
 use Rattle.ebpf_reloc.specs.References.{content_of}
-use Rattle.ebpf_reloc.specs.Walks.{IsBefore}
+use Rattle.ebpf_model.specs.Walks.{IsBefore}
 
 module _ (leads : ℕ → bpf_insn → Option Target) (slots : List bpf_insn) where
   step_here : (i : ℕ) (slot : bpf_insn) → i < length slots → slot ≡ slice_index_or slots i slot
@@ -33,10 +33,6 @@ module _ (leads : ℕ → bpf_insn → Option Target) (slots : List bpf_insn) wh
 -- before a slot is before the next one
 pub next_slot : (walk : Walk) (start i : ℕ) → IsBefore walk (start + 8 * i) → IsBefore walk (start + 8 * (i + 1))
 next_slot walk start i h = record { from = h.from; before = omega (arith, h.before); are_left = h.are_left }
-
--- before an offset is before a later one
-pub later : (walk : Walk) (end offset : ℕ) → IsBefore walk end → end ≤ offset → IsBefore walk offset
-later walk end offset h up = record { from = h.from; before = omega (arith, h.before, up); are_left = h.are_left }
 
 module _ (parts : LinkableValue) (keys : List (ℕ × ℕ)) (functions : List (Bor Function)) where
   -- the calls of one function, then those of the others

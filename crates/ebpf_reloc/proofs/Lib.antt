@@ -1,5 +1,4 @@
 pub mod Modulo
-pub mod InStep
 pub mod Searched
 pub mod CallSteps
 pub mod ByNumber

@@ -6,5 +6,4 @@ pub mod Laws
 pub mod LinkMaps
 pub mod LinkMapLaws
 -- What only private contracts and proofs name.
-pub mod Walks
 pub mod PrivateContracts

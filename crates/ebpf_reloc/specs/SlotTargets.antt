@@ -1,5 +1,5 @@
 -- What the slots of functions refer to.
-use Rattle.std.specs.Prelude.{ℕ, ◌+◌, ◌*◌, ◌^◌, ◌==◌, nat_lt, ℤ, pos, ◌+ℤ◌, ◌*ℤ◌, unsigned_abs, Bool, true, false, not, ◌&&◌, ◌||◌, if◌then◌else◌, Option, Some, None, unwrap_or}
+use Rattle.std.specs.Prelude.{ℕ, ◌+◌, ◌*◌, ◌^◌, ◌==◌, ℤ, pos, ◌+ℤ◌, ◌*ℤ◌, unsigned_abs, Bool, true, false, not, ◌&&◌, ◌||◌, if◌then◌else◌, Option, Some, None, unwrap_or}
 use Rattle.std.specs.FinMap.{FinMap, get}
 use Rattle.std.specs.Int.{int_rem_euclid}
 use Rattle.std.specs.Ordering.{nat_cmp}
@@ -16,6 +16,7 @@ use Rattle.ebpf_reloc.specs.declared.slot_target.SlotTarget.TheVariants.{Absent,
 use Rattle.ebpf_model.specs.declared.symbol.Symbol.{Symbol}
 use Rattle.ebpf_model.specs.Symbols.{is_extern}
 use Rattle.ebpf_model.specs.TextSections.{TextSections, text_sections_in}
+use Rattle.ebpf_model.specs.Walks.{found_at}
 
 -- what is read of an object to tell what its slots refer to
 pub record LinkableValue : Type 0 where
@@ -87,11 +88,6 @@ abbrev pub relocated_target : LinkableValue → ℤ → Option ElfRelocation →
 relocated_target parts imm None = None
 relocated_target parts imm (Some relocation) =
     relocation_target parts.text_sections relocation imm (get parts.symbols relocation.symbol_index)
-
--- the relocation at an offset of a section, which is a number of 64 bits (ELF-64 gABI, 'Relocation': r_offset)
-abbrev pub found_at : Option (FinMap nat_cmp ElfRelocation) → ℕ → Option ElfRelocation
-found_at None offset = None
-found_at (Some section_relocations) offset = if nat_lt offset (2 ^ 64) then get section_relocations offset else None
 
 -- the relocation of slot i of a function
 abbrev pub relocation_of : LinkableValue → Function → ℕ → Option ElfRelocation

@@ -3,17 +3,16 @@
 ghost use Rattle.std.specs.Prelude.{◌≡◌, ◌+◌, ◌*◌, length, map, IfOk, OnOk};
 ghost use Rattle.std.specs.FinMap.{get};
 ghost use Rattle.ebpf_reloc.specs.PrivateContracts.{numbered_target, calls_of, calls_from};
-ghost use Rattle.ebpf_reloc.specs.SlotTargets.{slot_target_of, found_at, relocation_of, read};
-ghost use Rattle.ebpf_reloc.specs.Walks.{walked_relocations, IsBefore};
+ghost use Rattle.ebpf_model.specs.Walks.{found_at, walked_relocations, IsBefore, IsReady};
+ghost use Rattle.ebpf_reloc.specs.SlotTargets.{slot_target_of, relocation_of, read};
 ghost use Rattle.std.specs.List.Sorted.{IsStrictlySortedBy};
 ghost use Rattle.ebpf_base.specs.Keys.{key_cmp};
 
 use crate::key_numbers::KeyNumbers;
 use crate::linkable::Linkable;
 use crate::slot_target::{SlotTarget, own_target, relocated_target};
-use crate::walk::Walk;
 use ebpf_linker::{Call, Fault, Target};
-use ebpf_model::Function;
+use ebpf_model::{Function, Walk};
 use ebpf_parts::Relocation;
 use ebpf_parts::insn::bpf_insn;
 use std::alloc::{AllocError, Global};
@@ -75,7 +74,7 @@ fn calls_of(
     requires section_relocations { walked_relocations walk.old ≡ get (read parts.now).relocations function.now.section_index.0 }
     requires before { IsBefore walk.old function.now.section_offset }
     ensures calls { IfOk result (λ calls. calls.items ≡ calls_of (read parts.now) numbers.now.keys.now caller function.now) }
-    ensures section_relocations { walked_relocations walk.new ≡ walked_relocations walk.old }
+    ensures others { walk.new ≡ record walk.old { next = walk.new.next; ahead = walk.new.ahead } }
     ensures before { OnOk result (IsBefore walk.new (function.now.section_offset + 8 * length function.now.instructions)) }
 {
     let slots = function.instructions.as_slice();
@@ -91,35 +90,6 @@ fn calls_of(
     Ok(calls)
 }
 
-/// Brings a walk over the relocations of a section, which has not passed the offset `end`, to a function. It goes on where
-/// the function is behind that offset in the same section, and begins anew else.
-#[tactic(auto, using(crate::proofs::CallSteps::later))]
-fn walk_to<'a>(
-    parts: &Linkable<'a>,
-    walk: &mut Walk<'a>,
-    section: usize,
-    end: u128,
-    function: &Function,
-)
-    requires section_relocations { walked_relocations walk.old ≡ get (read parts.now).relocations section }
-    requires before { IsBefore walk.old end }
-    ensures section_relocations { walked_relocations walk.new ≡ get (read parts.now).relocations function.now.section_index.0 }
-    ensures before { IsBefore walk.new function.now.section_offset }
-{
-    let index = function.section_index.0;
-    if index == section && end <= function.section_offset as u128 {
-        return;
-    }
-    *walk = Walk::new(parts.relocations.get(index), function.section_offset as u64);
-}
-
-/// Where a function ends in its section, in bytes.
-fn end_of(function: &Function) -> u128
-    ensures { result ≡ function.now.section_offset + 8 * length function.now.instructions }
-{
-    function.section_offset as u128 + 8 * function.instructions.len() as u128
-}
-
 /// The calls of each function, which are numbered from 0 on.
 #[tactic(auto, using(crate::proofs::CallSteps::function_here, crate::proofs::CallSteps::functions_end))]
 pub fn all_calls(
@@ -133,15 +103,11 @@ pub fn all_calls(
 {
     let numbers = KeyNumbers::new(keys);
     let mut calls = Vec::with_capacity(alloc, functions.len())?;
-    let mut section = 0;
-    let mut end = 0;
-    let mut walk = Walk::new(parts.relocations.get(section), 0);
+    let mut walk = Walk::new(parts.relocations);
     for number in 0..functions.len() {
         let function = functions[number];
-        walk_to(parts, &mut walk, section, end, function);
+        walk.go_to(parts.relocations, function);
         calls.push(calls_of(alloc, parts, &numbers, &mut walk, number, function)?)?;
-        section = function.section_index.0;
-        end = end_of(function);
     }
     Ok(calls)
 }

@@ -10,7 +10,6 @@ mod linking;
 mod numbered;
 mod numbers;
 mod slot_target;
-mod walk;
 
 pub use ebpf_model::{
     EbpfRelocationError, ExternDesc, Function, Relocation, RelocationError, Symbol,

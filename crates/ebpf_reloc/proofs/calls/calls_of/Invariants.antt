@@ -1,13 +1,13 @@
 use Rattle.std.proofs.Common.{◌≡◌, ◌+◌, ◌*◌, ◌++◌, drop}
+use Rattle.ebpf_model.specs.Walks.{IsBefore}
 use Rattle.ebpf_reloc.specs.PrivateContracts.{numbered_target_at, calls_by, calls_of}
 use Rattle.ebpf_reloc.specs.SlotTargets.{read}
-use Rattle.ebpf_reloc.specs.Walks.{walked_relocations, IsBefore}
 use Rattle.ebpf_reloc.proofs.calls.calls_of.Given as goal
 
 -- the calls so far, and those of what is left; the walk has not passed the next slot
 abbrev pub invariant-loop-slot : goal.invariant-loop-slot
 invariant-loop-slot l = record {
   calls : l.calls.items ++ calls_by (numbered_target_at (read l.parts) l.numbers.keys.now l.caller l.function) l.slot (drop l.slot l.function.instructions) ≡ calls_of (read l.parts) l.numbers.keys.now l.caller l.function;
-  section_relocations : walked_relocations l.walk ≡ walked_relocations l.fn.walk;
+  others : l.walk ≡ record l.fn.walk { next = l.walk.next; ahead = l.walk.ahead };
   before : IsBefore l.walk (l.function.section_offset + 8 * l.slot);
 }

@@ -1,13 +1,18 @@
--- A walk along the slots of a function, in step with the relocations of its section.
-use Rattle.std.specs.Prelude.{◌≡◌, ◌≤◌, ◌==◌, ℕ, Bool, false, nat_lt, if◌then◌else◌, List, [], ◌∷◌, Option, Some, None}
-use Rattle.std.specs.FinMap.{FinMap, entries}
+-- A walk over the relocations of sections, in step with functions and their slots.
+use Rattle.std.specs.Prelude.{◌≡◌, ◌≤◌, ◌==◌, ◌^◌, ℕ, Bool, false, nat_lt, if◌then◌else◌, List, [], ◌∷◌, Option, Some, None}
+use Rattle.std.specs.FinMap.{FinMap, get, entries}
 use Rattle.std.specs.Option.{option_copied}
 use Rattle.std.specs.Ordering.{nat_cmp}
 use Rattle.ebpf_base.specs.EntriesFrom.{entries_from}
 use Rattle.ebpf_elf.specs.declared.entries.ElfRelocation.{ElfRelocation}
-use Rattle.ebpf_reloc.specs.declared.walk.Walk.{Walk}
+use Rattle.ebpf_model.specs.declared.walk.Walk.{Walk}
 
--- the relocations that the walk is over
+-- the relocation at an offset of a section, which is a number of 64 bits (ELF-64 gABI, 'Relocation': r_offset)
+abbrev pub found_at : Option (FinMap nat_cmp ElfRelocation) → ℕ → Option ElfRelocation
+found_at None offset = None
+found_at (Some section_relocations) offset = if nat_lt offset (2 ^ 64) then get section_relocations offset else None
+
+-- the relocations of the section that the walk is in
 abbrev pub walked_relocations : Walk → Option (FinMap nat_cmp ElfRelocation)
 walked_relocations walk = option_copied walk.section_relocations
 
@@ -24,6 +29,10 @@ abbrev pub left : Option (ℕ × ElfRelocation) → Option (List (ℕ × ElfRelo
 left None ahead = []
 left (Some e) ahead = e ∷ ahead_in ahead
 
+-- the relocations that are not passed
+abbrev pub left_in : Walk → List (ℕ × ElfRelocation)
+left_in walk = left walk.next walk.ahead
+
 -- the next one stands before the offset
 abbrev pub is_passed : Option (ℕ × ElfRelocation) → ℕ → Bool
 is_passed None offset = false
@@ -38,4 +47,9 @@ at_offset (Some e) offset = if e.0 == offset then Some e.1 else None
 pub record IsBefore (walk : Walk) (offset : ℕ) : Type 0 where
   pub from : ℕ
   pub before : from ≤ offset
-  pub are_left : left walk.next walk.ahead ≡ entries_from from (entries_or_none (walked_relocations walk))
+  pub are_left : left_in walk ≡ entries_from from (entries_or_none (walked_relocations walk))
+
+-- the walk is over the relocations of its section, and has not passed the end of its function
+pub record IsReady (relocations : FinMap nat_cmp (FinMap nat_cmp ElfRelocation)) (walk : Walk) : Type 0 where
+  pub section_relocations : walked_relocations walk ≡ get relocations walk.section
+  pub before : IsBefore walk walk.function_end

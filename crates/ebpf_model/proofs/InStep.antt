@@ -14,9 +14,8 @@ use Rattle.ebpf_base.proofs.Lists.{filter-map}
 use Rattle.ebpf_base.proofs.Sorted.{entries_rise}
 use Rattle.ebpf_base.specs.EntriesFrom.{entries_from}
 use Rattle.ebpf_elf.specs.declared.entries.ElfRelocation.{ElfRelocation}
-use Rattle.ebpf_reloc.specs.declared.walk.Walk.{Walk}
-use Rattle.ebpf_reloc.specs.SlotTargets.{found_at}
-use Rattle.ebpf_reloc.specs.Walks.{entries_or_none, ahead_in, left, walked_relocations, is_passed, at_offset, IsBefore}
+use Rattle.ebpf_model.specs.declared.walk.Walk.{Walk}
+use Rattle.ebpf_model.specs.Walks.{found_at, entries_or_none, ahead_in, left, left_in, walked_relocations, is_passed, at_offset, IsBefore}
 
 abbrev Entries : Type 0
 Entries = List (ℕ × ElfRelocation)
@@ -111,8 +110,39 @@ unfolding IsStrictlySortedBy
 entries_up None = tt
 entries_up (Some section_relocations) = entries_rise section_relocations
 
+-- where the first of those from an offset on is not before a later one, they are those from the later one on
+none_between : (es : Entries) (from offset : ℕ) (next : Option (ℕ × ElfRelocation)) (ahead : Option Entries) → from ≤ offset → IsStrictlySortedBy nat_cmp (keys_of es) → left next ahead ≡ entries_from from es → is_passed next offset ≡ false → entries_from from es ≡ entries_from offset es
+unfolding IsStrictlySortedBy
+none_between [] from offset next ahead low up h none = refl
+none_between (e ∷ es) from offset next ahead low up h none = step (nat_le from e.0) refl next h none (none_between es from offset next ahead low up.1)
+  where
+    step : (b : Bool) → nat_le from e.0 ≡ b → (n : Option (ℕ × ElfRelocation)) → left n ahead ≡ cond b (e ∷ entries_from from es) (entries_from from es) → is_passed n offset ≡ false
+        → (left n ahead ≡ entries_from from es → is_passed n offset ≡ false → entries_from from es ≡ entries_from offset es) → cond b (e ∷ entries_from from es) (entries_from from es) ≡ entries_from offset (e ∷ es)
+    step true at None g clear rest = cc
+    step true at (Some d) g clear rest =
+        let same : d ≡ e = cc in
+        let clear_at : nat_lt e.0 offset ≡ false = subst (λ x. nat_lt x.0 offset ≡ false) same clear in
+        let there : nat_le offset e.0 ≡ true = grind (arith, nat_tests) in
+        let near : from ≤ e.0 + 1 = grind (arith, nat_tests) in
+        let far : offset ≤ e.0 + 1 = grind (arith, nat_tests) in
+        rw there (ap (λ xs. e ∷ xs) (all_stay es e.0 from near up.0 ∙ sym (all_stay es e.0 offset far up.0)))
+    step false at n g clear rest =
+        let past : nat_le offset e.0 ≡ false = grind (arith, nat_tests) in
+        rw past (rest g clear)
+
+-- where none before an offset is left, those from it on are
+pub all_passed : (walk : Walk) (offset : ℕ) → IsBefore walk offset → is_passed walk.next offset ≡ false → left_in walk ≡ entries_from offset (entries_or_none (walked_relocations walk))
+all_passed walk offset h none = h.are_left ∙ none_between (entries_or_none (walked_relocations walk)) h.from offset walk.next walk.ahead h.before (entries_up (walked_relocations walk)) h.are_left none
+
+-- the first of those that are left is passed
+pub first_passed : (walk after : Walk) (e : ℕ × ElfRelocation) (rest : Entries) (offset : ℕ) → IsBefore walk offset → left_in walk ≡ e ∷ rest → e.0 < offset → walked_relocations after ≡ walked_relocations walk → left_in after ≡ rest → IsBefore after offset
+first_passed walk after e rest offset h is low same taken =
+    let all : e ∷ rest ≡ entries_from h.from (entries_or_none (walked_relocations walk)) = sym is ∙ h.are_left in
+    let others : rest ≡ entries_from (e.0 + 1) (entries_or_none (walked_relocations walk)) = behind (entries_or_none (walked_relocations walk)) h.from e rest (entries_up (walked_relocations walk)) all in
+    record { from = e.0 + 1; before = omega (arith, low); are_left = taken ∙ others ∙ ap (λ k. entries_from (e.0 + 1) (entries_or_none k)) (sym same) }
+
 -- the next one is passed, and the first of those behind it is next
-pub one_passed : (walk after : Walk) (offset : ℕ) → IsBefore walk offset → is_passed walk.next offset ≡ true → walked_relocations after ≡ walked_relocations walk → left after.next after.ahead ≡ ahead_in walk.ahead → IsBefore after offset
+pub one_passed : (walk after : Walk) (offset : ℕ) → IsBefore walk offset → is_passed walk.next offset ≡ true → walked_relocations after ≡ walked_relocations walk → left_in after ≡ ahead_in walk.ahead → IsBefore after offset
 one_passed walk after offset h passed same taken = step walk.next refl
   where
     step : (next : Option (ℕ × ElfRelocation)) → walk.next ≡ next → IsBefore after offset
@@ -120,9 +150,7 @@ one_passed walk after offset h passed same taken = step walk.next refl
     step (Some e) is =
         let below : nat_lt e.0 offset ≡ true = cc in
         let low : e.0 < offset = grind (arith, nat_tests) in
-        let all : e ∷ ahead_in walk.ahead ≡ entries_from h.from (entries_or_none (walked_relocations walk)) = sym (ap (λ n. left n walk.ahead) is) ∙ h.are_left in
-        let rest : ahead_in walk.ahead ≡ entries_from (e.0 + 1) (entries_or_none (walked_relocations walk)) = behind (entries_or_none (walked_relocations walk)) h.from e (ahead_in walk.ahead) (entries_up (walked_relocations walk)) all in
-        record { from = e.0 + 1; before = omega (arith, low); are_left = taken ∙ rest ∙ ap (λ k. entries_from (e.0 + 1) (entries_or_none k)) (sym same) }
+        first_passed walk after e (ahead_in walk.ahead) offset h (ap (λ n. left n walk.ahead) is) low same taken
 
 -- what stands at an offset is the next one, if that is there
 pub found_next : (walk : Walk) (offset : ℕ) → offset < 2 ^ 64 → IsBefore walk offset → is_passed walk.next offset ≡ false → found_at (walked_relocations walk) offset ≡ at_offset walk.next offset
@@ -149,3 +177,7 @@ found_past None offset past = refl
 found_past (Some section_relocations) offset past =
     let large : nat_lt offset (2 ^ 64) ≡ false = grind (arith, nat_tests) in
     rw large refl
+
+-- before an offset is before a later one
+pub later : (walk : Walk) (earlier offset : ℕ) → IsBefore walk earlier → earlier ≤ offset → IsBefore walk offset
+later walk earlier offset h up = record { from = h.from; before = omega (arith, h.before, up); are_left = h.are_left }
