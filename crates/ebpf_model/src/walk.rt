@@ -15,15 +15,15 @@ use std::collections::btree_map;
 #[derive(Drop)]
 pub struct Walk<'a> {
     /// The index of the section.
-    section: usize,
+    pub section: usize,
     /// Where the function ends in the section, in bytes.
-    function_end: u128,
+    pub function_end: u128,
     /// The relocations of the section, where it has some.
-    section_relocations: Option<&'a ByOffset<Relocation>>,
+    pub section_relocations: Option<&'a ByOffset<Relocation>>,
     /// The first relocation that is not passed, with its offset.
-    next: Option<(u64, Relocation)>,
+    pub next: Option<(u64, Relocation)>,
     /// The relocations behind that one, where the section has some.
-    ahead: Option<btree_map::Range<'a, u64, Relocation>>,
+    pub ahead: Option<btree_map::Range<'a, u64, Relocation>>,
 }
 
 /// The offset of a slot in its section, where it fits.
