@@ -1,10 +1,11 @@
 //! The names of types without their flavor, by the types' ids.
 
-ghost use Rattle.std.specs.Prelude.{◌≡◌, ◌<◌, ℕ, All, Some, IfOk, option_map, slice_get};
+ghost use Rattle.std.specs.Prelude.{◌≡◌, ◌<◌, ℕ, All, Some, IfOk, option_map, slice_get, true};
 ghost use Rattle.std.specs.Bool.{OnTrue};
 ghost use Rattle.std.specs.FinMap.{get};
 ghost use Rattle.std.specs.Option.{option_copied};
-ghost use Rattle.ebpf_btf.specs.Types.{name_off};
+ghost use Rattle.ebpf_btf.specs.Types.{kind_of, name_off};
+ghost use Rattle.ebpf_btf.specs.declared.types.BtfType.{BtfType};
 ghost use Rattle.ebpf_candidates.specs.OddNames.{odd_at};
 ghost use Rattle.ebpf_candidates.specs.PrivateContracts.{odd_text_at, readable_at};
 ghost use Rattle.ebpf_candidates.specs.TypeRows.{type_key_at};
@@ -158,7 +159,9 @@ impl<'a> TypeNames<'a> {
     /// compared.
     #[tactic(auto, using(crate::proofs::Heads::same_key))]
     pub fn is_one_name(&self, left: u32, right: u32) -> bool
-        ensures { OnTrue result (type_key_at self.now left ≡ type_key_at self.now right) }
+        ensures one { OnTrue result (type_key_at self.now left ≡ type_key_at self.now right) }
+        ensures told { (one other : BtfType) → slice_get self.now.types left ≡ Some one → slice_get self.now.types right ≡ Some other
+            → kind_of one ≡ kind_of other → name_off one ≡ name_off other → result ≡ true }
     {
         let (left, right) = (self.btf.head(left as usize), self.btf.head(right as usize));
         let (Some(left), Some(right)) = (left, right) else {
