@@ -431,6 +431,17 @@ def core_records_of_types_of_one_long_name(size):
     return asking(types, [(each, string) for each in asked]), Types().bytes()
 
 
+@beside_types
+@shape
+def core_records_beside_types_of_one_long_name(size):
+    """One CO-RE record, on one of many types that have one long name."""
+    types = Types()
+    string = types.strings.add("0")
+    name = types.strings.long(size // 2)
+    asked = [types.add(FWD, name, 0) for _ in range(many(size // 2, 12))]
+    return asking(types, [(asked[0], string)]), Types().bytes()
+
+
 @told
 @beside_types
 @shape

@@ -58,7 +58,16 @@ fn mark(marks: &mut [bool], hash: u32)
     marks[at] = true;
 }
 
-/// Marks of the names, without their flavor, that types of some kinds have.
+/// How long the name at an offset is, in bytes; 0 where it can't be read.
+fn length_at(btf: &Btf, offset: u32) -> usize {
+    let Ok(name) = btf.bytes_at(offset) else {
+        return 0;
+    };
+    name.len()
+}
+
+/// Marks of the names, without their flavor, that types of some kinds have. Where these names together are longer than
+/// the strings that they stand in, all names are marked, so that names which share bytes don't take long.
 pub fn names_of(alloc: Global, btf: &Btf, kinds: &SomeKinds) -> Result<Vec<bool>, AllocError>
     requires { length kinds.now ≡ 20 }
     ensures some { IfOk result (λ marks. 0 < length marks.items) }
@@ -66,12 +75,17 @@ pub fn names_of(alloc: Global, btf: &Btf, kinds: &SomeKinds) -> Result<Vec<bool>
 {
     let names = TypeNames::new(alloc, btf)?;
     let mut marks = marks_of(alloc, MARKS, false)?;
+    let mut read = 0usize;
     for id in 0..btf.len() {
         let Some(head) = btf.head(id) else {
             continue;
         };
         if !has_kind(kinds, head.kind) {
             continue;
+        }
+        read = read.saturating_add(length_at(btf, head.name_offset));
+        if read > btf.strings().len() {
+            return every_name(alloc);
         }
         let Some(name) = names.name(id, head.name_offset) else {
             continue;
