@@ -23,8 +23,9 @@ import library_page  # noqa: E402
 from errors_page import faults  # noqa: E402
 from more_edits import misfits  # noqa: E402
 
-# What a program may take, in seconds: built with checks it takes ten times as long as else.
-SECONDS = 900
+# What a program may take, in seconds: built with checks it takes ten times as long as else, test_rows some twelve minutes
+# on a quiet machine.
+SECONDS = 2700
 
 
 @dataclass
