@@ -23,8 +23,8 @@ import library_page  # noqa: E402
 from errors_page import faults  # noqa: E402
 from more_edits import misfits  # noqa: E402
 
-# What a program may take, in seconds: built with checks it takes ten times as long as else, test_rows some twelve minutes
-# on a quiet machine.
+# What a program may take, in seconds: built with checks it takes ten times as long as else: test_rows took 15 minutes
+# beside proofs.
 SECONDS = 2700
 
 
