@@ -1,7 +1,7 @@
 //! How long each phase takes from an object's file to finished programs that are let go.
 
 use crate::clock::Clock;
-use crate::error::BenchError;
+use crate::error::{BenchError, allowed};
 use crate::files::read_bytes;
 use crate::preparing::symbols;
 use crate::words::Sources;
@@ -9,7 +9,9 @@ use ebpf_btf::{Btf, BtfError, Endianness};
 use ebpf_candidates::TypeIndex;
 use ebpf_commands::{map_names, numbered_descriptors};
 use ebpf_object::Object;
-use ebpf_object::prepare::{Steps, SymbolSource, prepare_object};
+use ebpf_object::prepare::relocate_own_maps;
+use std::fs::File;
+use std::io::BufReader;
 
 /// Reads and parses the object's file.
 fn parsed(
@@ -19,13 +21,7 @@ fn parsed(
 ) -> Result<Object, BenchError> {
     let bytes = read_bytes(rt, sources.file)?;
     clock.end(rt, "read the object");
-    let object = Object::parse(rt.alloc(), &bytes);
-    drop(bytes);
-    clock.end(rt, "parse it");
-    match object {
-        Ok(object) => Ok(object),
-        Err(_) => Err(BenchError::Refused),
-    }
+    allowed(clock.ended(rt, "parse it", Object::parse(rt.alloc(), &bytes)))
 }
 
 /// Reads a kernel's types.
@@ -46,113 +42,79 @@ fn index(rt: &HostRuntime, types: &Btf, clock: &mut Clock) -> Result<(), BtfErro
     Ok(())
 }
 
-/// An object after one step.
-fn after<K: SymbolSource>(
-    rt: &HostRuntime,
-    object: Object,
-    steps: &Steps<'_>,
-    symbols: K,
-) -> Result<Object, BenchError> {
-    match prepare_object(rt.alloc(), object, steps, symbols) {
-        Ok(object) => Ok(object),
-        Err(_) => Err(BenchError::Refused),
+/// Relocates an object to types.
+fn relocate_types(object: &mut Object, types: Option<&Btf>) -> Result<(), BenchError> {
+    match types {
+        Some(types) => allowed(object.relocate_btf(types)),
+        None => Ok(()),
     }
 }
 
-/// An object relocated to types.
-fn with_types(
+/// Writes descriptors.
+fn write_fds(
     rt: &HostRuntime,
-    object: Object,
+    object: &mut Object,
+    descriptors: &[(&str, i32)],
+) -> Result<(), BenchError> {
+    allowed(relocate_own_maps(rt.alloc(), object, descriptors))
+}
+
+/// Writes descriptors of an object's own maps, by their names.
+fn write_maps(rt: &HostRuntime, object: &mut Object) -> Result<(), BenchError> {
+    let names = allowed(map_names(rt.alloc(), object))?;
+    let descriptors = numbered_descriptors(rt.alloc(), names.as_slice())?;
+    write_fds(rt, object, &descriptors)
+}
+
+/// Resolves an object's externs.
+fn resolve(
+    object: &mut Object,
     types: Option<&Btf>,
-    clock: &mut Clock,
-) -> Result<Object, BenchError> {
-    let Some(types) = types else {
-        return Ok(object);
-    };
-    let none: &[u8] = &[];
-    let relocated = after(rt, object, &Steps::none().with_types(types), none);
-    clock.end(rt, "types' pass");
-    relocated
+    symbols: BufReader<File>,
+) -> Result<(), BenchError> {
+    allowed(object.resolve_externs(types, symbols))
 }
 
-/// An object with descriptors of its maps.
-fn with_maps(rt: &HostRuntime, object: Object, clock: &mut Clock) -> Result<Object, BenchError> {
-    let Ok(names) = map_names(rt.alloc(), &object) else {
-        return Err(BenchError::Refused);
-    };
-    let Ok(descriptors) = numbered_descriptors(rt.alloc(), names.as_slice()) else {
-        return Err(BenchError::Refused);
-    };
-    let none: &[u8] = &[];
-    let steps = Steps::none().with_descriptors(&descriptors);
-    let written = after(rt, object, &steps, none);
-    clock.end(rt, "maps");
-    written
+/// Writes an object's externs.
+fn write_externs(object: &mut Object) -> Result<(), BenchError> {
+    allowed(object.relocate_externs())
 }
 
-/// An object whose externs are resolved and written.
-fn with_externs(
+/// Resolves an object's externs and writes them.
+fn pass_externs(
     rt: &HostRuntime,
     sources: &Sources<'_>,
-    object: Object,
+    object: &mut Object,
     types: Option<&Btf>,
-    clock: &mut Clock,
-) -> Result<Object, BenchError> {
-    let Ok(symbols) = symbols(rt, sources) else {
-        return Err(BenchError::Refused);
-    };
-    let steps = Steps {
-        externs: Some(types),
-        ..Steps::none()
-    };
-    let written = after(rt, object, &steps, symbols);
-    clock.end(rt, "externs");
-    written
+) -> Result<(), BenchError> {
+    resolve(object, types, symbols(rt, sources)?)?;
+    write_externs(object)
 }
 
-/// An object whose programs are linked.
-fn with_calls(rt: &HostRuntime, object: Object, clock: &mut Clock) -> Result<Object, BenchError> {
-    let none: &[u8] = &[];
-    let linked = after(rt, object, &Steps::none().with_calls(), none);
-    clock.end(rt, "calls");
-    linked
+/// Links an object's programs.
+fn link(object: &mut Object) -> Result<(), BenchError> {
+    allowed(object.relocate_own_calls())
 }
 
-/// An object after all passes.
-fn finished(
+/// All passes over an object.
+fn pass_all(
     rt: &HostRuntime,
     sources: &Sources<'_>,
-    object: Object,
+    object: &mut Object,
     types: Option<&Btf>,
-    clock: &mut Clock,
-) -> Result<Object, BenchError> {
-    let object = with_types(rt, object, types, clock)?;
-    let object = with_maps(rt, object, clock)?;
-    let object = with_externs(rt, sources, object, types, clock)?;
-    with_calls(rt, object, clock)
-}
-
-/// All passes over an object with the kernel's types, where it needs any; both are let go.
-fn finish(
-    rt: &HostRuntime,
-    sources: &Sources<'_>,
-    object: Object,
-    types: Option<Btf>,
     clock: &mut Clock,
 ) -> Result<(), BenchError> {
-    let finished = finished(rt, sources, object, types.as_ref(), clock);
-    clock.begin(rt);
-    drop(types);
-    clock.end(rt, "let go of the types");
-    let answer = match finished {
-        Ok(object) => {
-            drop(object);
-            Ok(())
-        }
-        Err(error) => Err(error),
-    };
-    clock.end(rt, "let go of the object");
-    answer
+    relocate_types(object, types)?;
+    if types.is_some() {
+        clock.end(rt, "types' pass");
+    }
+    write_maps(rt, object)?;
+    clock.end(rt, "maps");
+    pass_externs(rt, sources, object, types)?;
+    clock.end(rt, "externs");
+    link(object)?;
+    clock.end(rt, "calls");
+    Ok(())
 }
 
 /// The kernel's types, where they are given and the object needs them.
@@ -172,15 +134,40 @@ fn kernel_types(
     }
 }
 
+/// All passes over an object with the kernel's types, where it needs any, which are let go.
+fn finish(
+    rt: &HostRuntime,
+    sources: &Sources<'_>,
+    object: &mut Object,
+    clock: &mut Clock,
+) -> Result<(), BenchError> {
+    let needs_types = object.has_btf_relocations() || object.has_typed_ksyms();
+    let types = kernel_types(rt, sources, needs_types, clock)?;
+    let answer = pass_all(rt, sources, object, types.as_ref(), clock);
+    clock.begin(rt);
+    drop(types);
+    clock.end(rt, "let go of the types");
+    answer
+}
+
+/// All passes over an object, which is let go.
+fn finish_and_drop(
+    rt: &HostRuntime,
+    sources: &Sources<'_>,
+    object: Object,
+    clock: &mut Clock,
+) -> Result<(), BenchError> {
+    let mut object = object;
+    let answer = finish(rt, sources, &mut object, clock);
+    drop(object);
+    clock.end(rt, "let go of the object");
+    answer
+}
+
 /// One run.
 fn run(rt: &HostRuntime, sources: &Sources<'_>, clock: &mut Clock) -> Result<(), BenchError> {
     clock.begin(rt);
-    let object = parsed(rt, sources, clock)?;
-    let needs_types = object.has_btf_relocations() || object.has_typed_ksyms();
-    match kernel_types(rt, sources, needs_types, clock) {
-        Ok(types) => finish(rt, sources, object, types, clock),
-        Err(error) => Err(error),
-    }
+    finish_and_drop(rt, sources, parsed(rt, sources, clock)?, clock)
 }
 
 /// Prints a line for each phase from opening an object's file to finished programs that are let go, with its times over all

@@ -1,6 +1,6 @@
 //! How long an object takes from its file to finished programs.
 
-use crate::error::BenchError;
+use crate::error::{BenchError, allowed};
 use crate::files::read_bytes;
 use crate::peak::peak_kilobytes;
 use crate::timed::timed;
@@ -14,10 +14,7 @@ use std::io::BufReader;
 /// The object of a file.
 fn read_object(rt: &HostRuntime, path: &str) -> Result<Object, BenchError> {
     let bytes = read_bytes(rt, path)?;
-    match Object::parse(rt.alloc(), &bytes) {
-        Ok(object) => Ok(object),
-        Err(_) => Err(BenchError::Refused),
-    }
+    allowed(Object::parse(rt.alloc(), &bytes))
 }
 
 /// The types in a file.
@@ -53,10 +50,7 @@ fn finish(
     types: Option<&Btf>,
     symbols: BufReader<File>,
 ) -> Result<Object, BenchError> {
-    match prepare_all(rt.alloc(), object, types, symbols) {
-        Ok(object) => Ok(object),
-        Err(_) => Err(BenchError::Refused),
-    }
+    allowed(prepare_all(rt.alloc(), object, types, symbols))
 }
 
 /// The prepared object.

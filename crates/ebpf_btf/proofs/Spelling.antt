@@ -3,7 +3,7 @@ use Rattle.std.proofs.Common.{◌≡◌, ◌-◌, ◌+◌, ◌≤◌, ◌==◌, 
 use Rattle.std.proofs.lemmas.Bool.Decides.{nat_tests}
 use Rattle.std.proofs.lemmas.Option.{some_pair_parts}
 use Rattle.ebpf_base.specs.Faults.{Gives}
-use Rattle.ebpf_btf.specs.Memory.{is_memory}
+use Rattle.ebpf_btf.specs.Memory.{is_btf_memory}
 use Rattle.ebpf_base.specs.declared.endianness.Endianness.{Endianness}
 use Rattle.ebpf_btf.specs.declared.error.BtfError.{BtfError}
 use Rattle.ebpf_btf.specs.declared.kind.BtfKind.{BtfKind}
@@ -177,11 +177,11 @@ again_from o bytes info is =
     same info ts p q = rw (← p, ← q) refl
 
 -- what is read is spelled so
-pub found_spelled : (o : Endianness) (bytes : List ℕ) (r : Result TypeInfo BtfError) → Gives is_memory r (type_info_of o bytes) → IfOk r (λ info. Spells o bytes info)
+pub found_spelled : (o : Endianness) (bytes : List ℕ) (r : Result TypeInfo BtfError) → Gives is_btf_memory r (type_info_of o bytes) → IfOk r (λ info. Spells o bytes info)
 found_spelled o bytes (Ok info) is = found_from o bytes info is
 found_spelled o bytes (Err e) is = tt
 
 -- what is spelled so is read
-pub only_spelled : (o : Endianness) (bytes : List ℕ) (r : Result TypeInfo BtfError) → Gives is_memory r (type_info_of o bytes)
-    → (info : TypeInfo) → Spells o bytes info → Gives is_memory r (Ok info)
-only_spelled o bytes r is info spells = subst (λ (s : Result TypeInfo BtfError). Gives is_memory r s) (again_from o bytes info spells) is
+pub only_spelled : (o : Endianness) (bytes : List ℕ) (r : Result TypeInfo BtfError) → Gives is_btf_memory r (type_info_of o bytes)
+    → (info : TypeInfo) → Spells o bytes info → Gives is_btf_memory r (Ok info)
+only_spelled o bytes r is info spells = subst (λ (s : Result TypeInfo BtfError). Gives is_btf_memory r s) (again_from o bytes info spells) is

@@ -3,6 +3,6 @@ use Rattle.std.specs.Prelude.{Bool, true, false}
 use Rattle.ebpf_btf.specs.declared.error.BtfError.{BtfError}
 use Rattle.ebpf_btf.specs.declared.error.BtfError.TheVariants.{OutOfMemory}
 
-abbrev pub is_memory : BtfError → Bool
-is_memory OutOfMemory = true
-is_memory _ = false
+abbrev pub is_btf_memory : BtfError → Bool
+is_btf_memory OutOfMemory = true
+is_btf_memory _ = false

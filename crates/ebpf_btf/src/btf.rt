@@ -9,7 +9,7 @@ ghost use Rattle.std.specs.Str.Lossy.{utf8_lossy};
 ghost use Rattle.ebpf_base.specs.Faults.{Refuses, fault_of};
 ghost use Rattle.ebpf_btf.specs.Additions.{with_type, with_string, only_first, too_large_fault};
 ghost use Rattle.ebpf_btf.specs.Header.{order_of};
-ghost use Rattle.ebpf_btf.specs.Memory.{is_memory};
+ghost use Rattle.ebpf_btf.specs.Memory.{is_btf_memory};
 ghost use Rattle.ebpf_btf.specs.Offsets.{AreBeside, HoldsTypes, beside, held_types, types_here};
 ghost use Rattle.ebpf_btf.specs.Reading.{type_info_of};
 ghost use Rattle.ebpf_btf.specs.Strings.{AreReadableBelow, before_zero, text_at};
@@ -213,7 +213,7 @@ impl Btf {
     /// where memory for a copy is refused.
     pub fn string_at(&self, offset: u32) -> Result<CowStr<'_, Global>, BtfError>
         ensures text { IfOk result (λ text. text_at self.now.strings offset ≡ Ok (cow_str_bytes text)) }
-        ensures fault { Refuses is_memory result (fault_of (text_at self.now.strings offset)) }
+        ensures fault { Refuses is_btf_memory result (fault_of (text_at self.now.strings offset)) }
     {
         read_text(*self.strings.allocator(), &self.strings, offset)
     }
@@ -281,7 +281,7 @@ impl Btf {
     pub fn add_type(&mut self, ty: &BtfType<'_>) -> Result<u32, BtfError>
         ensures id { IfOk result (λ id. id ≡ length self.old.types) }
         ensures added { OnOk result (self.new ≡ with_type self.old ty.now) }
-        ensures fault { Refuses is_memory result (type_fault self.old ty.now) }
+        ensures fault { Refuses is_btf_memory result (type_fault self.old ty.now) }
         ensures unchanged { OnErr result (self.new ≡ self.old) }
     {
         if ty.kind_number() == 0 || ty.count() >= COUNT_LIMIT {
@@ -309,7 +309,7 @@ impl Btf {
     pub fn add_string(&mut self, text: &str) -> Result<u32, BtfError>
         ensures offset { IfOk result (λ offset. offset ≡ length self.old.strings) }
         ensures added { OnOk result (self.new ≡ with_string self.old text.now) }
-        ensures fault { Refuses is_memory result (too_large_fault (length self.old.strings)) }
+        ensures fault { Refuses is_btf_memory result (too_large_fault (length self.old.strings)) }
         ensures unchanged { OnErr result (self.new ≡ self.old) }
     {
         let Ok(offset) = u32::try_from(self.strings.len()) else {
@@ -361,7 +361,7 @@ impl Btf {
     #[tactic(auto, using(crate::proofs::Header::header_again, crate::proofs::Header::order_is, crate::proofs::Held::held_plain))]
     pub fn to_bytes(&self, alloc: Global) -> Result<Vec<u8>, BtfError>
         ensures again { IfOk result (λ bytes. type_info_of (order_of bytes.items) bytes.items ≡ Ok self.now) }
-        ensures fault { Refuses is_memory result (written_fault self.now) }
+        ensures fault { Refuses is_btf_memory result (written_fault self.now) }
     {
         if self.has_fallback() || self.strings.len() >= LENGTH_LIMIT {
             return Err(BtfError::TooLarge);

@@ -4,7 +4,7 @@ ghost use Rattle.std.specs.Prelude.{◌≡◌, ◌==◌, IfOk, IfErr, IfSome, Ok
 ghost use Rattle.std.specs.Option.{ok_or};
 ghost use Rattle.std.specs.Cow.{cow_str_bytes};
 ghost use Rattle.ebpf_base.specs.Faults.{Refuses, Gives, fault_of};
-ghost use Rattle.ebpf_btf.specs.Memory.{is_memory};
+ghost use Rattle.ebpf_btf.specs.Memory.{is_btf_memory};
 ghost use Rattle.ebpf_btf.specs.Strings.{type_name, id_of_name, is_name_at, is_essential_name_at};
 ghost use Rattle.ebpf_btf.specs.Types.{is_kind};
 ghost use Rattle.ebpf_btf.specs.declared.error.BtfError.TheVariants.{OutOfMemory, UnknownBtfTypeName};
@@ -34,7 +34,7 @@ impl Btf {
     /// `InvalidStringOffset` where the name can't be read, `OutOfMemory` as in `string_at`.
     pub fn type_name(&self, ty: &BtfType<'_>) -> Result<CowStr<'_, Global>, BtfError>
         ensures name { IfOk result (λ name. type_name self.now ty.now ≡ Ok (cow_str_bytes name)) }
-        ensures fault { Refuses is_memory result (fault_of (type_name self.now ty.now)) }
+        ensures fault { Refuses is_btf_memory result (fault_of (type_name self.now ty.now)) }
     {
         self.string_at(ty.name_offset())
     }
@@ -94,7 +94,7 @@ impl Btf {
     ///
     /// `UnknownBtfTypeName` where there is none, `OutOfMemory` where memory is refused.
     pub fn id_by_type_name_kind(&self, name: &str, kind: BtfKind) -> Result<u32, BtfError>
-        ensures { Gives is_memory result (ok_or (id_of_name self.now name.now kind) (UnknownBtfTypeName name.now)) }
+        ensures { Gives is_btf_memory result (ok_or (id_of_name self.now name.now kind) (UnknownBtfTypeName name.now)) }
     {
         match self.find_named(name, kind) {
             Some(id) => Ok(id),

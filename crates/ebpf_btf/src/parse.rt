@@ -3,7 +3,7 @@
 ghost use Rattle.std.specs.Prelude.{◌≡◌, ◌+◌, ◌*◌, ◌-◌, ◌<◌, ◌≤◌, ◌^◌, ◌∷◌, List, [], length, slice_get, slice_range, drop, IfOk, Ok, None, Some, option_map};
 ghost use Rattle.std.specs.Option.{ok_or};
 ghost use Rattle.ebpf_base.specs.Faults.{Gives, Refuses, fault_of};
-ghost use Rattle.ebpf_btf.specs.Memory.{is_memory};
+ghost use Rattle.ebpf_btf.specs.Memory.{is_btf_memory};
 ghost use Rattle.ebpf_btf.specs.Offsets.{types_here, HoldsTypes};
 ghost use Rattle.ebpf_btf.specs.Reading.{Spells, header_fault, types_start, types_end, types_part, strings_start, strings_end, strings_in, types_from, types_of, type_info_of, prepend_types};
 ghost use Rattle.ebpf_btf.specs.TypeInfo.{TypeInfo};
@@ -73,7 +73,7 @@ fn read_offsets(alloc: Global, order: Endianness, part: &[u8]) -> Result<Vec<u32
     requires small { length part.now < 2 ^ 32 }
     ensures found { IfOk result (λ offsets. types_of order part.now ≡ Some (types_here order part.now offsets.items)) }
     ensures kept { IfOk result (λ offsets. HoldsTypes order part.now 0 offsets.items) }
-    ensures fault { Refuses is_memory result (fault_of (ok_or (types_of order part.now) InvalidTypeInfo)) }
+    ensures fault { Refuses is_btf_memory result (fault_of (ok_or (types_of order part.now) InvalidTypeInfo)) }
 {
     let end = part.len() as u32;
     let mut offsets = Vec::with_capacity(alloc, part.len() / USUAL_LENGTH)?;
@@ -91,7 +91,7 @@ fn read_offsets(alloc: Global, order: Endianness, part: &[u8]) -> Result<Vec<u32
 /// The two parts, copied.
 #[tactic(auto, unfolding(crate::specs::Reading::type_info_of, crate::specs::Reading::types_part, crate::specs::Reading::strings_in))]
 fn copied(alloc: Global, order: Endianness, data: &[u8]) -> Result<Btf, BtfError>
-    ensures { Gives is_memory result (type_info_of order «data».now) }
+    ensures { Gives is_btf_memory result (type_info_of order «data».now) }
 {
     let parts = read_header(order, data)?;
     let part = &data[parts.types_start..parts.types_end];
@@ -104,7 +104,7 @@ fn copied(alloc: Global, order: Endianness, data: &[u8]) -> Result<Btf, BtfError
 /// The two parts, of which the strings alone are copied.
 #[tactic(auto, unfolding(crate::specs::Reading::type_info_of, crate::specs::Reading::types_part, crate::specs::Reading::strings_in), using(crate::proofs::Cut::part_is))]
 fn taken(order: Endianness, data: Vec<u8>) -> Result<Btf, BtfError>
-    ensures { Gives is_memory result (type_info_of order «data».items) }
+    ensures { Gives is_btf_memory result (type_info_of order «data».items) }
 {
     let alloc = *data.allocator();
     let mut bytes = data;
@@ -124,9 +124,9 @@ impl Btf {
     /// of a kind past 19. `OutOfMemory` where memory is refused.
     #[tactic(auto, using(crate::proofs::Spelling::found_spelled, crate::proofs::Spelling::only_spelled))]
     pub fn parse(alloc: Global, data: &[u8], endianness: Endianness) -> Result<Btf, BtfError>
-        ensures exact { Gives is_memory result (type_info_of endianness «data».now) }
+        ensures exact { Gives is_btf_memory result (type_info_of endianness «data».now) }
         ensures found { IfOk result (λ info. Spells endianness «data».now info) }
-        ensures only { (info : TypeInfo) → Spells endianness «data».now info → Gives is_memory result (Ok info) }
+        ensures only { (info : TypeInfo) → Spells endianness «data».now info → Gives is_btf_memory result (Ok info) }
     {
         copied(alloc, endianness, data)
     }
@@ -136,9 +136,9 @@ impl Btf {
     /// Its faults are those of `parse`.
     #[tactic(auto, using(crate::proofs::Spelling::found_spelled, crate::proofs::Spelling::only_spelled))]
     pub fn from_vec(data: Vec<u8>, endianness: Endianness) -> Result<Btf, BtfError>
-        ensures exact { Gives is_memory result (type_info_of endianness «data».items) }
+        ensures exact { Gives is_btf_memory result (type_info_of endianness «data».items) }
         ensures found { IfOk result (λ info. Spells endianness «data».items info) }
-        ensures only { (info : TypeInfo) → Spells endianness «data».items info → Gives is_memory result (Ok info) }
+        ensures only { (info : TypeInfo) → Spells endianness «data».items info → Gives is_btf_memory result (Ok info) }
     {
         taken(endianness, data)
     }

@@ -7,7 +7,7 @@ ghost use Rattle.std.specs.Result.{result_ok};
 ghost use Rattle.std.specs.Cow.{cow_str_bytes};
 ghost use Rattle.std.specs.Str.Lossy.{utf8_lossy};
 ghost use Rattle.ebpf_base.specs.Faults.{Refuses, fault_of};
-ghost use Rattle.ebpf_btf.specs.Memory.{is_memory};
+ghost use Rattle.ebpf_btf.specs.Memory.{is_btf_memory};
 ghost use Rattle.ebpf_btf.specs.Strings.{before_zero, is_text, text_at};
 
 use crate::error::BtfError;
@@ -105,7 +105,7 @@ pub fn is_text_at(strings: &[u8], offset: u32, text: &str) -> bool
 /// The text at an offset of the strings.
 pub fn read_text(alloc: Global, strings: &[u8], offset: u32) -> Result<CowStr<'_, Global>, BtfError>
     ensures text { IfOk result (λ text. text_at strings.now offset ≡ Ok (cow_str_bytes text)) }
-    ensures fault { Refuses is_memory result (fault_of (text_at strings.now offset)) }
+    ensures fault { Refuses is_btf_memory result (fault_of (text_at strings.now offset)) }
 {
     Ok(lossy(alloc, read_bytes(strings, offset)?)?)
 }

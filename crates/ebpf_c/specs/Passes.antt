@@ -47,7 +47,7 @@ pub record HasResolved (bytes symbols : List ℕ) (old new : Object) : Type 0 wh
 pub record HasLostExtern (bytes symbols : List ℕ) (o : Object) (r : Refusal) : Type 0 where
   pub kernel : Option TypeInfo
   pub spelled : types_if bytes ≡ Ok kernel
-  pub refusal : IsRefusal (λ e. MatchBool (resolving.is_memory e) ⊤ (IsRefusedBy symbols o.btf kernel o.externs e)) ksyms_refusal r
+  pub refusal : IsRefusal (λ e. MatchBool (resolving.is_ksyms_memory e) ⊤ (IsRefusedBy symbols o.btf kernel o.externs e)) ksyms_refusal r
 
 abbrev pub CannotResolve : List ℕ → List ℕ → Object → Refusal → Type 0
 CannotResolve bytes symbols o r = CannotReadIf bytes r ⊎ HasLostExtern bytes symbols o r

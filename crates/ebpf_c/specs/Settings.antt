@@ -5,7 +5,7 @@ use Rattle.ebpf_base.specs.Keys.{text_cmp}
 use Rattle.ebpf_object.specs.OlderHelpers.{AreSanitized}
 use Rattle.ebpf_object.specs.Patches.{all_patched, patches_of, patches_fault}
 use Rattle.ebpf_object.specs.declared.object.Object.{Object}
-use Rattle.ebpf_parts.specs.Memory.{is_memory}
+use Rattle.ebpf_parts.specs.Memory.{is_parse_memory}
 use Rattle.ebpf_parts.specs.declared.maps.either.Map.{Map}
 use Rattle.ebpf_c.specs.Entries.{value_by_bytes}
 use Rattle.ebpf_c.specs.Handles.{IsRefusal}
@@ -44,7 +44,7 @@ pub record HasPatched (name value : List ℕ) (must_exist : Bool) (old new : Obj
 abbrev pub CannotPatch : List ℕ → List ℕ → Bool → Object → Refusal → Type 0
 CannotPatch name value must_exist o r =
     MatchOption (text_of name) (r ≡ plain BAD_NAME) (λ _.
-    IsRefusal (λ e. MatchBool (is_memory e) ⊤ (patches_fault o.symbol_table o.maps (one_value name value must_exist) ≡ Some e)) parse_refusal r)
+    IsRefusal (λ e. MatchBool (is_parse_memory e) ⊤ (patches_fault o.symbol_table o.maps (one_value name value must_exist) ≡ Some e)) parse_refusal r)
 
 -- ---- helper functions
 

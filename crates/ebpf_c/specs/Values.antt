@@ -8,7 +8,7 @@ use Rattle.ebpf_base.specs.Keyed.{put_all}
 use Rattle.ebpf_base.specs.Keys.{text_cmp}
 use Rattle.ebpf_object.specs.Patches.{Global, all_patched, patches_of, patches_fault}
 use Rattle.ebpf_object.specs.declared.object.Object.{Object}
-use Rattle.ebpf_parts.specs.Memory.{is_memory}
+use Rattle.ebpf_parts.specs.Memory.{is_parse_memory}
 use Rattle.ebpf_c.specs.Descriptors.{name_in}
 use Rattle.ebpf_c.specs.Handles.{IsRefusal}
 use Rattle.ebpf_c.specs.Numbers.{parse_refusal}
@@ -53,6 +53,6 @@ abbrev pub CannotPatchAll : List ebpf_value → List ℕ → List ℕ → Object
 CannotPatchAll rows text bytes o r =
     MatchBool (are_named text rows)
     (MatchBool (have_values bytes rows)
-    (IsRefusal (λ e. MatchBool (is_memory e) ⊤ (patches_fault o.symbol_table o.maps (values_in text bytes rows) ≡ Some e)) parse_refusal r)
+    (IsRefusal (λ e. MatchBool (is_parse_memory e) ⊤ (patches_fault o.symbol_table o.maps (values_in text bytes rows) ≡ Some e)) parse_refusal r)
     (r ≡ plain BAD_VALUE))
     (r ≡ plain BAD_NAME)

@@ -1,7 +1,7 @@
 //! The types of a kernel, as bytes.
 
 ghost use Rattle.std.specs.Prelude.{◌≡◌, ◌<◌, Ok, IfOk, IfErr};
-ghost use Rattle.ebpf_c.specs.TargetTypes.{order_of, types_in, types_if, CannotRead, CannotReadIf};
+ghost use Rattle.ebpf_c.specs.TargetTypes.{order_by_magic, types_in, types_if, CannotRead, CannotReadIf};
 
 use crate::refusal::Refusal;
 use crate::type_fault::type_refusal;
@@ -15,8 +15,8 @@ const BIG_ENDIAN: u8 = 0xeb;
 const FIRST_FAULT: u32 = 200;
 
 /// The byte order that the magic number tells.
-fn order_of(bytes: &[u8]) -> Endianness
-    ensures { result ≡ order_of bytes.now }
+fn order_by_magic(bytes: &[u8]) -> Endianness
+    ensures { result ≡ order_by_magic bytes.now }
 {
     match bytes {
         [BIG_ENDIAN, ..] => Endianness::Big,
@@ -30,7 +30,7 @@ pub fn read_types(alloc: Global, bytes: &[u8]) -> Result<Btf, Refusal>
     ensures why { IfErr result (CannotRead bytes.now) }
     ensures refuses { IfErr result (λ r. 0 < r.number) }
 {
-    match Btf::parse(alloc, bytes, order_of(bytes)) {
+    match Btf::parse(alloc, bytes, order_by_magic(bytes)) {
         Ok(types) => Ok(types),
         Err(error) => Err(type_refusal(FIRST_FAULT, error)),
     }

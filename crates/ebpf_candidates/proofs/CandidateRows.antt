@@ -21,7 +21,7 @@ use Rattle.ebpf_candidates.specs.Candidates.{candidates, is_candidate}
 use Rattle.ebpf_btf.specs.EssentialNames.{essential_name}
 use Rattle.ebpf_btf.specs.Strings.{type_name}
 use Rattle.ebpf_btf.specs.TypeInfo.{TypeInfo}
-use Rattle.ebpf_candidates.specs.NameMarks.{is_marked, name_hash}
+use Rattle.ebpf_candidates.specs.NameMarks.{is_hash_marked, name_hash}
 use Rattle.ebpf_candidates.specs.SomeKinds.{has_kind}
 use Rattle.ebpf_candidates.specs.TypeRows.{TypeKey, is_before, type_key_cmp, marked_row, named_row, row_key_cmp, row_key, readable_name, rows, type_rows_from}
 use Rattle.ebpf_candidates.specs.PrivateContracts.{row_key_total, search_key}
@@ -90,7 +90,7 @@ drop_front (suc id) [] t ts is = cc
 drop_front (suc id) (x ∷ xs) t ts is = drop_front id xs t ts is
 
 -- the rows with a kind and an essential name are those of the candidates
-module _ (chosen : List Bool) (marks : List Bool) (info : TypeInfo) (kind : BtfKind) (among : has_kind chosen kind ≡ true) (name : List ℕ) (first : ℕ) (others : List ℕ) (named : essential_name name ≡ first ∷ others) (marked : is_marked marks (name_hash (first ∷ others)) ≡ true) where
+module _ (chosen : List Bool) (marks : List Bool) (info : TypeInfo) (kind : BtfKind) (among : has_kind chosen kind ≡ true) (name : List ℕ) (first : ℕ) (others : List ℕ) (named : essential_name name ≡ first ∷ others) (marked : is_hash_marked marks (name_hash (first ∷ others)) ≡ true) where
   abbrev has : TypeRow → Bool
   has r = is_eq (row_key_cmp (row_key info r) (search_key (kind_number kind) (first ∷ others)))
 
@@ -102,22 +102,22 @@ module _ (chosen : List Bool) (marks : List Bool) (info : TypeInfo) (kind : BtfK
   by_other id t ts out rest = let other : is_kind kind t ≡ false = other_kind chosen t kind out among in rw (out, other) rest
 
   -- a name whose hash isn't marked is another one
-  other_name : (text : List ℕ) → is_marked marks (name_hash text) ≡ false → bytes_eq text (first ∷ others) ≡ false
+  other_name : (text : List ℕ) → is_hash_marked marks (name_hash text) ≡ false → bytes_eq text (first ∷ others) ≡ false
   other_name text out = by_test (bytes_eq text (first ∷ others)) refl
     where
       by_test : (b : Bool) → bytes_eq text (first ∷ others) ≡ b → bytes_eq text (first ∷ others) ≡ false
       by_test true is =
           let same : text ≡ first ∷ others = (bytes_eq-Decides text (first ∷ others)).0 is in
-          absurd (true≢false (sym marked ∙ sym (ap (λ n. is_marked marks (name_hash n)) same) ∙ out))
+          absurd (true≢false (sym marked ∙ sym (ap (λ n. is_hash_marked marks (name_hash n)) same) ∙ out))
       by_test false is = is
 
   -- of a type whose name was read
   by_text : (id : ℕ) (t : BtfType) (ts : List BtfType) (text : List ℕ) → has_kind chosen (kind_of t) ≡ true → slice_get info.types id ≡ Some t → type_name info t ≡ Ok text → Same (id + 1) ts
       → (essential : List ℕ) → essential_name text ≡ essential → Same id (t ∷ ts)
   by_text id t ts text in_it here is rest [] e = rw (in_it, is, e, named, never (is_kind kind t)) rest
-  by_text id t ts text in_it here is rest (x ∷ xs) e = by_mark (is_marked marks (name_hash (x ∷ xs))) refl
+  by_text id t ts text in_it here is rest (x ∷ xs) e = by_mark (is_hash_marked marks (name_hash (x ∷ xs))) refl
     where
-      by_mark : (b : Bool) → is_marked marks (name_hash (x ∷ xs)) ≡ b → Same id (t ∷ ts)
+      by_mark : (b : Bool) → is_hash_marked marks (name_hash (x ∷ xs)) ≡ b → Same id (t ∷ ts)
       by_mark true in_marks =
           let row : TypeRow = record { hash = name_hash (x ∷ xs); id = id } in
           let wanted : row_key info row ≡ (name_hash (x ∷ xs), record { kind = kind_number (kind_of t); name = x ∷ xs }) = rw (here, is, e) refl in
@@ -142,7 +142,7 @@ module _ (chosen : List Bool) (marks : List Bool) (info : TypeInfo) (kind : BtfK
 
 -- the ids of the part of the sorted rows that has the key
 pub candidates_found : (chosen : List Bool) (marks : List Bool) (info : TypeInfo) (kind : BtfKind) → has_kind chosen kind ≡ true → (name : List ℕ) (sorted : List TypeRow) (ids : List ℕ) (low high number : ℕ) (first : ℕ) (others : List ℕ)
-    → number ≡ kind_number kind → essential_name name ≡ first ∷ others → is_marked marks (name_hash (first ∷ others)) ≡ true → IsStableBy (is_before info) (rows chosen marks info) sorted → ids ≡ map (λ r. r.id) sorted
+    → number ≡ kind_number kind → essential_name name ≡ first ∷ others → is_hash_marked marks (name_hash (first ∷ others)) ≡ true → IsStableBy (is_before info) (rows chosen marks info) sorted → ids ≡ map (λ r. r.id) sorted
     → filter (λ r. is_eq (row_key_cmp (row_key info r) (search_key number (first ∷ others)))) sorted ≡ slice_range sorted low high
     → take (high - low) (drop low ids) ≡ candidates info kind name
 candidates_found chosen marks info kind among name sorted ids low high number first others same_kind named marked stable same_ids part =
@@ -158,7 +158,7 @@ candidates_found chosen marks info kind among name sorted ids low high number fi
 
 -- the same of a text that is not empty
 pub candidates_named : (chosen : List Bool) (marks : List Bool) (info : TypeInfo) (kind : BtfKind) → has_kind chosen kind ≡ true → (name : List ℕ) (sorted : List TypeRow) (ids : List ℕ) (low high number : ℕ) (text : List ℕ)
-    → number ≡ kind_number kind → text ≡ essential_name name → ((text ≡ []) → ⊥) → is_marked marks (name_hash text) ≡ true → IsStableBy (is_before info) (rows chosen marks info) sorted → ids ≡ map (λ r. r.id) sorted
+    → number ≡ kind_number kind → text ≡ essential_name name → ((text ≡ []) → ⊥) → is_hash_marked marks (name_hash text) ≡ true → IsStableBy (is_before info) (rows chosen marks info) sorted → ids ≡ map (λ r. r.id) sorted
     → filter (λ r. is_eq (row_key_cmp (row_key info r) (search_key number text))) sorted ≡ slice_range sorted low high
     → take (high - low) (drop low ids) ≡ candidates info kind name
 candidates_named chosen marks info kind among name sorted ids low high number [] same_kind named some marked stable same_ids part = absurd (some refl)
@@ -191,8 +191,8 @@ named i [] some = absurd (some refl)
 named i (x ∷ xs) some = refl
 
 -- of a row whose hash is marked, and of one whose hash isn't
-pub in_marks : (marks : List Bool) (row : TypeRow) → is_marked marks row.hash ≡ true → marked_row marks (Some row) ≡ Some row
+pub in_marks : (marks : List Bool) (row : TypeRow) → is_hash_marked marks row.hash ≡ true → marked_row marks (Some row) ≡ Some row
 in_marks marks row marked = rw marked refl
 
-pub out_of_marks : (marks : List Bool) (row : TypeRow) → is_marked marks row.hash ≡ false → marked_row marks (Some row) ≡ None
+pub out_of_marks : (marks : List Bool) (row : TypeRow) → is_hash_marked marks row.hash ≡ false → marked_row marks (Some row) ≡ None
 out_of_marks marks row out = rw out refl

@@ -9,7 +9,7 @@ use Rattle.ebpf_btf.specs.TypeInfo.{TypeInfo}
 use Rattle.ebpf_btf.specs.Types.{kind_of}
 use Rattle.ebpf_candidates.specs.IndexedTypes.{IndexedTypes, has_named}
 use Rattle.ebpf_candidates.specs.NameMarks.{NamesAreMarked, is_name_marked}
-use Rattle.ebpf_candidates.specs.SomeKinds.{has_kind, is_one_of}
+use Rattle.ebpf_candidates.specs.SomeKinds.{has_kind, is_among_kinds}
 
 pub first_holds : (a b : Bool) → (a && b) ≡ true → a ≡ true
 first_holds true b is = refl
@@ -22,9 +22,9 @@ second_holds false false is = is
 
 -- an index over the marks of the names of some types has these names
 pub has_names : (result : Result IndexedTypes BtfError) (local : TypeInfo) (listed : List BtfKind) (kinds : List Bool) (marks : List Bool)
-    → IfOk result (λ index. index.kinds ≡ kinds) → IfOk result (λ index. index.marks ≡ marks) → ((kind : BtfKind) → has_kind kinds kind ≡ is_one_of listed kind) → NamesAreMarked marks kinds local
-    → IfOk result (λ index. (kind : BtfKind) (id : ℕ) (t : BtfType) (name : List ℕ) → is_one_of listed kind ≡ true → slice_get local.types id ≡ Some t
-    → is_one_of listed (kind_of t) ≡ true → type_name local t ≡ Ok name → has_named index kind name ≡ true)
+    → IfOk result (λ index. index.kinds ≡ kinds) → IfOk result (λ index. index.marks ≡ marks) → ((kind : BtfKind) → has_kind kinds kind ≡ is_among_kinds listed kind) → NamesAreMarked marks kinds local
+    → IfOk result (λ index. (kind : BtfKind) (id : ℕ) (t : BtfType) (name : List ℕ) → is_among_kinds listed kind ≡ true → slice_get local.types id ≡ Some t
+    → is_among_kinds listed (kind_of t) ≡ true → type_name local t ≡ Ok name → has_named index kind name ≡ true)
 has_names (Err e) local listed kinds marks same_kinds same_marks chosen names = tt
 has_names (Ok index) local listed kinds marks same_kinds same_marks chosen names = λ kind id t name one there among named.
     let in_kinds : has_kind kinds kind ≡ true = chosen kind ∙ one in

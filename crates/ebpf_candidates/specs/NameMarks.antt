@@ -13,12 +13,12 @@ unfoldable pub name_hash : List ℕ → ℕ
 name_hash name = fold_hasher.finish (fold_hasher.write fold_hasher.initial name) / 2 ^ 32
 
 -- whether a hash is marked: its mark stands at its remainder by their number, so that hashes of one remainder share it
-abbrev pub is_marked : List Bool → ℕ → Bool
-is_marked marks hash = slice_index_or marks (hash % length marks) false
+abbrev pub is_hash_marked : List Bool → ℕ → Bool
+is_hash_marked marks hash = slice_index_or marks (hash % length marks) false
 
 -- the essential name of a text is marked
 abbrev pub is_name_marked : List Bool → List ℕ → Bool
-is_name_marked marks name = is_marked marks (name_hash (essential_name name))
+is_name_marked marks name = is_hash_marked marks (name_hash (essential_name name))
 
 -- so are those of the types of some kinds that have ids below a number
 abbrev pub NamesBelowAreMarked : List Bool → List Bool → TypeInfo → ℕ → Type 0

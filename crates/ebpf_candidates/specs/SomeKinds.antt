@@ -5,8 +5,8 @@ use Rattle.ebpf_btf.specs.declared.kind.BtfKind.{BtfKind}
 use Rattle.ebpf_btf.specs.Types.{kind_number}
 
 -- whether a kind is one of some
-abbrev pub is_one_of : List BtfKind → BtfKind → Bool
-is_one_of kinds kind = list_any (λ k. kind_number k == kind_number kind) kinds
+abbrev pub is_among_kinds : List BtfKind → BtfKind → Bool
+is_among_kinds kinds kind = list_any (λ k. kind_number k == kind_number kind) kinds
 
 -- the same of kinds that are given as a list which tells, at each kind's number, whether it is one of them
 abbrev pub has_kind : List Bool → BtfKind → Bool

@@ -4,7 +4,7 @@ ghost use Rattle.std.specs.Prelude.{◌≡◌, IfOk, Ok};
 ghost use Rattle.ebpf_base.specs.Faults.{Gives};
 ghost use Rattle.ebpf_candidates.specs.Compatibility.{are_named_alike, element, fields_compatible, is_composite, names_fit, types_fit};
 ghost use Rattle.ebpf_btf.specs.EssentialNames.{essential_name};
-ghost use Rattle.ebpf_btf.specs.Memory.{is_memory};
+ghost use Rattle.ebpf_btf.specs.Memory.{is_btf_memory};
 ghost use Rattle.ebpf_base.specs.Results.{if_ok};
 ghost use Rattle.ebpf_btf.specs.Strings.{type_name};
 
@@ -51,7 +51,7 @@ fn are_named_alike(
     target: &Btf,
     target_type: &BtfType<'_>,
 ) -> Result<bool, BtfError>
-    ensures { Gives is_memory result (are_named_alike local.now target.now local_type.now target_type.now) }
+    ensures { Gives is_btf_memory result (are_named_alike local.now target.now local_type.now target_type.now) }
 {
     let name = local.type_name(local_type)?;
     is_named_alike(target, target_type, name.as_str())
@@ -65,7 +65,7 @@ fn types_fit(
     target: &Btf,
     target_type: &BtfType<'_>,
 ) -> Result<bool, BtfError>
-    ensures { Gives is_memory result (types_fit local.now target.now local_type.now target_type.now) }
+    ensures { Gives is_btf_memory result (types_fit local.now target.now local_type.now target_type.now) }
 {
     if is_composite(local_type.kind()) && is_composite(target_type.kind()) {
         return Ok(true);
@@ -99,7 +99,7 @@ pub fn fields_are_compatible(
     target: &Btf,
     target_id: u32,
 ) -> Result<bool, BtfError>
-    ensures { Gives is_memory result (fields_compatible local.now local_id target.now target_id) }
+    ensures { Gives is_btf_memory result (fields_compatible local.now local_id target.now target_id) }
 {
     let mut pair = Pair {
         local: local_id,

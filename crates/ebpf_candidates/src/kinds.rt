@@ -3,7 +3,7 @@
 ghost use Rattle.std.specs.Prelude.{◌≡◌, ◌<◌, length, true};
 ghost use Rattle.ebpf_btf.specs.Types.{kind_number};
 ghost use Rattle.ebpf_btf.specs.declared.kind.BtfKind.{BtfKind};
-ghost use Rattle.ebpf_candidates.specs.SomeKinds.{has_kind, is_one_of};
+ghost use Rattle.ebpf_candidates.specs.SomeKinds.{has_kind, is_among_kinds};
 
 use ebpf_btf::BtfKind;
 
@@ -33,7 +33,7 @@ pub fn every_kind() -> SomeKinds
 /// The kinds of a list.
 pub fn kinds_of(list: &[BtfKind]) -> SomeKinds
     ensures few { length result ≡ 20 }
-    ensures listed { (kind : BtfKind) → has_kind result kind ≡ is_one_of list.now kind }
+    ensures listed { (kind : BtfKind) → has_kind result kind ≡ is_among_kinds list.now kind }
 {
     let mut kinds = [false; KINDS];
     for kind in list {

@@ -1,7 +1,7 @@
 //! Marks of names, by which an index passes over types that nobody asks for.
 
 ghost use Rattle.std.specs.Prelude.{◌≡◌, ◌<◌, ◌%◌, ℕ, length, true, IfOk};
-ghost use Rattle.ebpf_candidates.specs.NameMarks.{name_hash, is_marked, NamesAreMarked};
+ghost use Rattle.ebpf_candidates.specs.NameMarks.{name_hash, is_hash_marked, NamesAreMarked};
 
 use crate::kinds::{SomeKinds, has_kind};
 use crate::type_names::TypeNames;
@@ -26,7 +26,7 @@ pub fn name_hash(name: &[u8]) -> u32
 fn marks_of(alloc: Global, count: usize, is_set: bool) -> Result<Vec<bool>, AllocError>
     requires { 0 < count }
     ensures some { IfOk result (λ marks. 0 < length marks.items) }
-    ensures all { IfOk result (λ marks. is_set ≡ true → (hash : ℕ) → is_marked marks.items hash ≡ true) }
+    ensures all { IfOk result (λ marks. is_set ≡ true → (hash : ℕ) → is_hash_marked marks.items hash ≡ true) }
 {
     Ok(vec![in alloc; is_set; count]?)
 }
@@ -34,15 +34,15 @@ fn marks_of(alloc: Global, count: usize, is_set: bool) -> Result<Vec<bool>, Allo
 /// Marks of all names: one, that they share.
 pub fn every_name(alloc: Global) -> Result<Vec<bool>, AllocError>
     ensures some { IfOk result (λ marks. 0 < length marks.items) }
-    ensures all { IfOk result (λ marks. (hash : ℕ) → is_marked marks.items hash ≡ true) }
+    ensures all { IfOk result (λ marks. (hash : ℕ) → is_hash_marked marks.items hash ≡ true) }
 {
     marks_of(alloc, 1, true)
 }
 
 /// Whether a hash is marked.
-pub fn is_marked(marks: &[bool], hash: u32) -> bool
+pub fn is_hash_marked(marks: &[bool], hash: u32) -> bool
     requires { 0 < length marks.now }
-    ensures { result ≡ is_marked marks.now hash }
+    ensures { result ≡ is_hash_marked marks.now hash }
 {
     marks[hash as usize % marks.len()]
 }
@@ -51,8 +51,8 @@ pub fn is_marked(marks: &[bool], hash: u32) -> bool
 fn mark(marks: &mut [bool], hash: u32)
     requires { 0 < length marks.old }
     ensures count { length marks.new ≡ length marks.old }
-    ensures marked { is_marked marks.new hash ≡ true }
-    ensures others { (h : ℕ) → is_marked marks.old h ≡ true → is_marked marks.new h ≡ true }
+    ensures marked { is_hash_marked marks.new hash ≡ true }
+    ensures others { (h : ℕ) → is_hash_marked marks.old h ≡ true → is_hash_marked marks.new h ≡ true }
 {
     let at = hash as usize % marks.len();
     marks[at] = true;

@@ -6,8 +6,8 @@ ghost use Rattle.std.specs.Option.{ForSome};
 ghost use Rattle.ebpf_base.specs.Faults.{fault_of, Refuses};
 ghost use Rattle.ebpf_candidates.specs.Candidates.{candidates, candidates_fault, candidates_of_both, candidates_of_both_fault};
 ghost use Rattle.ebpf_candidates.specs.IndexedTypes.{has_named};
-ghost use Rattle.ebpf_candidates.specs.SomeKinds.{has_kind, is_one_of};
-ghost use Rattle.ebpf_btf.specs.Memory.{is_memory};
+ghost use Rattle.ebpf_candidates.specs.SomeKinds.{has_kind, is_among_kinds};
+ghost use Rattle.ebpf_btf.specs.Memory.{is_btf_memory};
 ghost use Rattle.ebpf_candidates.specs.TypeRows.{is_before, rows, unreadable_from};
 ghost use Rattle.ebpf_btf.specs.Strings.{type_name};
 ghost use Rattle.ebpf_btf.specs.Types.{kind_number, kind_of};
@@ -18,7 +18,7 @@ ghost use Rattle.ebpf_btf.specs.declared.types.BtfType.{BtfType};
 use crate::anonymous::{AnonymousTypes, add_anonymous, no_anonymous_types};
 use crate::id_union::union;
 use crate::kinds::{KINDS, SomeKinds, every_kind, has_kind, kind_number, kinds_of};
-use crate::name_marks::{every_name, is_marked, name_hash, names_of};
+use crate::name_marks::{every_name, is_hash_marked, name_hash, names_of};
 use crate::type_names::TypeNames;
 use crate::type_row::{TypeRow, order_of_rows, row_range};
 use crate::unreadable::{UnreadableName, UnreadableNames, keep_first, lower};
@@ -72,7 +72,7 @@ fn read_rows(
             continue;
         }
         let hash = name_hash(name);
-        if !is_marked(marks, hash) {
+        if !is_hash_marked(marks, hash) {
             continue;
         }
         rows.push(TypeRow {
@@ -181,7 +181,7 @@ impl<'a> KindsIndex<'a> {
         ensures { result ≡ has_named self.now kind name.now }
     {
         let name = essential_name(name.as_bytes());
-        has_kind(&self.kinds, kind) && is_marked(&self.marks, name_hash(name))
+        has_kind(&self.kinds, kind) && is_hash_marked(&self.marks, name_hash(name))
     }
 
     /// The first type of a kind whose name can't be read.
@@ -231,7 +231,7 @@ impl<'a> KindsIndex<'a> {
         requires first { has_named self.now first name.now ≡ true }
         requires second { has_named self.now second name.now ≡ true }
         ensures ids { IfOk result (λ ids. ids.items ≡ candidates_of_both self.now.info first second name.now) }
-        ensures fault { Refuses is_memory result (candidates_of_both_fault self.now.info first second) }
+        ensures fault { Refuses is_btf_memory result (candidates_of_both_fault self.now.info first second) }
     {
         match lower(self.unreadable_of(first), self.unreadable_of(second)) {
             Some(unreadable) => Err(unreadable.fault()),
@@ -264,7 +264,7 @@ impl<'a> KindsIndex<'a> {
     ) -> Option<Result<Vec<u32>, BtfError>>
         ensures has { is_some result ≡ (has_named self.now first name.now && has_named self.now second name.now) }
         ensures ids { ForSome result (λ found. IfOk found (λ ids. ids.items ≡ candidates_of_both self.now.info first second name.now)) }
-        ensures fault { ForSome result (λ found. Refuses is_memory found (candidates_of_both_fault self.now.info first second)) }
+        ensures fault { ForSome result (λ found. Refuses is_btf_memory found (candidates_of_both_fault self.now.info first second)) }
     {
         if !self.has(first, name) || !self.has(second, name) {
             return None;
@@ -313,7 +313,7 @@ impl<'a> TypeIndex<'a> {
         kinds: &[BtfKind],
     ) -> Result<KindsIndex<'a>, BtfError>
         ensures types { IfOk result (λ index. index.info ≡ btf.now) }
-        ensures kinds { IfOk result (λ index. (kind : BtfKind) (name : List ℕ) → has_named index kind name ≡ is_one_of kinds.now kind) }
+        ensures kinds { IfOk result (λ index. (kind : BtfKind) (name : List ℕ) → has_named index kind name ≡ is_among_kinds kinds.now kind) }
         ensures memory { IfErr result (λ e. e ≡ OutOfMemory) }
     {
         let marks = every_name(alloc)?;
@@ -330,9 +330,9 @@ impl<'a> TypeIndex<'a> {
         local: &Btf,
     ) -> Result<KindsIndex<'a>, BtfError>
         ensures types { IfOk result (λ index. index.info ≡ btf.now) }
-        ensures names { IfOk result (λ index. (kind : BtfKind) (id : ℕ) (t : BtfType) (name : List ℕ) → is_one_of kinds.now kind ≡ true → slice_get local.now.types id ≡ Some t
-            → is_one_of kinds.now (kind_of t) ≡ true → type_name local.now t ≡ Ok name → has_named index kind name ≡ true) }
-        ensures kinds { IfOk result (λ index. (kind : BtfKind) (name : List ℕ) → has_named index kind name ≡ true → is_one_of kinds.now kind ≡ true) }
+        ensures names { IfOk result (λ index. (kind : BtfKind) (id : ℕ) (t : BtfType) (name : List ℕ) → is_among_kinds kinds.now kind ≡ true → slice_get local.now.types id ≡ Some t
+            → is_among_kinds kinds.now (kind_of t) ≡ true → type_name local.now t ≡ Ok name → has_named index kind name ≡ true) }
+        ensures kinds { IfOk result (λ index. (kind : BtfKind) (name : List ℕ) → has_named index kind name ≡ true → is_among_kinds kinds.now kind ≡ true) }
         ensures memory { IfErr result (λ e. e ≡ OutOfMemory) }
     {
         let kinds = kinds_of(kinds);
@@ -373,7 +373,7 @@ impl<'a> TypeIndex<'a> {
         name: &str,
     ) -> Result<Vec<u32>, BtfError>
         ensures ids { IfOk result (λ ids. ids.items ≡ candidates_of_both self.now first second name.now) }
-        ensures fault { Refuses is_memory result (candidates_of_both_fault self.now first second) }
+        ensures fault { Refuses is_btf_memory result (candidates_of_both_fault self.now first second) }
     {
         self.index.candidates_of_two(alloc, first, second, name)
     }

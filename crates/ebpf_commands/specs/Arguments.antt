@@ -8,9 +8,9 @@ use Rattle.ebpf_commands.specs.declared.arguments.Words.{Words}
 use Rattle.ebpf_commands.specs.declared.arguments.WordsError.{WordsError}
 use Rattle.ebpf_commands.specs.declared.arguments.WordsError.TheVariants.{Usage, OutOfMemory}
 
-abbrev pub is_memory : WordsError → Bool
-is_memory OutOfMemory = true
-is_memory Usage = false
+abbrev pub is_words_memory : WordsError → Bool
+is_words_memory OutOfMemory = true
+is_words_memory Usage = false
 
 -- the option that a word is
 abbrev pub option_of : List ℕ → Option ArgumentKind
@@ -85,12 +85,12 @@ words_in None = None
 words_in (Some texts) = with_file texts texts.file
 
 -- what words ask for, where they are as the line says
-abbrev pub words_of : List (List ℕ) → Option Words
-words_of words = words_in (texts_in words)
+abbrev pub parsed_words : List (List ℕ) → Option Words
+parsed_words words = words_in (texts_in words)
 
 abbrev pub usage_without : Option Words → Option WordsError
 usage_without None = Some Usage
 usage_without (Some words) = None
 
 abbrev pub words_fault : List (List ℕ) → Option WordsError
-words_fault words = usage_without (words_of words)
+words_fault words = usage_without (parsed_words words)

@@ -17,8 +17,8 @@ use Rattle.ebpf_parts.specs.declared.reading.Reading.TheVariants.{Stated}
 -- memory was refused, or a writer failed: nothing that a file says
 abbrev pub is_outside : Failure → Bool
 is_outside (CannotRead path) = false
-is_outside (Btf e) = types.is_memory e
-is_outside (Preparing e) = preparing.is_memory e
+is_outside (Btf e) = types.is_btf_memory e
+is_outside (Preparing e) = preparing.is_prepare_memory e
 is_outside (NoProgram name) = false
 is_outside CannotWrite = true
 is_outside Memory = true

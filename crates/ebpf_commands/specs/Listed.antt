@@ -10,6 +10,7 @@ use Rattle.ebpf_commands.specs.Printed.{head_line}
 use Rattle.ebpf_inspect.specs.Inspected.{IsInspected}
 use Rattle.ebpf_inspect.specs.declared.report.ProgramReport.{ProgramReport}
 use Rattle.ebpf_ksyms.specs.Sources.{Source}
+use Rattle.ebpf_model.specs.Keys.{key_address, key_section}
 use Rattle.ebpf_object.specs.Objects.{object_of}
 use Rattle.ebpf_reloc.specs.declared.link_map.CodeCopy.{CodeCopy}
 use Rattle.ebpf_linker.specs.declared.link_map.Reference.{Reference}
@@ -22,8 +23,8 @@ address_text address = codes "0x" ++ digits 16 false address
 -- `copy BASE SLOTS SECTION ADDRESS NAME`
 abbrev pub copy_line : CodeCopy → List ℕ
 copy_line copy =
-    (codes "copy " ++ decimal copy.base ++ codes " " ++ decimal copy.slots ++ codes " " ++ decimal copy.key.0 ++ codes " ")
-    ++ address_text copy.key.1 ++ (codes " " ++ copy.name ++ 10 ∷ [])
+    (codes "copy " ++ decimal copy.base ++ codes " " ++ decimal copy.slots ++ codes " " ++ decimal (key_section copy.key) ++ codes " ")
+    ++ address_text (key_address copy.key) ++ (codes " " ++ copy.name ++ 10 ∷ [])
 
 abbrev pub word_of : Bool → List ℕ
 word_of true = codes "call"

@@ -3,7 +3,7 @@
 ghost use Rattle.std.specs.Prelude.{◌≡◌, IfOk, IfErr, Some, None, true, map, string_bytes};
 ghost use Rattle.std.specs.Option.{option_copied};
 ghost use Rattle.ebpf_base.specs.Faults.{Refuses};
-ghost use Rattle.ebpf_commands.specs.Arguments.{FoundValue, nothing, option_of, has_dashes, put, texts_in, words_of, words_fault, is_memory};
+ghost use Rattle.ebpf_commands.specs.Arguments.{FoundValue, nothing, option_of, has_dashes, put, texts_in, parsed_words, words_fault, is_words_memory};
 
 use ebpf_base::Text;
 use std::alloc::{AllocError, Global};
@@ -57,7 +57,7 @@ impl From<AllocError> for WordsError {
 }
 
 /// What an argument is for.
-#[derive(Clone, Copy, Debug, PartialEq, Eq)]
+#[derive(Clone, Copy)]
 enum ArgumentKind {
     File,
     Btf,
@@ -84,7 +84,7 @@ fn has_dashes(word: &str) -> bool
 }
 
 /// The texts that words give, lent.
-#[derive(Debug, Drop)]
+#[derive(Drop)]
 struct Found<'a> {
     file: Option<&'a str>,
     btf: Option<&'a str>,
@@ -163,7 +163,7 @@ fn find_texts(words: &[String]) -> Option<Found<'_>>
 /// A copy of a text that may be absent.
 fn copied(alloc: Global, text: Option<&str>) -> Result<Option<Text>, WordsError>
     ensures text { IfOk result (λ copy. copy ≡ option_copied text.entry) }
-    ensures memory { IfErr result (λ e. is_memory e ≡ true) }
+    ensures memory { IfErr result (λ e. is_words_memory e ≡ true) }
 {
     match text {
         Some(text) => Ok(Some(Text::from_str(alloc, text)?)),
@@ -178,8 +178,8 @@ fn copied(alloc: Global, text: Option<&str>) -> Result<Option<Text>, WordsError>
 /// `Usage` where there is no file or a second one, an option twice or without the word behind it, or
 /// another word that begins with `--`. `OutOfMemory` only where memory was refused.
 pub fn read_words(alloc: Global, words: &[String]) -> Result<Words, WordsError>
-    ensures words { IfOk result (λ default_passes. words_of (map string_bytes words.now) ≡ Some default_passes) }
-    ensures fault { Refuses is_memory result (words_fault (map string_bytes words.now)) }
+    ensures words { IfOk result (λ default_passes. parsed_words (map string_bytes words.now) ≡ Some default_passes) }
+    ensures fault { Refuses is_words_memory result (words_fault (map string_bytes words.now)) }
 {
     let Some(found) = find_texts(words) else {
         return Err(WordsError::Usage);

@@ -64,6 +64,7 @@ pub fn report<W: Write>(program: &str, failure: Failure<'_>, err: &mut W) -> u8
     ensures { result ≡ 1 }
 {
     let _ = writeln!(err, "{program}: {failure}");
+    drop(failure);
     1
 }
 

@@ -117,9 +117,11 @@ fn inspect_all<K: SymbolSource>(
     ensures refused { (file : List ℕ) → IsParsed Stated file object → IfErr result (λ f. MatchBool (is_outside f) ⊤ (IsPreparingFailure (default_passes (option_copied types.entry) object.maps) (K.source kallsyms) file f)) }
 {
     let Ok(names) = map_names(alloc, &object) else {
+        drop(object);
         return Err(Failure::Memory);
     };
     let Ok(descriptors) = numbered_descriptors(alloc, names.as_slice()) else {
+        drop(object);
         return Err(Failure::Memory);
     };
     match inspect_object(alloc, object, &all_passes(types, &descriptors), kallsyms) {

@@ -62,7 +62,10 @@ fn write_each<W: Write>(
     for name in names {
         match write_named(object, name, out) {
             Ok(()) => {}
-            Err(_) => return Err(Failure::CannotWrite),
+            Err(failure) => {
+                drop(failure);
+                return Err(Failure::CannotWrite);
+            }
         }
     }
     Ok(())
@@ -144,9 +147,11 @@ pub fn prepare_all<K: SymbolSource>(
     ensures refused { (file : List ℕ) → IsParsed Stated file object → IfErr result (λ f. MatchBool (is_outside f) ⊤ (IsPreparingFailure (default_passes (option_copied types.entry) object.maps) (K.source kallsyms) file f)) }
 {
     let Ok(names) = map_names(alloc, &object) else {
+        drop(object);
         return Err(Failure::Memory);
     };
     let Ok(descriptors) = numbered_descriptors(alloc, names.as_slice()) else {
+        drop(object);
         return Err(Failure::Memory);
     };
     match prepare_object(alloc, object, &all_passes(types, &descriptors), kallsyms) {
@@ -201,8 +206,14 @@ pub fn print_programs<'a, K: SymbolSource, W: Write>(
         Err(failure) => return Err(failure),
     };
     match print_object(alloc, &object, program, out) {
-        Ok(()) => Ok(()),
-        Err(failure) => Err(failure),
+        Ok(()) => {
+            drop(object);
+            Ok(())
+        }
+        Err(failure) => {
+            drop(object);
+            Err(failure)
+        }
     }
 }
 

@@ -6,7 +6,7 @@ ghost use Rattle.std.specs.Map.{keys_of};
 ghost use Rattle.std.specs.Option.{option_copied};
 ghost use Rattle.ebpf_base.specs.Faults.{Gives};
 ghost use Rattle.ebpf_base.specs.Keys.{lent_bytes};
-ghost use Rattle.ebpf_btf.specs.Memory.{is_memory as types_memory};
+ghost use Rattle.ebpf_btf.specs.Memory.{is_btf_memory};
 ghost use Rattle.ebpf_object.specs.Steps.{chosen, descriptor_of};
 ghost use Rattle.ebpf_commands.specs.Linked.{kernel_types, numbered_descriptors};
 
@@ -32,7 +32,7 @@ pub fn numbered_descriptors(alloc: Global, names: &[Text]) -> Result<Vec<(&str, 
 
 /// The kernel's types, where bytes of them are given.
 pub fn read_types(bytes: Option<Vec<u8>>) -> Result<Option<Btf>, BtfError>
-    ensures { Gives types_memory result (kernel_types (option_map (λ bytes. bytes.items) bytes)) }
+    ensures { Gives is_btf_memory result (kernel_types (option_map (λ bytes. bytes.items) bytes)) }
 {
     let Some(bytes) = bytes else {
         return Ok(None);

@@ -2,26 +2,16 @@
 use Rattle.std.proofs.Common.{◌≡◌, ℕ, suc, ◌+◌, ◌<◌, ◌≤◌, List, [], ◌∷◌, ◌++◌, length, drop, map, Option, Some, None, Result, Ok, Err, refl, sym, ap, ◌∙◌, append_assoc, append-nil, get_or, arith}
 use Rattle.std.specs.Prelude.{slice_index_or, option_map}
 use Rattle.std.proofs.Math.Seq.{drop-cons}
-use Rattle.std.proofs.lemmas.List.{drop_all}
+use Rattle.ebpf_base.proofs.Walks.{rest_more, rest_none}
 use Rattle.ebpf_core.specs.AccessStrings.{all_of}
 use Rattle.ebpf_base.specs.Results.{if_ok}
 use Rattle.ebpf_core.specs.Answers.{each}
 
--- what is left from a member on
-pub rest_more : {X : Type 0} (xs : List X) (i : ℕ) (x : X) → i < length xs → x ≡ slice_index_or xs i x → drop i xs ≡ x ∷ drop (i + 1) xs
-rest_more xs i x below here =
-    let on : suc i ≡ i + 1 = omega arith in
-    drop-cons xs i x below ∙ ap (λ y. y ∷ drop (suc i) xs) (sym here) ∙ ap (λ n. x ∷ drop n xs) on
-
--- the same of numbers
+-- what is left of numbers from one on
 pub number_more : (xs : List ℕ) (i : ℕ) → i < length xs → drop i xs ≡ get_or xs i 0 ∷ drop (i + 1) xs
 number_more xs i below =
     let on : suc i ≡ i + 1 = omega arith in
     drop-cons xs i 0 below ∙ ap (λ n. get_or xs i 0 ∷ drop n xs) on
-
--- at the end nothing is left
-pub rest_none : {X : Type 0} (xs : List X) (i : ℕ) → length xs ≤ i → drop i xs ≡ []
-rest_none xs i past = drop_all i xs past
 
 -- what is kept, and then a list that there may be
 abbrev pub after : {X : Type 0} → List X → Option (List X) → Option (List X)

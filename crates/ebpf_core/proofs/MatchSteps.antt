@@ -10,7 +10,8 @@ use Rattle.std.specs.Result.{IsErrAnd}
 use Rattle.ebpf_base.specs.Results.{if_ok}
 use Rattle.ebpf_core.specs.Answers.{Tells, each, without_texts}
 use Rattle.ebpf_core.specs.Matches.{found_at_candidate, match_in, match_of, matches}
-use Rattle.ebpf_core.proofs.Lists.{onto, number_more, onto_push, rest_none}
+use Rattle.ebpf_base.proofs.Walks.{rest_none}
+use Rattle.ebpf_core.proofs.Lists.{onto, number_more, onto_push}
 use Rattle.ebpf_core.proofs.Refusals.{refused_by}
 
 -- ---- candidates

@@ -9,7 +9,7 @@ use Rattle.ebpf_core.specs.declared.error.RelocationError.{RelocationError}
 use Rattle.ebpf_base.specs.Results.{if_ok}
 use Rattle.ebpf_core.specs.Answers.{Tells, TellsSo, of_type_error, of_types, without_texts}
 use Rattle.ebpf_core.specs.Matches.{by_place}
-use Rattle.ebpf_core.specs.Memory.{is_memory}
+use Rattle.ebpf_core.specs.Memory.{is_record_memory}
 use Rattle.ebpf_core.specs.declared.matches.Found.{Found}
 use Rattle.ebpf_core.specs.declared.matches.Found.TheVariants as found
 use Rattle.ebpf_btf.specs.TypeInfo.{TypeInfo}
@@ -24,21 +24,21 @@ module _ {X Y : Type 0} (e : RelocationError) (one : Result X RelocationError) w
   through false next h = ap (λ r. if_ok r next) h
 
   pub handed_on : (next : X → Result Y RelocationError) → Tells {X = X} (Err e) one → Tells {X = Y} (Err e) (if_ok one next)
-  handed_on next h = through (is_memory e) next h
+  handed_on next h = through (is_record_memory e) next h
 
 -- a fault of types is one of the record, and want of memory stays want of memory
 module _ {X Y : Type 0} (e : TypeError) (one : Result X TypeError) where
-  turned : (b : Bool) (next : X → Result Y RelocationError) → types.is_memory e ≡ b → MatchBool b ⊤ (one ≡ Err e)
+  turned : (b : Bool) (next : X → Result Y RelocationError) → types.is_btf_memory e ≡ b → MatchBool b ⊤ (one ≡ Err e)
       → Tells {X = Y} (Err (of_type_error e)) (if_ok (of_types one) next)
   turned true next is h = rw is tt
   turned false next is h = rw (is, h) refl
 
-  pub types_refused : (next : X → Result Y RelocationError) → Gives types.is_memory (Err e) one
+  pub types_refused : (next : X → Result Y RelocationError) → Gives types.is_btf_memory (Err e) one
       → Tells {X = Y} (Err (of_type_error e)) (if_ok (of_types one) next)
-  types_refused next h = turned (types.is_memory e) next refl h
+  types_refused next h = turned (types.is_btf_memory e) next refl h
 
   pub exact_refused : (next : X → Result Y RelocationError) → one ≡ Err e → Tells {X = Y} (Err (of_type_error e)) (if_ok (of_types one) next)
-  exact_refused next is = types_refused next (given (types.is_memory e))
+  exact_refused next is = types_refused next (given (types.is_btf_memory e))
     where
       given : (b : Bool) → MatchBool b ⊤ (one ≡ Err e)
       given true = tt
@@ -51,7 +51,7 @@ module _ {X Y : Type 0} (e : RelocationError) (one : Result X RelocationError) (
   led false to h = to h
 
   pub also : (one ≡ Err (without_texts e) → other ≡ Err (without_texts e)) → Tells {X = X} (Err e) one → Tells {X = Y} (Err e) other
-  also to h = led (is_memory e) to h
+  also to h = led (is_record_memory e) to h
 
 -- the error that a call hands on
 handed : {X : Type 0} (r : Result X RelocationError) (e : RelocationError) → IsErrAnd r (λ f. f ≡ e) → r ≡ Err e
@@ -70,7 +70,7 @@ module _ {X : Type 0} (Holds : Result X RelocationError → Type 0) where
 
   pub without_texts_so : (r stated : Result X RelocationError) → Tells r stated → Holds stated → TellsSo r Holds
   without_texts_so (Ok x) stated is holds = subst Holds is holds
-  without_texts_so (Err e) stated is holds = held_so (is_memory e) e stated is holds
+  without_texts_so (Err e) stated is holds = held_so (is_record_memory e) e stated is holds
 
 -- ---- places
 
@@ -85,11 +85,11 @@ module _ (target : TypeInfo) (id : ℕ) (stated : Result (Option Place) PlaceFau
       → Tells r (by_place target id stated)
   place_nested r is h = rw is h
 
-  turned_place : (e : TypeError) (b : Bool) → types.is_memory e ≡ b → MatchBool b ⊤ (stated ≡ Err (Btf e))
+  turned_place : (e : TypeError) (b : Bool) → types.is_btf_memory e ≡ b → MatchBool b ⊤ (stated ≡ Err (Btf e))
       → Tells {X = Option Found} (Err (of_type_error e)) (by_place target id stated)
   turned_place e true is h = rw is tt
   turned_place e false is h = rw (is, h) refl
 
-  pub place_refused : (e : TypeError) → MatchBool (types.is_memory e) ⊤ (stated ≡ Err (Btf e))
+  pub place_refused : (e : TypeError) → MatchBool (types.is_btf_memory e) ⊤ (stated ≡ Err (Btf e))
       → Tells {X = Option Found} (Err (of_type_error e)) (by_place target id stated)
-  place_refused e h = turned_place e (types.is_memory e) refl h
+  place_refused e h = turned_place e (types.is_btf_memory e) refl h

@@ -11,7 +11,7 @@ use Rattle.ebpf_core.specs.Answers.{FirstFails, Tells, each, of_types, without_t
 use Rattle.ebpf_core.specs.LocalPaths.{local_path}
 use Rattle.ebpf_core.specs.LocalSides.{LocalSideIs}
 use Rattle.ebpf_core.specs.Matches.{found_at_candidate, match_in, match_of, matches, type_name_at}
-use Rattle.ebpf_core.specs.Memory.{is_memory}
+use Rattle.ebpf_core.specs.Memory.{is_record_memory}
 use Rattle.ebpf_core.specs.Outcomes.{values_agree, outcome_of_matches, differing_names, local_loaded, match_value, outcome_among, agreed_outcome}
 use Rattle.ebpf_core.specs.Refused.{AreInConflict, Unreadable, Differing, AmongIsRefused, Matching, LocalField, Values, Conflict, OutcomeIsRefused, LocalSide, Candidates, Among}
 use Rattle.ebpf_core.specs.Searches.{candidates_for, is_local, itself, outcome_of}
@@ -262,6 +262,6 @@ module _ {Y : Type 0} (P : RelocationError → Type 0) (stated : Result Y Reloca
   without_texts_by true e is = tt
   without_texts_by false e is = to (without_texts e) is
 
-  pub refused_so : (r : Result Y RelocationError) → Tells r stated → IfErr r (λ e. MatchBool (is_memory e) ⊤ (P (without_texts e)))
+  pub refused_so : (r : Result Y RelocationError) → Tells r stated → IfErr r (λ e. MatchBool (is_record_memory e) ⊤ (P (without_texts e)))
   refused_so (Ok x) h = tt
-  refused_so (Err e) h = without_texts_by (is_memory e) e h
+  refused_so (Err e) h = without_texts_by (is_record_memory e) e h

@@ -11,14 +11,14 @@ use Rattle.ebpf_btf.specs.TypeInfo.{TypeInfo}
 use Rattle.ebpf_btf.specs.Types.{is_kind, kind_number, kind_of}
 use Rattle.ebpf_btf.specs.Variants.{variants_of}
 use Rattle.ebpf_candidates.specs.IndexedTypes.{IndexedTypes, has_named}
-use Rattle.ebpf_candidates.specs.SomeKinds.{is_one_of}
+use Rattle.ebpf_candidates.specs.SomeKinds.{is_among_kinds}
 use Rattle.ebpf_core.specs.Searches.{was_enum64}
 use Rattle.ebpf_core.specs.SearchedKinds.{HasLocalNames, IsLocalType, searched_kinds}
 
-pub one_of_first : (first second : BtfKind) → is_one_of (first ∷ second ∷ []) first ≡ true
+pub one_of_first : (first second : BtfKind) → is_among_kinds (first ∷ second ∷ []) first ≡ true
 one_of_first first second = let same : (kind_number first == kind_number first) ≡ true = grind (arith, nat_tests) in rw same refl
 
-pub one_of_second : (first second : BtfKind) → is_one_of (first ∷ second ∷ []) second ≡ true
+pub one_of_second : (first second : BtfKind) → is_among_kinds (first ∷ second ∷ []) second ≡ true
 one_of_second first second = let same : (kind_number second == kind_number second) ≡ true = grind (arith, nat_tests) in rw same (either (kind_number first == kind_number second))
   where
     either : (b : Bool) → (b || true) ≡ true
@@ -27,8 +27,8 @@ one_of_second first second = let same : (kind_number second == kind_number secon
 
 -- what an index of the names of local types has
 pub local_names : (result : Result IndexedTypes BtfError) (local : TypeInfo) (first second : BtfKind)
-    → IfOk result (λ index. (kind : BtfKind) (id : ℕ) (t : BtfType) (name : List ℕ) → is_one_of (first ∷ second ∷ []) kind ≡ true → slice_get local.types id ≡ Some t
-    → is_one_of (first ∷ second ∷ []) (kind_of t) ≡ true → type_name local t ≡ Ok name → has_named index kind name ≡ true)
+    → IfOk result (λ index. (kind : BtfKind) (id : ℕ) (t : BtfType) (name : List ℕ) → is_among_kinds (first ∷ second ∷ []) kind ≡ true → slice_get local.types id ≡ Some t
+    → is_among_kinds (first ∷ second ∷ []) (kind_of t) ≡ true → type_name local t ≡ Ok name → has_named index kind name ≡ true)
     → IfOk result (λ index. HasLocalNames index local first second)
 local_names (Err e) local first second all = tt
 local_names (Ok index) local first second all = λ t name at among. (
@@ -41,10 +41,10 @@ first_holds true b is = refl
 first_holds false b is = is
 
 -- a local type's kind is one of those that are searched for it
-pub searched_among : (t : BtfType) → is_one_of ((searched_kinds t).0 ∷ (searched_kinds t).1 ∷ []) (kind_of t) ≡ true
+pub searched_among : (t : BtfType) → is_among_kinds ((searched_kinds t).0 ∷ (searched_kinds t).1 ∷ []) (kind_of t) ≡ true
 searched_among t = by_enum (was_enum64 t) refl
   where
-    by_enum : (b : Bool) → was_enum64 t ≡ b → is_one_of ((searched_kinds t).0 ∷ (searched_kinds t).1 ∷ []) (kind_of t) ≡ true
+    by_enum : (b : Bool) → was_enum64 t ≡ b → is_among_kinds ((searched_kinds t).0 ∷ (searched_kinds t).1 ∷ []) (kind_of t) ≡ true
     by_enum true is =
         let union : is_kind kinds.Union t ≡ true = first_holds (is_kind kinds.Union t) (is_some (variants_of t)) is in
         let same : (kind_number kinds.Union == kind_number (kind_of t)) ≡ true = grind (arith, nat_tests) in

@@ -10,7 +10,7 @@ use Rattle.ebpf_btf.specs.Strings.{is_essential_name_at}
 use Rattle.ebpf_btf.specs.TypeInfo.{TypeInfo}
 use Rattle.ebpf_base.specs.Faults.{first_some, or_else}
 use Rattle.ebpf_core.specs.Matches.{first_variant, variant_answer, named_variant_answer}
-use Rattle.ebpf_core.proofs.Lists.{rest_more}
+use Rattle.ebpf_base.proofs.Walks.{rest_more}
 
 -- ---- the variants that are left
 

@@ -11,7 +11,8 @@ use Rattle.ebpf_core.specs.Answers.{Tells, of_types}
 use Rattle.ebpf_core.specs.LocalPaths.{part_step, spot_after}
 use Rattle.ebpf_core.specs.Matches.{type_name_at}
 use Rattle.ebpf_core.specs.Outcomes.{values_agree, differing_names}
-use Rattle.ebpf_core.proofs.Lists.{number_more, onto, onto_push, rest_more, rest_none}
+use Rattle.ebpf_base.proofs.Walks.{rest_more, rest_none}
+use Rattle.ebpf_core.proofs.Lists.{number_more, onto, onto_push}
 use Rattle.ebpf_core.proofs.Refusals.{refused_by}
 
 -- ---- parts

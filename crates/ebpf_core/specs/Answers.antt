@@ -5,7 +5,7 @@ use Rattle.ebpf_btf.specs.declared.error.BtfError.{BtfError}
 use Rattle.ebpf_btf.specs.Memory as types
 use Rattle.ebpf_core.specs.declared.error.RelocationError.{RelocationError}
 use Rattle.ebpf_core.specs.declared.error.RelocationError.TheVariants as errors
-use Rattle.ebpf_core.specs.Memory.{is_memory}
+use Rattle.ebpf_core.specs.Memory.{is_record_memory}
 
 -- an error with such texts empty
 abbrev pub without_texts : RelocationError → RelocationError
@@ -17,16 +17,16 @@ without_texts e = e
 -- The call answers as stated, such texts aside, or with a want of memory.
 abbrev pub Tells : {X : Type 0} → Result X RelocationError → Result X RelocationError → Type 0
 Tells (Ok x) stated = stated ≡ Ok x
-Tells (Err e) stated = MatchBool (is_memory e) ⊤ (stated ≡ Err (without_texts e))
+Tells (Err e) stated = MatchBool (is_record_memory e) ⊤ (stated ≡ Err (without_texts e))
 
 -- What holds of the stated answer holds of this one, such texts aside, unless it is a want of memory.
 abbrev pub TellsSo : {X : Type 0} → Result X RelocationError → (Result X RelocationError → Type 0) → Type 0
 TellsSo (Ok x) Holds = Holds (Ok x)
-TellsSo (Err e) Holds = MatchBool (is_memory e) ⊤ (Holds (Err (without_texts e)))
+TellsSo (Err e) Holds = MatchBool (is_record_memory e) ⊤ (Holds (Err (without_texts e)))
 
 -- a fault of types as a fault of a record
 abbrev pub of_type_error : BtfError → RelocationError
-of_type_error e = if types.is_memory e then errors.OutOfMemory else errors.BtfError e
+of_type_error e = if types.is_btf_memory e then errors.OutOfMemory else errors.BtfError e
 
 -- an answer about types as an answer about a record
 abbrev pub of_types : {X : Type 0} → Result X BtfError → Result X RelocationError

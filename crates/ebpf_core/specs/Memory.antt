@@ -3,6 +3,6 @@ use Rattle.std.specs.Prelude.{Bool, true, false}
 use Rattle.ebpf_core.specs.declared.error.RelocationError.{RelocationError}
 use Rattle.ebpf_core.specs.declared.error.RelocationError.TheVariants.{OutOfMemory}
 
-abbrev pub is_memory : RelocationError → Bool
-is_memory OutOfMemory = true
-is_memory _ = false
+abbrev pub is_record_memory : RelocationError → Bool
+is_record_memory OutOfMemory = true
+is_record_memory _ = false

@@ -7,7 +7,7 @@ use Rattle.ebpf_btf.specs.Strings.{type_name}
 use Rattle.ebpf_btf.specs.TypeInfo.{TypeInfo}
 use Rattle.ebpf_btf.specs.Types.{kind_of}
 use Rattle.ebpf_candidates.specs.IndexedTypes.{IndexedTypes, has_named}
-use Rattle.ebpf_candidates.specs.SomeKinds.{is_one_of}
+use Rattle.ebpf_candidates.specs.SomeKinds.{is_among_kinds}
 use Rattle.ebpf_core.specs.Searches.{was_enum64}
 
 -- its own, twice, or the two that an enumeration of 64 bits may have
@@ -22,5 +22,5 @@ pub record IsLocalType (local : TypeInfo) (t : BtfType) (name : List ℕ) : Type
 
 -- an index has the types of two kinds of each name that a local type of one of them has
 abbrev pub HasLocalNames : IndexedTypes → TypeInfo → BtfKind → BtfKind → Type 0
-HasLocalNames index local first second = (t : BtfType) (name : List ℕ) → IsLocalType local t name → is_one_of (first ∷ second ∷ []) (kind_of t) ≡ true
+HasLocalNames index local first second = (t : BtfType) (name : List ℕ) → IsLocalType local t name → is_among_kinds (first ∷ second ∷ []) (kind_of t) ≡ true
     → (has_named index first name ≡ true) × (has_named index second name ≡ true)

@@ -6,7 +6,7 @@ ghost use Rattle.ebpf_core.specs.Containers.{aligned, bit_field_extent, containe
 use ebpf_btf::BtfError;
 
 /// The bytes that a program loads for a field, counted from the start of its root type.
-#[derive(Clone, Copy, Debug, PartialEq, Eq)]
+#[derive(Clone, Copy)]
 pub struct Extent {
     /// The first byte.
     pub start: u64,

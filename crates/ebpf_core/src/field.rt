@@ -30,7 +30,7 @@ pub struct LoadedField {
 }
 
 /// What a record learns of a field.
-#[derive(Clone, Copy, Debug, PartialEq, Eq)]
+#[derive(Clone, Copy)]
 pub struct FieldValue {
     /// The number that the record asks for.
     pub number: u64,
@@ -39,7 +39,7 @@ pub struct FieldValue {
 }
 
 /// Why a record learns nothing of a field.
-#[derive(Debug, Drop)]
+#[derive(Drop)]
 pub enum FieldFault {
     /// Of an element it can't be asked.
     OfElement,

@@ -14,7 +14,7 @@ use ebpf_places::{Place, PlaceEnd, Step};
 use std::alloc::Global;
 
 /// How far a path has come.
-#[derive(Debug, Drop)]
+#[derive(Drop)]
 pub struct LocalSpot {
     /// The steps: the root index, names and indices. A member without a name is none.
     pub steps: Items<Step>,

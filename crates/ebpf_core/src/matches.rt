@@ -17,7 +17,7 @@ use ebpf_places::{Place, PlaceFault, Step, place_in};
 use std::alloc::Global;
 
 /// What a path leads to in a type that matches.
-#[derive(Clone, Copy, Debug, PartialEq, Eq)]
+#[derive(Clone, Copy)]
 pub enum Found {
     /// The type as a whole.
     WholeType,
@@ -28,7 +28,7 @@ pub enum Found {
 }
 
 /// A candidate that matches.
-#[derive(Clone, Copy, Debug, PartialEq, Eq)]
+#[derive(Clone, Copy)]
 pub struct Match {
     /// The candidate's id.
     pub candidate: u32,

@@ -3,7 +3,7 @@
 ghost use Rattle.std.specs.Prelude.{◌≡◌, not, filter, IfErr, IfOk, MatchBool, ⊤};
 ghost use Rattle.ebpf_core.specs.Answers.{Tells, each, of_types, without_texts};
 ghost use Rattle.ebpf_core.specs.Fields.{field_value};
-ghost use Rattle.ebpf_core.specs.Memory.{is_memory};
+ghost use Rattle.ebpf_core.specs.Memory.{is_record_memory};
 ghost use Rattle.ebpf_core.specs.Refused.{AmongIsRefused};
 ghost use Rattle.ebpf_core.specs.Outcomes.{values_agree, outcome_of_matches, differing_names, loaded_by, local_loaded, outcome_among, agreed_outcome, without_match};
 
@@ -203,7 +203,7 @@ pub fn outcome_among(
     candidates: &[u32],
 ) -> Result<Outcome, RelocationError>
     ensures outcome { Tells result (outcome_among local.now target.now relocation.now path.now candidates.now) }
-    ensures refused { IfErr result (λ e. MatchBool (is_memory e) ⊤ (AmongIsRefused local.now target.now relocation.now path.now candidates.now (without_texts e))) }
+    ensures refused { IfErr result (λ e. MatchBool (is_record_memory e) ⊤ (AmongIsRefused local.now target.now relocation.now path.now candidates.now (without_texts e))) }
 {
     outcome_by_matches(alloc, local, target, relocation, path, candidates)
 }

@@ -6,7 +6,7 @@ ghost use Rattle.ebpf_core.specs.RelocationBases.{basis_of};
 use ebpf_ext::RelocationKind;
 
 /// What a record asks about.
-#[derive(Clone, Copy, Debug, PartialEq, Eq)]
+#[derive(Clone, Copy)]
 pub enum RelocationBasis {
     /// A field: a member or an element.
     Field,

@@ -4,14 +4,14 @@ ghost use Rattle.std.specs.Prelude.{◌≡◌, All, IfErr, IfOk, MatchBool, Ok, 
 ghost use Rattle.std.specs.Option.{ForSome};
 ghost use Rattle.ebpf_base.specs.Faults.{Refuses, fault_of};
 ghost use Rattle.ebpf_base.specs.Results.{if_ok};
-ghost use Rattle.ebpf_btf.specs.Memory.{is_memory as is_memory_of_types};
+ghost use Rattle.ebpf_btf.specs.Memory.{is_btf_memory};
 ghost use Rattle.ebpf_btf.specs.TypeInfo.{TypeInfo};
 ghost use Rattle.ebpf_btf.specs.declared.error.BtfError.TheVariants.{OutOfMemory};
 ghost use Rattle.ebpf_candidates.specs.Candidates.{candidates, candidates_fault, candidates_of_both, candidates_of_both_fault};
 ghost use Rattle.ebpf_candidates.specs.IndexedTypes.{has_named};
 ghost use Rattle.ebpf_core.specs.Answers.{Tells, of_types, without_texts};
 ghost use Rattle.ebpf_core.specs.Questions.{question_of};
-ghost use Rattle.ebpf_core.specs.Memory.{is_memory};
+ghost use Rattle.ebpf_core.specs.Memory.{is_record_memory};
 ghost use Rattle.ebpf_core.specs.Outcomes.{outcome_among};
 ghost use Rattle.ebpf_core.specs.Refused.{OutcomeIsRefused};
 ghost use Rattle.ebpf_core.specs.Searches.{candidates_for, candidates_named, is_local, outcome_of, was_enum64};
@@ -79,7 +79,7 @@ fn ids_of_both(
     requires first { has_named index.now first name.now ≡ true }
     requires second { has_named index.now second name.now ≡ true }
     ensures ids { IfOk result (λ ids. ids.items ≡ candidates_of_both index.now.info first second name.now) }
-    ensures fault { Refuses is_memory_of_types result (candidates_of_both_fault index.now.info first second) }
+    ensures fault { Refuses is_btf_memory result (candidates_of_both_fault index.now.info first second) }
 {
     match index.candidates_of_both(alloc, first, second, name) {
         Some(found) => found,
@@ -295,7 +295,7 @@ impl<'a> CoreSearch<'a> {
         relocation: &Relocation,
     ) -> Result<Outcome, RelocationError>
         ensures outcome { Tells result (outcome_of self.old.local self.old.target relocation.now) }
-        ensures refused { IfErr result (λ e. MatchBool (is_memory e) ⊤ (OutcomeIsRefused self.old.local self.old.target relocation.now (without_texts e))) }
+        ensures refused { IfErr result (λ e. MatchBool (is_record_memory e) ⊤ (OutcomeIsRefused self.old.local self.old.target relocation.now (without_texts e))) }
         ensures stays { self.new ≡ self.old }
     {
         self.cached_outcome(alloc, relocation)

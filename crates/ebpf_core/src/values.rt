@@ -16,7 +16,7 @@ use ebpf_places::Place;
 use std::alloc::Global;
 
 /// What a match gives.
-#[derive(Clone, Copy, Debug, PartialEq, Eq)]
+#[derive(Clone, Copy)]
 pub struct MatchValue {
     /// The candidate's id.
     pub candidate: u32,

@@ -85,7 +85,7 @@ pub fn path_words(alloc: Global, type_name: &str, steps: &[Step]) -> Result<Text
 }
 
 /// Names with commas between them.
-#[derive(Clone, Copy, Debug)]
+#[derive(Clone, Copy)]
 pub struct Names<'a>(pub &'a [Text]);
 
 impl fmt::Display for Names<'_> {

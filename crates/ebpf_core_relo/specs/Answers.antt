@@ -1,12 +1,12 @@
 -- Answers of a walk over records, and how they are stated.
 use Rattle.std.specs.Prelude.{ℕ, Bool, List}
 use Rattle.ebpf_core.specs.Answers.{without_texts}
-use Rattle.ebpf_core.specs.Memory.{is_memory}
+use Rattle.ebpf_core.specs.Memory.{is_record_memory}
 use Rattle.ebpf_core.specs.declared.error.RelocationError.{RelocationError}
 use Rattle.ebpf_core_relo.specs.declared.error.BtfRelocationError.{BtfRelocationError}
 
 abbrev pub is_memory_in_section : BtfRelocationError → Bool
-is_memory_in_section e = is_memory e.error
+is_memory_in_section e = is_record_memory e.error
 
 -- an error without the texts in it that are for people to read
 abbrev pub without_texts_at : BtfRelocationError → BtfRelocationError

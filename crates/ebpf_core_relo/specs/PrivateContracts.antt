@@ -1,7 +1,7 @@
 -- What contracts of private functions name and no public one.
 use Rattle.std.specs.Prelude.{◌≡◌, ⊤, [], MatchBool, Result, Ok, Err, ℕ, ◌+◌, List, ◌∷◌, ◌++◌, Option, Some, None, ◌-◌, nat_le, if◌then◌else◌}
 use Rattle.ebpf_core.specs.Answers.{without_texts}
-use Rattle.ebpf_core.specs.Memory.{is_memory}
+use Rattle.ebpf_core.specs.Memory.{is_record_memory}
 use Rattle.ebpf_core.specs.declared.error.RelocationError.{RelocationError}
 use Rattle.ebpf_core_relo.specs.declared.error.BtfRelocationError.{BtfRelocationError}
 use Rattle.ebpf_core_relo.specs.Answers.{is_memory_in_section, without_texts_at}
@@ -18,12 +18,12 @@ use Rattle.ebpf_core_relo.specs.Spans.{span_at}
 -- The call leaves what is stated, or answers the stated fault, its texts for people aside, or a want of memory.
 abbrev pub Leaves : {X U : Type 0} → Result U RelocationError → X → Result X RelocationError → Type 0
 Leaves (Ok u) left stated = stated ≡ Ok left
-Leaves (Err e) left stated = MatchBool (is_memory e) ⊤ (stated ≡ Err (without_texts e))
+Leaves (Err e) left stated = MatchBool (is_record_memory e) ⊤ (stated ≡ Err (without_texts e))
 
 -- what was written stays where the call refuses, a want of memory aside
 abbrev pub StaysRefused : {U X : Type 0} → Result U RelocationError → X → X → Type 0
 StaysRefused (Ok u) before after = Unit {0}
-StaysRefused (Err e) before after = MatchBool (is_memory e) ⊤ (after ≡ before)
+StaysRefused (Err e) before after = MatchBool (is_record_memory e) ⊤ (after ≡ before)
 
 -- what a call leaves, of faults with their sections; a want of memory has no section
 abbrev pub LeavesAt : {X U : Type 0} → Result U BtfRelocationError → X → Result X BtfRelocationError → Type 0

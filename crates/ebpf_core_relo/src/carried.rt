@@ -2,7 +2,7 @@
 
 ghost use Rattle.std.specs.Prelude.{◌≡◌, ◌<◌, ◌≤◌, ⊤, MatchBool, [], length, slice_index_or, Some, Ok, Err, IfErr, IfOk, IfSome};
 ghost use Rattle.ebpf_core.specs.Answers.{Tells, without_texts};
-ghost use Rattle.ebpf_core.specs.Memory.{is_memory};
+ghost use Rattle.ebpf_core.specs.Memory.{is_record_memory};
 ghost use Rattle.ebpf_core.specs.declared.error.RelocationError.TheVariants as errors;
 ghost use Rattle.ebpf_core_relo.specs.Carrying.{HasRoom, put_at};
 ghost use Rattle.ebpf_core_relo.specs.Carried.{carrier_of, carried_by, high_half, carried_at, low_half, may_resize, moved_code, poison, poisoned, resized, resized_to, size_bits, with_offset, written};
@@ -19,7 +19,7 @@ use std::alloc::Global;
 const GREATEST_OFFSET: u64 = 32_767;
 
 /// Where a slot carries a number.
-#[derive(Clone, Copy, Debug, PartialEq, Eq)]
+#[derive(Clone, Copy)]
 pub enum Carrier {
     /// In its immediate.
     Immediate,
@@ -193,7 +193,7 @@ fn no_carrier<X>(
 }
 
 /// What a record makes of its slot, and of the one behind it where both carry its outcome.
-#[derive(Clone, Copy, Debug, PartialEq, Eq)]
+#[derive(Clone, Copy)]
 pub struct CarryingSlots {
     pub slot: bpf_insn,
     pub next: Option<bpf_insn>,
@@ -272,7 +272,7 @@ pub fn carrying_slots(
 ) -> Result<CarryingSlots, RelocationError>
     ensures slots { IfOk result (λ carrying. written record_number slots.now at outcome.now ≡ Ok (put_at slots.now at carrying)) }
     ensures there { IfOk result (λ carrying. (at < length slots.now) × HasRoom slots.now at carrying.next) }
-    ensures fault { IfErr result (λ e. MatchBool (is_memory e) ⊤ (written record_number slots.now at outcome.now ≡ Err (without_texts e))) }
+    ensures fault { IfErr result (λ e. MatchBool (is_record_memory e) ⊤ (written record_number slots.now at outcome.now ≡ Err (without_texts e))) }
 {
     let Some(slot) = slots.get(at) else {
         return missing_slot(slots, at, record_number);

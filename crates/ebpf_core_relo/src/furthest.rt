@@ -9,7 +9,7 @@ use ebpf_places::{Step, place_in};
 use std::alloc::AllocError;
 
 /// The candidate that comes furthest along a path, and how far.
-#[derive(Clone, Copy, Debug, PartialEq, Eq)]
+#[derive(Clone, Copy)]
 pub struct Furthest {
     /// Its id. None where no step leads anywhere.
     pub candidate: Option<u32>,

@@ -2,7 +2,7 @@
 
 ghost use Rattle.std.specs.Prelude.{◌≡◌, false, IfOk, OnOk};
 ghost use Rattle.ebpf_btf.specs.Memory as types;
-ghost use Rattle.ebpf_core.specs.Memory.{is_memory};
+ghost use Rattle.ebpf_core.specs.Memory.{is_record_memory};
 ghost use Rattle.ebpf_places.specs.Memory as places;
 
 use ebpf_btf::BtfError;
@@ -13,7 +13,7 @@ use std::alloc::AllocError;
 /// Refuses where memory was refused, and gives any other fault back.
 pub fn unless_memory(fault: RelocationError) -> Result<RelocationError, AllocError>
     ensures same { IfOk result (λ e. e ≡ fault) }
-    ensures other { OnOk result (is_memory fault ≡ false) }
+    ensures other { OnOk result (is_record_memory fault ≡ false) }
 {
     match fault {
         RelocationError::OutOfMemory => Err(AllocError),
@@ -23,7 +23,7 @@ pub fn unless_memory(fault: RelocationError) -> Result<RelocationError, AllocErr
 
 /// Refuses where memory was refused to a look at types.
 pub fn unless_memory_of_types(error: BtfError) -> Result<(), AllocError>
-    ensures { OnOk result (types.is_memory error ≡ false) }
+    ensures { OnOk result (types.is_btf_memory error ≡ false) }
 {
     match error {
         BtfError::OutOfMemory => Err(AllocError),
@@ -33,7 +33,7 @@ pub fn unless_memory_of_types(error: BtfError) -> Result<(), AllocError>
 
 /// Refuses where memory was refused to a look at a place.
 pub fn unless_memory_of_places(fault: PlaceFault) -> Result<(), AllocError>
-    ensures { OnOk result (places.is_memory fault ≡ false) }
+    ensures { OnOk result (places.is_place_memory fault ≡ false) }
 {
     match fault {
         PlaceFault::Btf(error) => unless_memory_of_types(error),

@@ -3,7 +3,7 @@
 ghost use Rattle.std.specs.Prelude.{◌≡◌, ◌<◌, ⊤, MatchBool, IfOk, IfErr, Ok, Err, length};
 ghost use Rattle.std.specs.FinMap as map;
 ghost use Rattle.ebpf_core.specs.Answers.{without_texts};
-ghost use Rattle.ebpf_core.specs.Memory.{is_memory};
+ghost use Rattle.ebpf_core.specs.Memory.{is_record_memory};
 ghost use Rattle.ebpf_core.specs.Searches.{outcome_of};
 ghost use Rattle.ebpf_core_relo.specs.PrivateContracts.{Leaves, StaysRefused};
 ghost use Rattle.ebpf_core_relo.specs.Carried as carried;
@@ -52,7 +52,7 @@ fn carrying_in(
 ) -> Result<CarryingSlots, RelocationError>
     ensures slots { IfOk result (λ carrying. carried.written record_number (slots_so_far function_spans.now.functions.now written.now key) at outcome.now ≡ Ok (put_at (slots_so_far function_spans.now.functions.now written.now key) at carrying)) }
     ensures there { IfOk result (λ carrying. (at < length (slots_so_far function_spans.now.functions.now written.now key)) × HasRoom (slots_so_far function_spans.now.functions.now written.now key) at carrying.next) }
-    ensures fault { IfErr result (λ e. MatchBool (is_memory e) ⊤ (carried.written record_number (slots_so_far function_spans.now.functions.now written.now key) at outcome.now ≡ Err (without_texts e))) }
+    ensures fault { IfErr result (λ e. MatchBool (is_record_memory e) ⊤ (carried.written record_number (slots_so_far function_spans.now.functions.now written.now key) at outcome.now ≡ Err (without_texts e))) }
 {
     if let Some(slots) = written.get(key) {
         return carrying_slots(alloc, slots.as_slice(), at, record_number, outcome);

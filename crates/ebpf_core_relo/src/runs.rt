@@ -12,14 +12,14 @@ use std::marker::Model;
 
 /// Spans of which each begins no earlier than the one before it. Contracts see their list.
 #[derive(Drop)]
-pub struct Run {
+pub struct RisingSpans {
     spans: Vec<Span>,
     ends: Vec<usize>,
     top: usize,
     last_start: usize,
 }
 
-impl Model for Run {
+impl Model for RisingSpans {
     ghost use Rattle.std.specs.Prelude.{List};
     ghost use Rattle.ebpf_core_relo.specs.declared.spans.Span.{Span};
     ghost use Rattle.ebpf_core_relo.specs.SpanLists.{IsTopped};
@@ -39,12 +39,12 @@ fn upper_bound(ends: &[usize], slot: usize) -> usize
     ends.partition_point(|end| *end <= slot)
 }
 
-impl Run {
+impl RisingSpans {
     /// No spans, without memory.
-    pub fn new(alloc: Global) -> Run
+    pub fn new(alloc: Global) -> RisingSpans
         ensures { result ≡ [] }
     {
-        Run {
+        RisingSpans {
             spans: Vec::new(alloc),
             ends: Vec::new(alloc),
             top: 0,

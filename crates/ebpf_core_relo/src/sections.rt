@@ -5,7 +5,7 @@ ghost use Rattle.std.specs.Fmt.{decimal};
 ghost use Rattle.std.specs.FinMap as map;
 ghost use Rattle.ebpf_btf.specs.Strings.{text_at};
 ghost use Rattle.ebpf_core.specs.Answers.{of_type_error, without_texts};
-ghost use Rattle.ebpf_core.specs.Memory.{is_memory};
+ghost use Rattle.ebpf_core.specs.Memory.{is_record_memory};
 ghost use Rattle.ebpf_core.specs.declared.error.RelocationError.TheVariants.{BtfError};
 ghost use Rattle.ebpf_core_relo.specs.Answers.{error_in_section};
 ghost use Rattle.ebpf_core_relo.specs.PrivateContracts.{IsStatedRefusal, Leaves, LeavesAt};

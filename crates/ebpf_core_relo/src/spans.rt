@@ -4,7 +4,7 @@ ghost use Rattle.std.specs.Prelude.{◌≡◌, ◌++◌, ◌∷◌, [], OnOk};
 ghost use Rattle.ebpf_core_relo.specs.Spans.{span_at};
 ghost use Rattle.ebpf_core_relo.specs.PrivateContracts.{first_at};
 
-use crate::runs::Run;
+use crate::runs::RisingSpans;
 use std::alloc::{AllocError, Global};
 use std::marker::Model;
 use std::mem;
@@ -13,7 +13,7 @@ use std::mem;
 pub const SLOT: usize = 8;
 
 /// What a function takes of its section's data.
-#[derive(Clone, Copy, Debug, PartialEq, Eq)]
+#[derive(Clone, Copy)]
 pub struct Span {
     /// The function's address.
     pub address: u64,
@@ -29,8 +29,8 @@ pub struct Span {
 /// Contracts see their list.
 #[derive(Drop)]
 pub struct Spans {
-    before: Vec<Run>,
-    last: Run,
+    before: Vec<RisingSpans>,
+    last: RisingSpans,
 }
 
 impl Model for Spans {
@@ -44,7 +44,7 @@ impl Model for Spans {
 }
 
 /// The first span of some runs that holds an offset, or of a last one.
-fn first_at(runs: &[Run], last: &Run, offset: usize) -> Option<Span>
+fn first_at(runs: &[RisingSpans], last: &RisingSpans, offset: usize) -> Option<Span>
     ensures { result ≡ first_at offset runs.now last.now }
 {
     for run in runs {
@@ -62,7 +62,7 @@ impl Spans {
     {
         Spans {
             before: Vec::new(alloc),
-            last: Run::new(alloc),
+            last: RisingSpans::new(alloc),
         }
     }
 
@@ -71,7 +71,7 @@ impl Spans {
     fn begin(&mut self, alloc: Global, span: Span) -> Result<(), AllocError>
         ensures { OnOk result (self.new ≡ self.old ++ span ∷ []) }
     {
-        let mut run = Run::new(alloc);
+        let mut run = RisingSpans::new(alloc);
         run.push(span)?;
         let full = mem::replace(&mut self.last, run);
         self.before.push(full)?;

@@ -4,12 +4,12 @@ ghost use Rattle.std.specs.Prelude.{◌≡◌, ◌++◌, is_some, IfOk, IfErr, O
 ghost use Rattle.std.specs.FinMap as map;
 ghost use Rattle.ebpf_base.specs.Faults.{Refuses};
 ghost use Rattle.ebpf_base.specs.Keyed.{put_all};
-ghost use Rattle.ebpf_btf.specs.Memory.{is_memory as is_btf_memory};
+ghost use Rattle.ebpf_btf.specs.Memory.{is_btf_memory};
 ghost use Rattle.ebpf_declarations.specs.DistinctMaps.{AreSectionMaps};
 ghost use Rattle.ebpf_declarations.specs.KnownStructs.{Knows};
 ghost use Rattle.ebpf_declarations.specs.Maps.{btf_maps, btf_maps_fault};
 ghost use Rattle.ebpf_declarations.specs.NamedSections.{ids_maps, ids_fault, AreFound};
-ghost use Rattle.ebpf_parts.specs.Memory.{is_memory};
+ghost use Rattle.ebpf_parts.specs.Memory.{is_parse_memory};
 
 use crate::distinct_maps::DistinctMaps;
 use crate::error::parse_error;
@@ -38,7 +38,7 @@ fn add_sections(
 ) -> Result<(), ParseError>
     requires { Knows reading btf.now known.old }
     ensures added { OnOk result (found.new ≡ found.old ++ ids_maps reading btf.now (map.get symbols.now) section.now.index.0 ids.now) }
-    ensures fault { Refuses is_memory result (ids_fault reading btf.now (map.get symbols.now) section.now.index.0 ids.now) }
+    ensures fault { Refuses is_parse_memory result (ids_fault reading btf.now (map.get symbols.now) section.now.index.0 ids.now) }
 {
     for id in ids {
         let entries = datasec_entries_at(btf, *id);
@@ -59,7 +59,7 @@ fn collect_sections(
     ids: &[u32],
 ) -> Result<Items<(Text, Map)>, ParseError>
     ensures found { IfOk result (λ found. found ≡ ids_maps reading btf.now (map.get symbols.now) section.now.index.0 ids.now) }
-    ensures fault { Refuses is_memory result (ids_fault reading btf.now (map.get symbols.now) section.now.index.0 ids.now) }
+    ensures fault { Refuses is_parse_memory result (ids_fault reading btf.now (map.get symbols.now) section.now.index.0 ids.now) }
 {
     let mut found = Items::new(alloc);
     let mut known = KnownStructs::none(alloc);
@@ -81,7 +81,7 @@ fn found_in(
     requires found { AreFound btf.now sections.now }
     requires there { is_some (map.get sections.now.by_name section.now.name) ≡ true }
     ensures found { IfOk result (λ found. found ≡ btf_maps reading btf.now (map.get symbols.now) section.now.index.0 section.now.name) }
-    ensures fault { Refuses is_memory result (btf_maps_fault reading btf.now (map.get symbols.now) section.now.index.0 section.now.name) }
+    ensures fault { Refuses is_parse_memory result (btf_maps_fault reading btf.now (map.get symbols.now) section.now.index.0 section.now.name) }
 {
     let Some(ids) = sections.by_name.get(section.name) else {
         unreachable!()
@@ -96,7 +96,7 @@ fn found_in(
 /// Puts maps by name; the later of equal names stands.
 fn put_maps(maps: &mut ByName<Map>, found: Items<(Text, Map)>) -> Result<(), ParseError>
     ensures put { OnOk result (maps.new ≡ put_all maps.old found) }
-    ensures memory { IfErr result (λ e. is_memory e ≡ true) }
+    ensures memory { IfErr result (λ e. is_parse_memory e ≡ true) }
 {
     for (name, map) in found.into_vec() {
         maps.insert(name.into_string(), map)?;
@@ -159,7 +159,7 @@ impl<'b> BtfDefinedMaps<'b> {
         symbols: &ByName<usize>,
     ) -> Result<(), ParseError>
         ensures put { OnOk result (maps.new ≡ put_all maps.old (btf_maps self.now.reading self.now.types (map.get symbols.now) section.now.index.0 section.now.name)) }
-        ensures fault { Refuses is_memory result (btf_maps_fault self.now.reading self.now.types (map.get symbols.now) section.now.index.0 section.now.name) }
+        ensures fault { Refuses is_parse_memory result (btf_maps_fault self.now.reading self.now.types (map.get symbols.now) section.now.index.0 section.now.name) }
     {
         if let Some(distinct) = self.distinct.get(section.name) {
             return distinct.put(alloc, maps, section, symbols);
@@ -177,7 +177,7 @@ impl<'b> BtfDefinedMaps<'b> {
         symbols: &ByName<usize>,
     ) -> Result<Items<(Text, Map)>, ParseError>
         ensures found { IfOk result (λ found. found ≡ btf_maps self.now.reading self.now.types (map.get symbols.now) section.now.index.0 section.now.name) }
-        ensures fault { Refuses is_memory result (btf_maps_fault self.now.reading self.now.types (map.get symbols.now) section.now.index.0 section.now.name) }
+        ensures fault { Refuses is_parse_memory result (btf_maps_fault self.now.reading self.now.types (map.get symbols.now) section.now.index.0 section.now.name) }
     {
         let (btf, reading) = (self.btf, self.reading);
         if self.sections.by_name.contains_key(section.name) {

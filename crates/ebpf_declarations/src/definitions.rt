@@ -12,7 +12,7 @@ use ebpf_parts::maps::{BtfMapDef, PinningType};
 const MAP_VALUE: u32 = 4;
 
 /// The definition of a map, and of the maps that it holds.
-#[derive(Clone, Copy, Debug, PartialEq, Eq)]
+#[derive(Clone, Copy)]
 pub struct MapDefinitions {
     pub def: BtfMapDef,
     pub inner_def: Option<BtfMapDef>,

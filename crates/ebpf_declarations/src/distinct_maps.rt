@@ -7,10 +7,10 @@ ghost use Rattle.std.specs.Option.{option_copied};
 ghost use Rattle.std.specs.Ordering.{nat_cmp};
 ghost use Rattle.ebpf_base.specs.Faults.{Refuses};
 ghost use Rattle.ebpf_base.specs.Keyed.{put_all};
-ghost use Rattle.ebpf_btf.specs.Memory.{is_memory as is_btf_memory};
+ghost use Rattle.ebpf_btf.specs.Memory.{is_btf_memory};
 ghost use Rattle.ebpf_btf.specs.TypeInfo.{TypeInfo};
 ghost use Rattle.ebpf_declarations.specs.DistinctMaps.{missing, last_map, last_of, distinct_maps, distinct_fault, AreNamed, IsWith, RemembersNames};
-ghost use Rattle.ebpf_parts.specs.Memory.{is_memory};
+ghost use Rattle.ebpf_parts.specs.Memory.{is_parse_memory};
 
 use crate::definitions::MapDefinitions;
 use crate::maps::map_at;
@@ -126,7 +126,7 @@ impl DistinctMaps {
         symbols: &ByName<usize>,
     ) -> Result<(), ParseError>
         ensures put { OnOk result (maps.new ≡ put_all maps.old (distinct_maps (map.get symbols.now) section.now.index.0 self.now)) }
-        ensures fault { Refuses is_memory result (distinct_fault (map.get symbols.now) self.now) }
+        ensures fault { Refuses is_parse_memory result (distinct_fault (map.get symbols.now) self.now) }
     {
         for name in self.names.as_slice() {
             self.put_last(alloc, maps, section, symbols, name.as_str())?;
@@ -145,7 +145,7 @@ impl DistinctMaps {
         name: &str,
     ) -> Result<(), ParseError>
         ensures put { OnOk result (maps.new ≡ put_all maps.old (last_map (map.get symbols.now) section.now.index.0 (last_of self.now) name.now)) }
-        ensures fault { Refuses is_memory result (missing (map.get symbols.now) name.now) }
+        ensures fault { Refuses is_parse_memory result (missing (map.get symbols.now) name.now) }
     {
         let Some(symbol_index) = symbols.get(name) else {
             return Err(ParseError::SymbolNotFound {
@@ -168,7 +168,7 @@ fn put_map(
     declared: Map,
 ) -> Result<(), ParseError>
     ensures put { OnOk result (maps.new ≡ map.insert maps.old name.now declared) }
-    ensures memory { IfErr result (λ e. is_memory e ≡ true) }
+    ensures memory { IfErr result (λ e. is_parse_memory e ≡ true) }
 {
     let Err(declared) = maps.replace(name, declared) else {
         return Ok(());

@@ -2,8 +2,8 @@
 
 ghost use Rattle.std.specs.Prelude.{◌≡◌, ⊤};
 ghost use Rattle.std.specs.Bool.{MatchBool};
-ghost use Rattle.ebpf_btf.specs.Memory.{is_memory as is_btf_memory};
-ghost use Rattle.ebpf_parts.specs.Memory.{is_memory};
+ghost use Rattle.ebpf_btf.specs.Memory.{is_btf_memory};
+ghost use Rattle.ebpf_parts.specs.Memory.{is_parse_memory};
 ghost use Rattle.ebpf_parts.specs.declared.error.ParseError.TheVariants as errors;
 
 use ebpf_btf::BtfError;
@@ -11,7 +11,7 @@ use ebpf_parts::ParseError;
 
 /// The fault of types as a fault of parsing; want of memory stays want of memory.
 pub fn parse_error(error: BtfError) -> ParseError
-    ensures memory { is_memory result ≡ is_btf_memory error }
+    ensures memory { is_parse_memory result ≡ is_btf_memory error }
     ensures other { MatchBool (is_btf_memory error) ⊤ (result ≡ errors.BtfError error) }
 {
     match error {

@@ -3,7 +3,7 @@
 ghost use Rattle.std.specs.Prelude.{OnOk};
 ghost use Rattle.std.specs.FinMap as map;
 ghost use Rattle.ebpf_base.specs.Faults.{Gives};
-ghost use Rattle.ebpf_btf.specs.Memory.{is_memory};
+ghost use Rattle.ebpf_btf.specs.Memory.{is_btf_memory};
 ghost use Rattle.ebpf_declarations.specs.ExternNames.{weak_at, RemembersWeak};
 
 use ebpf_base::ByName;
@@ -12,7 +12,7 @@ use std::collections::BTreeMap;
 
 /// Whether the symbol of the name at an offset is weak.
 fn read_weak(btf: &Btf, weak: &ByName<bool>, name: u32) -> Result<bool, BtfError>
-    ensures { Gives is_memory result (weak_at btf.now (map.get weak.now) name) }
+    ensures { Gives is_btf_memory result (weak_at btf.now (map.get weak.now) name) }
 {
     let text = btf.string_at(name)?;
     match weak.get(text.as_str()) {
@@ -29,7 +29,7 @@ pub fn weak_at(
     name: u32,
 ) -> Result<bool, BtfError>
     requires { RemembersWeak btf.now (map.get weak.now) known.old }
-    ensures says { Gives is_memory result (weak_at btf.now (map.get weak.now) name) }
+    ensures says { Gives is_btf_memory result (weak_at btf.now (map.get weak.now) name) }
     ensures known { OnOk result (RemembersWeak btf.now (map.get weak.now) known.new) }
 {
     if let Some(is_weak) = known.get(&name) {

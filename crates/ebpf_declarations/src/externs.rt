@@ -4,7 +4,7 @@ ghost use Rattle.std.specs.Prelude.{◌≡◌, None, IfOk, IfErr, OnOk, OnErr, i
 ghost use Rattle.std.specs.FinMap as map;
 ghost use Rattle.std.specs.List.{flat_map};
 ghost use Rattle.ebpf_base.specs.Faults.{Refuses, fault_of, first_some, or_else};
-ghost use Rattle.ebpf_btf.specs.Memory.{is_memory};
+ghost use Rattle.ebpf_btf.specs.Memory.{is_btf_memory};
 ghost use Rattle.ebpf_declarations.specs.Attempts.{given};
 ghost use Rattle.ebpf_declarations.specs.ExternNames.{named, all_named, IsNamed, RemembersWeak};
 ghost use Rattle.ebpf_declarations.specs.Externs.{is_function, func_or_var_type, new_extern, extern_of, function_or_fault, first_function_or_fault, ksyms_datasec, types_with, types_fault, entries_externs, extern_entries_fault, extern_types, externs, extern_declarations_fault};
@@ -42,7 +42,7 @@ fn func_or_var_type(ty: &BtfType<'_>) -> Option<u32>
 }
 
 /// What a search for a function among entries meets.
-#[derive(Debug, Drop)]
+#[derive(Drop)]
 pub enum FunctionOrFault {
     /// A function.
     Function,
@@ -79,7 +79,7 @@ fn first_function_or_fault(btf: &Btf, entries: &[DataSecEntry]) -> Option<Functi
 #[tactic(auto, unfolding(crate::specs::Externs::types_with, crate::specs::Externs::types_fault))]
 fn prepare_types(btf: &mut Btf, entries: &[DataSecEntry]) -> Result<(), BtfError>
     ensures types { OnOk result (btf.new ≡ types_with btf.old (first_function_or_fault btf.old entries.now)) }
-    ensures fault { Refuses is_memory result (types_fault btf.old (first_function_or_fault btf.old entries.now)) }
+    ensures fault { Refuses is_btf_memory result (types_fault btf.old (first_function_or_fault btf.old entries.now)) }
     ensures begins { Begins btf.old btf.new }
 {
     match first_function_or_fault(btf, entries) {
@@ -99,7 +99,7 @@ fn extern_of(
 ) -> Result<(u32, ExternDesc), BtfError>
     requires { RemembersWeak btf.now (map.get weak.now) known.old }
     ensures declared { IfOk result (λ found. IsNamed btf.now (extern_of btf.now (map.get weak.now) entry.now) found.0 found.1) }
-    ensures fault { Refuses is_memory result (fault_of (extern_of btf.now (map.get weak.now) entry.now)) }
+    ensures fault { Refuses is_btf_memory result (fault_of (extern_of btf.now (map.get weak.now) entry.now)) }
     ensures known { OnOk result (RemembersWeak btf.now (map.get weak.now) known.new) }
 {
     let ty = btf.type_by_id(entry.btf_type)?;
@@ -129,7 +129,7 @@ fn all_externs(
 ) -> Result<Items<(u32, ExternDesc)>, BtfError>
     ensures externs { IfOk result (λ found. all_named btf.now found ≡ flat_map (λ entry. given (extern_of btf.now (map.get weak.now) entry)) entries.now) }
     ensures readable { IfOk result (λ found. first_some (λ f. fault_of (named btf.now f.0 f.1)) found ≡ None) }
-    ensures fault { Refuses is_memory result (extern_entries_fault btf.now (map.get weak.now) entries.now) }
+    ensures fault { Refuses is_btf_memory result (extern_entries_fault btf.now (map.get weak.now) entries.now) }
 {
     let mut found = Items::new(alloc);
     let mut known = BTreeMap::new(alloc);
@@ -147,7 +147,7 @@ fn entries_externs(
     entries: &[DataSecEntry],
 ) -> Result<ByName<ExternDesc>, BtfError>
     ensures externs { IfOk result (λ found. found ≡ entries_externs btf.now (map.get weak.now) entries.now) }
-    ensures fault { Refuses is_memory result (extern_entries_fault btf.now (map.get weak.now) entries.now) }
+    ensures fault { Refuses is_btf_memory result (extern_entries_fault btf.now (map.get weak.now) entries.now) }
 {
     let found = all_externs(alloc, btf, weak, entries)?;
     by_name(alloc, btf, found.as_slice())
@@ -164,7 +164,7 @@ fn add_externs(
 ) -> Result<ByName<ExternDesc>, BtfError>
     ensures types { OnOk result (btf.new ≡ types_with btf.old (first_function_or_fault btf.old entries.now)) }
     ensures externs { IfOk result (λ found. found ≡ entries_externs (types_with btf.old (first_function_or_fault btf.old entries.now)) (map.get weak.now) entries.now) }
-    ensures fault { Refuses is_memory result (or_else (types_fault btf.old (first_function_or_fault btf.old entries.now)) (extern_entries_fault (types_with btf.old (first_function_or_fault btf.old entries.now)) (map.get weak.now) entries.now)) }
+    ensures fault { Refuses is_btf_memory result (or_else (types_fault btf.old (first_function_or_fault btf.old entries.now)) (extern_entries_fault (types_with btf.old (first_function_or_fault btf.old entries.now)) (map.get weak.now) entries.now)) }
     ensures begins { Begins btf.old btf.new }
 {
     prepare_types(btf, entries)?;
@@ -177,7 +177,7 @@ fn copy_entries(
     entries: &Rows<'_, DataSecEntry>,
 ) -> Result<Vec<DataSecEntry>, BtfError>
     ensures copy { IfOk result (λ copy. copy.items ≡ entries.now) }
-    ensures memory { IfErr result (λ e. is_memory e ≡ true) }
+    ensures memory { IfErr result (λ e. is_btf_memory e ≡ true) }
 {
     let copy = entries.iter().collect(alloc)?;
     Ok(copy)
@@ -207,7 +207,7 @@ pub fn collect_externs(
 ) -> Result<ByName<ExternDesc>, BtfError>
     ensures types { OnOk result (btf.new ≡ extern_types btf.old) }
     ensures externs { IfOk result (λ found. found ≡ externs btf.old (map.get weak.now)) }
-    ensures fault { Refuses is_memory result (extern_declarations_fault btf.old (map.get weak.now)) }
+    ensures fault { Refuses is_btf_memory result (extern_declarations_fault btf.old (map.get weak.now)) }
     ensures unchanged { OnErr result (btf.new ≡ btf.old) }
 {
     let entries = match first_entries(btf, EXTERNS)? {

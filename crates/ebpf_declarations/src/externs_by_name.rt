@@ -4,7 +4,7 @@ ghost use Rattle.std.specs.Prelude.{◌≡◌, List, ℕ, Ok, None, true, IfOk, 
 ghost use Rattle.std.specs.FinMap as map;
 ghost use Rattle.ebpf_base.specs.Faults.{first_some, fault_of};
 ghost use Rattle.ebpf_base.specs.Keyed.{put_all};
-ghost use Rattle.ebpf_btf.specs.Memory.{is_memory};
+ghost use Rattle.ebpf_btf.specs.Memory.{is_btf_memory};
 ghost use Rattle.ebpf_btf.specs.Strings.{text_at};
 ghost use Rattle.ebpf_declarations.specs.ExternNames.{named, all_named, put_before, NamesArePut};
 
@@ -23,7 +23,7 @@ fn put_named(
     declared: ExternDesc,
 ) -> Result<(), BtfError>
     ensures put { OnOk result (externs.new ≡ put_before externs.old name.now declared) }
-    ensures memory { IfErr result (λ e. is_memory e ≡ true) }
+    ensures memory { IfErr result (λ e. is_btf_memory e ≡ true) }
 {
     if externs.get(name).is_some() {
         return Ok(());
@@ -45,7 +45,7 @@ fn put_at(
     requires readable { fault_of (text_at btf.now.strings name) ≡ None }
     ensures put { OnOk result ((text : List ℕ) → text_at btf.now.strings name ≡ Ok text → externs.new ≡ put_before externs.old text declared) }
     ensures names { OnOk result (NamesArePut btf.now externs.new put.new) }
-    ensures memory { IfErr result (λ e. is_memory e ≡ true) }
+    ensures memory { IfErr result (λ e. is_btf_memory e ≡ true) }
 {
     if put.get(&name).is_some() {
         return Ok(());
@@ -65,7 +65,7 @@ pub fn by_name(
 ) -> Result<ByName<ExternDesc>, BtfError>
     requires { first_some (λ f. fault_of (named btf.now f.0 f.1)) found.now ≡ None }
     ensures externs { IfOk result (λ externs. externs ≡ put_all map.empty (all_named btf.now found.now)) }
-    ensures memory { IfErr result (λ e. is_memory e ≡ true) }
+    ensures memory { IfErr result (λ e. is_btf_memory e ≡ true) }
 {
     let mut externs = ByName::new(alloc);
     let mut put = BTreeMap::new(alloc);

@@ -2,7 +2,7 @@
 
 ghost use Rattle.std.specs.Prelude.{◌≡◌, OnOk};
 ghost use Rattle.ebpf_base.specs.Faults.{Gives};
-ghost use Rattle.ebpf_btf.specs.Memory.{is_memory};
+ghost use Rattle.ebpf_btf.specs.Memory.{is_btf_memory};
 ghost use Rattle.ebpf_btf.specs.TypeInfo.{TypeInfo};
 ghost use Rattle.ebpf_declarations.specs.KnownStructs.{Knows, RemembersInner};
 ghost use Rattle.ebpf_declarations.specs.Maps.{struct_definitions};
@@ -48,7 +48,7 @@ fn read_struct(
     struct_id: u32,
 ) -> Result<MapDefinitions, BtfError>
     requires { RemembersInner reading btf.now inner_maps.old }
-    ensures says { Gives is_memory result (struct_definitions reading btf.now name.now struct_id) }
+    ensures says { Gives is_btf_memory result (struct_definitions reading btf.now name.now struct_id) }
     ensures known { OnOk result (RemembersInner reading btf.now inner_maps.new) }
 {
     let members = members_at(btf, struct_id)?;
@@ -65,7 +65,7 @@ pub fn struct_definitions(
     struct_id: u32,
 ) -> Result<MapDefinitions, BtfError>
     requires { Knows reading btf.now known.old }
-    ensures says { Gives is_memory result (struct_definitions reading btf.now name.now struct_id) }
+    ensures says { Gives is_btf_memory result (struct_definitions reading btf.now name.now struct_id) }
     ensures known { OnOk result (Knows reading btf.now known.new) }
 {
     if let Some(said) = known.maps.get(&struct_id) {

@@ -6,7 +6,7 @@ ghost use Rattle.ebpf_declarations.specs.MapMembers.{map_member_at};
 use ebpf_btf::{Btf, BtfError, BtfMember};
 
 /// A number that a member may say of a map.
-#[derive(Clone, Copy, Debug, PartialEq, Eq)]
+#[derive(Clone, Copy, PartialEq, Eq)]
 pub enum MapNumber {
     /// The number of the map's type.
     MapType,
@@ -23,7 +23,7 @@ pub enum MapNumber {
 }
 
 /// What a member is about.
-#[derive(Clone, Copy, Debug, PartialEq, Eq)]
+#[derive(Clone, Copy, PartialEq, Eq)]
 pub enum MapMember {
     /// A number.
     Number(MapNumber),

@@ -2,7 +2,7 @@
 
 ghost use Rattle.std.specs.Prelude.{◌≡◌};
 ghost use Rattle.ebpf_base.specs.Faults.{Gives};
-ghost use Rattle.ebpf_btf.specs.Memory.{is_memory};
+ghost use Rattle.ebpf_btf.specs.Memory.{is_btf_memory};
 ghost use Rattle.ebpf_declarations.specs.MapMembers.{is_prototype_at, members_at, pointee_struct, inner_map_struct};
 
 use crate::map_types::{pointee, struct_members, unexpected};
@@ -45,7 +45,7 @@ fn pointee_struct(btf: &Btf, type_id: u32) -> Result<u32, BtfError>
 /// The id of the struct of the maps that the map with a name holds.
 #[tactic(auto, unfolding(crate::specs::MapMembers::inner_map_struct))]
 pub fn inner_map_struct(alloc: Global, btf: &Btf, name: &str, type_id: u32) -> Result<u32, BtfError>
-    ensures { Gives is_memory result (inner_map_struct btf.now.types name.now type_id) }
+    ensures { Gives is_btf_memory result (inner_map_struct btf.now.types name.now type_id) }
 {
     let ty = btf.type_by_id(type_id)?;
     let Some(array) = ty.array() else {

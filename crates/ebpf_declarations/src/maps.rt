@@ -3,10 +3,10 @@
 ghost use Rattle.std.specs.Prelude.{◌≡◌, ◌++◌, OnOk};
 ghost use Rattle.std.specs.FinMap as map;
 ghost use Rattle.ebpf_base.specs.Faults.{Gives, Refuses};
-ghost use Rattle.ebpf_btf.specs.Memory.{is_memory as is_btf_memory};
+ghost use Rattle.ebpf_btf.specs.Memory.{is_btf_memory};
 ghost use Rattle.ebpf_declarations.specs.KnownStructs.{Knows};
 ghost use Rattle.ebpf_declarations.specs.Maps.{variable, declared, map_at, entry_map, entries_maps, entries_fault};
-ghost use Rattle.ebpf_parts.specs.Memory.{is_memory};
+ghost use Rattle.ebpf_parts.specs.Memory.{is_parse_memory};
 
 use crate::definitions::MapDefinitions;
 use crate::error::parse_error;
@@ -82,7 +82,7 @@ fn entry_map(
     entry: &DataSecEntry,
 ) -> Result<(Text, Map), ParseError>
     requires { Knows reading btf.now known.old }
-    ensures map { Gives is_memory result (entry_map reading btf.now (map.get symbols.now) section.now.index.0 entry.now) }
+    ensures map { Gives is_parse_memory result (entry_map reading btf.now (map.get symbols.now) section.now.index.0 entry.now) }
     ensures known { OnOk result (Knows reading btf.now known.new) }
 {
     let (name, definitions) = match declared(alloc, btf, reading, known, entry) {
@@ -111,7 +111,7 @@ pub fn add_entries(
     requires { Knows reading btf.now known.old }
     ensures known { OnOk result (Knows reading btf.now known.new) }
     ensures added { OnOk result (found.new ≡ found.old ++ entries_maps reading btf.now (map.get symbols.now) section.now.index.0 entries.now) }
-    ensures fault { Refuses is_memory result (entries_fault reading btf.now (map.get symbols.now) section.now.index.0 entries.now) }
+    ensures fault { Refuses is_parse_memory result (entries_fault reading btf.now (map.get symbols.now) section.now.index.0 entries.now) }
 {
     for index in 0..entries.len() {
         let entry = entries.at(index);

@@ -4,7 +4,7 @@ use crate::map_member::MapNumber;
 use ebpf_parts::maps::{BtfMapDef, PinningType};
 
 /// The value of a member of a map definition.
-#[derive(Clone, Copy, Debug, PartialEq, Eq)]
+#[derive(Clone, Copy)]
 pub enum MemberValue {
     /// A number.
     Number { of: MapNumber, number: u32 },

@@ -2,7 +2,7 @@
 
 ghost use Rattle.std.specs.Prelude.{◌≡◌, OnOk};
 ghost use Rattle.ebpf_base.specs.Faults.{Gives};
-ghost use Rattle.ebpf_btf.specs.Memory.{is_memory};
+ghost use Rattle.ebpf_btf.specs.Memory.{is_btf_memory};
 ghost use Rattle.ebpf_declarations.specs.KnownStructs.{RemembersInner};
 ghost use Rattle.ebpf_declarations.specs.Maps.{pinning_by_number, own_extra, number_value, are_programs, plain_value, inner_member_value_of, inner_member_value, inner_definition, inner_struct_definition, member_value_of, member_value, definitions};
 
@@ -98,7 +98,7 @@ fn inner_member_value_of(
     member: MapMember,
     type_id: u32,
 ) -> Result<MemberValue, BtfError>
-    ensures { Gives is_memory result (inner_member_value_of reading btf.now name.now member type_id) }
+    ensures { Gives is_btf_memory result (inner_member_value_of reading btf.now name.now member type_id) }
 {
     match member {
         MapMember::Pinning => Err(BtfError::InnerMapCannotBePinned {
@@ -120,7 +120,7 @@ fn inner_member_value(
     name: &str,
     member: &BtfMember,
 ) -> Result<MemberValue, BtfError>
-    ensures { Gives is_memory result (inner_member_value reading btf.now name.now member.now) }
+    ensures { Gives is_btf_memory result (inner_member_value reading btf.now name.now member.now) }
 {
     let about = map_member_at(btf, member)?;
     inner_member_value_of(alloc, btf, reading, name, about, member.btf_type)
@@ -135,7 +135,7 @@ fn inner_definition(
     name: &str,
     members: &Rows<'_, BtfMember>,
 ) -> Result<BtfMapDef, BtfError>
-    ensures { Gives is_memory result (inner_definition reading btf.now name.now members.now) }
+    ensures { Gives is_btf_memory result (inner_definition reading btf.now name.now members.now) }
 {
     let mut all = MapDefinitions::none();
     for index in 0..members.len() {
@@ -153,7 +153,7 @@ fn read_inner_struct(
     name: &str,
     struct_id: u32,
 ) -> Result<BtfMapDef, BtfError>
-    ensures { Gives is_memory result (inner_struct_definition reading btf.now name.now struct_id) }
+    ensures { Gives is_btf_memory result (inner_struct_definition reading btf.now name.now struct_id) }
 {
     let members = members_at(btf, struct_id)?;
     inner_definition(alloc, btf, reading, name, &members)
@@ -170,7 +170,7 @@ fn inner_struct_definition(
     struct_id: u32,
 ) -> Result<BtfMapDef, BtfError>
     requires { RemembersInner reading btf.now known.old }
-    ensures says { Gives is_memory result (inner_struct_definition reading btf.now name.now struct_id) }
+    ensures says { Gives is_btf_memory result (inner_struct_definition reading btf.now name.now struct_id) }
     ensures known { OnOk result (RemembersInner reading btf.now known.new) }
 {
     if let Some(said) = known.get(&struct_id) {
@@ -193,7 +193,7 @@ fn member_value_of(
     type_id: u32,
 ) -> Result<MemberValue, BtfError>
     requires { RemembersInner reading btf.now known.old }
-    ensures says { Gives is_memory result (member_value_of reading btf.now name.now member type_id) }
+    ensures says { Gives is_btf_memory result (member_value_of reading btf.now name.now member type_id) }
     ensures known { OnOk result (RemembersInner reading btf.now known.new) }
 {
     if member != MapMember::Values {
@@ -218,7 +218,7 @@ fn member_value(
     member: &BtfMember,
 ) -> Result<MemberValue, BtfError>
     requires { RemembersInner reading btf.now known.old }
-    ensures says { Gives is_memory result (member_value reading btf.now name.now member.now) }
+    ensures says { Gives is_btf_memory result (member_value reading btf.now name.now member.now) }
     ensures known { OnOk result (RemembersInner reading btf.now known.new) }
 {
     let about = map_member_at(btf, member)?;
@@ -236,7 +236,7 @@ pub fn definitions(
     members: &Rows<'_, BtfMember>,
 ) -> Result<MapDefinitions, BtfError>
     requires { RemembersInner reading btf.now known.old }
-    ensures says { Gives is_memory result (definitions reading btf.now name.now members.now) }
+    ensures says { Gives is_btf_memory result (definitions reading btf.now name.now members.now) }
     ensures known { OnOk result (RemembersInner reading btf.now known.new) }
 {
     let mut all = MapDefinitions::none();

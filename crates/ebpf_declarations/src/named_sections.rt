@@ -1,7 +1,7 @@
 //! The DATASECs of some names, found in one pass over the types.
 
 ghost use Rattle.std.specs.Prelude.{◌≡◌, is_some, IfOk, IfErr, OnOk, true};
-ghost use Rattle.ebpf_btf.specs.Memory.{is_memory};
+ghost use Rattle.ebpf_btf.specs.Memory.{is_btf_memory};
 ghost use Rattle.ebpf_declarations.specs.DataSections.{datasec_entries};
 ghost use Rattle.ebpf_declarations.specs.NamedSections.{with_datasec_id, datasec_entries_at, AreWithoutIds, NamesAreWithin, Stay, IsScanned, AreFound};
 ghost use Rattle.std.specs.FinMap.{get};
@@ -47,7 +47,7 @@ fn is_section(ty: &BtfType<'_>) -> bool
 #[tactic(auto, unfolding(crate::specs::NamedSections::with_datasec_id))]
 fn add_datasec_id(by_name: &mut ByName<Items<u32>>, name: &str, id: u32) -> Result<(), BtfError>
     ensures with_datasec_id { OnOk result (by_name.new ≡ with_datasec_id by_name.old name.now id) }
-    ensures memory { IfErr result (λ e. is_memory e ≡ true) }
+    ensures memory { IfErr result (λ e. is_btf_memory e ≡ true) }
 {
     let Some(ids) = by_name.get_mut(name) else {
         return Ok(());
@@ -67,7 +67,7 @@ fn scan_type(
 ) -> Result<bool, BtfError>
     requires { NamesAreWithin longest by_name.old }
     ensures looked { IfOk result (λ readable. IsScanned btf.now ty.now id by_name.old by_name.new readable) }
-    ensures memory { IfErr result (λ e. is_memory e ≡ true) }
+    ensures memory { IfErr result (λ e. is_btf_memory e ≡ true) }
 {
     if !is_section(ty) {
         return Ok(true);
@@ -87,7 +87,7 @@ fn scan_type(
 /// These names, each with no ids, and the length of the longest.
 fn wanted_names(alloc: Global, names: &[&str]) -> Result<(ByName<Items<u32>>, usize), BtfError>
     ensures none { IfOk result (λ s. AreWithoutIds s.1 s.0) }
-    ensures memory { IfErr result (λ e. is_memory e ≡ true) }
+    ensures memory { IfErr result (λ e. is_btf_memory e ≡ true) }
 {
     let mut by_name = ByName::new(alloc);
     let mut longest = 0;
@@ -107,7 +107,7 @@ fn gather_into(
     requires { AreWithoutIds longest by_name }
     ensures found { IfOk result (λ found. AreFound btf.now found) }
     ensures stay { IfOk result (λ found. Stay by_name found.by_name) }
-    ensures memory { IfErr result (λ e. is_memory e ≡ true) }
+    ensures memory { IfErr result (λ e. is_btf_memory e ≡ true) }
 {
     let mut by_name = by_name;
     for id in 0..btf.len() {
@@ -129,7 +129,7 @@ impl NamedSections {
     /// The DATASECs of these names. `OutOfMemory` where memory is refused.
     pub fn gather(alloc: Global, btf: &Btf, names: &[&str]) -> Result<NamedSections, BtfError>
         ensures found { IfOk result (λ found. AreFound btf.now found) }
-        ensures memory { IfErr result (λ e. is_memory e ≡ true) }
+        ensures memory { IfErr result (λ e. is_btf_memory e ≡ true) }
     {
         let (by_name, longest) = wanted_names(alloc, names)?;
         gather_into(btf, by_name, longest)
@@ -139,7 +139,7 @@ impl NamedSections {
     pub fn of_name(alloc: Global, btf: &Btf, name: &str) -> Result<NamedSections, BtfError>
         ensures found { IfOk result (λ found. AreFound btf.now found) }
         ensures there { IfOk result (λ found. is_some (get found.by_name name.now) ≡ true) }
-        ensures memory { IfErr result (λ e. is_memory e ≡ true) }
+        ensures memory { IfErr result (λ e. is_btf_memory e ≡ true) }
     {
         let mut by_name = ByName::new(alloc);
         by_name.insert(String::from_str(alloc, name)?, Items::new(alloc))?;

@@ -3,7 +3,7 @@
 ghost use Rattle.std.specs.Prelude.{◌≡◌, ◌<◌, ◌^◌, length, IfOk, IfSome, OnOk, Some};
 ghost use Rattle.std.specs.List.{position};
 ghost use Rattle.ebpf_base.specs.Faults.{Refuses};
-ghost use Rattle.ebpf_btf.specs.Memory.{is_memory};
+ghost use Rattle.ebpf_btf.specs.Memory.{is_btf_memory};
 ghost use Rattle.ebpf_declarations.specs.Placeholders.{is_word, word_id, with_word, word_fault, the_word, with_placeholder, placeholder_fault};
 ghost use Rattle.ebpf_declarations.specs.PrivateContracts.{Begins};
 
@@ -48,7 +48,7 @@ fn word_id(btf: &Btf) -> Option<usize>
 fn add_word(btf: &mut Btf) -> Result<u32, BtfError>
     ensures types { OnOk result (btf.new ≡ with_word btf.old) }
     ensures id { IfOk result (λ id. id ≡ the_word btf.old) }
-    ensures fault { Refuses is_memory result (word_fault btf.old) }
+    ensures fault { Refuses is_btf_memory result (word_fault btf.old) }
     ensures begins { Begins btf.old btf.new }
 {
     if let Some(id) = word_id(btf) {
@@ -65,7 +65,7 @@ fn add_word(btf: &mut Btf) -> Result<u32, BtfError>
 /// Adds the variable `ksym_func_placeholder`, of an INT of 4 bytes.
 pub fn add_placeholder(btf: &mut Btf) -> Result<(), BtfError>
     ensures types { OnOk result (btf.new ≡ with_placeholder btf.old) }
-    ensures fault { Refuses is_memory result (placeholder_fault btf.old) }
+    ensures fault { Refuses is_btf_memory result (placeholder_fault btf.old) }
     ensures begins { Begins btf.old btf.new }
 {
     let word = add_word(btf)?;

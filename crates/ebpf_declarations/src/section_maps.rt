@@ -4,7 +4,7 @@ ghost use Rattle.std.specs.Prelude.{◌≡◌, ⊤, ℕ, List, Ok, Some, None, I
 ghost use Rattle.std.specs.Bool.{MatchBool};
 ghost use Rattle.std.specs.FinMap as map;
 ghost use Rattle.ebpf_base.specs.Faults.{Gives, fault_of};
-ghost use Rattle.ebpf_btf.specs.Memory.{is_memory};
+ghost use Rattle.ebpf_btf.specs.Memory.{is_btf_memory};
 ghost use Rattle.ebpf_declarations.specs.Attempts.{given};
 ghost use Rattle.ebpf_declarations.specs.DistinctMaps.{AreNamed, RemembersNames, IsKnown, IsWith, Adds, AreSectionMaps, type_definitions};
 ghost use Rattle.ebpf_declarations.specs.KnownStructs.{Knows};
@@ -45,7 +45,7 @@ fn type_definitions(
     type_id: u32,
 ) -> Result<MapDefinitions, BtfError>
     requires { Knows reading btf.now known.old }
-    ensures says { Gives is_memory result (type_definitions reading btf.now name.now type_id) }
+    ensures says { Gives is_btf_memory result (type_definitions reading btf.now name.now type_id) }
     ensures known { OnOk result (Knows reading btf.now known.new) }
 {
     let struct_id = btf.resolve_type(type_id)?;
@@ -191,7 +191,7 @@ fn add_section_maps(
     requires known { Knows reading btf.now known.old }
     ensures by_name { OnOk result (AreSectionMaps reading btf.now by_name.new) }
     ensures known { IfOk result (λ clear. MatchBool clear (Knows reading btf.now known.new) ⊤) }
-    ensures memory { IfErr result (λ e. is_memory e ≡ true) }
+    ensures memory { IfErr result (λ e. is_btf_memory e ≡ true) }
 {
     if by_name.contains_key(name) {
         return Ok(true);
@@ -229,7 +229,7 @@ pub fn all_section_maps(
 ) -> Result<ByName<DistinctMaps>, BtfError>
     requires { AreFound btf.now sections.now }
     ensures by_name { IfOk result (λ by_name. AreSectionMaps reading btf.now by_name) }
-    ensures memory { IfErr result (λ e. is_memory e ≡ true) }
+    ensures memory { IfErr result (λ e. is_btf_memory e ≡ true) }
 {
     let mut by_name = ByName::new(alloc);
     if sections.unreadable.is_some() {

@@ -4,12 +4,6 @@ use Rattle.std.proofs.lemmas.List.FromFn.{length-range_with_len}
 use Rattle.std.proofs.Math.ListN.{length-map}
 use Rattle.std.specs.List.{range_with_len}
 
--- the first of them, and the others
-pub range_more : (a n : ℕ) → a < n → range_with_len a (n - a) ≡ a ∷ range_with_len (a + 1) (n - (a + 1))
-range_more a n below =
-    let e : n - a ≡ suc (n - (a + 1)) = omega arith in
-    rw e refl
-
 -- how many they are, mapped
 pub length_numbers : {X : Type 0} (f : ℕ → X) (a n : ℕ) → length (map f (range_with_len a n)) ≡ n
 length_numbers f a n = rw (length-map, length-range_with_len) refl

@@ -16,6 +16,8 @@ pub const SHN_LORESERVE: u16 = 0xff00;
 /// The section index that stands for one kept elsewhere.
 pub const SHN_XINDEX: u16 = 0xffff;
 
+/// The kind of a section with contents that a program defines.
+pub const SHT_PROGBITS: u32 = 1;
 /// The kind of a symbol table.
 pub const SHT_SYMTAB: u32 = 2;
 /// The kind of a string table.
@@ -26,6 +28,11 @@ pub const SHT_RELA: u32 = 4;
 pub const SHT_NOBITS: u32 = 8;
 /// The kind of a section with relocations that have no addends.
 pub const SHT_REL: u32 = 9;
+
+/// The flag of a section that takes memory while a program runs.
+pub const SHF_ALLOC: u64 = 2;
+/// The flag of a section of instructions.
+pub const SHF_EXECINSTR: u64 = 4;
 
 /// The type of a symbol of no type.
 pub const STT_NOTYPE: u8 = 0;

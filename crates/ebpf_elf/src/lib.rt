@@ -1,7 +1,7 @@
 //! Reads ELF64 object files in either byte order. Nothing is allocated: names and data are slices of the input.
 #![tactic(auto)]
 
-mod constants;
+pub mod constants;
 mod entries;
 mod entry_table;
 mod error;

@@ -55,7 +55,7 @@ impl<'a> Iterator for RelocationEntries<'a> {
 
     ghost remaining = { item_count (λ s. s) };
 
-    #[tactic(auto, using(crate::proofs::Ranges::range_more))]
+    #[tactic(auto, using(ebpf_base::proofs::Ranges::range_more))]
     fn next(&mut self) -> Option<ElfRelocation> {
         let entries = self.entries?;
         if self.next >= entries.count {

@@ -38,7 +38,7 @@ impl<'a> Iterator for Sections<'a> {
 
     ghost remaining = { item_count (λ s. s) };
 
-    #[tactic(auto, using(crate::proofs::Ranges::range_more))]
+    #[tactic(auto, using(ebpf_base::proofs::Ranges::range_more))]
     fn next(&mut self) -> Option<ElfSection<'a>> {
         if self.next >= self.layout.table.count {
             return None;

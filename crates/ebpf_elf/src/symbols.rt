@@ -43,7 +43,7 @@ impl<'a> Iterator for Symbols<'a> {
 
     ghost remaining = { item_count (λ s. s) };
 
-    #[tactic(auto, using(crate::proofs::Ranges::range_more))]
+    #[tactic(auto, using(ebpf_base::proofs::Ranges::range_more))]
     fn next(&mut self) -> Option<ElfSymbol<'a>> {
         let symbols = self.table?;
         if self.next >= symbols.count {

@@ -8,7 +8,7 @@ use Rattle.ebpf_btf.specs.declared.error.BtfError.{BtfError}
 use Rattle.ebpf_btf.specs.declared.error.BtfError.TheVariants.{InvalidInfo}
 use Rattle.ebpf_ext.specs.ExtFormat.{section_end, info_sec_fault}
 use Rattle.ebpf_ext.specs.ExtReading.{checked_section, sections_from}
-use Rattle.ebpf_btf.specs.Memory.{is_memory}
+use Rattle.ebpf_btf.specs.Memory.{is_btf_memory}
 use Rattle.ebpf_base.specs.Results.{if_ok}
 use Rattle.ebpf_btf.specs.Next.{if_some}
 
@@ -52,9 +52,9 @@ section_advances {S} o bytes least size end records offset found is = by_fault (
 
 -- the fault of a section's head is that of reading it
 pub head_cut : {S : Type 0} (o : Endianness) (bytes : List ℕ) (least size end offset : ℕ) (records : ℕ → Result S BtfError) (e : BtfError)
-    → Some e ≡ info_sec_fault o bytes least size offset end → MatchBool (is_memory e) ⊤ (checked_section o bytes least size end records offset ≡ Err e)
+    → Some e ≡ info_sec_fault o bytes least size offset end → MatchBool (is_btf_memory e) ⊤ (checked_section o bytes least size end records offset ≡ Err e)
 unfolding checked_section
-head_cut {S} o bytes least size end offset records e is = by_memory (is_memory e) (rw (sym is) refl)
+head_cut {S} o bytes least size end offset records e is = by_memory (is_btf_memory e) (rw (sym is) refl)
   where
     by_memory : (b : Bool) → checked_section o bytes least size end records offset ≡ Err e → MatchBool b ⊤ (checked_section o bytes least size end records offset ≡ Err e)
     by_memory true cut = tt
@@ -130,8 +130,8 @@ sections_more step read offset end made found ahead more here =
 -- where the first can't be read, its fault is theirs
 pub sections_cut : {A S : Type 0} (step : A → S → A) (read : ℕ → Result (S × ℕ) BtfError) (offset end : ℕ) (made : A) (all : Result A BtfError) (e : BtfError)
     → offset < end → fold_ok step made (sections_from (end - offset) read offset end) ≡ all
-    → MatchBool (is_memory e) ⊤ (read offset ≡ Err e) → MatchBool (is_memory e) ⊤ (all ≡ Err e)
-sections_cut step read offset end made all e more rest is = by_memory (is_memory e) is
+    → MatchBool (is_btf_memory e) ⊤ (read offset ≡ Err e) → MatchBool (is_btf_memory e) ⊤ (all ≡ Err e)
+sections_cut step read offset end made all e more rest is = by_memory (is_btf_memory e) is
   where
     by_memory : (b : Bool) → MatchBool b ⊤ (read offset ≡ Err e) → MatchBool b ⊤ (all ≡ Err e)
     by_memory true given = given

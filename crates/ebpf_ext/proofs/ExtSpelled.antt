@@ -14,7 +14,7 @@ use Rattle.ebpf_ext.specs.declared.relocation.Relocation.{Relocation}
 use Rattle.ebpf_ext.specs.ExtFormat.{ext_header_fault, func_part, line_part, part_fault, record_size, core_relo_part, section_end, info_sec_fault, sections_end, sections_start}
 use Rattle.ebpf_ext.specs.ExtReading.{ExtInfo, named_func_info, func_sections, named_line_info, line_sections, read_ext, core_relo_sections, section_core_relos, checked_section, sections_from, part_sections}
 use Rattle.ebpf_ext.specs.ExtSpelling.{AreSectionsAt, IsPart, IsSectionAt, SpellsExt}
-use Rattle.ebpf_btf.specs.Memory.{is_memory}
+use Rattle.ebpf_btf.specs.Memory.{is_btf_memory}
 use Rattle.ebpf_base.specs.Results.{if_ok}
 use Rattle.ebpf_btf.specs.Next.{if_some}
 use Rattle.ebpf_ext.proofs.ExtSections.{section_advances}
@@ -231,11 +231,11 @@ again_from o bytes strings ext is =
     same ext funcs lines func_size line_size f l m n = rw (← f, ← l, ← m, ← n) refl
 
 -- what is read is spelled so
-pub ext_found : (o : Endianness) (bytes strings : List ℕ) (r : Result ExtInfo BtfError) → Gives is_memory r (read_ext o bytes strings) → IfOk r (λ ext. SpellsExt o bytes strings ext)
+pub ext_found : (o : Endianness) (bytes strings : List ℕ) (r : Result ExtInfo BtfError) → Gives is_btf_memory r (read_ext o bytes strings) → IfOk r (λ ext. SpellsExt o bytes strings ext)
 ext_found o bytes strings (Ok ext) is = found_from o bytes strings ext is
 ext_found o bytes strings (Err e) is = tt
 
 -- what is spelled so is read
-pub ext_only : (o : Endianness) (bytes strings : List ℕ) (r : Result ExtInfo BtfError) → Gives is_memory r (read_ext o bytes strings)
-    → (ext : ExtInfo) → SpellsExt o bytes strings ext → Gives is_memory r (Ok ext)
-ext_only o bytes strings r is ext spells = subst (λ (s : Result ExtInfo BtfError). Gives is_memory r s) (again_from o bytes strings ext spells) is
+pub ext_only : (o : Endianness) (bytes strings : List ℕ) (r : Result ExtInfo BtfError) → Gives is_btf_memory r (read_ext o bytes strings)
+    → (ext : ExtInfo) → SpellsExt o bytes strings ext → Gives is_btf_memory r (Ok ext)
+ext_only o bytes strings r is ext spells = subst (λ (s : Result ExtInfo BtfError). Gives is_btf_memory r s) (again_from o bytes strings ext spells) is

@@ -12,7 +12,7 @@ use Rattle.ebpf_base.specs.Faults.{fault_of}
 use Rattle.ebpf_base.specs.Keyed.{last_at}
 use Rattle.ebpf_base.specs.Keys.{text_cmp, text_total}
 use Rattle.ebpf_btf.proofs.LongNames.{too_long}
-use Rattle.ebpf_btf.specs.Memory.{is_memory}
+use Rattle.ebpf_btf.specs.Memory.{is_btf_memory}
 use Rattle.ebpf_btf.specs.Next.{if_some}
 use Rattle.ebpf_btf.specs.Strings.{is_text, text_at}
 use Rattle.ebpf_btf.specs.declared.error.BtfError.{BtfError}
@@ -88,7 +88,7 @@ module _ (strings : List ℕ) (offset index : ℕ) (m : FinMap text_cmp (Option 
       by_read (Err d) is q = refl
 
   -- one that can't be read, or for which memory was refused
-  pub refused_name : {X E : Type 0} (r : Result X E) (e : BtfError) → OnOk r (is_memory e ≡ false) → MatchBool (is_memory e) ⊤ (fault_of (text_at strings offset) ≡ Some e) → OnOk r (IsIndexSet strings offset index m m)
+  pub refused_name : {X E : Type 0} (r : Result X E) (e : BtfError) → OnOk r (is_btf_memory e ≡ false) → MatchBool (is_btf_memory e) ⊤ (fault_of (text_at strings offset) ≡ Some e) → OnOk r (IsIndexSet strings offset index m m)
   refused_name (Err d) e other fault = tt
   refused_name (Ok x) e other fault = no_name e (subst (λ b. MatchBool b ⊤ (fault_of (text_at strings offset) ≡ Some e)) other fault)
 

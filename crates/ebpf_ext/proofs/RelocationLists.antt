@@ -5,7 +5,7 @@ use Rattle.std.specs.List.{range_with_len}
 use Rattle.ebpf_btf.specs.declared.error.BtfError.{BtfError}
 use Rattle.ebpf_ext.specs.ExtFormat.{all_ok, core_relo_at, core_relos_at}
 use Rattle.ebpf_ext.specs.PrivateContracts.{prepended}
-use Rattle.ebpf_btf.specs.Memory.{is_memory}
+use Rattle.ebpf_btf.specs.Memory.{is_btf_memory}
 use Rattle.ebpf_base.specs.Results.{if_ok}
 
 after_none : {X : Type 0} (r : Result (List X) BtfError) → prepended [] r ≡ r
@@ -34,8 +34,8 @@ pub list_more : {X : Type 0} (f : ℕ → Result X BtfError) (k n : ℕ) (front 
 list_more f k n front x below here = rw (opens k n below, here) (after_one front x (all_ok (map f (range_with_len (k + 1) (n - (k + 1))))))
 
 pub list_cut : {X : Type 0} (f : ℕ → Result X BtfError) (k n : ℕ) (front : List X) (all : Result (List X) BtfError) (e : BtfError) → k < n
-    → prepended front (all_ok (map f (range_with_len k (n - k)))) ≡ all → f k ≡ Err e → MatchBool (is_memory e) ⊤ (all ≡ Err e)
-list_cut f k n front all e below rest here = either (is_memory e) (sym rest ∙ rw (opens k n below, here) refl)
+    → prepended front (all_ok (map f (range_with_len k (n - k)))) ≡ all → f k ≡ Err e → MatchBool (is_btf_memory e) ⊤ (all ≡ Err e)
+list_cut f k n front all e below rest here = either (is_btf_memory e) (sym rest ∙ rw (opens k n below, here) refl)
   where
     either : (b : Bool) → all ≡ Err e → MatchBool b ⊤ (all ≡ Err e)
     either true same = tt

@@ -7,11 +7,10 @@ use Rattle.std.specs.Ordering.{eq_by_cmp, is_eq}
 use Rattle.std.specs.Str.{bytes_eq}
 use Rattle.std.specs.declared.cmp.Ordering.{Ordering}
 use Rattle.std.specs.declared.cmp.Ordering.TheVariants.{Less, Equal, Greater}
-use Rattle.std.proofs.Math.Seq.{drop-cons}
-use Rattle.std.proofs.lemmas.List.{drop_all}
 use Rattle.std.proofs.lemmas.Slice.Eq.{bytes_eq-Decides}
 use Rattle.ebpf_base.proofs.Keyed.{later_text_stands, put_all-append}
 use Rattle.ebpf_base.proofs.TextMaps.{text_exact}
+use Rattle.ebpf_base.proofs.Walks.{rest_more, rest_none}
 use Rattle.ebpf_base.specs.Keyed.{last_at, put_all}
 use Rattle.ebpf_base.specs.Keys.{text_cmp, text_total}
 use Rattle.ebpf_btf.specs.Strings.{is_text, text_at}
@@ -42,16 +41,6 @@ same_tests q name = by_both (eq_by_cmp text_cmp q name) (bytes_eq name q) refl r
         cc
 
 -- ---- what is left from an index on
-
--- what is left from an item on
-pub rest_more : {X : Type 0} (xs : List X) (i : ℕ) (x : X) → i < length xs → x ≡ slice_index_or xs i x → drop i xs ≡ x ∷ drop (i + 1) xs
-rest_more xs i x below here =
-    let on : suc i ≡ i + 1 = omega arith in
-    drop-cons xs i x below ∙ ap (λ y. y ∷ drop (suc i) xs) (sym here) ∙ ap (λ n. x ∷ drop n xs) on
-
--- at the end nothing is left
-pub rest_none : {X : Type 0} (xs : List X) (i : ℕ) → length xs ≤ i → drop i xs ≡ []
-rest_none xs i past = drop_all i xs past
 
 module _ {S : Type 0} (strings : List ℕ) where
   -- ---- one more section

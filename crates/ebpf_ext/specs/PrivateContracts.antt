@@ -6,7 +6,7 @@ use Rattle.ebpf_btf.specs.Next.{if_some}
 use Rattle.std.specs.Bool.{MatchBool}
 use Rattle.std.specs.FinMap.{FinMap, get, insert}
 use Rattle.ebpf_base.specs.Keys.{text_cmp}
-use Rattle.ebpf_btf.specs.Memory.{is_memory}
+use Rattle.ebpf_btf.specs.Memory.{is_btf_memory}
 use Rattle.ebpf_btf.specs.Strings.{is_text, text_at}
 use Rattle.ebpf_ext.specs.SectionNames.{by_offsets}
 
@@ -17,7 +17,7 @@ prepended front more = if_ok more (λ xs. Ok (front ++ xs))
 -- what a section's reading gives, with the offset of the name instead of the name; want of memory aside
 abbrev pub GivesByOffset : {S : Type 0} → List ℕ → Result ((ℕ × S) × ℕ) BtfError → Result ((List ℕ × S) × ℕ) BtfError → Type 0
 GivesByOffset strings (Ok found) stated = (name : List ℕ) × (text_at strings found.0.0 ≡ Ok name) × (stated ≡ Ok ((name, found.0.1), found.1))
-GivesByOffset strings (Err e) stated = MatchBool (is_memory e) ⊤ (stated ≡ Err e)
+GivesByOffset strings (Err e) stated = MatchBool (is_btf_memory e) ⊤ (stated ≡ Err e)
 
 -- the section at an index
 abbrev pub section_at : {S : Type 0} → List (ℕ × S) → Option ℕ → Option S

@@ -5,7 +5,7 @@ ghost use Rattle.ebpf_base.specs.Faults.{Gives};
 ghost use Rattle.ebpf_ext.specs.ExtReading.{ExtInfo, read_ext, func_sections, line_sections, core_relo_sections};
 ghost use Rattle.ebpf_ext.specs.ExtSpelling.{SpellsExt};
 ghost use Rattle.ebpf_ext.specs.ExtFormat.{func_part, line_part, record_size};
-ghost use Rattle.ebpf_btf.specs.Memory.{is_memory};
+ghost use Rattle.ebpf_btf.specs.Memory.{is_btf_memory};
 ghost use Rattle.ebpf_btf.specs.Reading.{header_length};
 
 use crate::ext_infos::{FuncInfo, LineInfo};
@@ -69,7 +69,7 @@ fn read_parts(
     data: &[u8],
     btf: &Btf,
 ) -> Result<BtfExt, BtfError>
-    ensures { Gives is_memory result (read_ext endianness «data».now btf.now.strings) }
+    ensures { Gives is_btf_memory result (read_ext endianness «data».now btf.now.strings) }
 {
     let header = read_header_length(endianness, data)?;
     let func_part = read_part(endianness, data, header, FUNC_PART)?;
@@ -113,9 +113,9 @@ impl BtfExt {
         endianness: Endianness,
         btf: &Btf,
     ) -> Result<BtfExt, BtfError>
-        ensures exact { Gives is_memory result (read_ext endianness «data».now btf.now.strings) }
+        ensures exact { Gives is_btf_memory result (read_ext endianness «data».now btf.now.strings) }
         ensures found { IfOk result (λ ext. SpellsExt endianness «data».now btf.now.strings ext) }
-        ensures only { (ext : ExtInfo) → SpellsExt endianness «data».now btf.now.strings ext → Gives is_memory result (Ok ext) }
+        ensures only { (ext : ExtInfo) → SpellsExt endianness «data».now btf.now.strings ext → Gives is_btf_memory result (Ok ext) }
     {
         read_parts(alloc, endianness, data, btf)
     }

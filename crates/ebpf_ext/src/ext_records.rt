@@ -3,7 +3,7 @@
 ghost use Rattle.std.specs.Prelude.{◌≡◌, ◌+◌, ◌*◌, ◌≤◌, ◌<◌, length};
 ghost use Rattle.ebpf_base.specs.Faults.{Gives};
 ghost use Rattle.ebpf_ext.specs.ExtFormat.{func_record, line_record, core_relo_at, core_relos_at};
-ghost use Rattle.ebpf_btf.specs.Memory.{is_memory};
+ghost use Rattle.ebpf_btf.specs.Memory.{is_btf_memory};
 
 use crate::ext_infos::{bpf_func_info, bpf_line_info};
 use crate::relocation::{Relocation, RelocationKind};
@@ -80,7 +80,7 @@ pub fn read_relocations(
 ) -> Result<Items<Relocation>, BtfError>
     requires whole { offset + size * count ≤ length bytes.now }
     requires long { 0 < count → 16 ≤ size }
-    ensures { Gives is_memory result (core_relos_at bytes.now size offset count) }
+    ensures { Gives is_btf_memory result (core_relos_at bytes.now size offset count) }
 {
     let mut items = Vec::with_capacity(alloc, count)?;
     for number in 0..count {

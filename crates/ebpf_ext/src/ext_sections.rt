@@ -2,7 +2,7 @@
 
 ghost use Rattle.std.specs.Prelude.{◌-◌, ◌≤◌, ◌<◌, length};
 ghost use Rattle.ebpf_base.specs.Faults.{Gives};
-ghost use Rattle.ebpf_btf.specs.Memory.{is_memory};
+ghost use Rattle.ebpf_btf.specs.Memory.{is_btf_memory};
 ghost use Rattle.ebpf_ext.specs.ExtReading.{by_names, func_section, line_section, core_relo_section, sections_from};
 ghost use Rattle.ebpf_ext.specs.PrivateContracts.{GivesByOffset};
 
@@ -61,7 +61,7 @@ pub fn read_func_sections(
 ) -> Result<SectionsByName<FuncSecInfo>, BtfError>
     requires before { part.offset ≤ part.end }
     requires inside { part.end ≤ length bytes.now }
-    ensures { Gives is_memory result (by_names (sections_from (part.end - part.offset) (func_section order bytes.now btf.now.strings part.record_size part.end) part.offset part.end)) }
+    ensures { Gives is_btf_memory result (by_names (sections_from (part.end - part.offset) (func_section order bytes.now btf.now.strings part.record_size part.end) part.offset part.end)) }
 {
     let mut sections = Items::new(alloc);
     let mut offset = part.offset;
@@ -109,7 +109,7 @@ pub fn read_line_sections(
 ) -> Result<SectionsByName<LineSecInfo>, BtfError>
     requires before { part.offset ≤ part.end }
     requires inside { part.end ≤ length bytes.now }
-    ensures { Gives is_memory result (by_names (sections_from (part.end - part.offset) (line_section order bytes.now btf.now.strings part.record_size part.end) part.offset part.end)) }
+    ensures { Gives is_btf_memory result (by_names (sections_from (part.end - part.offset) (line_section order bytes.now btf.now.strings part.record_size part.end) part.offset part.end)) }
 {
     let mut sections = Items::new(alloc);
     let mut offset = part.offset;
@@ -132,7 +132,7 @@ fn read_relocation_section(
 ) -> Result<((u32, Items<Relocation>), usize), BtfError>
     requires before { offset < part.end }
     requires inside { part.end ≤ length bytes.now }
-    ensures found { Gives is_memory result (core_relo_section order bytes.now part.record_size part.end offset) }
+    ensures found { Gives is_btf_memory result (core_relo_section order bytes.now part.record_size part.end offset) }
 {
     let head = read_section_head(order, bytes, part, RELOCATION, offset)?;
     let size = part.record_size as usize;
@@ -150,7 +150,7 @@ pub fn read_relocation_sections(
 ) -> Result<Items<(u32, Items<Relocation>)>, BtfError>
     requires before { part.offset ≤ part.end }
     requires inside { part.end ≤ length bytes.now }
-    ensures { Gives is_memory result (sections_from (part.end - part.offset) (core_relo_section order bytes.now part.record_size part.end) part.offset part.end) }
+    ensures { Gives is_btf_memory result (sections_from (part.end - part.offset) (core_relo_section order bytes.now part.record_size part.end) part.offset part.end) }
 {
     let mut sections = Items::new(alloc);
     let mut offset = part.offset;

@@ -3,7 +3,7 @@
 ghost use Rattle.std.specs.Prelude.{◌≡◌, false, IfOk, OnOk};
 ghost use Rattle.std.specs.FinMap as map;
 ghost use Rattle.std.specs.Option.{option_copied};
-ghost use Rattle.ebpf_btf.specs.Memory.{is_memory};
+ghost use Rattle.ebpf_btf.specs.Memory.{is_btf_memory};
 ghost use Rattle.ebpf_ext.specs.SectionNames.{by_offsets};
 ghost use Rattle.ebpf_ext.specs.PrivateContracts.{with_index, section_at, IsIndexSet, AreLastIndices, AreUnset, NoneLonger};
 
@@ -40,7 +40,7 @@ fn set_index(indices: &mut ByName<Option<usize>>, name: &str, index: usize)
 
 /// Refuses where memory was refused, and for no other fault.
 fn unless_memory(error: BtfError) -> Result<(), AllocError>
-    ensures { OnOk result (is_memory error ≡ false) }
+    ensures { OnOk result (is_btf_memory error ≡ false) }
 {
     match error {
         BtfError::OutOfMemory => Err(AllocError),

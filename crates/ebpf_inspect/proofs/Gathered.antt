@@ -6,7 +6,7 @@ use Rattle.std.specs.Prelude.{slice_index_or, MatchBool}
 use Rattle.ebpf_base.specs.Keys.{lent_bytes}
 use Rattle.ebpf_inspect.specs.Named.{IsNamedMap, AreMaps, OneRefused}
 use Rattle.ebpf_inspect.specs.declared.maps.NamedMap.{NamedMap}
-use Rattle.ebpf_object.specs.Prepared.{RefusesPreparing, NamesNothing, is_memory}
+use Rattle.ebpf_object.specs.Prepared.{RefusesPreparing, NamesNothing, is_prepare_memory}
 use Rattle.ebpf_object.specs.StageFaults.{Wrapped}
 use Rattle.ebpf_object.specs.declared.object.Object.{Object}
 use Rattle.ebpf_object.specs.declared.prepare_error.PrepareError.{PrepareError}
@@ -21,7 +21,7 @@ other_account true N F G to m = m
 other_account false N F G to m = to m
 
 pub refused_by : (P Q : PrepareError → Type 0) (e : PrepareError) → (P e → Q e) → RefusesPreparing P e → RefusesPreparing Q e
-refused_by P Q e to refused = other_account (is_memory e) (NamesNothing e) (P e) (Q e) to refused
+refused_by P Q e to refused = other_account (is_prepare_memory e) (NamesNothing e) (P e) (Q e) to refused
 
 pub of_calls : (P Q : EbpfRelocationError → Type 0) → ((e : EbpfRelocationError) → P e → Q e) → (e : PrepareError) → Wrapped Calls P e → Wrapped Calls Q e
 of_calls P Q to e f = (f.0, f.1, to f.0 f.2)

@@ -19,7 +19,7 @@ use Rattle.ebpf_ksyms.specs.declared.error.KsymsError.TheVariants.{KallsymsAcces
 use Rattle.ebpf_ksyms.specs.Addresses.{Item, Line, line_fault, line_of_item, lines_fault, with_before}
 use Rattle.ebpf_ksyms.specs.Counted.{Counts}
 use Rattle.ebpf_ksyms.specs.Externs.{Externs, IsResolutionFault, IsResolved, lines_refused, names_read, names_refused, reads_lines, resolved_externs, types_refused}
-use Rattle.ebpf_ksyms.specs.Faults.{is_memory, line_read_fault}
+use Rattle.ebpf_ksyms.specs.Faults.{is_ksyms_memory, line_read_fault}
 use Rattle.ebpf_ksyms.specs.Named.{is_one_of}
 use Rattle.ebpf_ksyms.specs.TextLines.{GivesLine, Unread, lines_left}
 use Rattle.ebpf_ksyms.specs.Texts.{IsRefusedBy, IsResolvedBy, counted, kallsyms_text_fault, text_line, text_lines}
@@ -127,7 +127,7 @@ module _ (s : Unread) (local kernel : Option TypeInfo) (externs : Externs) where
       (ap (lines_refused local externs) all ∙ lines_fault-front (is_one_of (names_read local externs)) (map line_of_item (items ++ item ∷ [])) (map (text_line s.error) (lines_left u)) e refused)
 
   -- an item that is an error: want of memory, or a line that is not UTF-8
-  at_error : (e : KsymsError) (items : List Item) (err : Error) (t u : Unread) → error_kind s.error ≡ InvalidData → reads_lines local externs ≡ true → types_refused local kernel externs ≡ None → Came items s t → GivesLine t (Some (Err err)) u → lines_refused local externs (map line_of_item items) ≡ None → lines_refused local externs (map line_of_item (items ++ Err err ∷ [])) ≡ Some e → MatchBool (is_memory e) ⊤ (IsRefusedBy s.text local kernel externs e)
+  at_error : (e : KsymsError) (items : List Item) (err : Error) (t u : Unread) → error_kind s.error ≡ InvalidData → reads_lines local externs ≡ true → types_refused local kernel externs ≡ None → Came items s t → GivesLine t (Some (Err err)) u → lines_refused local externs (map line_of_item items) ≡ None → lines_refused local externs (map line_of_item (items ++ Err err ∷ [])) ≡ Some e → MatchBool (is_ksyms_memory e) ⊤ (IsRefusedBy s.text local kernel externs e)
   unfolding line_fault
   at_error e items err t u kind reads types c step before refused =
       let one : lines_refused local externs (map line_of_item (items ++ Err err ∷ [])) ≡ Some (line_read_fault err) =
@@ -147,18 +147,18 @@ module _ (s : Unread) (local kernel : Option TypeInfo) (externs : Externs) where
             (one ∙ ap Some access);
       }) (cc)
 
-  at_item : (e : KsymsError) (items : List Item) (item : Item) (t u : Unread) → error_kind s.error ≡ InvalidData → reads_lines local externs ≡ true → types_refused local kernel externs ≡ None → Came items s t → GivesLine t (Some item) u → lines_refused local externs (map line_of_item items) ≡ None → lines_refused local externs (map line_of_item (items ++ item ∷ [])) ≡ Some e → MatchBool (is_memory e) ⊤ (IsRefusedBy s.text local kernel externs e)
+  at_item : (e : KsymsError) (items : List Item) (item : Item) (t u : Unread) → error_kind s.error ≡ InvalidData → reads_lines local externs ≡ true → types_refused local kernel externs ≡ None → Came items s t → GivesLine t (Some item) u → lines_refused local externs (map line_of_item items) ≡ None → lines_refused local externs (map line_of_item (items ++ item ∷ [])) ≡ Some e → MatchBool (is_ksyms_memory e) ⊤ (IsRefusedBy s.text local kernel externs e)
   at_item e items (Ok x) t u kind reads types c step before refused =
-      given (is_memory e) (record {
+      given (is_ksyms_memory e) (record {
         error = s.error;
         kind = kind;
         fault = at_line e items (Ok x) t u reads types c step (read_line x step.0 step.2 s.error) refused;
       })
   at_item e items (Err err) t u kind reads types c step before refused = at_error e items err t u kind reads types c step before refused
 
-  pub refused_by : error_kind s.error ≡ InvalidData → (e : KsymsError) → IsResolutionFault GivesLine s local kernel externs e → MatchBool (is_memory e) ⊤ (IsRefusedBy s.text local kernel externs e)
+  pub refused_by : error_kind s.error ≡ InvalidData → (e : KsymsError) → IsResolutionFault GivesLine s local kernel externs e → MatchBool (is_ksyms_memory e) ⊤ (IsRefusedBy s.text local kernel externs e)
   refused_by kind e (inl types) =
-      given (is_memory e) (record {
+      given (is_ksyms_memory e) (record {
         error = s.error;
         kind = kind;
         fault = ap (λ o. or_else o (or_else (lines_refused local externs (text_lines s.text local kernel externs s.error)) (names_refused local externs (text_lines s.text local kernel externs s.error)))) types;
@@ -168,7 +168,7 @@ module _ (s : Unread) (local kernel : Option TypeInfo) (externs : Externs) where
       at_item e h.items h.item r.0 h.rest kind h.wanted h.types (came_all (is_one_of (names_read local externs)) h.items s r.0 r.1 h.before) r.2 h.before h.refused
   refused_by kind e (inr (inr h)) =
       let same : map line_of_item h.items ≡ text_lines s.text local kernel externs s.error = counted_lines (is_one_of (names_read local externs)) (reads_lines local externs) h.items s h.counted h.read s.error in
-      given (is_memory e) (record {
+      given (is_ksyms_memory e) (record {
         error = s.error;
         kind = kind;
         fault = ap (λ ls. or_else (types_refused local kernel externs) (or_else (lines_refused local externs ls) (names_refused local externs ls))) (sym same)
@@ -182,6 +182,6 @@ pub all_resolved : {E : Type 0} (s : Unread) (local kernel : Option TypeInfo) (e
 all_resolved s local kernel externs (Err e) h = tt
 all_resolved s local kernel externs (Ok after) h = resolved_by s local kernel externs after h
 
-pub all_refused : {X : Type 0} (s : Unread) → error_kind s.error ≡ InvalidData → (local kernel : Option TypeInfo) (externs : Externs) (r : Result X KsymsError) → IfErr r (λ e. MatchBool (is_memory e) ⊤ (IsResolutionFault GivesLine s local kernel externs e)) → IfErr r (λ e. MatchBool (is_memory e) ⊤ (IsRefusedBy s.text local kernel externs e))
+pub all_refused : {X : Type 0} (s : Unread) → error_kind s.error ≡ InvalidData → (local kernel : Option TypeInfo) (externs : Externs) (r : Result X KsymsError) → IfErr r (λ e. MatchBool (is_ksyms_memory e) ⊤ (IsResolutionFault GivesLine s local kernel externs e)) → IfErr r (λ e. MatchBool (is_ksyms_memory e) ⊤ (IsRefusedBy s.text local kernel externs e))
 all_refused s kind local kernel externs (Ok x) h = tt
-all_refused s kind local kernel externs (Err e) h = match_after (IsRefusedBy s.text local kernel externs e) (is_memory e) (refused_by s local kernel externs kind e) h
+all_refused s kind local kernel externs (Err e) h = match_after (IsRefusedBy s.text local kernel externs e) (is_ksyms_memory e) (refused_by s local kernel externs kind e) h

@@ -19,7 +19,7 @@ use Rattle.ebpf_ksyms.specs.declared.error.KsymsError.TheVariants.{KallsymsAcces
 use Rattle.ebpf_ksyms.specs.Addresses.{Item, Line, line_fault, line_of_item, lines_fault, with_before}
 use Rattle.ebpf_ksyms.specs.Counted.{Counts}
 use Rattle.ebpf_ksyms.specs.Externs.{Externs, IsResolutionFault, IsResolved, lines_refused, names_read, names_refused, reads_lines, resolved_externs, types_refused}
-use Rattle.ebpf_ksyms.specs.Faults.{is_memory, is_memory_kind, line_read_fault}
+use Rattle.ebpf_ksyms.specs.Faults.{is_ksyms_memory, is_memory_kind, line_read_fault}
 use Rattle.ebpf_ksyms.specs.Named.{is_one_of}
 use Rattle.ebpf_ksyms.specs.Readers.{AreFirst, AreTexts, CameAll, CameFirst, CountsLines, IsRefusedIn, IsResolvedIn, StopsAtAccessIn, after_lines, read_lines}
 use Rattle.ebpf_ksyms.proofs.Reading.{lines_fault-push, match_then}
@@ -48,10 +48,10 @@ pub match_after : {P : Type 0} (Q : Type 0) (b : Bool) → (P → MatchBool b �
 match_after Q true f h = tt
 match_after Q false f h = f h
 
-pub access_or_memory : (P : KsymsError → Type 0) (err : Error) (e : KsymsError) → (is_memory_kind (error_kind err) ≡ false → P (KallsymsAccessError err)) → line_read_fault err ≡ e → MatchBool (is_memory e) ⊤ (P e)
+pub access_or_memory : (P : KsymsError → Type 0) (err : Error) (e : KsymsError) → (is_memory_kind (error_kind err) ≡ false → P (KallsymsAccessError err)) → line_read_fault err ≡ e → MatchBool (is_ksyms_memory e) ⊤ (P e)
 access_or_memory P err e other is =
-    subst (λ f. MatchBool (is_memory f) ⊤ (P f)) is (
-    elim (is_memory_kind (error_kind err)) as (λ b. is_memory_kind (error_kind err) ≡ b → MatchBool (is_memory (cond b OutOfMemory (KallsymsAccessError err))) ⊤ (P (cond b OutOfMemory (KallsymsAccessError err)))) [ true ↦ λ k. tt | false ↦ λ k. other k ] refl)
+    subst (λ f. MatchBool (is_ksyms_memory f) ⊤ (P f)) is (
+    elim (is_memory_kind (error_kind err)) as (λ b. is_memory_kind (error_kind err) ≡ b → MatchBool (is_ksyms_memory (cond b OutOfMemory (KallsymsAccessError err))) ⊤ (P (cond b OutOfMemory (KallsymsAccessError err)))) [ true ↦ λ k. tt | false ↦ λ k. other k ] refl)
 
 -- ---- the items that came
 
@@ -127,11 +127,11 @@ module _ {S : Type 0} (known : S → Option (List ℕ)) (steps : S → Option It
           stands = h.stands ∙ ap (λ ls. resolved_externs local kernel ls externs) c.1;
         }
 
-    at_line : (e : KsymsError) (items : List Item) (item : Item) (t u : S) → reads_lines local externs ≡ true → types_refused local kernel externs ≡ None → Came items s t → steps t (Some item) u → lines_refused local externs (map line_of_item items) ≡ None → lines_refused local externs (map line_of_item (items ++ item ∷ [])) ≡ Some e → MatchBool (is_memory e) ⊤ (IsRefusedIn o local kernel externs e)
+    at_line : (e : KsymsError) (items : List Item) (item : Item) (t u : S) → reads_lines local externs ≡ true → types_refused local kernel externs ≡ None → Came items s t → steps t (Some item) u → lines_refused local externs (map line_of_item items) ≡ None → lines_refused local externs (map line_of_item (items ++ item ∷ [])) ≡ Some e → MatchBool (is_ksyms_memory e) ⊤ (IsRefusedIn o local kernel externs e)
     unfolding line_fault
     at_line e items (Ok x) t u wanted types c step before refused =
         let same : map line_of_item (items ++ Ok x ∷ []) ≡ read_lines (c.lines ++ string_bytes x ∷ []) = map-append line_of_item items (Ok x ∷ []) ∙ ap (λ ls. ls ++ Ok (string_bytes x) ∷ []) c.same ∙ sym (map-append Ok c.lines (string_bytes x ∷ [])) in
-        given (is_memory e) (inr (inl (record {
+        given (is_ksyms_memory e) (inr (inl (record {
           lines = c.lines;
           line = string_bytes x;
           wanted = wanted;
@@ -146,7 +146,7 @@ module _ {S : Type 0} (known : S → Option (List ℕ)) (steps : S → Option It
         ∙ lines_fault-push (is_one_of (names_read local externs)) (map line_of_item items) (Err (line_read_fault err))
         ∙ ap (λ o. or_else o (Some (line_read_fault err))) before in
         let same : Some (line_read_fault err) ≡ Some e = sym one ∙ refused in
-        match_then (is_memory e) (λ a. inr (inr (inr a))) (access_or_memory (StopsAtAccessIn o local kernel externs) err e
+        match_then (is_ksyms_memory e) (λ a. inr (inr (inr a))) (access_or_memory (StopsAtAccessIn o local kernel externs) err e
         (λ other. record {
           lines = c.lines;
           error = err;
@@ -158,14 +158,14 @@ module _ {S : Type 0} (known : S → Option (List ℕ)) (steps : S → Option It
           is = refl;
         }) (cc))
 
-    pub refused_in : (e : KsymsError) → IsResolutionFault steps s local kernel externs e → MatchBool (is_memory e) ⊤ (IsRefusedIn o local kernel externs e)
-    refused_in e (inl types) = given (is_memory e) (inl types)
+    pub refused_in : (e : KsymsError) → IsResolutionFault steps s local kernel externs e → MatchBool (is_ksyms_memory e) ⊤ (IsRefusedIn o local kernel externs e)
+    refused_in e (inl types) = given (is_ksyms_memory e) (inl types)
     refused_in e (inr (inl h)) =
         let r = last_call steps h.items h.item s h.rest h.came in
         at_line e h.items h.item r.0 h.rest h.wanted h.types (came_all (is_one_of (names_read local externs)) h.items s r.0 r.1 h.before) r.2 h.before h.refused
     refused_in e (inr (inr h)) =
         let c = counted (is_one_of (names_read local externs)) (reads_lines local externs) h.items s o is h.counted h.read in
-        given (is_memory e) (inr (inr (inl (record {
+        given (is_ksyms_memory e) (inr (inr (inl (record {
           lines = c.0;
           counted = c.2;
           types = h.types;
@@ -178,6 +178,6 @@ module _ {S : Type 0} (known : S → Option (List ℕ)) (steps : S → Option It
   all_resolved s o is local kernel externs (Err e) h = tt
   all_resolved s o is local kernel externs (Ok after) h = resolved_in s o is local kernel externs after h
 
-  pub all_refused : {X : Type 0} (s : S) (o : Option (List ℕ)) → known s ≡ o → (local kernel : Option TypeInfo) (externs : Externs) (r : Result X KsymsError) → IfErr r (λ e. MatchBool (is_memory e) ⊤ (IsResolutionFault steps s local kernel externs e)) → IfErr r (λ e. MatchBool (is_memory e) ⊤ (IsRefusedIn o local kernel externs e))
+  pub all_refused : {X : Type 0} (s : S) (o : Option (List ℕ)) → known s ≡ o → (local kernel : Option TypeInfo) (externs : Externs) (r : Result X KsymsError) → IfErr r (λ e. MatchBool (is_ksyms_memory e) ⊤ (IsResolutionFault steps s local kernel externs e)) → IfErr r (λ e. MatchBool (is_ksyms_memory e) ⊤ (IsRefusedIn o local kernel externs e))
   all_refused s o is local kernel externs (Ok x) h = tt
-  all_refused s o is local kernel externs (Err e) h = match_after (IsRefusedIn o local kernel externs e) (is_memory e) (refused_in s o is local kernel externs e) h
+  all_refused s o is local kernel externs (Err e) h = match_after (IsRefusedIn o local kernel externs e) (is_ksyms_memory e) (refused_in s o is local kernel externs e) h

@@ -10,9 +10,9 @@ use Rattle.ebpf_ksyms.specs.declared.error.KsymsError.{KsymsError}
 use Rattle.ebpf_ksyms.specs.declared.error.KsymsError.TheVariants.{BtfError as BtfFault, KallsymsAccessError, OutOfMemory}
 
 -- the one answer that no definition states: want of memory
-abbrev pub is_memory : KsymsError → Bool
-is_memory OutOfMemory = true
-is_memory _ = false
+abbrev pub is_ksyms_memory : KsymsError → Bool
+is_ksyms_memory OutOfMemory = true
+is_ksyms_memory _ = false
 
 -- the refusal for a fault of types
 abbrev pub of_type_fault : BtfError → KsymsError

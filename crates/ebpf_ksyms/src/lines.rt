@@ -5,7 +5,7 @@ ghost use Rattle.std.specs.Iterator.{IsFinite};
 ghost use Rattle.ebpf_base.specs.Faults.{Refuses, or_else};
 ghost use Rattle.ebpf_base.specs.Keys.{lent_bytes};
 ghost use Rattle.ebpf_ksyms.specs.Addresses.{invalid_address, line_of_item, nonzero, stated_fault};
-ghost use Rattle.ebpf_ksyms.specs.Faults.{is_memory, is_memory_kind, line_read_fault};
+ghost use Rattle.ebpf_ksyms.specs.Faults.{is_ksyms_memory, is_memory_kind, line_read_fault};
 ghost use Rattle.ebpf_ksyms.specs.Lines.{stated_address};
 ghost use Rattle.ebpf_ksyms.specs.PrivateContracts.{value_named};
 ghost use Rattle.ebpf_ksyms.specs.AddressesByLine.{AreRead, StopsAt, with_line, text_line_fault, with_read_line, read_line_fault};
@@ -53,7 +53,7 @@ fn new_address(
     word: &str,
 ) -> Result<Option<u64>, KsymsError>
     ensures ok { IfOk result (λ new. new ≡ or_else before (nonzero (stated_address word.now))) }
-    ensures fault { Refuses is_memory result (stated_fault name.now before word.now (stated_address word.now)) }
+    ensures fault { Refuses is_ksyms_memory result (stated_fault name.now before word.now (stated_address word.now)) }
 {
     let Some(address) = stated_address(word) else {
         return Err(invalid_address(alloc, word)?);
@@ -79,7 +79,7 @@ fn add_line(
     line: &str,
 ) -> Result<(), KsymsError>
     ensures ok { OnOk result ((q : List ℕ) → value_named addresses.new q ≡ with_line (value_named addresses.old) line.now q) }
-    ensures fault { Refuses is_memory result (text_line_fault (value_named addresses.old) line.now) }
+    ensures fault { Refuses is_ksyms_memory result (text_line_fault (value_named addresses.old) line.now) }
 {
     let Some((word, name)) = address_and_name(line) else {
         return Ok(());
@@ -99,7 +99,7 @@ fn add_item(
     item: io::Result<String>,
 ) -> Result<(), KsymsError>
     ensures ok { OnOk result ((q : List ℕ) → value_named addresses.new q ≡ with_read_line (value_named addresses.old) (line_of_item item) q) }
-    ensures fault { Refuses is_memory result (read_line_fault (value_named addresses.old) (line_of_item item)) }
+    ensures fault { Refuses is_ksyms_memory result (read_line_fault (value_named addresses.old) (line_of_item item)) }
 {
     match item {
         Err(error) => Err(line_read_fault(error)),
@@ -117,7 +117,7 @@ pub fn addresses_in<'a, I: Iterator<Item = io::Result<String>> + Drop>(
     requires can { I.can_next lines }
     requires ends { IsFinite (I.remaining lines) }
     ensures ok { IfOk result (λ known. AreRead I.next_gives lines (lent_bytes names.now) (value_named known)) }
-    ensures fault { IfErr result (λ e. MatchBool (is_memory e) ⊤ (StopsAt I.next_gives lines (lent_bytes names.now) e)) }
+    ensures fault { IfErr result (λ e. MatchBool (is_ksyms_memory e) ⊤ (StopsAt I.next_gives lines (lent_bytes names.now) e)) }
 {
     let mut addresses = Named::new(alloc, names, None)?;
     if names.is_empty() {

@@ -4,7 +4,7 @@ ghost use Rattle.std.specs.Prelude.{IfOk, IfErr, MatchBool, ⊤};
 ghost use Rattle.std.specs.Iterator.{IsFinite};
 ghost use Rattle.std.specs.Option.{option_copied};
 ghost use Rattle.ebpf_ksyms.specs.Externs.{IsResolutionFault, IsResolved};
-ghost use Rattle.ebpf_ksyms.specs.Faults.{is_memory};
+ghost use Rattle.ebpf_ksyms.specs.Faults.{is_ksyms_memory};
 ghost use Rattle.ebpf_ksyms.specs.Readers.{IsRefusedIn, IsResolvedIn};
 ghost use Rattle.ebpf_ksyms.specs.Texts.{IsRefusedBy, IsResolvedBy};
 
@@ -54,7 +54,7 @@ pub fn resolve_lines<I: Iterator<Item = io::Result<String>> + Drop>(
     requires can { I.can_next lines }
     requires ends { IsFinite (I.remaining lines) }
     ensures ok { IfOk result (λ after. IsResolved I.next_gives lines (option_copied btf.entry) (option_copied kernel_btf.entry) externs.now after) }
-    ensures fault { IfErr result (λ e. MatchBool (is_memory e) ⊤ (IsResolutionFault I.next_gives lines (option_copied btf.entry) (option_copied kernel_btf.entry) externs.now e)) }
+    ensures fault { IfErr result (λ e. MatchBool (is_ksyms_memory e) ⊤ (IsResolutionFault I.next_gives lines (option_copied btf.entry) (option_copied kernel_btf.entry) externs.now e)) }
 {
     let all = entries_of(alloc, externs)?;
     let Some(local) = btf else {
@@ -76,7 +76,7 @@ pub fn resolve_externs<R: BufRead + Drop>(
     kallsyms: R,
 ) -> Result<ByName<ExternDesc>, KsymsError>
     ensures ok { IfOk result (λ after. IsResolvedIn (R.remaining kallsyms) (option_copied btf.entry) (option_copied kernel_btf.entry) externs.now after) }
-    ensures fault { IfErr result (λ e. MatchBool (is_memory e) ⊤ (IsRefusedIn (R.remaining kallsyms) (option_copied btf.entry) (option_copied kernel_btf.entry) externs.now e)) }
+    ensures fault { IfErr result (λ e. MatchBool (is_ksyms_memory e) ⊤ (IsRefusedIn (R.remaining kallsyms) (option_copied btf.entry) (option_copied kernel_btf.entry) externs.now e)) }
 {
     resolve_lines(alloc, btf, externs, kernel_btf, kallsyms.lines(alloc))
 }
@@ -92,7 +92,7 @@ pub fn resolve_text(
     text: &[u8],
 ) -> Result<ByName<ExternDesc>, KsymsError>
     ensures ok { IfOk result (λ after. IsResolvedBy text.now (option_copied btf.entry) (option_copied kernel_btf.entry) externs.now after) }
-    ensures fault { IfErr result (λ e. MatchBool (is_memory e) ⊤ (IsRefusedBy text.now (option_copied btf.entry) (option_copied kernel_btf.entry) externs.now e)) }
+    ensures fault { IfErr result (λ e. MatchBool (is_ksyms_memory e) ⊤ (IsRefusedBy text.now (option_copied btf.entry) (option_copied kernel_btf.entry) externs.now e)) }
 {
     resolve_lines(alloc, btf, externs, kernel_btf, TextLines::new(alloc, text))
 }

@@ -2,7 +2,7 @@
 
 ghost use Rattle.std.specs.Prelude.{IfOk, IfErr, MatchBool, ⊤};
 ghost use Rattle.std.specs.Option.{option_copied};
-ghost use Rattle.ebpf_ksyms.specs.Faults.{is_memory};
+ghost use Rattle.ebpf_ksyms.specs.Faults.{is_ksyms_memory};
 ghost use Rattle.ebpf_ksyms.specs.Sources.{IsRefusedFrom, IsResolvedFrom, Reader, Source, Text};
 
 use crate::error::KsymsError;
@@ -28,7 +28,7 @@ pub trait SymbolSource: Drop {
     where
         Self: Sized,
         ensures ok { IfOk result (λ after. IsResolvedFrom (source self) (option_copied btf.entry) (option_copied kernel_btf.entry) externs.now after) }
-        ensures fault { IfErr result (λ e. MatchBool (is_memory e) ⊤ (IsRefusedFrom (source self) (option_copied btf.entry) (option_copied kernel_btf.entry) externs.now e)) };
+        ensures fault { IfErr result (λ e. MatchBool (is_ksyms_memory e) ⊤ (IsRefusedFrom (source self) (option_copied btf.entry) (option_copied kernel_btf.entry) externs.now e)) };
 }
 
 impl<R: BufRead + Drop> SymbolSource for R {

@@ -6,7 +6,7 @@ ghost use Rattle.ebpf_base.specs.Faults.{Gives, Refuses, first_some};
 ghost use Rattle.ebpf_base.specs.Keys.{lent_bytes};
 ghost use Rattle.ebpf_btf.specs.Types.{type_word};
 ghost use Rattle.ebpf_ksyms.specs.Externs.{kernel_ids_of, outcome_by, renewed};
-ghost use Rattle.ebpf_ksyms.specs.Faults.{is_memory};
+ghost use Rattle.ebpf_ksyms.specs.Faults.{is_ksyms_memory};
 ghost use Rattle.ebpf_ksyms.specs.Ids.{id_at};
 ghost use Rattle.ebpf_ksyms.specs.PrivateContracts.{value_named};
 ghost use Rattle.ebpf_ksyms.specs.KernelOutcomes.{at_found, compared_outcome, are_types_compatible, not_alike, not_found};
@@ -72,7 +72,7 @@ fn compared_outcome(
     lookup_key: &LookupKey<'_>,
     id: u32,
 ) -> Result<Option<u32>, KsymsError>
-    ensures { Gives is_memory result (compared_outcome is_weak lookup_key.now id (are_types_compatible local.now lookup_key.now.type_id kernel.now id)) }
+    ensures { Gives is_ksyms_memory result (compared_outcome is_weak lookup_key.now id (are_types_compatible local.now lookup_key.now.type_id kernel.now id)) }
 {
     match are_types_compatible(local, lookup_key.type_id, kernel, id) {
         Err(error) => Err(KsymsError::of_types(error)),
@@ -91,7 +91,7 @@ fn outcome_by_key(
     is_weak: bool,
     lookup_key: &LookupKey<'_>,
 ) -> Result<Option<u32>, KsymsError>
-    ensures { Gives is_memory result (at_found local.now kernel.now is_weak lookup_key.now (id_at (value_named ids.now) lookup_key.now.sort lookup_key.now.name)) }
+    ensures { Gives is_ksyms_memory result (at_found local.now kernel.now is_weak lookup_key.now (id_at (value_named ids.now) lookup_key.now.sort lookup_key.now.name)) }
 {
     match id_at(ids, lookup_key.sort, lookup_key.name) {
         Some(id) => compared_outcome(alloc, local, kernel, is_weak, lookup_key, id),
@@ -108,7 +108,7 @@ fn outcome(
     ids: &Named<'_, Ids>,
     entry: &NamedExtern<'_>,
 ) -> Result<Option<u32>, KsymsError>
-    ensures { Gives is_memory result (outcome_by (id_at (value_named ids.now)) local.now (option_copied kernel.entry) entry.now) }
+    ensures { Gives is_ksyms_memory result (outcome_by (id_at (value_named ids.now)) local.now (option_copied kernel.entry) entry.now) }
 {
     let is_weak = entry.desc.is_weak;
     let Some(kernel) = kernel else {
@@ -138,7 +138,7 @@ fn typed_entry<'a>(
     entry: &NamedExtern<'a>,
 ) -> Result<NamedExtern<'a>, KsymsError>
     ensures stands { IfOk result (λ e. e ≡ (entry.now.0, typed_as (id_at (value_named ids.now)) local.now (option_copied kernel.entry) entry.now)) }
-    ensures fault { Refuses is_memory result (typed_refused (id_at (value_named ids.now)) local.now (option_copied kernel.entry) entry.now) }
+    ensures fault { Refuses is_ksyms_memory result (typed_refused (id_at (value_named ids.now)) local.now (option_copied kernel.entry) entry.now) }
 {
     if !entry.is_typed() {
         return Ok(entry.with(entry.desc));
@@ -167,7 +167,7 @@ fn typed_entries<'a>(
     all: &[NamedExtern<'a>],
 ) -> Result<Vec<NamedExtern<'a>>, KsymsError>
     ensures stands { IfOk result (λ new. new.items ≡ renewed (typed_as (id_at (value_named ids.now)) local.now (option_copied kernel.entry)) all.now) }
-    ensures fault { Refuses is_memory result (first_some (typed_refused (id_at (value_named ids.now)) local.now (option_copied kernel.entry)) all.now) }
+    ensures fault { Refuses is_ksyms_memory result (first_some (typed_refused (id_at (value_named ids.now)) local.now (option_copied kernel.entry)) all.now) }
 {
     let mut new = Vec::with_capacity(alloc, all.len())?;
     for entry in all {
@@ -217,7 +217,7 @@ pub fn with_types<'a>(
     all: &[NamedExtern<'a>],
 ) -> Result<Vec<NamedExtern<'a>>, KsymsError>
     ensures stands { IfOk result (λ new. new.items ≡ renewed (typed_as (kernel_ids_of (option_copied kernel.entry)) local.now (option_copied kernel.entry)) all.now) }
-    ensures fault { Refuses is_memory result (first_some (typed_refused (kernel_ids_of (option_copied kernel.entry)) local.now (option_copied kernel.entry)) all.now) }
+    ensures fault { Refuses is_ksyms_memory result (first_some (typed_refused (kernel_ids_of (option_copied kernel.entry)) local.now (option_copied kernel.entry)) all.now) }
 {
     let Some(types) = kernel else {
         let ids = Named::new(alloc, &[], Ids::NONE)?;

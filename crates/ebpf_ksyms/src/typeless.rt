@@ -3,7 +3,7 @@
 ghost use Rattle.std.specs.Prelude.{◌≡◌, IfOk};
 ghost use Rattle.ebpf_base.specs.Faults.{Refuses, first_some};
 ghost use Rattle.ebpf_ksyms.specs.Externs.{renewed};
-ghost use Rattle.ebpf_ksyms.specs.Faults.{is_memory};
+ghost use Rattle.ebpf_ksyms.specs.Faults.{is_ksyms_memory};
 ghost use Rattle.ebpf_ksyms.specs.PrivateContracts.{value_named};
 ghost use Rattle.ebpf_ksyms.specs.TypelessExterns.{known_at, typeless_as, typeless_refused};
 
@@ -28,7 +28,7 @@ fn typeless_entry<'a>(
     entry: &NamedExtern<'a>,
 ) -> Result<NamedExtern<'a>, KsymsError>
     ensures stands { IfOk result (λ e. e ≡ (entry.now.0, typeless_as (known_at (value_named addresses.now)) entry.now)) }
-    ensures fault { Refuses is_memory result (typeless_refused (known_at (value_named addresses.now)) entry.now) }
+    ensures fault { Refuses is_ksyms_memory result (typeless_refused (known_at (value_named addresses.now)) entry.now) }
 {
     if !entry.is_typeless() {
         return Ok(entry.with(entry.desc));
@@ -59,7 +59,7 @@ pub fn with_addresses<'a>(
     all: &[NamedExtern<'a>],
 ) -> Result<Vec<NamedExtern<'a>>, KsymsError>
     ensures stands { IfOk result (λ new. new.items ≡ renewed (typeless_as (known_at (value_named addresses.now))) all.now) }
-    ensures fault { Refuses is_memory result (first_some (typeless_refused (known_at (value_named addresses.now))) all.now) }
+    ensures fault { Refuses is_ksyms_memory result (first_some (typeless_refused (known_at (value_named addresses.now))) all.now) }
 {
     let mut new = Vec::with_capacity(alloc, all.len())?;
     for entry in all {

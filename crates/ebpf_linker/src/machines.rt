@@ -12,7 +12,7 @@ use std::test::Fail;
 const STEPS: usize = 20;
 
 /// What a slot does to the flow of control (RFC 9669, sections 4.3 and 5.4).
-#[derive(Clone, Copy, Debug, PartialEq, Eq)]
+#[derive(Clone, Copy)]
 enum Flow {
     Return,
     PseudoCall,
@@ -91,7 +91,7 @@ impl Code<'_> {
 }
 
 /// Why a run stands.
-#[derive(Clone, Copy, Debug, PartialEq, Eq)]
+#[derive(Clone, Copy)]
 enum Stop {
     /// It goes on.
     Going,

@@ -17,7 +17,7 @@ use ebpf_ext::bpf_line_info;
 use std::alloc::{AllocError, Global};
 
 /// A function whose references are being followed: its place in the order, its number, and the next reference.
-#[derive(Clone, Copy, Debug, PartialEq, Eq)]
+#[derive(Clone, Copy)]
 pub struct Open {
     pub copy: usize,
     pub function: usize,

@@ -2,15 +2,9 @@
 use Rattle.std.proofs.Common.{◌≡◌, ℕ, suc, ◌+◌, ◌<◌, Bool, true, false, ◌||◌, cond, List, [], ◌∷◌, length, drop, Option, Some, refl, sym, ap, ◌∙◌, arith}
 use Rattle.std.specs.Prelude.{find, is_some, slice_index_or}
 use Rattle.std.specs.List.{list_any}
-use Rattle.std.proofs.Math.Seq.{drop-cons}
 use Rattle.ebpf_base.specs.Faults.{first_some, or_else}
 use Rattle.ebpf_base.proofs.Faults.{or_else-assoc}
-
--- what is left from an item on
-rest_more : {X : Type 0} (xs : List X) (i : ℕ) (x : X) → i < length xs → x ≡ slice_index_or xs i x → drop i xs ≡ x ∷ drop (i + 1) xs
-rest_more xs i x below here =
-    let on : suc i ≡ i + 1 = omega arith in
-    drop-cons xs i x below ∙ ap (λ y. y ∷ drop (suc i) xs) (sym here) ∙ ap (λ n. x ∷ drop n xs) on
+use Rattle.ebpf_base.proofs.Walks.{rest_more}
 
 -- what was found or the item has, or else what is left behind it
 pub found_more : {X Y : Type 0} (f : X → Option Y) (found next : Option Y) (xs : List X) (i : ℕ) (x : X) → i < length xs

@@ -14,7 +14,7 @@ use Rattle.ebpf_parts.specs.declared.programs.kind.ProgramKind.{ProgramKind}
 use Rattle.ebpf_parts.specs.declared.programs.named_kinds.TheConstants.{NAMED_KINDS}
 use Rattle.ebpf_loading.specs.AttachTargets.{targets}
 use Rattle.ebpf_loading.specs.TargetLaws.{WantedAsKinds}
-use Rattle.ebpf_loading.specs.declared.target.Target.{Target}
+use Rattle.ebpf_loading.specs.declared.target.TargetKind.{TargetKind}
 use Rattle.ebpf_loading.proofs.TargetPieces.{fit_of_piece, has_slash, piece_of_fit}
 
 -- ---- each row says of its own name what the table of targets says
@@ -60,12 +60,12 @@ rows_agree name (row ∷ rows) checked =
 has_row : List NamedKind → List ℕ → Bool
 has_row rows piece = list_any (λ row. row.takes_target && bytes_eq (row_name row) piece) rows
 
-all_have_rows : list_all (λ (t : List ℕ × Target). has_row NAMED_KINDS t.0) targets ≡ true
+all_have_rows : list_all (λ (t : List ℕ × TargetKind). has_row NAMED_KINDS t.0) targets ≡ true
 unfolding has_row targets
 all_have_rows = refl
 
-row_of : (rows : List NamedKind) (table : List (List ℕ × Target)) (piece : List ℕ)
-    → list_all (λ (t : List ℕ × Target). has_row rows t.0) table ≡ true → is_some (lookup_piece table piece) ≡ true → has_row rows piece ≡ true
+row_of : (rows : List NamedKind) (table : List (List ℕ × TargetKind)) (piece : List ℕ)
+    → list_all (λ (t : List ℕ × TargetKind). has_row rows t.0) table ≡ true → is_some (lookup_piece table piece) ≡ true → has_row rows piece ≡ true
 row_of rows [] piece checked found = absurd (cc)
 row_of rows (t ∷ table) piece checked found = elim (cases_Bool (bytes_eq piece t.0)) [
   | inl is ↦ rw ((bytes_eq-Decides piece t.0).0 is) (and_parts (has_row rows t.0) _ checked).0

@@ -10,12 +10,12 @@ use Rattle.ebpf_parts.specs.ProgramKinds.{unmarked}
 use Rattle.ebpf_parts.specs.ProgramSections.{first_piece, lookup_piece}
 use Rattle.ebpf_loading.specs.declared.attach.AttachTarget.{AttachTarget}
 use Rattle.ebpf_loading.specs.declared.attach.AttachTarget.TheVariants.{NotWanted, Unnamed, Found, NotFound}
-use Rattle.ebpf_loading.specs.declared.target.Target.{Target}
-use Rattle.ebpf_loading.specs.declared.target.Target.TheVariants.{TracePoint, SecurityHook, Iterator, Function}
+use Rattle.ebpf_loading.specs.declared.target.TargetKind.{TargetKind}
+use Rattle.ebpf_loading.specs.declared.target.TargetKind.TheVariants.{TracePoint, SecurityHook, Iterator, Function}
 use Rattle.ebpf_loading.specs.Texts.{without_prefix}
 
 -- what the programs of a section are attached to, by the first piece of the section's name
-unfoldable pub targets : List (List ℕ × Target)
+unfoldable pub targets : List (List ℕ × TargetKind)
 targets =
     (codes "tp_btf", TracePoint)
     ∷ (codes "lsm", SecurityHook)
@@ -33,14 +33,14 @@ targets =
     ∷ []
 
 -- what stands before a target's name in the name of its type
-unfoldable pub prefix_of : Target → List ℕ
+unfoldable pub prefix_of : TargetKind → List ℕ
 prefix_of TracePoint = codes "btf_trace_"
 prefix_of SecurityHook = codes "bpf_lsm_"
 prefix_of Iterator = codes "bpf_iter_"
 prefix_of Function = []
 
 -- the kind of that type
-unfoldable pub kind_of_target : Target → BtfKind
+unfoldable pub kind_of_target : TargetKind → BtfKind
 kind_of_target TracePoint = kinds.Typedef
 kind_of_target SecurityHook = kinds.Func
 kind_of_target Iterator = kinds.Func
@@ -49,7 +49,7 @@ kind_of_target Function = kinds.Func
 -- ---- the name of a section, a mark `?` before it aside
 
 -- what the programs of a section are attached to, where they are loaded with the id of a type
-abbrev pub wanted : List ℕ → Option Target
+abbrev pub wanted : List ℕ → Option TargetKind
 wanted section = lookup_piece targets (first_piece (unmarked section))
 
 -- the kernel itself may be named before what is in it
@@ -74,11 +74,11 @@ abbrev pub type_named : List ℕ → BtfKind → TypeInfo → AttachTarget
 type_named name kind types = found_as name (id_of_name types name kind)
 
 -- a target without a name is none
-abbrev pub target_in : TypeInfo → Target → List ℕ → AttachTarget
+abbrev pub target_in : TypeInfo → TargetKind → List ℕ → AttachTarget
 target_in types target [] = Unnamed
 target_in types target (b ∷ name) = type_named (prefix_of target ++ b ∷ name) (kind_of_target target) types
 
-abbrev pub target_or_none : TypeInfo → Option Target → List ℕ → AttachTarget
+abbrev pub target_or_none : TypeInfo → Option TargetKind → List ℕ → AttachTarget
 target_or_none types None name = NotWanted
 target_or_none types (Some target) name = target_in types target name
 

@@ -52,11 +52,11 @@ taken map_type ids =
 
 -- ---- maps of data sections
 
-unfoldable pub is_data : EbpfSectionKind → Bool
-is_data Data = true
-is_data Rodata = true
-is_data Bss = true
-is_data _ = false
+unfoldable pub has_value_type : EbpfSectionKind → Bool
+has_value_type Data = true
+has_value_type Rodata = true
+has_value_type Bss = true
+has_value_type _ = false
 
 -- the size that a type states, 0 where it states none
 abbrev pub stated_size : TypeInfo → ℕ → ℕ
@@ -77,7 +77,7 @@ data_type types name m =
 -- the ids that the definition of a map states, or that the map of a data section has by its name
 abbrev pub stated_ids : TypeInfo → List ℕ → Map → MapTypeIds
 stated_ids types name (Btf m) = record { key = m.def.btf_key_type_id; value = m.def.btf_value_type_id }
-stated_ids types name (Legacy m) = if is_data m.section_kind then record { key = 0; value = data_type types name m } else no_type_ids
+stated_ids types name (Legacy m) = if has_value_type m.section_kind then record { key = 0; value = data_type types name m } else no_type_ids
 
 -- the ids that a map of this name is created with
 unfoldable pub map_type_ids : List ℕ → Map → TypeInfo → MapTypeIds

@@ -8,7 +8,7 @@ ghost use Rattle.ebpf_parts.specs.ProgramSections.{first_piece};
 ghost use Rattle.ebpf_loading.specs.AttachTargets.{attach_target, in_kernel, kind_of_target, prefix_of, target_in, type_named};
 
 use crate::named::id_of_name;
-use crate::target::{Target, target_by};
+use crate::target::{TargetKind, target_by};
 use crate::texts::without_prefix;
 use ebpf_base::Text;
 use ebpf_btf::{Btf, BtfKind};
@@ -71,7 +71,7 @@ fn in_kernel(name: &str) -> &str
 }
 
 /// The name of a target's type.
-fn type_name(alloc: Global, target: Target, name: &str) -> Result<String, AllocError>
+fn type_name(alloc: Global, target: TargetKind, name: &str) -> Result<String, AllocError>
     ensures { IfOk result (λ full. string_bytes full ≡ prefix_of target ++ name.now) }
 {
     let mut full = String::from_str(alloc, target.prefix())?;
@@ -95,7 +95,7 @@ fn type_named(name: String, kind: BtfKind, types: &Btf) -> AttachTarget
 fn target_in(
     alloc: Global,
     types: &Btf,
-    target: Target,
+    target: TargetKind,
     name: &str,
 ) -> Result<AttachTarget, AllocError>
     ensures { IfOk result (λ found. found ≡ target_in types.now target name.now) }

@@ -2,7 +2,7 @@
 
 ghost use Rattle.std.specs.Prelude.{◌≡◌, nat_eq};
 ghost use Rattle.std.specs.List.{list_any};
-ghost use Rattle.ebpf_loading.specs.MapTypeIds.{data_type, is_data, is_type_of, map_type_ids, stated_ids, stated_size, taken, untyped_maps};
+ghost use Rattle.ebpf_loading.specs.MapTypeIds.{data_type, has_value_type, is_type_of, map_type_ids, stated_ids, stated_size, taken, untyped_maps};
 
 use crate::named::id_of_name;
 use ebpf_btf::{Btf, BtfKind};
@@ -61,9 +61,9 @@ fn taken(map_type: u32, ids: MapTypeIds) -> MapTypeIds
 }
 
 /// Whether a section is one of data.
-#[tactic(auto, unfolding(crate::specs::MapTypeIds::is_data))]
-fn is_data(kind: EbpfSectionKind) -> bool
-    ensures { result ≡ is_data kind }
+#[tactic(auto, unfolding(crate::specs::MapTypeIds::has_value_type))]
+fn has_value_type(kind: EbpfSectionKind) -> bool
+    ensures { result ≡ has_value_type kind }
 {
     matches!(
         kind,
@@ -108,7 +108,7 @@ fn stated_ids(types: &Btf, name: &str, map: &Map) -> MapTypeIds
             key: map.def.btf_key_type_id,
             value: map.def.btf_value_type_id,
         },
-        Map::Legacy(map) if is_data(map.section_kind) => MapTypeIds {
+        Map::Legacy(map) if has_value_type(map.section_kind) => MapTypeIds {
             key: 0,
             value: data_type(types, name, map),
         },

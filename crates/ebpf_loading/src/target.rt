@@ -8,7 +8,7 @@ use ebpf_btf::BtfKind;
 
 /// What a program is attached to, where that is a type.
 #[derive(Clone, Copy)]
-pub enum Target {
+pub enum TargetKind {
     /// A trace point of the kernel.
     TracePoint,
     /// A place where the kernel asks its security modules.
@@ -21,32 +21,32 @@ pub enum Target {
 
 /// What the programs of a section are attached to, by the first piece of the section's name.
 #[tactic(auto, unfolding(crate::specs::AttachTargets::targets))]
-pub fn target_by(piece: &str) -> Option<Target>
+pub fn target_by(piece: &str) -> Option<TargetKind>
     ensures { result ≡ lookup_piece targets piece.now }
 {
     match piece {
-        "tp_btf" => Some(Target::TracePoint),
-        "lsm" | "lsm.s" | "lsm_cgroup" => Some(Target::SecurityHook),
-        "iter" | "iter.s" => Some(Target::Iterator),
-        "fentry" | "fentry.s" => Some(Target::Function),
-        "fexit" | "fexit.s" => Some(Target::Function),
-        "fmod_ret" | "fmod_ret.s" => Some(Target::Function),
-        "freplace" => Some(Target::Function),
+        "tp_btf" => Some(TargetKind::TracePoint),
+        "lsm" | "lsm.s" | "lsm_cgroup" => Some(TargetKind::SecurityHook),
+        "iter" | "iter.s" => Some(TargetKind::Iterator),
+        "fentry" | "fentry.s" => Some(TargetKind::Function),
+        "fexit" | "fexit.s" => Some(TargetKind::Function),
+        "fmod_ret" | "fmod_ret.s" => Some(TargetKind::Function),
+        "freplace" => Some(TargetKind::Function),
         _ => None,
     }
 }
 
-impl Target {
+impl TargetKind {
     /// What stands before a target's name in the name of its type.
     #[tactic(auto, unfolding(crate::specs::AttachTargets::prefix_of))]
     pub fn prefix(self) -> &'static str
         ensures { result.now ≡ prefix_of self }
     {
         match self {
-            Target::TracePoint => "btf_trace_",
-            Target::SecurityHook => "bpf_lsm_",
-            Target::Iterator => "bpf_iter_",
-            Target::Function => "",
+            TargetKind::TracePoint => "btf_trace_",
+            TargetKind::SecurityHook => "bpf_lsm_",
+            TargetKind::Iterator => "bpf_iter_",
+            TargetKind::Function => "",
         }
     }
 
@@ -56,8 +56,8 @@ impl Target {
         ensures { result ≡ kind_of_target self }
     {
         match self {
-            Target::TracePoint => BtfKind::Typedef,
-            Target::SecurityHook | Target::Iterator | Target::Function => BtfKind::Func,
+            TargetKind::TracePoint => BtfKind::Typedef,
+            TargetKind::SecurityHook | TargetKind::Iterator | TargetKind::Function => BtfKind::Func,
         }
     }
 }

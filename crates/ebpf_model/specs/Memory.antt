@@ -4,13 +4,13 @@ use Rattle.ebpf_model.specs.declared.error.EbpfRelocationError.{EbpfRelocationEr
 use Rattle.ebpf_model.specs.declared.error.RelocationError.{RelocationError}
 use Rattle.ebpf_model.specs.declared.error.RelocationError.TheVariants.{OutOfMemory}
 
-abbrev pub is_memory : RelocationError → Bool
-is_memory OutOfMemory = true
-is_memory _ = false
+abbrev pub is_slot_memory : RelocationError → Bool
+is_slot_memory OutOfMemory = true
+is_slot_memory _ = false
 
 -- want of memory, of an error that names a function
 abbrev pub is_memory_at : EbpfRelocationError → Bool
-is_memory_at e = is_memory e.error
+is_memory_at e = is_slot_memory e.error
 
 -- want of memory names no function
 abbrev pub NamesNoneForMemory : EbpfRelocationError → Type 0

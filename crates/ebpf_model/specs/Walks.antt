@@ -50,6 +50,6 @@ pub record IsBefore (walk : Walk) (offset : ℕ) : Type 0 where
   pub are_left : left_in walk ≡ entries_from from (entries_or_none (walked_relocations walk))
 
 -- the walk is over the relocations of its section, and has not passed the end of its function
-pub record IsReady (relocations : FinMap nat_cmp (FinMap nat_cmp ElfRelocation)) (walk : Walk) : Type 0 where
+pub record IsWithinFunction (relocations : FinMap nat_cmp (FinMap nat_cmp ElfRelocation)) (walk : Walk) : Type 0 where
   pub section_relocations : walked_relocations walk ≡ get relocations walk.section
   pub before : IsBefore walk walk.function_end

@@ -1,7 +1,7 @@
 //! Why an object's slots could not be relocated.
 
 ghost use Rattle.std.specs.Prelude.{◌≡◌, [], ⊤, MatchBool};
-ghost use Rattle.ebpf_model.specs.Memory.{is_memory, is_memory_at, NamesNoneForMemory};
+ghost use Rattle.ebpf_model.specs.Memory.{is_slot_memory, is_memory_at, NamesNoneForMemory};
 ghost use Rattle.ebpf_model.specs.declared.error.RelocationError.TheVariants.{OutOfMemory};
 
 use ebpf_base::Text;
@@ -109,7 +109,7 @@ impl EbpfRelocationError {
         ensures named { MatchBool (is_memory_at result) ⊤ (result ≡ record { function = name.now; error = error }) }
         ensures memory { NamesNoneForMemory result }
     {
-        if is_memory(&error) {
+        if is_slot_memory(&error) {
             return EbpfRelocationError::memory(alloc);
         }
         match Text::from_str(alloc, name) {
@@ -120,8 +120,8 @@ impl EbpfRelocationError {
 }
 
 /// Whether an error is want of memory.
-fn is_memory(error: &RelocationError) -> bool
-    ensures { result ≡ is_memory error.now }
+fn is_slot_memory(error: &RelocationError) -> bool
+    ensures { result ≡ is_slot_memory error.now }
 {
     matches!(error, RelocationError::OutOfMemory)
 }

@@ -4,7 +4,7 @@ ghost use Rattle.std.specs.Prelude.{◌≡◌, ◌+◌, ◌*◌, ◌≤◌, ◌^
 ghost use Rattle.std.specs.FinMap.{get, entries};
 ghost use Rattle.std.specs.Option.{option_copied};
 ghost use Rattle.ebpf_base.specs.EntriesFrom.{entries_from};
-ghost use Rattle.ebpf_model.specs.Walks.{found_at, at_offset, ahead_in, entries_or_none, left, left_in, walked_relocations, is_passed, IsBefore, IsReady};
+ghost use Rattle.ebpf_model.specs.Walks.{found_at, at_offset, ahead_in, entries_or_none, left, left_in, walked_relocations, is_passed, IsBefore, IsWithinFunction};
 
 use crate::function::Function;
 use ebpf_base::{ByOffset, BySection};
@@ -110,7 +110,7 @@ impl<'a> Walk<'a> {
 
     /// A walk that is before all functions of the first section.
     pub fn new(relocations: &'a BySection<ByOffset<Relocation>>) -> Walk<'a>
-        ensures { IsReady relocations.now result }
+        ensures { IsWithinFunction relocations.now result }
     {
         Walk::over(relocations.get(0), 0, 0)
     }
@@ -205,7 +205,7 @@ impl<'a> Walk<'a> {
     /// another section.
     #[tactic(auto, using(crate::proofs::InStep::later))]
     fn reach(&mut self, relocations: &'a BySection<ByOffset<Relocation>>, function: &Function)
-        requires { IsReady relocations.now self.old }
+        requires { IsWithinFunction relocations.now self.old }
         ensures section_relocations { walked_relocations self.new ≡ get relocations.now function.now.section_index.0 }
         ensures section { self.new.section ≡ function.now.section_index.0 }
         ensures before { IsBefore self.new function.now.section_offset }
@@ -223,7 +223,7 @@ impl<'a> Walk<'a> {
 
     /// Goes on to a function.
     pub fn go_to(&mut self, relocations: &'a BySection<ByOffset<Relocation>>, function: &Function)
-        requires { IsReady relocations.now self.old }
+        requires { IsWithinFunction relocations.now self.old }
         ensures section_relocations { walked_relocations self.new ≡ get relocations.now function.now.section_index.0 }
         ensures section { self.new.section ≡ function.now.section_index.0 }
         ensures function_end { self.new.function_end ≡ function.now.section_offset + 8 * length function.now.instructions }

@@ -19,7 +19,7 @@ use Rattle.ebpf_object.specs.RelocatedSlots.{relocated_slots}
 use Rattle.ebpf_object.specs.LinkedPrograms.{ProgramsAreLinked, is_program_key, linkable_of, programs_in_order}
 use Rattle.ebpf_object.specs.Objects.{object_as, parse_fault_as}
 use Rattle.ebpf_object.specs.OnePreparation.{OnePreparation, OneStaging, is_access, is_access_error, prepare_error_without_texts}
-use Rattle.ebpf_object.specs.Prepared.{IsStageFault, IsFaultAfter, IsFirstPrepareFault, IsPrepared, NamesNothing, RefusesPreparing, Stages, before_calls, before_externs, before_maps, before_resolution, is_memory}
+use Rattle.ebpf_object.specs.Prepared.{IsStageFault, IsFaultAfter, IsFirstPrepareFault, IsPrepared, NamesNothing, RefusesPreparing, Stages, before_calls, before_externs, before_maps, before_resolution, is_prepare_memory}
 use Rattle.ebpf_object.specs.Stages.{RelocatesTypes, TypesFault, LinksPrograms, LinkingFault, Resolves, ResolvingFault, fds_written, fds_fault, with_externs_if, externs_fault_if}
 use Rattle.ebpf_object.specs.Steps.{Chosen}
 use Rattle.ebpf_object.specs.TextSections.{has_function_in}
@@ -257,12 +257,12 @@ stated : (b : Bool) (N F : Type 0) → b ≡ false → MatchBool b N F → F
 stated true N F is m = cc
 stated false N F is m = m
 
-module _ (Fault : PrepareError → Type 0) (e : PrepareError) (is : (is_memory e || is_access e) ≡ false) where
+module _ (Fault : PrepareError → Type 0) (e : PrepareError) (is : (is_prepare_memory e || is_access e) ≡ false) where
   refusal_stated : RefusesPreparing Fault e → Fault e
-  refusal_stated r = stated (is_memory e) (NamesNothing e) (Fault e) (same_answer (is_memory e) (is_access e) is).0 r
+  refusal_stated r = stated (is_prepare_memory e) (NamesNothing e) (Fault e) (same_answer (is_prepare_memory e) (is_access e) is).0 r
 
   no_access : is_access e ≡ false
-  no_access = (same_answer (is_memory e) (is_access e) is).1
+  no_access = (same_answer (is_prepare_memory e) (is_access e) is).1
 
 pub one_staging : OneStaging
 one_staging steps lines o (Ok a) (Ok b) h g hs gs = ap Ok (one_staged lines o steps a b h g)

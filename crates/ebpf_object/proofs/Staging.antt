@@ -1,7 +1,7 @@
 -- The stages of preparing an object, put together.
 use Rattle.std.proofs.Common.{◌≡◌, ℕ, Bool, true, false, List, Option, Some, None, refl, subst, sym}
 use Rattle.std.specs.Prelude.{MatchBool, Result, Ok, Err, OnOk, IfOk, IfErr, IsErrAnd}
-use Rattle.ebpf_object.specs.Prepared.{Stages, before_calls, before_externs, before_resolution, before_maps, IsStageFault, IsFirstPrepareFault, IsPrepared, IsParsed, RefusesPreparing, NamesNothing, is_memory}
+use Rattle.ebpf_object.specs.Prepared.{Stages, before_calls, before_externs, before_resolution, before_maps, IsStageFault, IsFirstPrepareFault, IsPrepared, IsParsed, RefusesPreparing, NamesNothing, is_prepare_memory}
 use Rattle.ebpf_ksyms.specs.Sources.{Source}
 use Rattle.ebpf_object.specs.Objects.{object_as, parse_fault_as}
 use Rattle.ebpf_object.specs.StageFaults.{Wrapped}
@@ -45,7 +45,7 @@ module _ {E : Type 0} (variant : E → PrepareError) (Own : E → Type 0) where
 
   pub refused_as : (Fault : PrepareError → Type 0) → ((own : E) → Own own → Fault (variant own)) → (e : PrepareError) → RefusesPreparing (Wrapped variant Own) e → RefusesPreparing Fault e
   refused_as Fault to e r =
-      other_fault (is_memory e) (NamesNothing e) (Wrapped variant Own e) (Fault e) (λ own. subst Fault (sym own.1) (to own.0 own.2)) r
+      other_fault (is_prepare_memory e) (NamesNothing e) (Wrapped variant Own e) (Fault e) (λ own. subst Fault (sym own.1) (to own.0 own.2)) r
 
 -- ---- the stages one after the other
 
@@ -170,5 +170,5 @@ module _ (steps : Chosen) (lines : Source) (reading : Reading) (bytes : List ℕ
 
   pub file_refused : (e : PrepareError) → RefusesPreparing (IsStageFault steps lines o) e → RefusesPreparing (IsFirstPrepareFault steps lines reading bytes) e
   file_refused e r =
-      other_fault (is_memory e) (NamesNothing e) (IsStageFault steps lines (object_as reading bytes) e) (IsFirstPrepareFault steps lines reading bytes e) (first_of steps lines reading bytes from.sound e)
+      other_fault (is_prepare_memory e) (NamesNothing e) (IsStageFault steps lines (object_as reading bytes) e) (IsFirstPrepareFault steps lines reading bytes e) (first_of steps lines reading bytes from.sound e)
       (subst (λ (x : Object). RefusesPreparing (IsStageFault steps lines x) e) from.is r)

@@ -2,7 +2,7 @@
 use Rattle.std.specs.Prelude.{ℕ, List}
 use Rattle.ebpf_elf.specs.File.{ei_data}
 use Rattle.ebpf_object.specs.declared.object.Object.{Object}
-use Rattle.ebpf_parsing.specs.FileExterns.{types_of, externs_of}
+use Rattle.ebpf_parsing.specs.FileExterns.{types_of_file, externs_of}
 use Rattle.ebpf_parsing.specs.FileSymbols.{file_symbols, symbol_table}
 use Rattle.ebpf_parsing.specs.FileTypes.{ext_of}
 use Rattle.ebpf_parsing.specs.LicenseAndVersion.{license_as, kernel_version_of}
@@ -16,7 +16,7 @@ object_as reading bytes = record {
   endianness = ei_data bytes;
   license = license_as reading bytes;
   kernel_version = kernel_version_of bytes;
-  btf = types_of bytes;
+  btf = types_of_file bytes;
   btf_ext = ext_of bytes;
   externs = externs_of bytes;
   maps = maps_as reading bytes;

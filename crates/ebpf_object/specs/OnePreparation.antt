@@ -5,7 +5,7 @@ use Rattle.ebpf_core_relo.specs.Answers.{without_texts_at}
 use Rattle.ebpf_ksyms.specs.Sources.{Source, Reader}
 use Rattle.ebpf_ksyms.specs.declared.error.KsymsError.{KsymsError}
 use Rattle.ebpf_ksyms.specs.declared.error.KsymsError.TheVariants.{KallsymsAccessError}
-use Rattle.ebpf_object.specs.Prepared.{IsStageFault, IsFirstPrepareFault, IsPrepared, RefusesPreparing, Stages, is_memory}
+use Rattle.ebpf_object.specs.Prepared.{IsStageFault, IsFirstPrepareFault, IsPrepared, RefusesPreparing, Stages, is_prepare_memory}
 use Rattle.ebpf_object.specs.Steps.{Chosen}
 use Rattle.ebpf_object.specs.declared.object.Object.{Object}
 use Rattle.ebpf_object.specs.declared.prepare_error.PrepareError.{PrepareError}
@@ -27,7 +27,7 @@ is_access _ = false
 -- what may come in place of an answer: want of memory, and a line that can't be read
 abbrev pub is_open : Answer → Bool
 is_open (Ok o) = false
-is_open (Err e) = is_memory e || is_access e
+is_open (Err e) = is_prepare_memory e || is_access e
 
 -- a refusal without the texts in it that are for people to read
 abbrev pub prepare_error_without_texts : PrepareError → PrepareError

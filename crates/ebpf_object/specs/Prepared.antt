@@ -80,14 +80,14 @@ pub record IsParsed (reading : Reading) (bytes : List ℕ) (o : Object) : Type 0
 -- ---- want of memory
 
 -- the one answer that no definition states, of a stage or between them
-abbrev pub is_memory : PrepareError → Bool
-is_memory (Parse e) = parsing.is_memory e
-is_memory (Types e) = types_relocation.is_memory_in_section e
-is_memory (Maps e) = relocating.is_memory_at e
-is_memory (Ksyms e) = resolving.is_memory e
-is_memory (Externs e) = relocating.is_memory_at e
-is_memory (Calls e) = relocating.is_memory_at e
-is_memory OutOfMemory = true
+abbrev pub is_prepare_memory : PrepareError → Bool
+is_prepare_memory (Parse e) = parsing.is_parse_memory e
+is_prepare_memory (Types e) = types_relocation.is_memory_in_section e
+is_prepare_memory (Maps e) = relocating.is_memory_at e
+is_prepare_memory (Ksyms e) = resolving.is_ksyms_memory e
+is_prepare_memory (Externs e) = relocating.is_memory_at e
+is_prepare_memory (Calls e) = relocating.is_memory_at e
+is_prepare_memory OutOfMemory = true
 
 -- it names no section and no function
 abbrev pub NamesNothing : PrepareError → Type 0
@@ -99,4 +99,4 @@ NamesNothing _ = ⊤
 
 -- want of memory, or else a fault
 abbrev pub RefusesPreparing : (PrepareError → Type 0) → PrepareError → Type 0
-RefusesPreparing Fault e = MatchBool (is_memory e) (NamesNothing e) (Fault e)
+RefusesPreparing Fault e = MatchBool (is_prepare_memory e) (NamesNothing e) (Fault e)

@@ -4,7 +4,7 @@ ghost use Rattle.std.specs.Prelude.{◌≡◌, IfOk};
 ghost use Rattle.ebpf_base.specs.Faults.{Refuses};
 ghost use Rattle.ebpf_object.specs.Objects.{object_as, object_of, parse_fault, parse_fault_as};
 ghost use Rattle.ebpf_parsing.specs.FileTypes.{has_relocations};
-ghost use Rattle.ebpf_parts.specs.Memory.{is_memory};
+ghost use Rattle.ebpf_parts.specs.Memory.{is_parse_memory};
 
 use ebpf_base::{ByIndex, ByKey, ByName, ByOffset, BySection, Items};
 use ebpf_btf::{Btf, Endianness};
@@ -69,7 +69,7 @@ impl Object {
     /// refused.
     pub fn parse(alloc: Global, bytes: &[u8]) -> Result<Object, ParseError>
         ensures object { IfOk result (λ o. o ≡ object_of bytes.now) }
-        ensures fault { Refuses is_memory result (parse_fault bytes.now) }
+        ensures fault { Refuses is_parse_memory result (parse_fault bytes.now) }
     {
         Object::parse_as(alloc, bytes, Reading::Stated)
     }
@@ -92,7 +92,7 @@ impl Object {
     /// `InvalidLicense` and `MissingLicenseNullTerminator` come only where none of its bytes is zero.
     pub fn parse_as(alloc: Global, bytes: &[u8], reading: Reading) -> Result<Object, ParseError>
         ensures object { IfOk result (λ o. o ≡ object_as reading bytes.now) }
-        ensures fault { Refuses is_memory result (parse_fault_as reading bytes.now) }
+        ensures fault { Refuses is_parse_memory result (parse_fault_as reading bytes.now) }
     {
         let contents = FileContents::read(alloc, bytes, reading)?;
         let shared = contents.metadata;

@@ -8,7 +8,7 @@ ghost use Rattle.ebpf_base.specs.Keys.{lent_bytes};
 ghost use Rattle.ebpf_object.specs.Patches.{patches_at, patch_fault_at, patches_of, patches_fault, all_patched};
 ghost use Rattle.ebpf_object.specs.PatchValues.{globals_of};
 ghost use Rattle.ebpf_object.specs.PrivateContracts.{value_of};
-ghost use Rattle.ebpf_parts.specs.Memory.{is_memory};
+ghost use Rattle.ebpf_parts.specs.Memory.{is_parse_memory};
 
 use crate::globals::{names_of, value_at};
 use crate::object::Object;
@@ -28,7 +28,7 @@ fn add<'a>(
     patches: Vec<Patch<'a>>,
 ) -> Result<Vec<Patch<'a>>, ParseError>
     ensures patches { IfOk result (λ all. map value_of all.items ≡ map value_of patches.entry.items ++ patches_at lookup.now.symbols.now lookup.now.maps.now name.now (finite.get (globals_of globals.now.entries) name.now)) }
-    ensures fault { Refuses is_memory result (patch_fault_at lookup.now.symbols.now lookup.now.maps.now name.now (finite.get (globals_of globals.now.entries) name.now)) }
+    ensures fault { Refuses is_parse_memory result (patch_fault_at lookup.now.symbols.now lookup.now.maps.now name.now (finite.get (globals_of globals.now.entries) name.now)) }
 {
     let mut patches = patches;
     let Some((bytes, must_exist)) = value_at(globals, name) else {
@@ -52,7 +52,7 @@ fn add_all<'a>(
     names: &[&str],
 ) -> Result<Vec<Patch<'a>>, ParseError>
     ensures patches { IfOk result (λ all. map value_of all.items ≡ flat_map (λ name. patches_at lookup.now.symbols.now lookup.now.maps.now name (finite.get (globals_of globals.now.entries) name)) (lent_bytes names.now)) }
-    ensures fault { Refuses is_memory result (first_some (λ name. patch_fault_at lookup.now.symbols.now lookup.now.maps.now name (finite.get (globals_of globals.now.entries) name)) (lent_bytes names.now)) }
+    ensures fault { Refuses is_parse_memory result (first_some (λ name. patch_fault_at lookup.now.symbols.now lookup.now.maps.now name (finite.get (globals_of globals.now.entries) name)) (lent_bytes names.now)) }
 {
     let mut patches = Vec::new(alloc);
     for name in names {
@@ -71,7 +71,7 @@ impl Object {
         globals: &HashMap<&str, (&'a [u8], bool)>,
     ) -> Result<Vec<Patch<'a>>, ParseError>
         ensures patches { IfOk result (λ all. map value_of all.items ≡ patches_of self.now.symbol_table self.now.maps (globals_of globals.now.entries)) }
-        ensures fault { Refuses is_memory result (patches_fault self.now.symbol_table self.now.maps (globals_of globals.now.entries)) }
+        ensures fault { Refuses is_parse_memory result (patches_fault self.now.symbol_table self.now.maps (globals_of globals.now.entries)) }
     {
         let alloc = *self.license.as_vec().allocator();
         let Ok(names) = names_of(alloc, globals) else {
@@ -108,7 +108,7 @@ impl Object {
         globals: HashMap<&str, (&[u8], bool)>,
     ) -> Result<(), ParseError>
         ensures maps { OnOk result (self.new.maps ≡ all_patched self.old.maps (patches_of self.old.symbol_table self.old.maps (globals_of globals.entry.entries))) }
-        ensures fault { Refuses is_memory result (patches_fault self.old.symbol_table self.old.maps (globals_of globals.entry.entries)) }
+        ensures fault { Refuses is_parse_memory result (patches_fault self.old.symbol_table self.old.maps (globals_of globals.entry.entries)) }
         ensures others_stay { self.new ≡ record self.old { maps = self.new.maps } }
         ensures unchanged { OnErr result (self.new ≡ self.old) }
     {

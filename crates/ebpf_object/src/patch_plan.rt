@@ -5,7 +5,7 @@ ghost use Rattle.std.specs.FinMap.{get};
 ghost use Rattle.std.specs.Option.{option_copied};
 ghost use Rattle.ebpf_object.specs.Patches.{symbol_indices, symbol_named, first_map, map_in_section, in_map, of_symbol, patch_of};
 ghost use Rattle.ebpf_object.specs.PrivateContracts.{value_of, values_of};
-ghost use Rattle.ebpf_parts.specs.Memory.{is_memory};
+ghost use Rattle.ebpf_parts.specs.Memory.{is_parse_memory};
 ghost use Rattle.ebpf_parts.specs.declared.error.ParseError.TheVariants.{InvalidGlobalData, SymbolNotFound, MapNotFound};
 
 use crate::patch::Patch;
@@ -37,7 +37,7 @@ fn fits(address: u64, length: usize, size: usize) -> bool
 }
 
 fn invalid_data(alloc: Global, name: &str, sym_size: u64, data_size: usize) -> ParseError
-    ensures { MatchBool (is_memory result) ⊤ (result ≡ InvalidGlobalData name.now sym_size data_size) }
+    ensures { MatchBool (is_parse_memory result) ⊤ (result ≡ InvalidGlobalData name.now sym_size data_size) }
 {
     match Text::from_str(alloc, name) {
         Ok(name) => ParseError::InvalidGlobalData {
@@ -50,7 +50,7 @@ fn invalid_data(alloc: Global, name: &str, sym_size: u64, data_size: usize) -> P
 }
 
 fn no_symbol(alloc: Global, name: &str) -> ParseError
-    ensures { MatchBool (is_memory result) ⊤ (result ≡ SymbolNotFound name.now) }
+    ensures { MatchBool (is_parse_memory result) ⊤ (result ≡ SymbolNotFound name.now) }
 {
     match Text::from_str(alloc, name) {
         Ok(name) => ParseError::SymbolNotFound { name },
@@ -68,7 +68,7 @@ fn patch_in_map<'a>(
     map_name: &Text,
 ) -> Result<Patch<'a>, ParseError>
     ensures patch { IfOk result (λ p. in_map maps.now name.now bytes.now symbol.now (Some map_name.now) ≡ Ok (value_of p ∷ [])) }
-    ensures fault { IfErr result (λ e. MatchBool (is_memory e) ⊤ (in_map maps.now name.now bytes.now symbol.now (Some map_name.now) ≡ Err e)) }
+    ensures fault { IfErr result (λ e. MatchBool (is_parse_memory e) ⊤ (in_map maps.now name.now bytes.now symbol.now (Some map_name.now) ≡ Err e)) }
 {
     let size = match maps.get(map_name.as_str()) {
         Some(map) => map.data().len(),
@@ -116,7 +116,7 @@ fn patch_by_symbol<'a>(
     symbol: &Symbol,
 ) -> Result<Patch<'a>, ParseError>
     ensures patch { IfOk result (λ p. of_symbol lookup.now.maps.now name.now bytes.now symbol.now ≡ Ok (value_of p ∷ [])) }
-    ensures fault { IfErr result (λ e. MatchBool (is_memory e) ⊤ (of_symbol lookup.now.maps.now name.now bytes.now symbol.now ≡ Err e)) }
+    ensures fault { IfErr result (λ e. MatchBool (is_parse_memory e) ⊤ (of_symbol lookup.now.maps.now name.now bytes.now symbol.now ≡ Err e)) }
 {
     if bytes.len() as u64 != symbol.size {
         return Err(invalid_data(alloc, name, symbol.size, bytes.len()));
@@ -139,7 +139,7 @@ pub fn patch_of<'a>(
     must_exist: bool,
 ) -> Result<Option<Patch<'a>>, ParseError>
     ensures patch { IfOk result (λ p. patch_of lookup.now.symbols.now lookup.now.maps.now name.now (bytes.now, must_exist) ≡ Ok (values_of p)) }
-    ensures fault { IfErr result (λ e. MatchBool (is_memory e) ⊤ (patch_of lookup.now.symbols.now lookup.now.maps.now name.now (bytes.now, must_exist) ≡ Err e)) }
+    ensures fault { IfErr result (λ e. MatchBool (is_parse_memory e) ⊤ (patch_of lookup.now.symbols.now lookup.now.maps.now name.now (bytes.now, must_exist) ≡ Err e)) }
 {
     match symbol_of(lookup, name) {
         Some(symbol) => match patch_by_symbol(alloc, lookup, name, bytes, symbol) {

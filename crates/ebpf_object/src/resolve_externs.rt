@@ -4,7 +4,7 @@ ghost use Rattle.std.specs.Prelude.{◌≡◌, IfErr, MatchBool, OnErr, OnOk, �
 ghost use Rattle.std.specs.Iterator.{IsFinite};
 ghost use Rattle.std.specs.Option.{option_copied};
 ghost use Rattle.ebpf_ksyms.specs.Externs.{IsResolutionFault, IsResolved};
-ghost use Rattle.ebpf_ksyms.specs.Faults.{is_memory};
+ghost use Rattle.ebpf_ksyms.specs.Faults.{is_ksyms_memory};
 ghost use Rattle.ebpf_ksyms.specs.Readers.{IsRefusedIn, IsResolvedIn};
 ghost use Rattle.ebpf_ksyms.specs.Sources.{IsRefusedFrom, IsResolvedFrom};
 ghost use Rattle.ebpf_ksyms.specs.Texts.{IsRefusedBy, IsResolvedBy};
@@ -39,7 +39,7 @@ impl Object {
         requires can { I.can_next lines }
         requires ends { IsFinite (I.remaining lines) }
         ensures ok { OnOk result (IsResolved I.next_gives lines self.old.btf (option_copied kernel_btf.entry) self.old.externs self.new.externs) }
-        ensures fault { IfErr result (λ e. MatchBool (is_memory e) ⊤ (IsResolutionFault I.next_gives lines self.old.btf (option_copied kernel_btf.entry) self.old.externs e)) }
+        ensures fault { IfErr result (λ e. MatchBool (is_ksyms_memory e) ⊤ (IsResolutionFault I.next_gives lines self.old.btf (option_copied kernel_btf.entry) self.old.externs e)) }
         ensures others_stay { self.new ≡ record self.old { externs = self.new.externs } }
         ensures unchanged { OnErr result (self.new ≡ self.old) }
     {
@@ -60,7 +60,7 @@ impl Object {
         symbols: S,
     ) -> Result<(), KsymsError>
         ensures ok { OnOk result (IsResolvedFrom (S.source symbols) self.old.btf (option_copied kernel_btf.entry) self.old.externs self.new.externs) }
-        ensures fault { IfErr result (λ e. MatchBool (is_memory e) ⊤ (IsRefusedFrom (S.source symbols) self.old.btf (option_copied kernel_btf.entry) self.old.externs e)) }
+        ensures fault { IfErr result (λ e. MatchBool (is_ksyms_memory e) ⊤ (IsRefusedFrom (S.source symbols) self.old.btf (option_copied kernel_btf.entry) self.old.externs e)) }
         ensures others_stay { self.new ≡ record self.old { externs = self.new.externs } }
         ensures unchanged { OnErr result (self.new ≡ self.old) }
     {
@@ -83,7 +83,7 @@ impl Object {
         kallsyms: R,
     ) -> Result<(), KsymsError>
         ensures ok { OnOk result (IsResolvedIn (R.remaining kallsyms) self.old.btf (option_copied kernel_btf.entry) self.old.externs self.new.externs) }
-        ensures fault { IfErr result (λ e. MatchBool (is_memory e) ⊤ (IsRefusedIn (R.remaining kallsyms) self.old.btf (option_copied kernel_btf.entry) self.old.externs e)) }
+        ensures fault { IfErr result (λ e. MatchBool (is_ksyms_memory e) ⊤ (IsRefusedIn (R.remaining kallsyms) self.old.btf (option_copied kernel_btf.entry) self.old.externs e)) }
         ensures others_stay { self.new ≡ record self.old { externs = self.new.externs } }
         ensures unchanged { OnErr result (self.new ≡ self.old) }
     {
@@ -95,7 +95,7 @@ impl Object {
     /// that is not UTF-8, where lines are wanted, of kind `InvalidData`.
     pub fn resolve_text(&mut self, kernel_btf: Option<&Btf>, text: &[u8]) -> Result<(), KsymsError>
         ensures ok { OnOk result (IsResolvedBy text.now self.old.btf (option_copied kernel_btf.entry) self.old.externs self.new.externs) }
-        ensures fault { IfErr result (λ e. MatchBool (is_memory e) ⊤ (IsRefusedBy text.now self.old.btf (option_copied kernel_btf.entry) self.old.externs e)) }
+        ensures fault { IfErr result (λ e. MatchBool (is_ksyms_memory e) ⊤ (IsRefusedBy text.now self.old.btf (option_copied kernel_btf.entry) self.old.externs e)) }
         ensures others_stay { self.new ≡ record self.old { externs = self.new.externs } }
         ensures unchanged { OnErr result (self.new ≡ self.old) }
     {

@@ -22,7 +22,7 @@ use Rattle.ebpf_parsing.proofs.EntriesStand.{stands, all_flat_map}
 use Rattle.ebpf_parsing.specs.CodeOrder.{is_big, has_code, has_big_endian_code, order_fault_as}
 use Rattle.ebpf_parsing.specs.FileContents.{map_entries, program_entries, maps_as, programs_as, read_fault, sections_fault, other_sections, object_sections, own_symbols}
 use Rattle.ebpf_parsing.specs.BtfDefinedMaps.{btf_defined_maps, btf_defined_maps_fault}
-use Rattle.ebpf_parsing.specs.FileExterns.{types_of, file_externs_fault}
+use Rattle.ebpf_parsing.specs.FileExterns.{types_of_file, file_externs_fault}
 use Rattle.ebpf_parsing.specs.FileSymbols.{file_symbols, symbols_fault}
 use Rattle.ebpf_parsing.specs.FileTypes.{file_types_fault}
 use Rattle.ebpf_parsing.specs.OfSection.{maps_by, maps_in, programs_by, programs_in, fault_by, fault_in, program_section_faults}
@@ -206,11 +206,11 @@ readings_agree bytes is clear =
     let e = both_None (file_types_fault bytes) _ d.1 in
     let f = both_None (file_externs_fault bytes) _ e.1 in
     let license = license_alike _ b.0 in
-    let tables = tables_alike bytes (types_of bytes) f.1 in
+    let tables = tables_alike bytes (types_of_file bytes) f.1 in
     record {
       license = license.0;
       maps = ap (put_all empty) tables.0;
-      programs = ap (put_all empty) (ap (λ l. program_entries Broad l (kernel_version_of bytes) bytes) license.0 ∙ entries_alike bytes (types_of bytes) (license_as Stated bytes) (kernel_version_of bytes) f.1);
+      programs = ap (put_all empty) (ap (λ l. program_entries Broad l (kernel_version_of bytes) bytes) license.0 ∙ entries_alike bytes (types_of_file bytes) (license_as Stated bytes) (kernel_version_of bytes) f.1);
       sound = both_clear a.0 (both_clear (little bytes is) (both_clear license.1 (both_clear c.0 (both_clear d.0 (both_clear e.0 (both_clear f.0 tables.1))))));
     }
 

@@ -20,7 +20,7 @@ use Rattle.ebpf_elf.specs.Symbols.{symbols_in}
 use Rattle.ebpf_parsing.specs.FileContents.{maps_as, map_entries, object_sections, own_symbols}
 use Rattle.ebpf_parsing.specs.DataMaps.{data_map, data_maps}
 use Rattle.ebpf_parsing.specs.BtfDefinedMaps.{btf_defined_maps}
-use Rattle.ebpf_parsing.specs.FileExterns.{types_of}
+use Rattle.ebpf_parsing.specs.FileExterns.{types_of_file}
 use Rattle.ebpf_parsing.specs.FileSymbols.{file_symbols, symbol_table, symbol_of, symbol_entry}
 use Rattle.ebpf_parsing.specs.LegacyMaps.{legacy_map, legacy_maps}
 use Rattle.ebpf_parsing.specs.OfSection.{maps_by, maps_in}
@@ -169,8 +169,8 @@ module _ (bytes : List ℕ) where
   placed_map : (reading : Reading) (name : List ℕ) (m : Map) → get (maps_as reading bytes) name ≡ Some m → IsPlaced name m
   unfolding maps_as map_entries maps_in
   placed_map reading name m e =
-      stands text_cmp text_exact IsPlaced name later_text_stands (map_entries reading (types_of bytes) bytes)
-      (all_flat_map (λ x. IsPlaced x.0 x.1) (λ s. maps_in reading (types_of bytes) s (own_symbols bytes s)) (object_sections bytes) (λ i s here. by_kind reading (types_of bytes) i s here s.kind refl)) m e
+      stands text_cmp text_exact IsPlaced name later_text_stands (map_entries reading (types_of_file bytes) bytes)
+      (all_flat_map (λ x. IsPlaced x.0 x.1) (λ s. maps_in reading (types_of_file bytes) s (own_symbols bytes s)) (object_sections bytes) (λ i s here. by_kind reading (types_of_file bytes) i s here s.kind refl)) m e
 
 pub maps_have_symbols : MapsHaveTheirSymbols
 maps_have_symbols reading bytes name m e = (placed_map bytes reading name m e).0

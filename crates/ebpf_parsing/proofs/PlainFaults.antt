@@ -22,7 +22,7 @@ use Rattle.ebpf_parsing.specs.CodeOrder.{has_big_endian_code}
 use Rattle.ebpf_parsing.specs.FileContents.{read_fault, sections_fault, parse_fault_as, other_sections}
 use Rattle.ebpf_parsing.specs.DataMaps.{data_map_fault}
 use Rattle.ebpf_parsing.specs.BtfDefinedMaps.{btf_defined_maps_fault}
-use Rattle.ebpf_parsing.specs.FileExterns.{types_of, externs_fault_beside, file_externs_fault}
+use Rattle.ebpf_parsing.specs.FileExterns.{types_of_file, externs_fault_beside, file_externs_fault}
 use Rattle.ebpf_parsing.specs.FileSymbols.{file_symbols, symbol_fault, symbols_fault}
 use Rattle.ebpf_parsing.specs.FileTypes.{btf_of, types_fault_in, btf_fault, ext_fault_in, ext_fault_beside, ext_fault, file_types_fault, types_section, ext_section}
 use Rattle.ebpf_parsing.specs.LegacyMaps.{struct_bytes, word_at, legacy_fault, legacy_maps_fault}
@@ -294,7 +294,7 @@ in_order name None false rest first later is = no_name name rest later is
 
 pub broad_refuses_no_name : BroadRefusesNoName
 broad_refuses_no_name bytes name =
-    in_order name _ (has_big_endian_code bytes) _ (file_plain bytes) (behind_order Broad bytes (sections_fault Broad (types_of bytes) bytes) told (λ o plain. plain) (broad_sections (types_of bytes) bytes))
+    in_order name _ (has_big_endian_code bytes) _ (file_plain bytes) (behind_order Broad bytes (sections_fault Broad (types_of_file bytes) bytes) told (λ o plain. plain) (broad_sections (types_of_file bytes) bytes))
 
 -- ---- the stated reading
 
@@ -334,6 +334,6 @@ pub stated_takes_both_orders : StatedTakesBothOrders
 unfolding big is_big_endian_code
 stated_takes_both_orders bytes is =
     let never : big (parse_fault_as Stated bytes) ≡ false =
-    either big _ _ (from_plain _ (file_plain bytes)) (behind_order Stated bytes (sections_fault Stated (types_of bytes) bytes) big from_plain (stated_sections (types_of bytes) bytes)) in
+    either big _ _ (from_plain _ (file_plain bytes)) (behind_order Stated bytes (sections_fault Stated (types_of_file bytes) bytes) big from_plain (stated_sections (types_of_file bytes) bytes)) in
     let no : true ≡ false = sym (ap big is) ∙ never in
     cc

@@ -14,7 +14,7 @@ use Rattle.ebpf_elf.specs.File.{section_count, range_of}
 use Rattle.ebpf_elf.specs.Sections.{SectionOf, header, data_of}
 use Rattle.ebpf_elf.specs.declared.constants.TheConstants.{SHT_NOBITS}
 use Rattle.ebpf_parsing.specs.FileContents.{functions, function_entries, is_type_information, object_sections, own_symbols}
-use Rattle.ebpf_parsing.specs.FileExterns.{types_of}
+use Rattle.ebpf_parsing.specs.FileExterns.{types_of_file}
 use Rattle.ebpf_parsing.specs.FileTypes.{ext_of}
 use Rattle.ebpf_parsing.specs.OfSection.{functions_by, functions_in, fault_by, fault_in}
 use Rattle.ebpf_parsing.specs.Programs.{with_key}
@@ -164,7 +164,7 @@ module _ (reading : Reading) (bytes : List ℕ) (n : ℕ) (s : SectionValue) (is
 
   text_clear : text_fault s symbols ≡ None
   unfolding fault_in
-  text_clear = ap (λ k. fault_by k reading (types_of bytes) s symbols) (sym is.text)
+  text_clear = ap (λ k. fault_by k reading (types_of_file bytes) s symbols) (sym is.text)
       ∙ kind_clear reading bytes is.clear n s is.here
 
   walk_clear : walk_fault s symbols ≡ None

@@ -1,10 +1,11 @@
 -- Walks over symbols and offsets.
 use Rattle.std.proofs.Common.{append_assoc, length-append, Option, slice_get, ◌≡◌, ℕ, suc, ◌+◌, ◌<◌, Bool, true, false, List, [], ◌∷◌, ◌++◌, length, take, drop, Some, None, refl, sym, ap, ◌∙◌, arith}
-use Rattle.std.proofs.Math.Seq.{take-suc, drop-cons}
+use Rattle.std.proofs.Math.Seq.{take-suc}
 use Rattle.std.specs.List.{find}
 use Rattle.std.specs.Prelude.{is_some, if◌then◌else◌, ◌&&◌, slice_index_or}
 use Rattle.ebpf_parsing.specs.Symbols.{SymbolValue}
 use Rattle.std.specs.List.{range_with_len}
+use Rattle.ebpf_base.proofs.Walks.{rest_more}
 use Rattle.ebpf_base.specs.Faults.{or_else, first_some}
 use Rattle.ebpf_parsing.specs.Texts.{is_text_at, is_defined_text, repeated_address, repeated}
 
@@ -18,11 +19,6 @@ pub front_more : {X : Type 0} (xs : List X) (i : ℕ) (x : X) → i < length xs 
 front_more xs i x below here =
     let on : i + 1 ≡ suc i = omega arith in
     ap (λ n. take n xs) on ∙ take-suc xs i x below ∙ ap (λ y. take i xs ++ y ∷ []) (sym here)
-
-pub rest_more : {X : Type 0} (xs : List X) (i : ℕ) (x : X) → i < length xs → x ≡ slice_index_or xs i x → drop i xs ≡ x ∷ drop (i + 1) xs
-rest_more xs i x below here =
-    let on : suc i ≡ i + 1 = omega arith in
-    drop-cons xs i x below ∙ ap (λ y. y ∷ drop (suc i) xs) (sym here) ∙ ap (λ n. x ∷ drop n xs) on
 
 pub find_front : {X : Type 0} (p : X → Bool) (xs : List X) (i : ℕ) (x : X) → i < length xs → x ≡ slice_index_or xs i x
     → find p (take (i + 1) xs) ≡ (if is_some (find p (take i xs)) then find p (take i xs) else (if p x then Some x else None))

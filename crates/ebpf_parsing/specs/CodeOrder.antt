@@ -5,6 +5,7 @@ use Rattle.ebpf_base.specs.declared.endianness.Endianness.{Endianness}
 use Rattle.ebpf_base.specs.declared.endianness.Endianness.TheVariants.{Little, Big}
 use Rattle.ebpf_elf.specs.File.{ei_data}
 use Rattle.ebpf_elf.specs.Sections.{SectionOf, sections, header}
+use Rattle.ebpf_elf.specs.declared.constants.TheConstants.{SHT_NOBITS}
 use Rattle.ebpf_parts.specs.SectionKinds.{kind_of_section}
 use Rattle.ebpf_parts.specs.Sections.{name_or_empty}
 use Rattle.ebpf_parts.specs.declared.error.ParseError.{ParseError}
@@ -21,7 +22,7 @@ is_kind_of_code _ = false
 
 -- a section of code has bytes in the file: it is not of kind NOBITS, and states a size
 abbrev pub has_code : SectionOf → Bool
-has_code s = is_kind_of_code (kind_of_section (name_or_empty s) (header s)) && (not ((header s).sh_type == 8) && not ((header s).sh_size == 0))
+has_code s = is_kind_of_code (kind_of_section (name_or_empty s) (header s)) && (not ((header s).sh_type == SHT_NOBITS) && not ((header s).sh_size == 0))
 
 abbrev pub is_big : Endianness → Bool
 is_big Big = true

@@ -15,7 +15,7 @@ use Rattle.ebpf_elf.specs.Names.{is_name}
 use Rattle.ebpf_elf.specs.Sections.{SectionOf, sections, section_name}
 use Rattle.ebpf_elf.specs.declared.entries.ElfRelocation.{ElfRelocation}
 use Rattle.ebpf_elf.specs.declared.entries.SectionIndex.{SectionIndex}
-use Rattle.ebpf_parsing.specs.FileExterns.{types_of, externs_of, file_externs_fault}
+use Rattle.ebpf_parsing.specs.FileExterns.{types_of_file, externs_of, file_externs_fault}
 use Rattle.ebpf_parsing.specs.FileSymbols.{file_symbols, symbol_table, symbols_fault}
 use Rattle.ebpf_parsing.specs.FileTypes.{ext_of, type_info_names, file_types_fault}
 use Rattle.ebpf_parsing.specs.OfSection.{maps_in, programs_in, functions_in, relocations_in, section_info_entry, fault_in}
@@ -73,7 +73,7 @@ name_entries bytes = flat_map section_info_entry (object_sections bytes)
 -- ---- the tables
 
 unfoldable pub maps_as : Reading → List ℕ → FinMap text_cmp Map
-maps_as reading bytes = put_all empty (map_entries reading (types_of bytes) bytes)
+maps_as reading bytes = put_all empty (map_entries reading (types_of_file bytes) bytes)
 
 unfoldable pub programs_as : Reading → List ℕ → FinMap text_cmp Program
 programs_as reading bytes = put_all empty (program_entries reading (license_as reading bytes) (kernel_version_of bytes) bytes)
@@ -103,7 +103,7 @@ metadata_as reading bytes = record {
   reading = reading;
   license = license_as reading bytes;
   kernel_version = kernel_version_of bytes;
-  btf = types_of bytes;
+  btf = types_of_file bytes;
   btf_ext = ext_of bytes;
 }
 
@@ -146,7 +146,7 @@ parse_fault_as reading bytes =
     (or_else (symbols_fault bytes)
     (or_else (file_types_fault bytes)
     (or_else (file_externs_fault bytes)
-    (sections_fault reading (types_of bytes) bytes)))))))
+    (sections_fault reading (types_of_file bytes) bytes)))))))
 
 abbrev pub parse_fault : List ℕ → Option ParseError
 parse_fault bytes = parse_fault_as Stated bytes

@@ -22,8 +22,8 @@ externs_fault_beside symbols None = None
 externs_fault_beside symbols (Some types) = option_map BtfError (extern_declarations_fault types (weak_named symbols))
 
 -- of a file: its types, with those that externs add
-unfoldable pub types_of : List ℕ → Option TypeInfo
-types_of bytes = option_map extern_types (btf_of bytes)
+unfoldable pub types_of_file : List ℕ → Option TypeInfo
+types_of_file bytes = option_map extern_types (btf_of bytes)
 
 unfoldable pub externs_of : List ℕ → FinMap text_cmp ExternDesc
 externs_of bytes = externs_beside (file_symbols bytes) (btf_of bytes)

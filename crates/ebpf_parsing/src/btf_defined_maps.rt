@@ -5,7 +5,7 @@ ghost use Rattle.ebpf_base.specs.Faults.{Refuses};
 ghost use Rattle.ebpf_base.specs.Keyed.{put_all};
 ghost use Rattle.ebpf_declarations.specs.TypesInReading.{types_in_reading};
 ghost use Rattle.ebpf_parsing.specs.BtfDefinedMaps.{btf_defined_maps, btf_defined_maps_fault};
-ghost use Rattle.ebpf_parts.specs.Memory.{is_memory};
+ghost use Rattle.ebpf_parts.specs.Memory.{is_parse_memory};
 
 use crate::groups::Groups;
 use crate::last_data::name_or_empty;
@@ -31,7 +31,7 @@ fn add_symbol_indices(
     numbers: &mut ByName<usize>,
     symbols: &[NamedSymbol<'_>],
 ) -> Result<(), ParseError>
-    ensures memory { IfErr result (λ e. is_memory e ≡ true) }
+    ensures memory { IfErr result (λ e. is_parse_memory e ≡ true) }
 {
     for symbol in symbols {
         if numbers.contains_key(symbol.name) {
@@ -48,7 +48,7 @@ fn map_symbols(
     file: &ElfFile<'_>,
     symbols: &Groups<NamedSymbol<'_>>,
 ) -> Result<ByName<usize>, ParseError>
-    ensures memory { IfErr result (λ e. is_memory e ≡ true) }
+    ensures memory { IfErr result (λ e. is_parse_memory e ≡ true) }
 {
     let mut numbers = ByName::new(alloc);
     for section in file.sections() {
@@ -69,7 +69,7 @@ pub fn find_btf_defined_maps<'b>(
     symbols: &Groups<NamedSymbol<'_>>,
 ) -> Result<Option<BtfDefinedMaps<'b>>, ParseError>
     ensures types { IfOk result (λ declared. declared ≡ types_in_reading reading types.now) }
-    ensures memory { IfErr result (λ e. is_memory e ≡ true) }
+    ensures memory { IfErr result (λ e. is_parse_memory e ≡ true) }
 {
     let Some(types) = types else {
         return Ok(None);
@@ -92,7 +92,7 @@ pub fn put_btf_defined_maps(
     symbols: &[NamedSymbol<'_>],
 ) -> Result<(), ParseError>
     ensures put { OnOk result (maps.new ≡ put_all maps.old (btf_defined_maps types.now section.now symbols.now)) }
-    ensures fault { Refuses is_memory result (btf_defined_maps_fault types.now section.now symbols.now) }
+    ensures fault { Refuses is_parse_memory result (btf_defined_maps_fault types.now section.now symbols.now) }
 {
     let Some(types) = types else {
         return Err(ParseError::NoBTF);

@@ -8,11 +8,9 @@ ghost use Rattle.ebpf_parsing.specs.CodeOrder.{has_code, has_big_endian_code, is
 
 use crate::last_data::name_or_empty;
 use ebpf_btf::Endianness;
+use ebpf_elf::constants::SHT_NOBITS;
 use ebpf_elf::{ElfFile, ElfSection};
 use ebpf_parts::{EbpfSectionKind, ParseError, Reading};
-
-/// The kind of a section that has no bytes in the file.
-const SHT_NOBITS: u32 = 8;
 
 /// Whether a section has code.
 fn has_code(section: &ElfSection<'_>) -> bool

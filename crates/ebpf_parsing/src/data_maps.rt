@@ -5,7 +5,7 @@ ghost use Rattle.ebpf_base.specs.Faults.{Refuses};
 ghost use Rattle.ebpf_base.specs.Keyed.{put_all};
 ghost use Rattle.ebpf_parsing.specs.LastData.{last_maps};
 ghost use Rattle.ebpf_parsing.specs.DataMaps.{data_bytes, data_flags, data_definition, data_map, data_maps, data_map_fault};
-ghost use Rattle.ebpf_parts.specs.Memory.{is_memory};
+ghost use Rattle.ebpf_parts.specs.Memory.{is_parse_memory};
 
 use crate::last_data::is_index;
 use ebpf_base::{ByName, Items, Text};
@@ -22,7 +22,7 @@ const READ_ONLY: u32 = 128;
 /// The bytes that a data section begins with. Those of `.bss` are zeros, which the file has not.
 fn bytes_of(alloc: Global, section: &Section<'_>) -> Result<Items<u8>, ParseError>
     ensures bytes { IfOk result (λ bytes. bytes ≡ data_bytes section.now.kind section.now) }
-    ensures memory { IfErr result (λ e. is_memory e ≡ true) }
+    ensures memory { IfErr result (λ e. is_parse_memory e ≡ true) }
 {
     match section.kind {
         EbpfSectionKind::Bss => {
@@ -46,7 +46,7 @@ fn flags_of(kind: EbpfSectionKind) -> u32
 #[tactic(auto, unfolding(crate::specs::DataMaps::data_map, crate::specs::DataMaps::data_map_fault))]
 fn data_map(alloc: Global, section: &Section<'_>) -> Result<Map, ParseError>
     ensures map { IfOk result (λ map. map ≡ data_map section.now) }
-    ensures fault { Refuses is_memory result (data_map_fault section.now) }
+    ensures fault { Refuses is_parse_memory result (data_map_fault section.now) }
 {
     let Ok(value_size) = u32::try_from(section.size) else {
         return Err(ParseError::InvalidMapDefinition {
@@ -74,7 +74,7 @@ fn data_map(alloc: Global, section: &Section<'_>) -> Result<Map, ParseError>
 /// The fault of a data section, whose map is not made.
 #[tactic(auto, unfolding(crate::specs::DataMaps::data_map_fault))]
 fn check_data_map(alloc: Global, section: &Section<'_>) -> Result<(), ParseError>
-    ensures fault { Refuses is_memory result (data_map_fault section.now) }
+    ensures fault { Refuses is_parse_memory result (data_map_fault section.now) }
 {
     if section.size > u64::from(u32::MAX) {
         return Err(ParseError::InvalidMapDefinition {
@@ -92,7 +92,7 @@ pub fn put_data_map(
     section: &Section<'_>,
 ) -> Result<(), ParseError>
     ensures put { OnOk result (maps.new ≡ put_all maps.old (last_maps last.now section.now)) }
-    ensures fault { Refuses is_memory result (data_map_fault section.now) }
+    ensures fault { Refuses is_parse_memory result (data_map_fault section.now) }
 {
     if !is_index(section.index.0, last.get(section.name)) {
         return check_data_map(alloc, section);

@@ -5,7 +5,7 @@ ghost use Rattle.ebpf_base.specs.Faults.{Refuses};
 ghost use Rattle.ebpf_declarations.specs.Externs.{extern_types};
 ghost use Rattle.ebpf_parsing.specs.FileExterns.{externs_beside, externs_fault_beside};
 ghost use Rattle.ebpf_parsing.specs.FileSymbols.{file_symbols, symbols_fault};
-ghost use Rattle.ebpf_parts.specs.Memory.{is_memory};
+ghost use Rattle.ebpf_parts.specs.Memory.{is_parse_memory};
 
 use crate::symbol_names::weak_by_name;
 use ebpf_base::ByName;
@@ -34,7 +34,7 @@ impl FileExterns {
         requires names { symbols_fault file.now ≡ None }
         ensures types { IfOk result (λ found. found.btf ≡ option_map extern_types types) }
         ensures externs { IfOk result (λ found. found.externs ≡ externs_beside (file_symbols file.now) types) }
-        ensures fault { Refuses is_memory result (externs_fault_beside (file_symbols file.now) types) }
+        ensures fault { Refuses is_parse_memory result (externs_fault_beside (file_symbols file.now) types) }
     {
         let Some(mut btf) = types else {
             return Ok(FileExterns {

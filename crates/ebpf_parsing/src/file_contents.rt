@@ -1,22 +1,33 @@
 //! What a file has.
 
-ghost use Rattle.std.specs.Prelude.{◌≡◌, IfOk};
-ghost use Rattle.ebpf_base.specs.Faults.{Refuses};
-ghost use Rattle.ebpf_parsing.specs.FileContents.{contents_as, parse_fault_as};
-ghost use Rattle.ebpf_parts.specs.Memory.{is_memory};
+ghost use Rattle.std.specs.Prelude.{◌≡◌, ℕ, IfOk, None, OnOk};
+ghost use Rattle.ebpf_base.specs.Faults.{Refuses, or_else};
+ghost use Rattle.ebpf_base.specs.Keys.{lent_bytes};
+ghost use Rattle.ebpf_parsing.specs.FileContents.{contents_as, metadata_as, parse_fault_as, sections_fault};
+ghost use Rattle.ebpf_parsing.specs.FileExterns.{externs_of, file_externs_fault, types_of_file};
+ghost use Rattle.ebpf_parsing.specs.FileSymbols.{file_symbols, symbol_table, symbols_fault};
+ghost use Rattle.ebpf_parsing.specs.ObjectTables.{object_tables_of};
+ghost use Rattle.ebpf_parsing.specs.FileTypes.{file_types_fault, type_info_names};
+ghost use Rattle.ebpf_parsing.specs.Groups.{AreTablesOf, group_at};
+ghost use Rattle.ebpf_parsing.specs.LicenseAndVersion.{kernel_version_of, license_as, license_fault_as, version_fault};
+ghost use Rattle.ebpf_parsing.specs.PrivateContracts.{names_of};
+ghost use Rattle.ebpf_parsing.specs.Symbols.{section_symbols};
+ghost use Rattle.ebpf_parts.specs.declared.reading.Reading.{Reading};
+ghost use Rattle.ebpf_parts.specs.Memory.{is_parse_memory};
 
 use crate::code_order::check_order;
 use crate::externs::FileExterns;
 use crate::file_types::FileTypes;
+use crate::groups::Groups;
 use crate::license::read_license;
 use crate::metadata::FileMetadata;
 use crate::object_tables::{ObjectTables, read_sections};
-use crate::relocations::read_relocation_sections;
-use crate::symbols::{object_symbols, read_symbols};
+use crate::relocations::{RelocationTable, read_relocation_sections};
+use crate::symbols::{FileSymbols, object_symbols, read_symbols};
 use crate::version::read_version;
-use ebpf_base::{ByIndex, ByName};
+use ebpf_base::{ByIndex, ByName, Items};
 use ebpf_btf::Endianness;
-use ebpf_elf::ElfFile;
+use ebpf_elf::{ElfFile, SectionIndex};
 use ebpf_model::{ExternDesc, Symbol};
 use ebpf_parts::{ParseError, Reading};
 use std::alloc::Global;
@@ -36,6 +47,140 @@ pub struct FileContents {
     pub object_tables: ObjectTables,
 }
 
+/// What is read of a file before its sections: what programs carry of it, its externs, and the indices of its sections of
+/// type information by name.
+#[derive(Drop)]
+struct FileHead {
+    metadata: FileMetadata,
+    externs: ByName<ExternDesc>,
+    section_infos: ByName<SectionIndex>,
+}
+
+/// The types and the externs of a file whose symbols have names, beside its license and its version.
+#[tactic(auto, unfolding(crate::specs::FileExterns::types_of_file, crate::specs::FileExterns::externs_of, crate::specs::FileExterns::file_externs_fault))]
+fn read_head(
+    alloc: Global,
+    file: &ElfFile<'_>,
+    tables: &Groups<RelocationTable<'_>>,
+    reading: Reading,
+    license: Items<u8>,
+    kernel_version: Option<u32>,
+) -> Result<FileHead, ParseError>
+    requires tables { AreTablesOf file.now tables.now.groups }
+    requires names { symbols_fault file.now ≡ None }
+    requires license { license ≡ license_as reading file.now }
+    requires version { kernel_version ≡ kernel_version_of file.now }
+    ensures metadata { IfOk result (λ head. head.metadata ≡ metadata_as reading file.now) }
+    ensures externs { IfOk result (λ head. head.externs ≡ externs_of file.now) }
+    ensures section_infos { IfOk result (λ head. head.section_infos ≡ type_info_names file.now) }
+    ensures types_clear { OnOk result (file_types_fault file.now ≡ None) }
+    ensures externs_clear { OnOk result (file_externs_fault file.now ≡ None) }
+    ensures fault { Refuses is_parse_memory result (or_else (file_types_fault file.now) (file_externs_fault file.now)) }
+{
+    let types = FileTypes::read(alloc, file, tables)?;
+    let declared = FileExterns::read(alloc, file, types.btf)?;
+    Ok(FileHead {
+        metadata: FileMetadata {
+            reading,
+            license,
+            kernel_version,
+            btf: declared.btf,
+            btf_ext: types.btf_ext,
+        },
+        externs: declared.externs,
+        section_infos: types.section_infos,
+    })
+}
+
+/// What the sections give, and then the symbols.
+fn read_sections_and_symbols(
+    alloc: Global,
+    file: &ElfFile<'_>,
+    tables: &Groups<RelocationTable<'_>>,
+    symbols: FileSymbols<'_>,
+    metadata: &FileMetadata,
+    section_infos: ByName<SectionIndex>,
+) -> Result<(ObjectTables, ByIndex<Symbol>), ParseError>
+    requires tables { AreTablesOf file.now tables.now.groups }
+    requires names { lent_bytes symbols.names.items ≡ names_of (file_symbols file.now) }
+    requires grouped { (q : ℕ) → group_at symbols.groups.groups q ≡ section_symbols (file_symbols file.now) q }
+    ensures object_tables { IfOk result (λ p. p.0 ≡ object_tables_of metadata.now section_infos file.now) }
+    ensures symbol_table { IfOk result (λ p. p.1 ≡ symbol_table (file_symbols file.now)) }
+    ensures fault { Refuses is_parse_memory result (sections_fault metadata.now.reading metadata.now.btf file.now) }
+{
+    let object_tables = read_sections(
+        alloc,
+        metadata,
+        section_infos,
+        file,
+        tables,
+        &symbols.groups,
+    )?;
+    // The table takes the memory of what the sections needed for a while.
+    drop(symbols.groups);
+    let symbol_table = object_symbols(alloc, file, symbols.names.as_slice())?;
+    Ok((object_tables, symbol_table))
+}
+
+/// What a file holds, beside what was read of it before its sections.
+#[tactic(auto, unfolding(crate::specs::FileContents::maps_as, crate::specs::FileContents::programs_as, crate::specs::FileContents::functions, crate::specs::FileContents::relocation_tables, crate::specs::FileContents::section_infos))]
+fn read_tables(
+    alloc: Global,
+    file: &ElfFile<'_>,
+    tables: &Groups<RelocationTable<'_>>,
+    symbols: FileSymbols<'_>,
+    head: FileHead,
+) -> Result<FileContents, ParseError>
+    ghost reading: { Reading }
+    requires tables { AreTablesOf file.now tables.now.groups }
+    requires names { lent_bytes symbols.names.items ≡ names_of (file_symbols file.now) }
+    requires grouped { (q : ℕ) → group_at symbols.groups.groups q ≡ section_symbols (file_symbols file.now) q }
+    requires metadata { head.metadata ≡ metadata_as reading file.now }
+    requires externs { head.externs ≡ externs_of file.now }
+    requires section_infos { head.section_infos ≡ type_info_names file.now }
+    ensures file_contents { IfOk result (λ c. c ≡ contents_as reading file.now) }
+    ensures fault { Refuses is_parse_memory result (sections_fault reading (types_of_file file.now) file.now) }
+{
+    let FileHead {
+        metadata,
+        externs,
+        section_infos,
+    } = head;
+    let (object_tables, symbol_table) = read_sections_and_symbols(
+        alloc,
+        file,
+        tables,
+        symbols,
+        &metadata,
+        section_infos,
+    )?;
+    Ok(FileContents {
+        endianness: file.endianness(),
+        metadata,
+        externs,
+        symbol_table,
+        object_tables,
+    })
+}
+
+/// What a file holds whose byte order its reading takes.
+fn read_parts(
+    alloc: Global,
+    file: &ElfFile<'_>,
+    tables: &Groups<RelocationTable<'_>>,
+    reading: Reading,
+) -> Result<FileContents, ParseError>
+    requires tables { AreTablesOf file.now tables.now.groups }
+    ensures file_contents { IfOk result (λ c. c ≡ contents_as reading file.now) }
+    ensures fault { Refuses is_parse_memory result (or_else (license_fault_as reading file.now) (or_else (version_fault file.now) (or_else (symbols_fault file.now) (or_else (file_types_fault file.now) (or_else (file_externs_fault file.now) (sections_fault reading (types_of_file file.now) file.now)))))) }
+{
+    let license = read_license(alloc, file, tables, reading)?;
+    let kernel_version = read_version(alloc, file, tables)?;
+    let symbols = read_symbols(alloc, file)?;
+    let head = read_head(alloc, file, tables, reading, license, kernel_version)?;
+    read_tables(alloc, file, tables, symbols, head)
+}
+
 impl FileContents {
     /// What the bytes of an ELF64 file hold in a reading.
     ///
@@ -44,10 +189,9 @@ impl FileContents {
     /// The first fault of the file, in this order: of the file itself, code in the big-endian order where the reading is
     /// `Broad`, its license, its kernel version, its symbols' names, its type information, its externs, and its sections
     /// by number. `OutOfMemory` only where memory was refused.
-    #[tactic(auto, unfolding(crate::specs::FileContents::maps_as, crate::specs::FileContents::programs_as, crate::specs::FileContents::functions, crate::specs::FileContents::relocation_tables, crate::specs::FileContents::section_infos, crate::specs::FileExterns::types_of, crate::specs::FileExterns::externs_of, crate::specs::FileExterns::file_externs_fault))]
     pub fn read(alloc: Global, bytes: &[u8], reading: Reading) -> Result<FileContents, ParseError>
         ensures file_contents { IfOk result (λ c. c ≡ contents_as reading bytes.now) }
-        ensures fault { Refuses is_memory result (parse_fault_as reading bytes.now) }
+        ensures fault { Refuses is_parse_memory result (parse_fault_as reading bytes.now) }
     {
         let file = match ElfFile::parse(bytes) {
             Ok(file) => file,
@@ -55,35 +199,6 @@ impl FileContents {
         };
         check_order(&file, reading)?;
         let tables = read_relocation_sections(alloc, &file)?;
-        let license = read_license(alloc, &file, &tables, reading)?;
-        let kernel_version = read_version(alloc, &file, &tables)?;
-        let symbols = read_symbols(alloc, &file)?;
-        let types = FileTypes::read(alloc, &file, &tables)?;
-        let declared = FileExterns::read(alloc, &file, types.btf)?;
-        let metadata = FileMetadata {
-            reading,
-            license,
-            kernel_version,
-            btf: declared.btf,
-            btf_ext: types.btf_ext,
-        };
-        let object_tables = read_sections(
-            alloc,
-            &metadata,
-            types.section_infos,
-            &file,
-            &tables,
-            &symbols.groups,
-        )?;
-        // The table takes the memory of what the sections needed for a while.
-        drop(symbols.groups);
-        let symbol_table = object_symbols(alloc, &file, symbols.names.as_slice())?;
-        Ok(FileContents {
-            endianness: file.endianness(),
-            metadata,
-            externs: declared.externs,
-            symbol_table,
-            object_tables,
-        })
+        read_parts(alloc, &file, &tables, reading)
     }
 }

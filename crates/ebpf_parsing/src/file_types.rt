@@ -11,7 +11,7 @@ ghost use Rattle.ebpf_parsing.specs.FileContents.{is_type_information};
 ghost use Rattle.ebpf_parsing.specs.FileTypes.{btf_of, btf_fault, ext_of, ext_fault, ext_beside, ext_fault_beside, ext_names_beside, ext_in, ext_fault_in, ext_section, names_in, type_names, type_info_names, file_types_fault};
 ghost use Rattle.ebpf_parsing.specs.Groups.{AreTablesOf};
 ghost use Rattle.ebpf_parsing.specs.OfSection.{section_info_entry};
-ghost use Rattle.ebpf_parts.specs.Memory.{is_memory};
+ghost use Rattle.ebpf_parts.specs.Memory.{is_parse_memory};
 ghost use Rattle.ebpf_parts.specs.declared.error.ParseError.TheVariants.{BtfError as TypeFault};
 
 use crate::groups::Groups;
@@ -29,7 +29,7 @@ use std::alloc::Global;
 #[tactic(auto, using(crate::proofs::TypeErrors::refused))]
 fn btf_in(alloc: Global, order: Endianness, bytes: &[u8]) -> Result<Btf, ParseError>
     ensures types { IfOk result (λ types. result_ok (type_info_of order bytes.now) ≡ Some types) }
-    ensures fault { Refuses is_memory result (option_map TypeFault (fault_of (type_info_of order bytes.now))) }
+    ensures fault { Refuses is_parse_memory result (option_map TypeFault (fault_of (type_info_of order bytes.now))) }
 {
     match Btf::parse(alloc, bytes, order) {
         Ok(types) => Ok(types),
@@ -41,7 +41,7 @@ fn btf_in(alloc: Global, order: Endianness, bytes: &[u8]) -> Result<Btf, ParseEr
 #[tactic(auto, using(crate::proofs::TypeErrors::refused))]
 fn ext_in(alloc: Global, order: Endianness, bytes: &[u8], types: &Btf) -> Result<BtfExt, ParseError>
     ensures infos { IfOk result (λ infos. result_ok (read_ext order bytes.now types.now.strings) ≡ Some infos) }
-    ensures fault { Refuses is_memory result (option_map TypeFault (fault_of (read_ext order bytes.now types.now.strings))) }
+    ensures fault { Refuses is_parse_memory result (option_map TypeFault (fault_of (read_ext order bytes.now types.now.strings))) }
 {
     match BtfExt::parse(alloc, bytes, order, types) {
         Ok(infos) => Ok(infos),
@@ -66,7 +66,7 @@ pub fn remember(
     section: &Section<'_>,
 ) -> Result<(), ParseError>
     ensures put { OnOk result (section_infos.new ≡ put_all section_infos.old (section_info_entry section.now)) }
-    ensures memory { IfErr result (λ e. is_memory e ≡ true) }
+    ensures memory { IfErr result (λ e. is_parse_memory e ≡ true) }
 {
     section_infos.insert(String::from_str(alloc, section.name)?, section.index)?;
     Ok(())
@@ -83,7 +83,7 @@ fn read_types(
     requires tables { AreTablesOf file.now tables.now.groups }
     ensures types { IfOk result (λ types. types ≡ btf_of file.now) }
     ensures names { OnOk result (section_infos.new ≡ put_all section_infos.old (type_names file.now)) }
-    ensures fault { Refuses is_memory result (btf_fault file.now) }
+    ensures fault { Refuses is_parse_memory result (btf_fault file.now) }
 {
     let Some(section) = file.section_by_name(".BTF") else {
         return Ok(None);
@@ -106,7 +106,7 @@ fn read_ext_section(
     requires tables { AreTablesOf file.now tables.now.groups }
     ensures infos { IfOk result (λ infos. infos ≡ ext_in (ei_data file.now) types.now (ext_section file.now)) }
     ensures names { OnOk result (section_infos.new ≡ put_all section_infos.old (names_in (ext_section file.now))) }
-    ensures fault { Refuses is_memory result (ext_fault_in (ei_data file.now) types.now (ext_section file.now)) }
+    ensures fault { Refuses is_parse_memory result (ext_fault_in (ei_data file.now) types.now (ext_section file.now)) }
 {
     let Some(section) = file.section_by_name(".BTF.ext") else {
         return Ok(None);
@@ -128,7 +128,7 @@ fn read_ext_beside(
     requires tables { AreTablesOf file.now tables.now.groups }
     ensures infos { IfOk result (λ infos. infos ≡ ext_beside file.now types.now) }
     ensures names { OnOk result (section_infos.new ≡ put_all section_infos.old (ext_names_beside file.now types.now)) }
-    ensures fault { Refuses is_memory result (ext_fault_beside file.now types.now) }
+    ensures fault { Refuses is_parse_memory result (ext_fault_beside file.now types.now) }
 {
     let Some(types) = types else {
         return Ok(None);
@@ -156,7 +156,7 @@ impl FileTypes {
         ensures btf { IfOk result (λ types. types.btf ≡ btf_of file.now) }
         ensures btf_ext { IfOk result (λ types. types.btf_ext ≡ ext_of file.now) }
         ensures section_infos { IfOk result (λ types. types.section_infos ≡ type_info_names file.now) }
-        ensures fault { Refuses is_memory result (file_types_fault file.now) }
+        ensures fault { Refuses is_parse_memory result (file_types_fault file.now) }
     {
         let mut section_infos = ByName::new(alloc);
         let btf = read_types(alloc, file, tables, &mut section_infos)?;

@@ -2,7 +2,7 @@
 
 ghost use Rattle.std.specs.Prelude.{◌≡◌, ◌∷◌, ◌++◌, [], ◌==◌, ℕ, OnOk, IfErr, true, if◌then◌else◌};
 ghost use Rattle.ebpf_parsing.specs.Groups.{group_at};
-ghost use Rattle.ebpf_parts.specs.Memory.{is_memory};
+ghost use Rattle.ebpf_parts.specs.Memory.{is_parse_memory};
 
 use ebpf_parts::ParseError;
 use std::alloc::Global;
@@ -30,7 +30,7 @@ impl<T: Drop> Groups<T> {
     /// Adds a value behind those of its section.
     pub fn add(&mut self, alloc: Global, section: usize, value: T) -> Result<(), ParseError>
         ensures added { OnOk result ((q : ℕ) → group_at self.new.groups q ≡ (if section == q then group_at self.old.groups q ++ value ∷ [] else group_at self.old.groups q)) }
-        ensures memory { IfErr result (λ e. is_memory e ≡ true) }
+        ensures memory { IfErr result (λ e. is_parse_memory e ≡ true) }
     {
         match self.groups.get_mut(&section) {
             Some(group) => {

@@ -5,7 +5,7 @@ ghost use Rattle.std.specs.Option.{option_copied};
 ghost use Rattle.ebpf_base.specs.Keyed.{put_all};
 ghost use Rattle.ebpf_parsing.specs.FileContents.{object_sections};
 ghost use Rattle.ebpf_parsing.specs.LastData.{is_data_kind, is_index, data_row, last_data};
-ghost use Rattle.ebpf_parts.specs.Memory.{is_memory};
+ghost use Rattle.ebpf_parts.specs.Memory.{is_parse_memory};
 ghost use Rattle.ebpf_parts.specs.Sections.{section_of, name_or_empty};
 
 use crate::file_types::is_type_information;
@@ -42,7 +42,7 @@ fn remember_data(
     section: &ElfSection<'_>,
 ) -> Result<(), ParseError>
     ensures put { OnOk result (last.new ≡ put_all last.old (data_row (section_of section.now))) }
-    ensures memory { IfErr result (λ e. is_memory e ≡ true) }
+    ensures memory { IfErr result (λ e. is_parse_memory e ≡ true) }
 {
     let name = name_or_empty(section);
     if !is_data_kind(EbpfSectionKind::from_elf(name, section)) {
@@ -55,7 +55,7 @@ fn remember_data(
 /// The index of the last section of data of each name.
 pub fn last_data_sections(alloc: Global, file: &ElfFile<'_>) -> Result<ByName<usize>, ParseError>
     ensures last { IfOk result (λ last. last ≡ last_data (object_sections file.now)) }
-    ensures memory { IfErr result (λ e. is_memory e ≡ true) }
+    ensures memory { IfErr result (λ e. is_parse_memory e ≡ true) }
 {
     let mut last = ByName::new(alloc);
     for section in file.sections() {

@@ -4,7 +4,7 @@ ghost use Rattle.std.specs.Prelude.{◌≡◌, ◌≤◌, ◌<◌, ◌+◌, ◌*
 ghost use Rattle.ebpf_base.specs.Faults.{Refuses, first_some};
 ghost use Rattle.ebpf_base.specs.Keyed.{put_all};
 ghost use Rattle.ebpf_parsing.specs.LegacyMaps.{word_at, legacy_pinning, definition_of, legacy_map, legacy_fault, legacy_maps, legacy_maps_fault};
-ghost use Rattle.ebpf_parts.specs.Memory.{is_memory};
+ghost use Rattle.ebpf_parts.specs.Memory.{is_parse_memory};
 
 use crate::symbols::NamedSymbol;
 use ebpf_base::{ByName, Items, Text};
@@ -74,7 +74,7 @@ fn legacy_map(
     symbol: &NamedSymbol<'_>,
 ) -> Result<Map, ParseError>
     ensures map { IfOk result (λ map. map ≡ legacy_map section.now symbol.now) }
-    ensures fault { Refuses is_memory result (legacy_fault section.now symbol.now) }
+    ensures fault { Refuses is_parse_memory result (legacy_fault section.now symbol.now) }
 {
     let len = section.bytes.len() as u64;
     if symbol.size > len || symbol.address > len - symbol.size {
@@ -109,7 +109,7 @@ fn put_each(
     symbols: &[NamedSymbol<'_>],
 ) -> Result<(), ParseError>
     ensures put { OnOk result (maps.new ≡ put_all maps.old (legacy_maps section.now symbols.now)) }
-    ensures fault { Refuses is_memory result (first_some (legacy_fault section.now) symbols.now) }
+    ensures fault { Refuses is_parse_memory result (first_some (legacy_fault section.now) symbols.now) }
 {
     for symbol in symbols {
         let map = legacy_map(alloc, section, symbol)?;
@@ -127,7 +127,7 @@ pub fn put_legacy_maps(
     symbols: &[NamedSymbol<'_>],
 ) -> Result<(), ParseError>
     ensures put { OnOk result (maps.new ≡ put_all maps.old (legacy_maps section.now symbols.now)) }
-    ensures fault { Refuses is_memory result (legacy_maps_fault section.now symbols.now) }
+    ensures fault { Refuses is_parse_memory result (legacy_maps_fault section.now symbols.now) }
 {
     if symbols.is_empty() {
         return Err(ParseError::NoSymbolsForSection {

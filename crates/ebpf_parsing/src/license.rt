@@ -5,7 +5,7 @@ ghost use Rattle.std.specs.List.{before_first, position};
 ghost use Rattle.ebpf_base.specs.Faults.{Refuses};
 ghost use Rattle.ebpf_parsing.specs.Groups.{AreTablesOf};
 ghost use Rattle.ebpf_parsing.specs.LicenseAndVersion.{has_zero, front_of, stated_text_fault, license_text, license_text_fault, license_as, license_fault_as};
-ghost use Rattle.ebpf_parts.specs.Memory.{is_memory};
+ghost use Rattle.ebpf_parts.specs.Memory.{is_parse_memory};
 ghost use Rattle.ebpf_parts.specs.declared.reading.Reading.TheVariants.{Broad};
 
 use crate::groups::Groups;
@@ -45,7 +45,7 @@ fn before_zero(bytes: &[u8]) -> &[u8]
 #[tactic(auto, unfolding(crate::specs::LicenseAndVersion::stated_text_fault))]
 fn stated_license(alloc: Global, bytes: &[u8]) -> Result<Items<u8>, ParseError>
     ensures license { IfOk result (λ license. license ≡ front_of bytes.now) }
-    ensures fault { Refuses is_memory result (stated_text_fault bytes.now) }
+    ensures fault { Refuses is_parse_memory result (stated_text_fault bytes.now) }
 {
     if bytes.len() < 2 {
         return Err(ParseError::InvalidLicense {
@@ -70,7 +70,7 @@ fn stated_license(alloc: Global, bytes: &[u8]) -> Result<Items<u8>, ParseError>
 #[tactic(auto, unfolding(crate::specs::LicenseAndVersion::license_text, crate::specs::LicenseAndVersion::license_text_fault, crate::specs::LicenseAndVersion::stated_text_fault))]
 fn broad_license(alloc: Global, bytes: &[u8]) -> Result<Items<u8>, ParseError>
     ensures license { IfOk result (λ license. license ≡ license_text Broad bytes.now) }
-    ensures fault { Refuses is_memory result (license_text_fault Broad bytes.now) }
+    ensures fault { Refuses is_parse_memory result (license_text_fault Broad bytes.now) }
 {
     if !bytes.is_empty() && !has_zero(bytes) {
         return stated_license(alloc, bytes);
@@ -82,7 +82,7 @@ fn broad_license(alloc: Global, bytes: &[u8]) -> Result<Items<u8>, ParseError>
 #[tactic(auto, unfolding(crate::specs::LicenseAndVersion::license_text, crate::specs::LicenseAndVersion::license_text_fault))]
 fn license_in(alloc: Global, bytes: &[u8], reading: Reading) -> Result<Items<u8>, ParseError>
     ensures license { IfOk result (λ license. license ≡ license_text reading bytes.now) }
-    ensures fault { Refuses is_memory result (license_text_fault reading bytes.now) }
+    ensures fault { Refuses is_parse_memory result (license_text_fault reading bytes.now) }
 {
     match reading {
         Reading::Stated => stated_license(alloc, bytes),
@@ -100,7 +100,7 @@ pub fn read_license(
 ) -> Result<Items<u8>, ParseError>
     requires tables { AreTablesOf file.now tables.now.groups }
     ensures license { IfOk result (λ license. license ≡ license_as reading file.now) }
-    ensures fault { Refuses is_memory result (license_fault_as reading file.now) }
+    ensures fault { Refuses is_parse_memory result (license_fault_as reading file.now) }
 {
     let Some(section) = file.section_by_name("license") else {
         return Ok(Items::from_vec(Vec::from_slice(alloc, b"GPL")?));

@@ -20,7 +20,7 @@ ghost use Rattle.ebpf_parsing.specs.PrivateContracts.{AreOfOneFile, with_relocat
 ghost use Rattle.ebpf_parsing.specs.Relocations.{relocation_table_at};
 ghost use Rattle.ebpf_parsing.specs.Symbols.{section_symbols};
 ghost use Rattle.ebpf_parsing.specs.Texts.{text_functions, text_fault};
-ghost use Rattle.ebpf_parts.specs.Memory.{is_memory};
+ghost use Rattle.ebpf_parts.specs.Memory.{is_parse_memory};
 ghost use Rattle.ebpf_parts.specs.Readings.{section_as};
 ghost use Rattle.ebpf_parts.specs.Sections.{section_of, section_fault};
 
@@ -65,7 +65,7 @@ fn put_table(
 ) -> Result<(), ParseError>
     requires { AreOfOneFile tables.now }
     ensures put { OnOk result (relocations.new ≡ put_all relocations.old (relocation_table_at section (flat_map table_entries tables.now))) }
-    ensures memory { IfErr result (λ e. is_memory e ≡ true) }
+    ensures memory { IfErr result (λ e. is_parse_memory e ≡ true) }
 {
     let kept = by_offset(alloc, tables)?;
     if kept.is_empty() {
@@ -85,7 +85,7 @@ fn put_relocations(
 ) -> Result<(), ParseError>
     requires { AreOfOneFile tables.now }
     ensures put { OnOk result (relocations.new ≡ put_all relocations.old (relocations_in (with_relocations (flat_map table_entries tables.now) section.now))) }
-    ensures memory { IfErr result (λ e. is_memory e ≡ true) }
+    ensures memory { IfErr result (λ e. is_parse_memory e ≡ true) }
 {
     match section.kind {
         EbpfSectionKind::Program | EbpfSectionKind::Text => {
@@ -118,7 +118,7 @@ impl ObjectTables {
         symbols: &[NamedSymbol<'_>],
     ) -> Result<(), ParseError>
         ensures put { OnOk result (self.new ≡ record self.old { functions = put_all self.old.functions (map with_key (program_functions (func_and_line_info_of inputs.now.btf_ext section.now.name) section.now symbols.now)) }) }
-        ensures fault { Refuses is_memory result (programs_fault section.now symbols.now) }
+        ensures fault { Refuses is_parse_memory result (programs_fault section.now symbols.now) }
     {
         if let Some(records) = inputs.records.of(section.name) {
             return put_functions(alloc, &mut self.functions, &records, section, symbols);
@@ -137,7 +137,7 @@ impl ObjectTables {
         symbols: &[NamedSymbol<'_>],
     ) -> Result<(), ParseError>
         ensures put { OnOk result (self.new ≡ record self.old { programs = put_all self.old.programs (programs_of inputs.now.license inputs.now.kernel_version section.now symbols.now (section_as inputs.now.reading section.now.name)); functions = put_all self.old.functions (map with_key (program_functions (func_and_line_info_of inputs.now.btf_ext section.now.name) section.now symbols.now)) }) }
-        ensures fault { Refuses is_memory result (program_section_faults inputs.now.reading section.now symbols.now) }
+        ensures fault { Refuses is_parse_memory result (program_section_faults inputs.now.reading section.now symbols.now) }
     {
         let kind = ProgramSection::read(alloc, section.name, inputs.metadata.reading)?;
         if symbols.len() == 0 {
@@ -165,7 +165,7 @@ impl ObjectTables {
         symbols: &[NamedSymbol<'_>],
     ) -> Result<(), ParseError>
         ensures put { OnOk result (self.new ≡ record self.old { functions = put_all self.old.functions (map with_key (text_functions (func_and_line_info_of inputs.now.btf_ext section.now.name) section.now symbols.now)) }) }
-        ensures fault { Refuses is_memory result (text_fault section.now symbols.now) }
+        ensures fault { Refuses is_parse_memory result (text_fault section.now symbols.now) }
     {
         if let Some(records) = inputs.records.of(section.name) {
             return put_text_functions(alloc, &mut self.functions, &records, section, symbols);
@@ -186,7 +186,7 @@ impl ObjectTables {
     ) -> Result<(), ParseError>
         ensures others { OnOk result (self.new.relocations ≡ self.old.relocations) }
         ensures put { OnOk result (record self.new { relocations = put_all self.old.relocations (relocations_in section.now); section_infos = put_all self.new.section_infos ((section.now.name, section.now.index) ∷ []) } ≡ added_last last.now inputs.now self.old section.now symbols.now) }
-        ensures fault { Refuses is_memory result (fault_in inputs.now.reading inputs.now.btf section.now symbols.now) }
+        ensures fault { Refuses is_parse_memory result (fault_in inputs.now.reading inputs.now.btf section.now symbols.now) }
     {
         match section.kind {
             EbpfSectionKind::Program => self.add_programs(alloc, inputs, section, symbols),
@@ -215,7 +215,7 @@ impl ObjectTables {
     ) -> Result<(), ParseError>
         requires { tables.now ≡ filter (λ r. relocated_section r == section.now.index) (relocation_sections section.now.file) }
         ensures put { OnOk result (self.new ≡ added_last last.now inputs.now self.old (section_of section.now) symbols.now) }
-        ensures fault { Refuses is_memory result (or_else (section_fault section.now) (fault_in inputs.now.reading inputs.now.btf (section_of section.now) symbols.now)) }
+        ensures fault { Refuses is_parse_memory result (or_else (section_fault section.now) (fault_in inputs.now.reading inputs.now.btf (section_of section.now) symbols.now)) }
     {
         let section = read_section(alloc, section, tables)?;
         self.add_kind(alloc, inputs, last, &section, symbols)?;
@@ -224,11 +224,35 @@ impl ObjectTables {
     }
 }
 
+/// What the sections of a file are read with.
+fn section_inputs<'s>(
+    alloc: Global,
+    metadata: &'s FileMetadata,
+    file: &ElfFile<'_>,
+    symbols: &Groups<NamedSymbol<'_>>,
+) -> Result<SectionInputs<'s>, ParseError>
+    ensures inputs { IfOk result (λ inputs. inputs ≡ metadata.now) }
+    ensures memory { IfErr result (λ e. is_parse_memory e ≡ true) }
+{
+    let code = names_of_kinds(
+        alloc,
+        file,
+        &[EbpfSectionKind::Program, EbpfSectionKind::Text],
+    )?;
+    let records = RecordsByName::gather(alloc, &metadata.btf_ext, code.as_slice())?;
+    let declared = find_btf_defined_maps(alloc, &metadata.btf, metadata.reading, file, symbols)?;
+    Ok(SectionInputs {
+        metadata,
+        records,
+        declared,
+    })
+}
+
 /// What the sections of a file give, each with its relocations and its symbols, by the last section of data of each
 /// name.
 fn read_by_last(
     alloc: Global,
-    metadata: &FileMetadata,
+    inputs: &SectionInputs<'_>,
     section_infos: ByName<SectionIndex>,
     file: &ElfFile<'_>,
     tables: &Groups<RelocationTable<'_>>,
@@ -238,21 +262,9 @@ fn read_by_last(
     requires tables { AreTablesOf file.now tables.now.groups }
     requires grouped { (q : ℕ) → group_at symbols.now.groups q ≡ section_symbols (file_symbols file.now) q }
     requires last { last.now ≡ last_data (object_sections file.now) }
-    ensures object_tables { IfOk result (λ p. p ≡ object_tables_of metadata.now section_infos file.now) }
-    ensures fault { Refuses is_memory result (sections_fault metadata.now.reading metadata.now.btf file.now) }
+    ensures object_tables { IfOk result (λ p. p ≡ object_tables_of inputs.now section_infos file.now) }
+    ensures fault { Refuses is_parse_memory result (sections_fault inputs.now.reading inputs.now.btf file.now) }
 {
-    let code = names_of_kinds(
-        alloc,
-        file,
-        &[EbpfSectionKind::Program, EbpfSectionKind::Text],
-    )?;
-    let records = RecordsByName::gather(alloc, &metadata.btf_ext, code.as_slice())?;
-    let declared = find_btf_defined_maps(alloc, &metadata.btf, metadata.reading, file, symbols)?;
-    let inputs = SectionInputs {
-        metadata,
-        records,
-        declared,
-    };
     let mut object_tables = ObjectTables::new(alloc, section_infos);
     for section in file.sections() {
         if is_type_information(&section) {
@@ -261,7 +273,7 @@ fn read_by_last(
         let index = section.index().0;
         object_tables.add_section(
             alloc,
-            &inputs,
+            inputs,
             last,
             &section,
             tables.of(index),
@@ -283,8 +295,9 @@ pub fn read_sections(
     requires tables { AreTablesOf file.now tables.now.groups }
     requires grouped { (q : ℕ) → group_at symbols.now.groups q ≡ section_symbols (file_symbols file.now) q }
     ensures object_tables { IfOk result (λ p. p ≡ object_tables_of metadata.now section_infos file.now) }
-    ensures fault { Refuses is_memory result (sections_fault metadata.now.reading metadata.now.btf file.now) }
+    ensures fault { Refuses is_parse_memory result (sections_fault metadata.now.reading metadata.now.btf file.now) }
 {
     let last = last_data_sections(alloc, file)?;
-    read_by_last(alloc, metadata, section_infos, file, tables, symbols, &last)
+    let inputs = section_inputs(alloc, metadata, file, symbols)?;
+    read_by_last(alloc, &inputs, section_infos, file, tables, symbols, &last)
 }

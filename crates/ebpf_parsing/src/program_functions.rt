@@ -5,7 +5,7 @@ ghost use Rattle.ebpf_base.specs.Faults.{Refuses, first_of};
 ghost use Rattle.ebpf_base.specs.Keyed.{put_all};
 ghost use Rattle.ebpf_parsing.specs.Programs.{is_program_symbol, program_bytes, range_faults, program_function, program_fault, program_functions, programs_fault, programs_of, with_key};
 ghost use Rattle.ebpf_parsing.specs.PrivateContracts.{last_programs};
-ghost use Rattle.ebpf_parts.specs.Memory.{is_memory};
+ghost use Rattle.ebpf_parts.specs.Memory.{is_parse_memory};
 
 use crate::last_data::is_index;
 use crate::metadata::FileMetadata;
@@ -36,7 +36,7 @@ fn bytes_of<'a>(
     ensures bytes { IfOk result (λ bytes. bytes.now ≡ program_bytes section.now symbol.now) }
     ensures low { OnOk result (section.now.address ≤ symbol.now.address) }
     ensures high { OnOk result (symbol.now.address + symbol.now.size ≤ length section.now.bytes) }
-    ensures fault { Refuses is_memory result (first_of (range_faults section.now symbol.now)) }
+    ensures fault { Refuses is_parse_memory result (first_of (range_faults section.now symbol.now)) }
 {
     let len = section.bytes.len() as u64;
     if symbol.address < section.address || symbol.size > len || symbol.address > len - symbol.size {
@@ -59,7 +59,7 @@ fn function_of(
     symbol: &NamedSymbol<'_>,
 ) -> Result<Function, ParseError>
     ensures function { IfOk result (λ f. f ≡ program_function records.now section.now symbol.now) }
-    ensures fault { Refuses is_memory result (program_fault section.now symbol.now) }
+    ensures fault { Refuses is_parse_memory result (program_fault section.now symbol.now) }
 {
     let bytes = bytes_of(alloc, section, symbol)?;
     let first = (symbol.address - section.address) as usize / SLOT;
@@ -86,7 +86,7 @@ fn check_program(
     section: &Section<'_>,
     symbol: &NamedSymbol<'_>,
 ) -> Result<(), ParseError>
-    ensures { Refuses is_memory result (program_fault section.now symbol.now) }
+    ensures { Refuses is_parse_memory result (program_fault section.now symbol.now) }
 {
     let bytes = bytes_of(alloc, section, symbol)?;
     if bytes.len() % SLOT != 0 {
@@ -99,7 +99,7 @@ fn check_program(
 #[tactic(auto, using(crate::proofs::LastPrograms::row_more, crate::proofs::LastPrograms::row_passed, ebpf_base::proofs::Walks::rest_none))]
 fn last_programs(alloc: Global, symbols: &[NamedSymbol<'_>]) -> Result<ByOffset<usize>, ParseError>
     ensures last { IfOk result (λ last. last ≡ last_programs symbols.now) }
-    ensures memory { IfErr result (λ e. is_memory e ≡ true) }
+    ensures memory { IfErr result (λ e. is_parse_memory e ≡ true) }
 {
     let mut last = ByOffset::new(alloc);
     for symbol in symbols {
@@ -123,7 +123,7 @@ fn put_last_functions(
 ) -> Result<(), ParseError>
     requires { last.now ≡ last_programs symbols.now }
     ensures put { OnOk result (functions.new ≡ put_all functions.old (map with_key (program_functions records.now section.now symbols.now))) }
-    ensures fault { Refuses is_memory result (programs_fault section.now symbols.now) }
+    ensures fault { Refuses is_parse_memory result (programs_fault section.now symbols.now) }
 {
     for symbol in symbols {
         if !symbol.is_program() {
@@ -148,7 +148,7 @@ pub fn put_functions(
     symbols: &[NamedSymbol<'_>],
 ) -> Result<(), ParseError>
     ensures put { OnOk result (functions.new ≡ put_all functions.old (map with_key (program_functions records.now section.now symbols.now))) }
-    ensures fault { Refuses is_memory result (programs_fault section.now symbols.now) }
+    ensures fault { Refuses is_parse_memory result (programs_fault section.now symbols.now) }
 {
     let last = last_programs(alloc, symbols)?;
     put_last_functions(alloc, functions, records, section, symbols, &last)
@@ -165,7 +165,7 @@ pub fn put_programs(
     symbols: &[NamedSymbol<'_>],
 ) -> Result<(), ParseError>
     ensures put { OnOk result (programs.new ≡ put_all programs.old (programs_of metadata.now.license metadata.now.kernel_version section.now symbols.now (Some kind))) }
-    ensures memory { IfErr result (λ e. is_memory e ≡ true) }
+    ensures memory { IfErr result (λ e. is_parse_memory e ≡ true) }
 {
     for symbol in symbols {
         if !symbol.is_program() {

@@ -8,7 +8,7 @@ ghost use Rattle.std.specs.List.Sorted.{IsNonDecreasingBy};
 ghost use Rattle.ebpf_parsing.specs.Records.{FuncAndLineInfo, is_func_at, is_line_in, func_from, line_from, funcs_at, lines_in, slot_of_func, slot_of_line};
 ghost use Rattle.ebpf_parsing.specs.PrivateContracts.{func_at, func_slot, line_at, line_slot};
 ghost use Rattle.ebpf_parsing.specs.RecordsBySlot.{is_at_slot, indices_with};
-ghost use Rattle.ebpf_parts.specs.Memory.{is_memory};
+ghost use Rattle.ebpf_parts.specs.Memory.{is_parse_memory};
 
 use crate::by_slot::{NamesSlot, is_in_order, rows_among};
 use crate::records_by_slot::{RecordIndex, RecordsBySlot, func_indices, line_indices};
@@ -90,7 +90,7 @@ impl<'e> FuncRecords<'e> {
         records: &'e [bpf_func_info],
     ) -> Result<FuncRecords<'e>, ParseError>
         ensures info { IfOk result (λ r. r ≡ record { sec_name_offset = name_offset; num_info = count; func_info = records.now }) }
-        ensures memory { IfErr result (λ e. is_memory e ≡ true) }
+        ensures memory { IfErr result (λ e. is_parse_memory e ≡ true) }
     {
         if is_in_order(records) {
             return Ok(FuncRecords {
@@ -116,7 +116,7 @@ impl<'e> FuncRecords<'e> {
     /// None.
     pub fn none(alloc: Global) -> Result<FuncRecords<'e>, ParseError>
         ensures info { IfOk result (λ r. r ≡ no_func_info) }
-        ensures memory { IfErr result (λ e. is_memory e ≡ true) }
+        ensures memory { IfErr result (λ e. is_parse_memory e ≡ true) }
     {
         FuncRecords::new(alloc, 0, 0, &[])
     }
@@ -124,7 +124,7 @@ impl<'e> FuncRecords<'e> {
     /// The func info of a section, none where nothing is infos of it.
     pub fn of(alloc: Global, infos: Option<&'e FuncSecInfo>) -> Result<FuncRecords<'e>, ParseError>
         ensures info { IfOk result (λ r. r ≡ unwrap_or (option_copied infos.entry) no_func_info) }
-        ensures memory { IfErr result (λ e. is_memory e ≡ true) }
+        ensures memory { IfErr result (λ e. is_parse_memory e ≡ true) }
     {
         match infos {
             Some(infos) => FuncRecords::new(
@@ -146,7 +146,7 @@ impl<'e> FuncRecords<'e> {
         base: usize,
     ) -> Result<Items<bpf_func_info>, ParseError>
         ensures records { IfOk result (λ kept. kept ≡ map (func_from base) (filter (is_func_at first) self.now.func_info)) }
-        ensures memory { IfErr result (λ e. is_memory e ≡ true) }
+        ensures memory { IfErr result (λ e. is_parse_memory e ≡ true) }
     {
         if self.in_order {
             return funcs_counted_from(alloc, rows_among(self.records, &self.next, first, 1), base);
@@ -159,7 +159,7 @@ impl<'e> FuncRecords<'e> {
     #[tactic(auto, unfolding(crate::specs::Records::funcs_at))]
     pub fn at(&self, alloc: Global, first: usize, base: usize) -> Result<FuncSecInfo, ParseError>
         ensures info { IfOk result (λ info. info ≡ funcs_at self.now first base) }
-        ensures memory { IfErr result (λ e. is_memory e ≡ true) }
+        ensures memory { IfErr result (λ e. is_parse_memory e ≡ true) }
     {
         Ok(FuncSecInfo {
             sec_name_offset: self.name_offset,
@@ -187,7 +187,7 @@ fn funcs_counted_from(
     base: usize,
 ) -> Result<Items<bpf_func_info>, ParseError>
     ensures records { IfOk result (λ kept. kept ≡ map (func_from base) rows.now) }
-    ensures memory { IfErr result (λ e. is_memory e ≡ true) }
+    ensures memory { IfErr result (λ e. is_parse_memory e ≡ true) }
 {
     if base == 0 {
         return Ok(Items::from_vec(Vec::from_slice(alloc, rows)?));
@@ -208,7 +208,7 @@ fn funcs_from(
 ) -> Result<Items<bpf_func_info>, ParseError>
     requires { All (λ p. p.index < length rows.now) indices.now }
     ensures records { IfOk result (λ kept. kept ≡ map (λ p. func_from base (func_at rows.now p.index)) indices.now) }
-    ensures memory { IfErr result (λ e. is_memory e ≡ true) }
+    ensures memory { IfErr result (λ e. is_parse_memory e ≡ true) }
 {
     let mut kept = Vec::with_capacity(alloc, indices.len())?;
     for index in indices {
@@ -237,7 +237,7 @@ fn lines_counted_from(
     base: usize,
 ) -> Result<Items<bpf_line_info>, ParseError>
     ensures records { IfOk result (λ kept. kept ≡ map (line_from base) rows.now) }
-    ensures memory { IfErr result (λ e. is_memory e ≡ true) }
+    ensures memory { IfErr result (λ e. is_parse_memory e ≡ true) }
 {
     if base == 0 {
         return Ok(Items::from_vec(Vec::from_slice(alloc, rows)?));
@@ -258,7 +258,7 @@ fn lines_from(
 ) -> Result<Items<bpf_line_info>, ParseError>
     requires { All (λ i. i < length rows.now) indices.now }
     ensures records { IfOk result (λ kept. kept ≡ map (λ i. line_from base (line_at rows.now i)) indices.now) }
-    ensures memory { IfErr result (λ e. is_memory e ≡ true) }
+    ensures memory { IfErr result (λ e. is_parse_memory e ≡ true) }
 {
     let mut kept = Vec::with_capacity(alloc, indices.len())?;
     for index in indices {
@@ -275,7 +275,7 @@ impl<'e> LineRecords<'e> {
         records: &'e [bpf_line_info],
     ) -> Result<LineRecords<'e>, ParseError>
         ensures info { IfOk result (λ r. r ≡ record { sec_name_offset = name_offset; num_info = count; line_info = records.now }) }
-        ensures memory { IfErr result (λ e. is_memory e ≡ true) }
+        ensures memory { IfErr result (λ e. is_parse_memory e ≡ true) }
     {
         if is_in_order(records) {
             return Ok(LineRecords {
@@ -301,7 +301,7 @@ impl<'e> LineRecords<'e> {
     /// None.
     pub fn none(alloc: Global) -> Result<LineRecords<'e>, ParseError>
         ensures info { IfOk result (λ r. r ≡ no_line_info) }
-        ensures memory { IfErr result (λ e. is_memory e ≡ true) }
+        ensures memory { IfErr result (λ e. is_parse_memory e ≡ true) }
     {
         LineRecords::new(alloc, 0, 0, &[])
     }
@@ -309,7 +309,7 @@ impl<'e> LineRecords<'e> {
     /// The line info of a section, none where nothing is infos of it.
     pub fn of(alloc: Global, infos: Option<&'e LineSecInfo>) -> Result<LineRecords<'e>, ParseError>
         ensures info { IfOk result (λ r. r ≡ unwrap_or (option_copied infos.entry) no_line_info) }
-        ensures memory { IfErr result (λ e. is_memory e ≡ true) }
+        ensures memory { IfErr result (λ e. is_parse_memory e ≡ true) }
     {
         match infos {
             Some(infos) => LineRecords::new(
@@ -332,7 +332,7 @@ impl<'e> LineRecords<'e> {
         base: usize,
     ) -> Result<Items<bpf_line_info>, ParseError>
         ensures records { IfOk result (λ kept. kept ≡ map (line_from base) (filter (is_line_in first count) self.now.line_info)) }
-        ensures memory { IfErr result (λ e. is_memory e ≡ true) }
+        ensures memory { IfErr result (λ e. is_parse_memory e ≡ true) }
     {
         if self.in_order {
             let among = rows_among(self.records, &self.next, first, count);
@@ -354,7 +354,7 @@ impl<'e> LineRecords<'e> {
         base: usize,
     ) -> Result<LineSecInfo, ParseError>
         ensures info { IfOk result (λ info. info ≡ lines_in self.now first count base) }
-        ensures memory { IfErr result (λ e. is_memory e ≡ true) }
+        ensures memory { IfErr result (λ e. is_parse_memory e ≡ true) }
     {
         Ok(LineSecInfo {
             sec_name_offset: self.name_offset,

@@ -4,7 +4,7 @@ ghost use Rattle.std.specs.Prelude.{◌≡◌, IfOk, IfErr, IfSome, true};
 ghost use Rattle.ebpf_declarations.specs.TypesInReading.{types_in_reading};
 ghost use Rattle.ebpf_parsing.specs.Records.{FuncAndLineInfo, func_and_line_info_of, func_info_of, line_info_of};
 ghost use Rattle.ebpf_parsing.specs.PrivateContracts.{AreFuncsOf, AreLinesOf};
-ghost use Rattle.ebpf_parts.specs.Memory.{is_memory};
+ghost use Rattle.ebpf_parts.specs.Memory.{is_parse_memory};
 
 use crate::metadata::FileMetadata;
 use crate::records::{FuncRecords, LineRecords, SectionRecords};
@@ -22,7 +22,7 @@ fn funcs_of_names<'e>(
     names: &[&str],
 ) -> Result<ByName<FuncRecords<'e>>, ParseError>
     ensures table { IfOk result (λ t. AreFuncsOf info.now t) }
-    ensures memory { IfErr result (λ e. is_memory e ≡ true) }
+    ensures memory { IfErr result (λ e. is_parse_memory e ≡ true) }
 {
     let found = info.found(alloc, names)?;
     let mut table = ByName::new(alloc);
@@ -43,7 +43,7 @@ fn lines_of_names<'e>(
     names: &[&str],
 ) -> Result<ByName<LineRecords<'e>>, ParseError>
     ensures table { IfOk result (λ t. AreLinesOf info.now t) }
-    ensures memory { IfErr result (λ e. is_memory e ≡ true) }
+    ensures memory { IfErr result (λ e. is_parse_memory e ≡ true) }
 {
     let found = info.found(alloc, names)?;
     let mut table = ByName::new(alloc);
@@ -121,7 +121,7 @@ impl<'e> RecordsByName<'e> {
         names: &[&str],
     ) -> Result<RecordsByName<'e>, ParseError>
         ensures infos { IfOk result (λ r. r ≡ ext.now) }
-        ensures memory { IfErr result (λ e. is_memory e ≡ true) }
+        ensures memory { IfErr result (λ e. is_parse_memory e ≡ true) }
     {
         let Some(infos) = ext else {
             return Ok(RecordsByName {
@@ -154,7 +154,7 @@ impl<'e> RecordsByName<'e> {
     #[tactic(auto, using(crate::proofs::ExtTables::no_ext))]
     pub fn read(&self, alloc: Global, name: &str) -> Result<OneSection<'e>, ParseError>
         ensures infos { IfOk result (λ r. r ≡ func_and_line_info_of self.now name.now) }
-        ensures memory { IfErr result (λ e. is_memory e ≡ true) }
+        ensures memory { IfErr result (λ e. is_parse_memory e ≡ true) }
     {
         match self.ext {
             Some(ext) => Ok(OneSection {

@@ -8,7 +8,7 @@ ghost use Rattle.std.specs.List.Sorted.{IsNonDecreasingBy, IsPermutation, IsSort
 ghost use Rattle.std.specs.Ordering.{nat_cmp};
 ghost use Rattle.ebpf_parsing.specs.PrivateContracts.{func_slot, line_slot};
 ghost use Rattle.ebpf_parsing.specs.RecordsBySlot.{is_at_slot, is_slot_among, indices_with};
-ghost use Rattle.ebpf_parts.specs.Memory.{is_memory};
+ghost use Rattle.ebpf_parts.specs.Memory.{is_parse_memory};
 
 use crate::by_slot::{NamesSlot, rows_among};
 use ebpf_ext::{bpf_func_info, bpf_line_info};
@@ -61,7 +61,7 @@ impl RecordsBySlot {
     /// Indices, sorted by their slots.
     pub fn sorted(mut indices: Vec<RecordIndex>) -> Result<RecordsBySlot, ParseError>
         ensures grouped { IfOk result (λ s. (q : ℕ) → filter (is_at_slot q) s ≡ filter (is_at_slot q) indices.items) }
-        ensures memory { IfErr result (λ e. is_memory e ≡ true) }
+        ensures memory { IfErr result (λ e. is_parse_memory e ≡ true) }
     {
         indices.sort_by_key(|index| index.slot)?;
         let next = Cell::new(0);
@@ -85,7 +85,7 @@ impl RecordsBySlot {
     ) -> Result<Vec<usize>, ParseError>
         ensures moved { IfOk result (λ indices. IsPermutation (map (λ p. p.index) (filter (is_slot_among first count) self.now)) indices.items) }
         ensures sorted { IfOk result (λ indices. IsSorted nat_cmp indices.items) }
-        ensures memory { IfErr result (λ e. is_memory e ≡ true) }
+        ensures memory { IfErr result (λ e. is_parse_memory e ≡ true) }
     {
         let among = rows_among(self.indices.as_slice(), &self.next, first, count);
         let mut indices = indices_of(alloc, among)?;
@@ -97,7 +97,7 @@ impl RecordsBySlot {
 /// The indices of some records.
 fn indices_of(alloc: Global, indices: &[RecordIndex]) -> Result<Vec<usize>, ParseError>
     ensures numbers { IfOk result (λ numbers. numbers.items ≡ map (λ p. p.index) indices.now) }
-    ensures memory { IfErr result (λ e. is_memory e ≡ true) }
+    ensures memory { IfErr result (λ e. is_parse_memory e ≡ true) }
 {
     let mut numbers = Vec::with_capacity(alloc, indices.len())?;
     for index in indices {
@@ -113,7 +113,7 @@ pub fn func_indices(
     records: &[bpf_func_info],
 ) -> Result<Vec<RecordIndex>, ParseError>
     ensures indices { IfOk result (λ indices. indices.items ≡ indices_with (func_slot records.now) (length records.now)) }
-    ensures memory { IfErr result (λ e. is_memory e ≡ true) }
+    ensures memory { IfErr result (λ e. is_parse_memory e ≡ true) }
 {
     let mut indices = Vec::with_capacity(alloc, records.len())?;
     for (index, row) in records.iter().enumerate() {
@@ -130,7 +130,7 @@ pub fn line_indices(
     records: &[bpf_line_info],
 ) -> Result<Vec<RecordIndex>, ParseError>
     ensures indices { IfOk result (λ indices. indices.items ≡ indices_with (line_slot records.now) (length records.now)) }
-    ensures memory { IfErr result (λ e. is_memory e ≡ true) }
+    ensures memory { IfErr result (λ e. is_parse_memory e ≡ true) }
 {
     let mut indices = Vec::with_capacity(alloc, records.len())?;
     for (index, row) in records.iter().enumerate() {

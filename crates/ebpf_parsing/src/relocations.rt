@@ -9,7 +9,7 @@ ghost use Rattle.ebpf_elf.specs.Relocations.{table_entries};
 ghost use Rattle.ebpf_parsing.specs.PrivateContracts.{EntryRangesAreCached, AreOfOneFile, lacks_symbol, last_tables};
 ghost use Rattle.ebpf_parsing.specs.Groups.{AreTablesOf};
 ghost use Rattle.ebpf_parsing.specs.Relocations.{relocations_by_offset, offset_of};
-ghost use Rattle.ebpf_parts.specs.Memory.{is_memory};
+ghost use Rattle.ebpf_parts.specs.Memory.{is_parse_memory};
 ghost use Rattle.ebpf_parts.specs.Sections.{target_fault};
 
 use crate::by_entry_range::ByEntryRange;
@@ -67,7 +67,7 @@ fn read_table<'a>(
     requires { EntryRangesAreCached section.file cached.old }
     ensures table { IfOk result (λ table. table ≡ section.entry) }
     ensures cached { OnOk result (EntryRangesAreCached section.entry.file cached.new) }
-    ensures memory { IfErr result (λ e. is_memory e ≡ true) }
+    ensures memory { IfErr result (λ e. is_parse_memory e ≡ true) }
 {
     if let Some(known) = cached.get(&section) {
         let lacks = *known;
@@ -84,7 +84,7 @@ pub fn read_relocation_sections<'a>(
     file: &ElfFile<'a>,
 ) -> Result<Groups<RelocationTable<'a>>, ParseError>
     ensures groups { IfOk result (λ g. AreTablesOf file.now g.groups) }
-    ensures memory { IfErr result (λ e. is_memory e ≡ true) }
+    ensures memory { IfErr result (λ e. is_parse_memory e ≡ true) }
 {
     let mut groups = Groups::new(alloc);
     let mut cached = ByEntryRange::new(alloc);
@@ -99,7 +99,7 @@ pub fn read_relocation_sections<'a>(
 /// Refuses relocations of which one names no symbol.
 #[tactic(auto, using(crate::proofs::TableRanges::targets_more, crate::proofs::TableRanges::targets_none))]
 pub fn check_targets(tables: &[RelocationTable<'_>]) -> Result<(), ParseError>
-    ensures { Refuses is_memory result (target_fault (flat_map table_entries tables.now)) }
+    ensures { Refuses is_parse_memory result (target_fault (flat_map table_entries tables.now)) }
 {
     for table in tables {
         if table.lacks_symbol() {
@@ -116,7 +116,7 @@ fn last_tables(
     tables: &[RelocationTable<'_>],
 ) -> Result<ByEntryRange<usize>, ParseError>
     ensures last { IfOk result (λ last. last ≡ last_tables tables.now) }
-    ensures memory { IfErr result (λ e. is_memory e ≡ true) }
+    ensures memory { IfErr result (λ e. is_parse_memory e ≡ true) }
 {
     let mut last = ByEntryRange::new(alloc);
     for table in tables {
@@ -131,7 +131,7 @@ fn gather_entries(
     table: &RelocationTable<'_>,
 ) -> Result<(), ParseError>
     ensures gathered { OnOk result (entries.new.items ≡ entries.old.items ++ map offset_of (table_entries table.now)) }
-    ensures memory { IfErr result (λ e. is_memory e ≡ true) }
+    ensures memory { IfErr result (λ e. is_parse_memory e ≡ true) }
 {
     for relocation in table.section.relocations() {
         entries.push((relocation.offset, relocation))?;
@@ -159,7 +159,7 @@ fn put_last_tables(
     requires file { AreOfOneFile tables.now }
     requires last { last.now ≡ last_tables tables.now }
     ensures kept { IfOk result (λ m. m ≡ relocations_by_offset (flat_map table_entries tables.now)) }
-    ensures memory { IfErr result (λ e. is_memory e ≡ true) }
+    ensures memory { IfErr result (λ e. is_parse_memory e ≡ true) }
 {
     let mut entries = Vec::new(alloc);
     for table in tables {
@@ -178,7 +178,7 @@ pub fn by_offset(
 ) -> Result<ByOffset<Relocation>, ParseError>
     requires { AreOfOneFile tables.now }
     ensures kept { IfOk result (λ m. m ≡ relocations_by_offset (flat_map table_entries tables.now)) }
-    ensures memory { IfErr result (λ e. is_memory e ≡ true) }
+    ensures memory { IfErr result (λ e. is_parse_memory e ≡ true) }
 {
     let last = last_tables(alloc, tables)?;
     put_last_tables(alloc, tables, &last)

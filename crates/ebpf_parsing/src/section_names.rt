@@ -1,7 +1,7 @@
 //! The names of the sections of a file.
 
 ghost use Rattle.std.specs.Prelude.{◌≡◌, IfErr, true};
-ghost use Rattle.ebpf_parts.specs.Memory.{is_memory};
+ghost use Rattle.ebpf_parts.specs.Memory.{is_parse_memory};
 
 use crate::last_data::name_or_empty;
 use ebpf_elf::ElfFile;
@@ -14,7 +14,7 @@ pub fn names_of_kinds<'a>(
     file: &ElfFile<'a>,
     kinds: &[EbpfSectionKind],
 ) -> Result<Vec<&'a str>, ParseError>
-    ensures memory { IfErr result (λ e. is_memory e ≡ true) }
+    ensures memory { IfErr result (λ e. is_parse_memory e ≡ true) }
 {
     let mut names = Vec::new(alloc);
     for section in file.sections() {

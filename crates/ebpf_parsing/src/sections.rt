@@ -4,7 +4,7 @@ ghost use Rattle.std.specs.Prelude.{◌≡◌, ◌==◌, [], filter, IfOk};
 ghost use Rattle.ebpf_base.specs.Faults.{Refuses};
 ghost use Rattle.ebpf_elf.specs.Relocations.{relocation_sections, relocated_section};
 ghost use Rattle.ebpf_parsing.specs.Groups.{AreTablesOf};
-ghost use Rattle.ebpf_parts.specs.Memory.{is_memory};
+ghost use Rattle.ebpf_parts.specs.Memory.{is_parse_memory};
 ghost use Rattle.ebpf_parts.specs.Sections.{section_with, section_fault};
 
 use crate::groups::Groups;
@@ -22,7 +22,7 @@ pub fn read_section<'a>(
 ) -> Result<Section<'a>, ParseError>
     requires { tables.now ≡ filter (λ r. relocated_section r == section.now.index) (relocation_sections section.now.file) }
     ensures section { IfOk result (λ s. s ≡ section_with [] section.now) }
-    ensures fault { Refuses is_memory result (section_fault section.now) }
+    ensures fault { Refuses is_parse_memory result (section_fault section.now) }
 {
     let read = Section::without_relocations(alloc, section)?;
     check_targets(tables)?;
@@ -40,7 +40,7 @@ pub fn read_section_of<'a>(
     requires tables { AreTablesOf file.now tables.now.groups }
     requires own { section.now.file ≡ file.now }
     ensures section { IfOk result (λ s. s ≡ section_with [] section.now) }
-    ensures fault { Refuses is_memory result (section_fault section.now) }
+    ensures fault { Refuses is_parse_memory result (section_fault section.now) }
 {
     read_section(alloc, section, tables.of(section.index().0))
 }

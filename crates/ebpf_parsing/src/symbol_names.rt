@@ -5,7 +5,7 @@ ghost use Rattle.std.specs.FinMap.{contains_key, get, insert};
 ghost use Rattle.ebpf_base.specs.Faults.{Refuses};
 ghost use Rattle.ebpf_parsing.specs.FileSymbols.{file_symbols, symbols_fault};
 ghost use Rattle.ebpf_parsing.specs.SymbolNames.{symbol_indices_by_name, weak_named};
-ghost use Rattle.ebpf_parts.specs.Memory.{is_memory};
+ghost use Rattle.ebpf_parts.specs.Memory.{is_parse_memory};
 
 use crate::symbols::NamedSymbol;
 use ebpf_base::ByName;
@@ -19,7 +19,7 @@ pub fn symbol_indices_by_name(
     symbols: &[NamedSymbol<'_>],
 ) -> Result<ByName<usize>, ParseError>
     ensures numbers { IfOk result (λ numbers. numbers ≡ symbol_indices_by_name symbols.now) }
-    ensures memory { IfErr result (λ e. is_memory e ≡ true) }
+    ensures memory { IfErr result (λ e. is_parse_memory e ≡ true) }
 {
     let mut numbers = ByName::new(alloc);
     for symbol in symbols {
@@ -32,7 +32,7 @@ pub fn symbol_indices_by_name(
 #[tactic(auto, using(crate::proofs::FirstNames::before_all, crate::proofs::FirstNames::one_more, crate::proofs::FirstNames::all_named))]
 pub fn weak_by_name(alloc: Global, file: &ElfFile<'_>) -> Result<ByName<bool>, ParseError>
     ensures weak { IfOk result (λ weak. get weak ≡ weak_named (file_symbols file.now)) }
-    ensures fault { Refuses is_memory result (symbols_fault file.now) }
+    ensures fault { Refuses is_parse_memory result (symbols_fault file.now) }
 {
     let mut weak = ByName::new(alloc);
     for symbol in file.symbols() {
@@ -45,7 +45,7 @@ pub fn weak_by_name(alloc: Global, file: &ElfFile<'_>) -> Result<ByName<bool>, P
 /// Keeps a symbol where none of its name was met.
 fn keep(alloc: Global, weak: &mut ByName<bool>, symbol: &NamedSymbol<'_>) -> Result<(), ParseError>
     ensures kept { OnOk result (weak.new ≡ (if contains_key weak.old symbol.now.name then weak.old else insert weak.old symbol.now.name symbol.now.is_weak)) }
-    ensures memory { IfErr result (λ e. is_memory e ≡ true) }
+    ensures memory { IfErr result (λ e. is_parse_memory e ≡ true) }
 {
     if weak.contains_key(symbol.name) {
         return Ok(());

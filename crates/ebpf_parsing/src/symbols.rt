@@ -9,11 +9,12 @@ ghost use Rattle.ebpf_parsing.specs.FileSymbols.{symbol_of, symbol_fault, symbol
 ghost use Rattle.ebpf_parsing.specs.PrivateContracts.{names_of};
 ghost use Rattle.ebpf_parsing.specs.Groups.{group_at};
 ghost use Rattle.ebpf_parsing.specs.Symbols.{SymbolValue, section_symbols};
-ghost use Rattle.ebpf_parts.specs.Memory.{is_memory};
+ghost use Rattle.ebpf_parts.specs.Memory.{is_parse_memory};
 
 use crate::groups::Groups;
 use ebpf_base::{ByIndex, Text};
 use ebpf_btf::BtfError;
+use ebpf_elf::constants::SHT_SYMTAB;
 use ebpf_elf::{ElfFile, ElfSymbol, SymbolKind};
 use ebpf_model::Symbol;
 use ebpf_parts::ParseError;
@@ -21,14 +22,11 @@ use std::alloc::Global;
 use std::collections::HashMap;
 use std::marker::Model;
 
-/// The kind of a section that is a symbol table (SHT_SYMTAB).
-const SYMBOL_TABLE: u32 = 2;
-
 /// The length in bytes of an entry of a symbol table.
 const ENTRY: usize = 24;
 
 /// A symbol with its name, which is borrowed from the file.
-#[derive(Debug, Drop)]
+#[derive(Drop)]
 pub struct NamedSymbol<'a> {
     pub index: usize,
     pub section_index: Option<usize>,
@@ -87,7 +85,7 @@ impl<'a> NamedSymbol<'a> {
     /// What an object keeps of it.
     fn owned(&self, alloc: Global) -> Result<Symbol, ParseError>
         ensures symbol { IfOk result (λ owned. owned ≡ (symbol_entry self.now).1) }
-        ensures memory { IfErr result (λ e. is_memory e ≡ true) }
+        ensures memory { IfErr result (λ e. is_parse_memory e ≡ true) }
     {
         Ok(Symbol {
             index: self.index,
@@ -115,7 +113,7 @@ impl<'a> FileSymbols<'a> {
     fn add(&mut self, alloc: Global, symbol: NamedSymbol<'a>) -> Result<(), ParseError>
         ensures names { OnOk result (lent_bytes self.new.names.items ≡ lent_bytes self.old.names.items ++ symbol.entry.name ∷ []) }
         ensures groups { OnOk result ((q : ℕ) → group_at self.new.groups.groups q ≡ group_at self.old.groups.groups q ++ section_symbols (symbol.entry ∷ []) q) }
-        ensures memory { IfErr result (λ e. is_memory e ≡ true) }
+        ensures memory { IfErr result (λ e. is_parse_memory e ≡ true) }
     {
         self.names.push(symbol.name)?;
         match symbol.section_index {
@@ -128,7 +126,7 @@ impl<'a> FileSymbols<'a> {
 /// About how many symbols a file has, as far as its first symbol table tells, so that a list takes its memory once.
 fn count_of(file: &ElfFile<'_>) -> usize {
     for section in file.sections() {
-        if section.kind_number() == SYMBOL_TABLE {
+        if section.kind_number() == SHT_SYMTAB {
             return section.size() as usize / ENTRY;
         }
     }
@@ -140,7 +138,7 @@ fn count_of(file: &ElfFile<'_>) -> usize {
 pub fn read_symbols<'a>(alloc: Global, file: &ElfFile<'a>) -> Result<FileSymbols<'a>, ParseError>
     ensures names { IfOk result (λ s. lent_bytes s.names.items ≡ names_of (file_symbols file.now)) }
     ensures groups { IfOk result (λ s. (q : ℕ) → group_at s.groups.groups q ≡ section_symbols (file_symbols file.now) q) }
-    ensures fault { Refuses is_memory result (symbols_fault file.now) }
+    ensures fault { Refuses is_parse_memory result (symbols_fault file.now) }
 {
     let mut symbols = FileSymbols {
         names: Vec::with_capacity(alloc, count_of(file))?,
@@ -162,7 +160,7 @@ pub fn object_symbols(
 ) -> Result<ByIndex<Symbol>, ParseError>
     requires names { lent_bytes names.now ≡ names_of (file_symbols file.now) }
     ensures table { IfOk result (λ table. table ≡ symbol_table (file_symbols file.now)) }
-    ensures memory { IfErr result (λ e. is_memory e ≡ true) }
+    ensures memory { IfErr result (λ e. is_parse_memory e ≡ true) }
 {
     let mut table = ByIndex::from_map(HashMap::with_capacity(alloc, names.len())?);
     for (symbol, name) in file.symbols().zip(names) {

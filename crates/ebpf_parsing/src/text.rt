@@ -6,7 +6,7 @@ ghost use Rattle.ebpf_base.specs.Faults.{Refuses};
 ghost use Rattle.ebpf_base.specs.Keyed.{put_all};
 ghost use Rattle.ebpf_parsing.specs.Programs.{with_key};
 ghost use Rattle.ebpf_parsing.specs.Texts.{function_at, text_fault_at, size_at, text_function, text_fault_of, text_functions, walk_fault, text_fault};
-ghost use Rattle.ebpf_parts.specs.Memory.{is_memory};
+ghost use Rattle.ebpf_parts.specs.Memory.{is_parse_memory};
 
 use crate::records::{SLOT, SectionRecords};
 use crate::symbols::NamedSymbol;
@@ -31,7 +31,7 @@ fn function_of(
     ensures end { IfOk result (λ r. r.1 ≡ offset + symbol.now.size) }
     ensures further { IfOk result (λ r. offset < r.1) }
     ensures inside { IfOk result (λ r. r.1 ≤ length section.now.bytes) }
-    ensures fault { Refuses is_memory result (text_fault_of section.now offset (Some symbol.now)) }
+    ensures fault { Refuses is_parse_memory result (text_fault_of section.now offset (Some symbol.now)) }
 {
     let left = section.bytes.len() - offset;
     if symbol.size == 0 || symbol.size > left as u64 {
@@ -72,7 +72,7 @@ fn function_at(
     ensures end { IfOk result (λ r. r.1 ≡ offset + size_at section.now symbols.now.symbols.now offset) }
     ensures further { IfOk result (λ r. offset < r.1) }
     ensures inside { IfOk result (λ r. r.1 ≤ length section.now.bytes) }
-    ensures fault { Refuses is_memory result (text_fault_at section.now symbols.now.symbols.now offset) }
+    ensures fault { Refuses is_parse_memory result (text_fault_at section.now symbols.now.symbols.now offset) }
 {
     let address = section.address.wrapping_add(offset as u64);
     match symbols.at(address) {
@@ -93,7 +93,7 @@ fn gather(
     symbols: &TextSymbols<'_, '_>,
 ) -> Result<Vec<((usize, u64), Function)>, ParseError>
     ensures all { IfOk result (λ entries. entries.items ≡ map with_key (text_functions records.now section.now symbols.now.symbols.now)) }
-    ensures fault { Refuses is_memory result (walk_fault section.now symbols.now.symbols.now) }
+    ensures fault { Refuses is_parse_memory result (walk_fault section.now symbols.now.symbols.now) }
 {
     let mut entries = Vec::with_capacity(alloc, symbols.count())?;
     let mut offset = 0;
@@ -143,7 +143,7 @@ pub fn put_text_functions(
     symbols: &[NamedSymbol<'_>],
 ) -> Result<(), ParseError>
     ensures put { OnOk result (functions.new ≡ put_all functions.old (map with_key (text_functions records.now section.now symbols.now))) }
-    ensures fault { Refuses is_memory result (text_fault section.now symbols.now) }
+    ensures fault { Refuses is_parse_memory result (text_fault section.now symbols.now) }
 {
     let symbols = TextSymbols::new(alloc, section.index.0, symbols)?;
     let entries = gather(alloc, records, section, &symbols)?;

@@ -7,7 +7,7 @@ ghost use Rattle.std.specs.List.Sorted.{IsNonDecreasingBy, IsPartitionPoint};
 ghost use Rattle.ebpf_base.specs.Faults.{Refuses};
 ghost use Rattle.ebpf_parsing.specs.Texts.{conflict_fault, is_defined_text, is_text_at};
 ghost use Rattle.ebpf_parsing.specs.PrivateContracts.{is_at};
-ghost use Rattle.ebpf_parts.specs.Memory.{is_memory};
+ghost use Rattle.ebpf_parts.specs.Memory.{is_parse_memory};
 
 use crate::symbols::NamedSymbol;
 use ebpf_elf::SymbolKind;
@@ -31,7 +31,7 @@ fn defined<'s, 'a>(
     symbols: &'s [NamedSymbol<'a>],
 ) -> Result<Vec<&'s NamedSymbol<'a>>, ParseError>
     ensures rows { IfOk result (λ rows. map (λ y. y.now) rows.items ≡ filter is_defined_text symbols.now) }
-    ensures memory { IfErr result (λ e. is_memory e ≡ true) }
+    ensures memory { IfErr result (λ e. is_parse_memory e ≡ true) }
 {
     let mut rows = Vec::with_capacity(alloc, symbols.len())?;
     for symbol in symbols {
@@ -48,7 +48,7 @@ fn sorted<'s, 'a>(
 ) -> Result<Vec<&'s NamedSymbol<'a>>, ParseError>
     ensures rising { IfOk result (λ s. IsNonDecreasingBy (λ y. y.now.address) s.items) }
     ensures grouped { IfOk result (λ s. (q : ℕ) → filter (is_at q) (map (λ y. y.now) s.items) ≡ filter (is_at q) (map (λ y. y.now) rows.entry.items)) }
-    ensures memory { IfErr result (λ e. is_memory e ≡ true) }
+    ensures memory { IfErr result (λ e. is_parse_memory e ≡ true) }
 {
     rows.sort_by_key(|row| row.address)?;
     Ok(rows)
@@ -83,7 +83,7 @@ fn check_conflicts(
     section_index: usize,
     symbols: &[NamedSymbol<'_>],
 ) -> Result<(), ParseError>
-    ensures { Refuses is_memory result (conflict_fault section_index symbols.now) }
+    ensures { Refuses is_parse_memory result (conflict_fault section_index symbols.now) }
 {
     let mut found = BTreeSet::new(alloc);
     for symbol in symbols {
@@ -109,7 +109,7 @@ fn check_apart(
     rows: &[&NamedSymbol<'_>],
 ) -> Result<(), ParseError>
     requires { (q : ℕ) → filter (is_at q) (map (λ y. y.now) rows.now) ≡ filter (is_text_at q) symbols.now }
-    ensures { Refuses is_memory result (conflict_fault section_index symbols.now) }
+    ensures { Refuses is_parse_memory result (conflict_fault section_index symbols.now) }
 {
     if rises(rows) {
         return Ok(());
@@ -177,7 +177,7 @@ impl<'s, 'a> TextSymbols<'s, 'a> {
         symbols: &'s [NamedSymbol<'a>],
     ) -> Result<TextSymbols<'s, 'a>, ParseError>
         ensures symbols { IfOk result (λ t. t.symbols.now ≡ symbols.now) }
-        ensures fault { Refuses is_memory result (conflict_fault section_index symbols.now) }
+        ensures fault { Refuses is_parse_memory result (conflict_fault section_index symbols.now) }
     {
         let rows = sorted(defined(alloc, symbols)?)?;
         check_apart(alloc, section_index, symbols, rows.as_slice())?;

@@ -4,7 +4,7 @@ ghost use Rattle.std.specs.Prelude.{◌≡◌, IfOk};
 ghost use Rattle.ebpf_base.specs.Faults.{Refuses};
 ghost use Rattle.ebpf_parsing.specs.Groups.{AreTablesOf};
 ghost use Rattle.ebpf_parsing.specs.LicenseAndVersion.{version_number_fault, version_of, kernel_version_of, version_fault};
-ghost use Rattle.ebpf_parts.specs.Memory.{is_memory};
+ghost use Rattle.ebpf_parts.specs.Memory.{is_parse_memory};
 
 use crate::groups::Groups;
 use crate::relocations::RelocationTable;
@@ -23,7 +23,7 @@ const ANY_KERNEL: u32 = 0xffff_fffe;
 #[tactic(auto, unfolding(crate::specs::LicenseAndVersion::version_number_fault, crate::specs::LicenseAndVersion::version_of))]
 fn version_in(alloc: Global, order: Endianness, bytes: &[u8]) -> Result<Option<u32>, ParseError>
     ensures version { IfOk result (λ version. version ≡ version_of order bytes.now) }
-    ensures fault { Refuses is_memory result (version_number_fault bytes.now) }
+    ensures fault { Refuses is_parse_memory result (version_number_fault bytes.now) }
 {
     if bytes.len() != 4 {
         return Err(ParseError::InvalidKernelVersion {
@@ -46,7 +46,7 @@ pub fn read_version(
 ) -> Result<Option<u32>, ParseError>
     requires tables { AreTablesOf file.now tables.now.groups }
     ensures version { IfOk result (λ version. version ≡ kernel_version_of file.now) }
-    ensures fault { Refuses is_memory result (version_fault file.now) }
+    ensures fault { Refuses is_parse_memory result (version_fault file.now) }
 {
     let Some(section) = file.section_by_name("version") else {
         return Ok(None);

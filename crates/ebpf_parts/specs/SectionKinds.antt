@@ -3,6 +3,7 @@ use Rattle.std.specs.Prelude.{ℕ, Bool, not, ◌&&◌, List, [], ◌∷◌, Opt
 use Rattle.std.specs.List.{starts_with}
 use Rattle.std.specs.Str.{bytes_eq}
 use Rattle.ebpf_base.specs.Faults.{first_of}
+use Rattle.ebpf_elf.specs.declared.constants.TheConstants.{SHF_ALLOC, SHF_EXECINSTR, SHT_PROGBITS}
 use Rattle.ebpf_elf.specs.declared.header.SectionHeader.{SectionHeader}
 use Rattle.ebpf_parts.specs.declared.section_kind.EbpfSectionKind.{EbpfSectionKind}
 use Rattle.ebpf_parts.specs.declared.section_kind.EbpfSectionKind.TheVariants.{Undefined, Maps, BtfMaps, Program, Data, Rodata, Bss, Text, Btf, BtfExt, License, Version}
@@ -29,7 +30,7 @@ named_kinds name =
 -- a section of instructions: PROGBITS with the flags ALLOC and EXECINSTR, and not empty
 abbrev pub is_code : SectionHeader → Bool
 is_code h =
-    h.sh_type == 1 && not (bit_and h.sh_flags 2 == 0) && not (bit_and h.sh_flags 4 == 0) && not (h.sh_size == 0)
+    h.sh_type == SHT_PROGBITS && not (bit_and h.sh_flags SHF_ALLOC == 0) && not (bit_and h.sh_flags SHF_EXECINSTR == 0) && not (h.sh_size == 0)
 
 abbrev pub kind_or : Bool → Option EbpfSectionKind → EbpfSectionKind
 kind_or code (Some kind) = kind

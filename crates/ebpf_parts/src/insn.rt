@@ -2,7 +2,7 @@
 
 ghost use Rattle.std.specs.Prelude.{◌≡◌, ◌+◌, ◌*◌, ◌/◌, ◌%◌, ◌<◌, ◌≤◌, length, IfOk};
 ghost use Rattle.ebpf_base.specs.Faults.{Refuses, first_of};
-ghost use Rattle.ebpf_parts.specs.Memory.{is_memory};
+ghost use Rattle.ebpf_parts.specs.Memory.{is_parse_memory};
 ghost use Rattle.ebpf_parts.specs.Slots.{slot_at, slots_of, slot_bytes, code_faults, dst_of, src_of, is_pseudo_call, is_helper_call, registers};
 
 pub mod opcodes;
@@ -112,7 +112,7 @@ fn read_slot(bytes: &[u8], offset: usize) -> bpf_insn
 #[tactic(auto, using(crate::proofs::SlotLists::slots_end), unfolding(crate::specs::Slots::slots_of, crate::specs::Slots::code_faults))]
 pub fn copy_instructions(alloc: Global, bytes: &[u8]) -> Result<Vec<bpf_insn>, ParseError>
     ensures slots { IfOk result (λ slots. slots.items ≡ slots_of bytes.now) }
-    ensures fault { Refuses is_memory result (first_of (code_faults bytes.now)) }
+    ensures fault { Refuses is_parse_memory result (first_of (code_faults bytes.now)) }
 {
     if bytes.len() % 8 != 0 {
         return Err(ParseError::InvalidProgramCode);

@@ -2,7 +2,7 @@
 
 ghost use Rattle.std.specs.Prelude.{◌≡◌, IfOk, Some};
 ghost use Rattle.ebpf_base.specs.Faults.{Refuses};
-ghost use Rattle.ebpf_parts.specs.Memory.{is_memory};
+ghost use Rattle.ebpf_parts.specs.Memory.{is_parse_memory};
 ghost use Rattle.ebpf_parts.specs.ProgramKinds.{unmarked};
 ghost use Rattle.ebpf_parts.specs.ProgramSections.{program_section, program_section_fault};
 ghost use Rattle.ebpf_parts.specs.Readings.{section_as, section_fault_as};
@@ -102,7 +102,7 @@ impl ProgramSection {
     /// `InvalidProgramSection` where the name says no kind.
     pub fn from_str(alloc: Global, name: &str) -> Result<ProgramSection, ParseError>
         ensures section { IfOk result (λ section. program_section name.now ≡ Some section) }
-        ensures fault { Refuses is_memory result (program_section_fault name.now) }
+        ensures fault { Refuses is_parse_memory result (program_section_fault name.now) }
     {
         match program_section(name) {
             Some(section) => Ok(section),
@@ -121,7 +121,7 @@ impl ProgramSection {
     #[tactic(auto, unfolding(crate::specs::Readings::section_as))]
     pub fn read(alloc: Global, name: &str, reading: Reading) -> Result<ProgramSection, ParseError>
         ensures section { IfOk result (λ section. section_as reading name.now ≡ Some section) }
-        ensures fault { Refuses is_memory result (section_fault_as reading name.now) }
+        ensures fault { Refuses is_parse_memory result (section_fault_as reading name.now) }
     {
         match reading {
             Reading::Stated => ProgramSection::from_str(alloc, name),

@@ -4,7 +4,7 @@ ghost use Rattle.std.specs.Prelude.{◌≡◌, [], IfOk, Some};
 ghost use Rattle.ebpf_base.specs.Faults.{Refuses, or_else, fault_of};
 ghost use Rattle.ebpf_elf.specs.Relocations.{relocations};
 ghost use Rattle.ebpf_elf.specs.Sections.{header, data_of, section_name};
-ghost use Rattle.ebpf_parts.specs.Memory.{is_memory};
+ghost use Rattle.ebpf_parts.specs.Memory.{is_parse_memory};
 ghost use Rattle.ebpf_parts.specs.Sections.{SectionValue, section_of, section_with, section_fault, section_fault_with, target_fault, data_fault, section_name_fault};
 
 use crate::error::ParseError;
@@ -74,7 +74,7 @@ fn data_of<'a>(section: &ElfSection<'a>) -> Result<&'a [u8], ParseError>
 /// The relocations of a section, each against a symbol.
 fn relocations_of(alloc: Global, section: &ElfSection<'_>) -> Result<Items<Relocation>, ParseError>
     ensures list { IfOk result (λ collected. collected ≡ relocations section.now) }
-    ensures fault { Refuses is_memory result (target_fault (relocations section.now)) }
+    ensures fault { Refuses is_parse_memory result (target_fault (relocations section.now)) }
 {
     let mut collected = Items::new(alloc);
     for relocation in section.relocations() {
@@ -97,7 +97,7 @@ impl<'a> Section<'a> {
     #[tactic(auto, unfolding(crate::specs::Sections::section_of, crate::specs::Sections::section_with, crate::specs::Sections::section_fault, crate::specs::Sections::section_fault_with))]
     pub fn from_elf(alloc: Global, section: &ElfSection<'a>) -> Result<Section<'a>, ParseError>
         ensures section { IfOk result (λ s. s ≡ section_of section.now) }
-        ensures fault { Refuses is_memory result (section_fault section.now) }
+        ensures fault { Refuses is_parse_memory result (section_fault section.now) }
     {
         let name = read_name(section)?;
         let bytes = data_of(section)?;

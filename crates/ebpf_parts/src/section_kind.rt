@@ -6,13 +6,7 @@ ghost use Rattle.ebpf_base.specs.Faults.{first_of};
 ghost use Rattle.ebpf_parts.specs.SectionKinds.{kind_of_section, named_kinds, is_code};
 
 use ebpf_elf::ElfSection;
-
-/// The kind of a section that programs, data and tables of an ELF file have.
-const SHT_PROGBITS: u32 = 1;
-/// The flag of a section that is in memory while the program runs.
-const SHF_ALLOC: u64 = 2;
-/// The flag of a section of instructions.
-const SHF_EXECINSTR: u64 = 4;
+use ebpf_elf::constants::{SHF_ALLOC, SHF_EXECINSTR, SHT_PROGBITS};
 
 /// What a section of an object is for.
 #[derive(Clone, Copy, Debug, PartialEq, Eq)]

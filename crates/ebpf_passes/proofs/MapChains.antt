@@ -18,7 +18,7 @@ use Rattle.ebpf_model.specs.declared.symbol.Symbol.{Symbol}
 use Rattle.ebpf_passes.specs.declared.edit.Edit.{Edit}
 use Rattle.ebpf_passes.specs.declared.edit.Edit.TheVariants.{Stay, Slot, Pair}
 use Rattle.ebpf_passes.specs.declared.map_tables.MapTarget.{MapTarget}
-use Rattle.ebpf_passes.specs.declared.refusal.Fault.{Fault}
+use Rattle.ebpf_passes.specs.declared.refusal.SlotFault.{SlotFault}
 use Rattle.ebpf_passes.specs.Edits.{slot_or_zeros, edited_next, found_slot}
 use Rattle.ebpf_passes.specs.MapChains.{address_in, data_address_in_section, data_address_of_symbol, data_address_by, data_address, IsChain, data_addresses, OffsetsAddUp}
 use Rattle.ebpf_passes.specs.Maps.{MapInputs, fits_imm, value_edit, value_offset, target_edit, found_edit, map_target_at, section_edit, edit_in_section, map_edit_of_symbol, map_edit}
@@ -77,10 +77,10 @@ After None slot next after = after ≡ next
 After (Some address) slot next after = after ≡ record next { imm = slot.imm +ℤ pos address }
 
 module _ (slot next : bpf_insn) (has_next : Bool) where
-  abbrev Follows : Option ℕ → Result Edit Fault → Type 0
+  abbrev Follows : Option ℕ → Result Edit SlotFault → Type 0
   Follows address r = ((e : Edit) → r ≡ Ok e → After address slot next (edited_next (edit_of r) next)) × (address ≡ None → edited_next (edit_of r) next ≡ next)
 
-  refuses : (address : Option ℕ) (f : Fault) → Follows address (Err f)
+  refuses : (address : Option ℕ) (f : SlotFault) → Follows address (Err f)
   refuses address f = (λ e is. absurd (cc), λ none. refl)
 
   stays : Follows None (Ok Stay)
@@ -90,7 +90,7 @@ module _ (slot next : bpf_insn) (has_next : Bool) where
   in_data target address = by target.has_data has_next (fits_imm (slot.imm +ℤ pos address)) refl refl
     where
       by : (d m b : Bool) → has_next ≡ m → fits_imm (slot.imm +ℤ pos address) ≡ b
-          → Follows (cond d (Some address) None) (cond d (cond m (value_edit (cond b (Some (slot.imm +ℤ pos address)) None) slot target.descriptor) (Err Rattle.ebpf_passes.specs.declared.refusal.Fault.TheVariants.InvalidOffset)) (Ok (Slot (Rattle.ebpf_passes.specs.Maps.with_source slot 1 target.descriptor))))
+          → Follows (cond d (Some address) None) (cond d (cond m (value_edit (cond b (Some (slot.imm +ℤ pos address)) None) slot target.descriptor) (Err Rattle.ebpf_passes.specs.declared.refusal.SlotFault.TheVariants.InvalidOffset)) (Ok (Slot (Rattle.ebpf_passes.specs.Maps.with_source slot 1 target.descriptor))))
       by false m b has holds = (λ e is. refl, λ none. refl)
       by true false b has holds = refuses _ _
       by true true false has holds = refuses _ _
@@ -131,7 +131,7 @@ module _ (inputs : MapInputs) (section_relocations : SectionRelocations) (f : Fu
       let among : is_in_slots f.section_offset (length f.instructions) (f.section_offset + 8 * k) ≡ true = grind (arith, nat_tests) in
       rw (among, aligned, slot) at all
 
-  is_ok : (e : ℕ × ElfRelocation) (x : Result Edit Fault) → refused e x ≡ None → (made : Edit) × (x ≡ Ok made)
+  is_ok : (e : ℕ × ElfRelocation) (x : Result Edit SlotFault) → refused e x ≡ None → (made : Edit) × (x ≡ Ok made)
   is_ok e (Ok made) h = (made, refl)
   is_ok e (Err fault) h = absurd (cc)
 

@@ -10,9 +10,9 @@ use Rattle.ebpf_elf.specs.declared.entries.ElfRelocation.{ElfRelocation}
 use Rattle.ebpf_parts.specs.declared.insn.bpf_insn.{bpf_insn}
 use Rattle.ebpf_passes.specs.declared.edit.Edit.{Edit}
 use Rattle.ebpf_passes.specs.declared.edit.Edit.TheVariants.{Stay, Slot, Pair}
-use Rattle.ebpf_passes.specs.declared.refusal.Fault.{Fault}
-use Rattle.ebpf_passes.specs.declared.refusal.Fault.TheVariants.{InvalidOffset}
-use Rattle.ebpf_passes.specs.declared.refusal.Refusal.{Refusal}
+use Rattle.ebpf_passes.specs.declared.refusal.SlotFault.{SlotFault}
+use Rattle.ebpf_passes.specs.declared.refusal.SlotFault.TheVariants.{InvalidOffset}
+use Rattle.ebpf_passes.specs.declared.refusal.SlotRefusal.{SlotRefusal}
 use Rattle.ebpf_passes.specs.Edits.{slot_or_zeros, edited_next, found_slot}
 use Rattle.ebpf_passes.specs.Relocated.{EditRule, SectionRelocations, edit_of, edit_by, edit_at, is_in_slots, refused, refusal_at}
 use Rattle.ebpf_passes.specs.InPlaceEdits.{Pending, pending_slot, pending_of, pending_after, scan_on, scan}
@@ -38,7 +38,7 @@ module _ (rule_edit : EditRule) (section_relocations : SectionRelocations) (star
   abbrev edit : ℕ → bpf_insn → Edit
   edit = edit_at rule_edit section_relocations start (length slots)
 
-  abbrev fault : ℕ × ElfRelocation → Option Refusal
+  abbrev fault : ℕ × ElfRelocation → Option SlotRefusal
   fault = refusal_at rule_edit section_relocations start slots
 
   -- what stands from the first of some relocations on is among them
@@ -92,7 +92,7 @@ module _ (rule_edit : EditRule) (section_relocations : SectionRelocations) (star
   scanned [] p rising from tail head = refl
   scanned (e ∷ es) p rising from tail head = by_cases _ _ _ refl refl refl (λ next found_slot. scanned es next rising.1 from.1 (tail_on e es rising.0 tail) found_slot)
     where
-      by_result : Later es → (j : ℕ) (r : Result Edit Fault) → e.0 ≡ start + 8 * j → rule_edit e.1 (found_slot edit slots j) (nat_lt (j + 1) (length slots)) ≡ r
+      by_result : Later es → (j : ℕ) (r : Result Edit SlotFault) → e.0 ≡ start + 8 * j → rule_edit e.1 (found_slot edit slots j) (nat_lt (j + 1) (length slots)) ≡ r
           → scan_on e (pending_after j r) (λ next. scan rule_edit start slots next es) ≡ or_else (refused e r) (first_some fault es)
       by_result later j (Err f) here is = refl
       by_result later j (Ok made) here is =

@@ -15,8 +15,8 @@ use Rattle.ebpf_passes.specs.declared.edit.Edit.{Edit}
 use Rattle.ebpf_passes.specs.declared.edit.Edit.TheVariants.{Stay, Slot, Pair}
 use Rattle.ebpf_passes.specs.declared.extern_rule.Load.{Load}
 use Rattle.ebpf_passes.specs.declared.extern_rule.Load.TheVariants.{Id, Address}
-use Rattle.ebpf_passes.specs.declared.refusal.Fault.{Fault}
-use Rattle.ebpf_passes.specs.declared.refusal.Fault.TheVariants.{UnknownSymbol, InvalidOffset, ExternNotFound, UnresolvableSymbol}
+use Rattle.ebpf_passes.specs.declared.refusal.SlotFault.{SlotFault}
+use Rattle.ebpf_passes.specs.declared.refusal.SlotFault.TheVariants.{UnknownSymbol, InvalidOffset, ExternNotFound, UnresolvableSymbol}
 use Rattle.ebpf_passes.specs.Maps.{with_source}
 
 -- what is read to write externs
@@ -32,12 +32,12 @@ kernel_call slot id = record slot { regs = registers pseudo_kfunc_call (dst_of s
 abbrev pub absent_call : bpf_insn → ℕ → bpf_insn
 absent_call slot symbol = record slot { regs = 0; off = pos 0; imm = cast_signed w32 ((2002000000 + symbol) % 2 ^ 32) }
 
-abbrev pub resolved_call : Option ℕ → bpf_insn → Result Edit Fault
+abbrev pub resolved_call : Option ℕ → bpf_insn → Result Edit SlotFault
 resolved_call None slot = Err UnresolvableSymbol
 resolved_call (Some id) slot = Ok (Slot (kernel_call slot id))
 
 -- a call: of a function with its id where it is resolved, of nothing where it is weak
-abbrev pub call_edit : ExternDesc → ℕ → bpf_insn → Result Edit Fault
+abbrev pub call_edit : ExternDesc → ℕ → bpf_insn → Result Edit SlotFault
 call_edit desc symbol slot =
     if desc.is_resolved then resolved_call desc.kernel_btf_id slot
     else (if desc.is_weak then Ok (Slot (absent_call slot symbol)) else Err UnresolvableSymbol)
@@ -60,19 +60,19 @@ abbrev pub edit_of_load : Load → bpf_insn → Edit
 edit_of_load (Id id) slot = Pair (with_source slot pseudo_btf_id (cast_signed w32 id)) (pos 0)
 edit_of_load (Address address) slot = Pair (with_source slot 0 (cast_signed w32 (address % 2 ^ 32))) (cast_signed w32 (address / 2 ^ 32))
 
-abbrev pub load_edit : Option Load → bpf_insn → Bool → Result Edit Fault
+abbrev pub load_edit : Option Load → bpf_insn → Bool → Result Edit SlotFault
 load_edit None slot has_next = Err UnresolvableSymbol
 load_edit (Some load) slot has_next = if has_next then Ok (edit_of_load load slot) else Err InvalidOffset
 
 -- a call has code 0x85, a load of 64 bits 0x18 (RFC 9669, sections 4.3 and 5.4)
-abbrev pub declared_extern_edit : Option ExternDesc → ℕ → bpf_insn → Bool → Result Edit Fault
+abbrev pub declared_extern_edit : Option ExternDesc → ℕ → bpf_insn → Bool → Result Edit SlotFault
 declared_extern_edit None symbol slot has_next = Err ExternNotFound
 declared_extern_edit (Some desc) symbol slot has_next =
     if slot.code == call then call_edit desc symbol slot
     else (if slot.code == ld_imm64 then load_edit (load_of desc) slot has_next else Err InvalidOffset)
 
 -- a symbol that is no extern is no matter of externs
-abbrev pub extern_edit_of_symbol : ExternInputs → Option Symbol → ElfRelocation → bpf_insn → Bool → Result Edit Fault
+abbrev pub extern_edit_of_symbol : ExternInputs → Option Symbol → ElfRelocation → bpf_insn → Bool → Result Edit SlotFault
 extern_edit_of_symbol inputs None relocation slot has_next = Err UnknownSymbol
 extern_edit_of_symbol inputs (Some symbol) relocation slot has_next =
     if is_extern symbol
@@ -80,5 +80,5 @@ extern_edit_of_symbol inputs (Some symbol) relocation slot has_next =
     else Ok Stay
 
 -- what becomes of a slot with a relocation
-abbrev pub extern_edit : ExternInputs → ElfRelocation → bpf_insn → Bool → Result Edit Fault
+abbrev pub extern_edit : ExternInputs → ElfRelocation → bpf_insn → Bool → Result Edit SlotFault
 extern_edit inputs relocation slot has_next = extern_edit_of_symbol inputs (get inputs.symbols relocation.symbol_index) relocation slot has_next

@@ -4,9 +4,9 @@ use Rattle.ebpf_elf.specs.declared.entries.ElfRelocation.{ElfRelocation}
 use Rattle.ebpf_parts.specs.declared.insn.bpf_insn.{bpf_insn}
 use Rattle.ebpf_passes.specs.declared.edit.Edit.{Edit}
 use Rattle.ebpf_passes.specs.declared.edit.Edit.TheVariants.{Stay, Slot, Pair}
-use Rattle.ebpf_passes.specs.declared.refusal.Fault.{Fault}
-use Rattle.ebpf_passes.specs.declared.refusal.Fault.TheVariants.{InvalidOffset}
-use Rattle.ebpf_passes.specs.declared.refusal.Refusal.{Refusal}
+use Rattle.ebpf_passes.specs.declared.refusal.SlotFault.{SlotFault}
+use Rattle.ebpf_passes.specs.declared.refusal.SlotFault.TheVariants.{InvalidOffset}
+use Rattle.ebpf_passes.specs.declared.refusal.SlotRefusal.{SlotRefusal}
 use Rattle.ebpf_passes.specs.Edits.{slot_or_zeros}
 use Rattle.ebpf_passes.specs.Relocated.{EditRule, edit_of}
 
@@ -43,23 +43,23 @@ pending_of j Stay = None
 pending_of j (Slot made) = None
 pending_of j (Pair made next) = Some (j + 1, next)
 
-abbrev pub pending_after : ℕ → Result Edit Fault → Result Pending Fault
+abbrev pub pending_after : ℕ → Result Edit SlotFault → Result Pending SlotFault
 pending_after j (Ok edit) = Ok (pending_of j edit)
 pending_after j (Err fault) = Err fault
 
 -- what a relocation at a distance from the first slot leaves to be found, or why it can't be applied
-abbrev pub tried : EditRule → List bpf_insn → Pending → ℕ → ElfRelocation → Result Pending Fault
+abbrev pub tried : EditRule → List bpf_insn → Pending → ℕ → ElfRelocation → Result Pending SlotFault
 tried rule_edit slots pending distance relocation =
     if distance % 8 == 0
     then pending_after (distance / 8) (rule_edit relocation (pending_slot pending (distance / 8) (slot_or_zeros slots (distance / 8))) (nat_lt (distance / 8 + 1) (length slots)))
     else Err InvalidOffset
 
-abbrev pub scan_on : ℕ × ElfRelocation → Result Pending Fault → (Pending → Option Refusal) → Option Refusal
+abbrev pub scan_on : ℕ × ElfRelocation → Result Pending SlotFault → (Pending → Option SlotRefusal) → Option SlotRefusal
 scan_on e (Ok pending) rest = rest pending
 scan_on e (Err fault) rest = Some (record { offset = e.0; relocation = e.1; fault = fault })
 
 -- the first relocation of some in order that can't be applied, up to the first that is past the slots
-abbrev pub scan : EditRule → ℕ → List bpf_insn → Pending → List (ℕ × ElfRelocation) → Option Refusal
+abbrev pub scan : EditRule → ℕ → List bpf_insn → Pending → List (ℕ × ElfRelocation) → Option SlotRefusal
 scan rule_edit start slots pending [] = None
 scan rule_edit start slots pending (e ∷ es) =
     if nat_lt ((e.0 - start) / 8) (length slots)

@@ -17,8 +17,8 @@ use Rattle.ebpf_passes.specs.declared.edit.Edit.{Edit}
 use Rattle.ebpf_passes.specs.declared.edit.Edit.TheVariants.{Stay, Slot, Pair}
 use Rattle.ebpf_passes.specs.declared.map_tables.MapTables.{MapTables}
 use Rattle.ebpf_passes.specs.declared.map_tables.MapTarget.{MapTarget}
-use Rattle.ebpf_passes.specs.declared.refusal.Fault.{Fault}
-use Rattle.ebpf_passes.specs.declared.refusal.Fault.TheVariants.{UnknownSymbol, InvalidOffset, SectionNotFound, MapAddressOverflow}
+use Rattle.ebpf_passes.specs.declared.refusal.SlotFault.{SlotFault}
+use Rattle.ebpf_passes.specs.declared.refusal.SlotFault.TheVariants.{UnknownSymbol, InvalidOffset, SectionNotFound, MapAddressOverflow}
 use denote.Ref.{Bor}
 
 -- a map that is handed in: its descriptor, and the map
@@ -69,19 +69,19 @@ fits_imm (negsuc n) = nat_lt n (2 ^ 31)
 abbrev pub value_offset : ℤ → ℕ → Option ℤ
 value_offset imm address = if fits_imm (imm +ℤ pos address) then Some (imm +ℤ pos address) else None
 
-abbrev pub value_edit : Option ℤ → bpf_insn → ℤ → Result Edit Fault
+abbrev pub value_edit : Option ℤ → bpf_insn → ℤ → Result Edit SlotFault
 value_edit None slot descriptor = Err MapAddressOverflow
 value_edit (Some next) slot descriptor = Ok (Pair (with_source slot pseudo_map_value descriptor) next)
 
 -- A map with data is named by source 2, with the offset in its data in the slot after it
 -- (RFC 9669, section 5.4: the address of a map's value); a map by source 1.
-abbrev pub target_edit : MapTarget → ℕ → bpf_insn → Bool → Result Edit Fault
+abbrev pub target_edit : MapTarget → ℕ → bpf_insn → Bool → Result Edit SlotFault
 target_edit target address slot has_next =
     if target.has_data
     then (if has_next then value_edit (value_offset slot.imm address) slot target.descriptor else Err InvalidOffset)
     else Ok (Slot (with_source slot pseudo_map_fd target.descriptor))
 
-abbrev pub found_edit : Option MapTarget → ℕ → ℕ → bpf_insn → Bool → Result Edit Fault
+abbrev pub found_edit : Option MapTarget → ℕ → ℕ → bpf_insn → Bool → Result Edit SlotFault
 found_edit None section address slot has_next = Err (SectionNotFound section)
 found_edit (Some target) section address slot has_next = target_edit target address slot has_next
 
@@ -90,20 +90,20 @@ abbrev pub map_target_at : MapTables → ℕ → ℕ → Option MapTarget
 map_target_at tables symbol section = or_else (get tables.by_symbol symbol) (get tables.by_section section)
 
 -- a call of a function and a symbol among the functions are no matter of maps
-abbrev pub section_edit : MapInputs → ℕ → ElfRelocation → Symbol → bpf_insn → Bool → Result Edit Fault
+abbrev pub section_edit : MapInputs → ℕ → ElfRelocation → Symbol → bpf_insn → Bool → Result Edit SlotFault
 section_edit inputs section relocation symbol slot has_next =
     if is_pseudo_call slot || inputs.text_sections section
     then Ok Stay
     else found_edit (map_target_at inputs.tables relocation.symbol_index section) section symbol.address slot has_next
 
-abbrev pub edit_in_section : MapInputs → Option ℕ → ElfRelocation → Symbol → bpf_insn → Bool → Result Edit Fault
+abbrev pub edit_in_section : MapInputs → Option ℕ → ElfRelocation → Symbol → bpf_insn → Bool → Result Edit SlotFault
 edit_in_section inputs None relocation symbol slot has_next = Ok Stay
 edit_in_section inputs (Some section) relocation symbol slot has_next = section_edit inputs section relocation symbol slot has_next
 
-abbrev pub map_edit_of_symbol : MapInputs → Option Symbol → ElfRelocation → bpf_insn → Bool → Result Edit Fault
+abbrev pub map_edit_of_symbol : MapInputs → Option Symbol → ElfRelocation → bpf_insn → Bool → Result Edit SlotFault
 map_edit_of_symbol inputs None relocation slot has_next = Err UnknownSymbol
 map_edit_of_symbol inputs (Some symbol) relocation slot has_next = edit_in_section inputs symbol.section_index relocation symbol slot has_next
 
 -- what becomes of a slot with a relocation
-abbrev pub map_edit : MapInputs → ElfRelocation → bpf_insn → Bool → Result Edit Fault
+abbrev pub map_edit : MapInputs → ElfRelocation → bpf_insn → Bool → Result Edit SlotFault
 map_edit inputs relocation slot has_next = map_edit_of_symbol inputs (get inputs.symbols relocation.symbol_index) relocation slot has_next

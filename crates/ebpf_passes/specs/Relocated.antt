@@ -13,9 +13,9 @@ use Rattle.ebpf_model.specs.declared.function.Function.{Function}
 use Rattle.ebpf_model.specs.declared.symbol.Symbol.{Symbol}
 use Rattle.ebpf_passes.specs.declared.edit.Edit.{Edit}
 use Rattle.ebpf_passes.specs.declared.edit.Edit.TheVariants.{Stay}
-use Rattle.ebpf_passes.specs.declared.refusal.Fault.{Fault}
-use Rattle.ebpf_passes.specs.declared.refusal.Fault.TheVariants.{UnknownSymbol, InvalidOffset, SectionNotFound, MapAddressOverflow, ExternNotFound, UnresolvableSymbol}
-use Rattle.ebpf_passes.specs.declared.refusal.Refusal.{Refusal}
+use Rattle.ebpf_passes.specs.declared.refusal.SlotFault.{SlotFault}
+use Rattle.ebpf_passes.specs.declared.refusal.SlotFault.TheVariants.{UnknownSymbol, InvalidOffset, SectionNotFound, MapAddressOverflow, ExternNotFound, UnresolvableSymbol}
+use Rattle.ebpf_passes.specs.declared.refusal.SlotRefusal.{SlotRefusal}
 use Rattle.ebpf_passes.specs.Edits.{found_slot, slots_after}
 
 -- the relocations of one section by offset, and those of all sections by index
@@ -28,9 +28,9 @@ Relocations = FinMap nat_cmp SectionRelocations
 -- What a pass makes of a relocation and of the slot at which it stands, as it is found there; the last value tells
 -- whether the function has a slot after it.
 abbrev pub EditRule : Type 0
-EditRule = ElfRelocation → bpf_insn → Bool → Result Edit Fault
+EditRule = ElfRelocation → bpf_insn → Bool → Result Edit SlotFault
 
-abbrev pub edit_of : Result Edit Fault → Edit
+abbrev pub edit_of : Result Edit SlotFault → Edit
 edit_of (Ok edit) = edit
 edit_of (Err fault) = Stay
 
@@ -56,23 +56,23 @@ relocated rule_edit relocations f = record f {
 abbrev pub is_in_slots : ℕ → ℕ → ℕ → Bool
 is_in_slots start count offset = nat_le start offset && nat_lt ((offset - start) / 8) count
 
-abbrev pub refused : ℕ × ElfRelocation → Result Edit Fault → Option Refusal
+abbrev pub refused : ℕ × ElfRelocation → Result Edit SlotFault → Option SlotRefusal
 refused e (Ok edit) = None
 refused e (Err fault) = Some (record { offset = e.0; relocation = e.1; fault = fault })
 
 -- of a relocation among the slots: it stands at the beginning of a slot, and the pass can apply it there
-abbrev pub refusal_among : EditRule → SectionRelocations → ℕ → List bpf_insn → ℕ × ElfRelocation → Option Refusal
+abbrev pub refusal_among : EditRule → SectionRelocations → ℕ → List bpf_insn → ℕ × ElfRelocation → Option SlotRefusal
 refusal_among rule_edit section_relocations start slots e =
     if (e.0 - start) % 8 == 0
     then refused e (rule_edit e.1 (found_slot (edit_at rule_edit section_relocations start (length slots)) slots ((e.0 - start) / 8)) (nat_lt ((e.0 - start) / 8 + 1) (length slots)))
     else refused e (Err InvalidOffset)
 
 -- one among other slots is no concern of these
-abbrev pub refusal_at : EditRule → SectionRelocations → ℕ → List bpf_insn → ℕ × ElfRelocation → Option Refusal
+abbrev pub refusal_at : EditRule → SectionRelocations → ℕ → List bpf_insn → ℕ × ElfRelocation → Option SlotRefusal
 refusal_at rule_edit section_relocations start slots e = if is_in_slots start (length slots) e.0 then refusal_among rule_edit section_relocations start slots e else None
 
 -- the first relocation of a function, by offset, that can't be applied
-unfoldable pub first_refusal : EditRule → SectionRelocations → Function → Option Refusal
+unfoldable pub first_refusal : EditRule → SectionRelocations → Function → Option SlotRefusal
 first_refusal rule_edit section_relocations f = first_some (refusal_at rule_edit section_relocations f.section_offset f.instructions) (entries section_relocations)
 
 -- the number of a relocation: how many of the section stand before it
@@ -83,7 +83,7 @@ abbrev pub symbol_name_of : Option Symbol → Option (List ℕ)
 symbol_name_of None = None
 symbol_name_of (Some symbol) = symbol.name
 
-abbrev pub error_by : Fault → FinMap nat_cmp Symbol → SectionRelocations → Refusal → RelocationError
+abbrev pub error_by : SlotFault → FinMap nat_cmp Symbol → SectionRelocations → SlotRefusal → RelocationError
 error_by UnknownSymbol symbols section_relocations r = error.UnknownSymbol r.relocation.symbol_index
 error_by InvalidOffset symbols section_relocations r = error.InvalidRelocationOffset r.offset (number_of section_relocations r.offset)
 error_by (SectionNotFound section) symbols section_relocations r =
@@ -94,7 +94,7 @@ error_by UnresolvableSymbol symbols section_relocations r =
     error.UnresolvableSymbol (unwrap_or (symbol_name_of (get symbols r.relocation.symbol_index)) [])
 
 -- the error of a relocation that can't be applied
-abbrev pub error_of : FinMap nat_cmp Symbol → SectionRelocations → Refusal → RelocationError
+abbrev pub error_of : FinMap nat_cmp Symbol → SectionRelocations → SlotRefusal → RelocationError
 error_of symbols section_relocations r = error_by r.fault symbols section_relocations r
 
 -- want of memory, the one answer beside

@@ -7,7 +7,7 @@ ghost use Rattle.ebpf_passes.specs.declared.edit.Edit.TheVariants.{Stay};
 use ebpf_parts::insn::bpf_insn;
 
 /// What a relocation makes of the slot at which it stands.
-#[derive(Clone, Copy, Debug, PartialEq, Eq)]
+#[derive(Clone, Copy)]
 pub enum Edit {
     /// Both stay: the slot and the one after it.
     Stay,

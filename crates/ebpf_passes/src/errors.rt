@@ -5,7 +5,7 @@ ghost use Rattle.std.specs.FinMap as map;
 ghost use Rattle.ebpf_model.specs.Memory.{is_memory_at};
 ghost use Rattle.ebpf_passes.specs.Relocated.{number_of, symbol_name_of, error_of, out_of_memory};
 
-use crate::refusal::{Fault, Refusal};
+use crate::refusal::{SlotFault, SlotRefusal};
 use ebpf_base::{ByIndex, ByOffset, Text};
 use ebpf_model::{EbpfRelocationError, Function, RelocationError, Symbol};
 use ebpf_parts::Relocation;
@@ -52,28 +52,28 @@ fn error_of(
     alloc: Global,
     symbols: &ByIndex<Symbol>,
     section_relocations: &ByOffset<Relocation>,
-    refusal: Refusal,
+    refusal: SlotRefusal,
 ) -> Result<RelocationError, AllocError>
     ensures { IfOk result (λ error. error ≡ error_of symbols.now section_relocations.now refusal) }
 {
     let offset = refusal.offset;
     let symbol = refusal.relocation.symbol_index;
     match refusal.fault {
-        Fault::UnknownSymbol => Ok(RelocationError::UnknownSymbol { index: symbol }),
-        Fault::InvalidOffset => Ok(RelocationError::InvalidRelocationOffset {
+        SlotFault::UnknownSymbol => Ok(RelocationError::UnknownSymbol { index: symbol }),
+        SlotFault::InvalidOffset => Ok(RelocationError::InvalidRelocationOffset {
             offset,
             relocation_number: number_of(section_relocations, offset),
         }),
-        Fault::SectionNotFound(section_index) => Ok(RelocationError::SectionNotFound {
+        SlotFault::SectionNotFound(section_index) => Ok(RelocationError::SectionNotFound {
             section_index,
             symbol_index: symbol,
             symbol_name: symbol_name_of(symbols, symbol)?,
         }),
-        Fault::MapAddressOverflow => Ok(RelocationError::MapAddressOverflow { offset }),
-        Fault::ExternNotFound => Ok(RelocationError::ExternNotFound {
+        SlotFault::MapAddressOverflow => Ok(RelocationError::MapAddressOverflow { offset }),
+        SlotFault::ExternNotFound => Ok(RelocationError::ExternNotFound {
             name: text_of(alloc, symbols, symbol)?,
         }),
-        Fault::UnresolvableSymbol => Ok(RelocationError::UnresolvableSymbol {
+        SlotFault::UnresolvableSymbol => Ok(RelocationError::UnresolvableSymbol {
             name: text_of(alloc, symbols, symbol)?,
         }),
     }
@@ -85,7 +85,7 @@ pub fn refused(
     symbols: &ByIndex<Symbol>,
     section_relocations: &ByOffset<Relocation>,
     function: &Function,
-    refusal: Refusal,
+    refusal: SlotRefusal,
 ) -> EbpfRelocationError
     ensures error { MatchBool (is_memory_at result) (result ≡ out_of_memory) (result ≡ record { function = function.now.name; error = error_of symbols.now section_relocations.now refusal }) }
 {

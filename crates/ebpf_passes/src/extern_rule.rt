@@ -6,7 +6,7 @@ ghost use Rattle.ebpf_passes.specs.Rules.{extern_inputs};
 
 use crate::edit::Edit;
 use crate::map_rule::with_source;
-use crate::refusal::Fault;
+use crate::refusal::SlotFault;
 use ebpf_base::{ByIndex, ByName};
 use ebpf_model::{ExternDesc, Symbol};
 use ebpf_parts::Relocation;
@@ -23,7 +23,7 @@ pub struct ExternRule<'a> {
 }
 
 /// What a load takes from an extern.
-#[derive(Clone, Copy, Debug, PartialEq, Eq)]
+#[derive(Clone, Copy)]
 pub enum Load {
     /// The id of the kernel's type of it.
     Id(u32),
@@ -61,18 +61,18 @@ fn absent_call(slot: bpf_insn, symbol: usize) -> bpf_insn
 }
 
 /// What a call of an extern becomes.
-fn call_edit(desc: &ExternDesc, symbol: usize, slot: bpf_insn) -> Result<Edit, Fault>
+fn call_edit(desc: &ExternDesc, symbol: usize, slot: bpf_insn) -> Result<Edit, SlotFault>
     ensures { result ≡ call_edit desc.now symbol slot }
 {
     if !desc.is_resolved {
         if desc.is_weak {
             return Ok(Edit::Slot(absent_call(slot, symbol)));
         }
-        return Err(Fault::UnresolvableSymbol);
+        return Err(SlotFault::UnresolvableSymbol);
     }
     match desc.kernel_btf_id {
         Some(id) => Ok(Edit::Slot(kernel_call(slot, id))),
-        None => Err(Fault::UnresolvableSymbol),
+        None => Err(SlotFault::UnresolvableSymbol),
     }
 }
 
@@ -105,14 +105,14 @@ fn edit_of_load(load: Load, slot: bpf_insn) -> Edit
 }
 
 /// What a load of an extern becomes.
-fn load_edit(desc: &ExternDesc, slot: bpf_insn, has_next: bool) -> Result<Edit, Fault>
+fn load_edit(desc: &ExternDesc, slot: bpf_insn, has_next: bool) -> Result<Edit, SlotFault>
     ensures { result ≡ load_edit (load_of desc.now) slot has_next }
 {
     let Some(load) = load_of(desc) else {
-        return Err(Fault::UnresolvableSymbol);
+        return Err(SlotFault::UnresolvableSymbol);
     };
     if !has_next {
-        return Err(Fault::InvalidOffset);
+        return Err(SlotFault::InvalidOffset);
     }
     Ok(edit_of_load(load, slot))
 }
@@ -123,13 +123,13 @@ fn declared_extern_edit(
     symbol: usize,
     slot: bpf_insn,
     has_next: bool,
-) -> Result<Edit, Fault>
+) -> Result<Edit, SlotFault>
     ensures { result ≡ declared_extern_edit (Some desc.now) symbol slot has_next }
 {
     match slot.code {
         CALL => call_edit(desc, symbol, slot),
         LD_IMM64 => load_edit(desc, slot, has_next),
-        _ => Err(Fault::InvalidOffset),
+        _ => Err(SlotFault::InvalidOffset),
     }
 }
 
@@ -149,17 +149,17 @@ pub fn extern_edit(
     relocation: Relocation,
     slot: bpf_insn,
     has_next: bool,
-) -> Result<Edit, Fault>
+) -> Result<Edit, SlotFault>
     ensures { result ≡ extern_edit (extern_inputs rule.now) relocation slot has_next }
 {
     let Some(symbol) = rule.symbols.get(relocation.symbol_index) else {
-        return Err(Fault::UnknownSymbol);
+        return Err(SlotFault::UnknownSymbol);
     };
     if !symbol.is_extern() {
         return Ok(Edit::Stay);
     }
     match rule.externs.get(name_of(symbol)) {
         Some(desc) => declared_extern_edit(desc, relocation.symbol_index, slot, has_next),
-        None => Err(Fault::ExternNotFound),
+        None => Err(SlotFault::ExternNotFound),
     }
 }

@@ -4,7 +4,7 @@ ghost use Rattle.std.specs.Prelude.{◌≡◌, true, false, IfOk, OnOk, OnErr, I
 ghost use Rattle.ebpf_base.specs.Faults.{Refuses};
 ghost use Rattle.ebpf_base.specs.Mapped.{map_values};
 ghost use Rattle.ebpf_model.specs.Memory.{is_memory_at};
-ghost use Rattle.ebpf_model.specs.Walks.{IsReady};
+ghost use Rattle.ebpf_model.specs.Walks.{IsWithinFunction};
 ghost use Rattle.ebpf_passes.specs.Relocated.{relocated, function_fault, first_fault, out_of_memory};
 ghost use Rattle.ebpf_passes.specs.Rules.{rule_edit_of, rule_symbols};
 
@@ -27,11 +27,11 @@ fn check_function<'a>(
     walk: &mut Walk<'a>,
     function: &Function,
 ) -> Result<bool, EbpfRelocationError>
-    requires { IsReady relocations.now walk.old }
+    requires { IsWithinFunction relocations.now walk.old }
     ensures stays { IfOk result (λ edits. edits ≡ false → relocated (rule_edit_of rule.now) relocations.now function.now ≡ function.now) }
     ensures fault { Refuses is_memory_at result (function_fault (rule_edit_of rule.now) (rule_symbols rule.now) relocations.now function.now) }
     ensures memory { IfErr result (λ e. is_memory_at e ≡ true → e ≡ out_of_memory) }
-    ensures ready { OnOk result (IsReady relocations.now walk.new) }
+    ensures ready { OnOk result (IsWithinFunction relocations.now walk.new) }
 {
     walk.go_to(relocations, function);
     let Some(section_relocations) = walk.section_relocations() else {

@@ -6,7 +6,7 @@ ghost use Rattle.ebpf_passes.specs.Rules.{map_inputs};
 
 use crate::edit::Edit;
 use crate::map_tables::{MapTables, MapTarget};
-use crate::refusal::Fault;
+use crate::refusal::SlotFault;
 use ebpf_base::ByIndex;
 use ebpf_model::Symbol;
 use ebpf_parts::Relocation;
@@ -57,21 +57,21 @@ fn target_edit(
     address: u64,
     slot: bpf_insn,
     has_next: bool,
-) -> Result<Edit, Fault>
+) -> Result<Edit, SlotFault>
     ensures { result ≡ target_edit target address slot has_next }
 {
     if !target.has_data {
         return Ok(Edit::Slot(with_source(slot, BPF_PSEUDO_MAP_FD, target.descriptor)));
     }
     if !has_next {
-        return Err(Fault::InvalidOffset);
+        return Err(SlotFault::InvalidOffset);
     }
     match value_offset(slot.imm, address) {
         Some(next) => Ok(Edit::Pair(
             with_source(slot, BPF_PSEUDO_MAP_VALUE, target.descriptor),
             next,
         )),
-        None => Err(Fault::MapAddressOverflow),
+        None => Err(SlotFault::MapAddressOverflow),
     }
 }
 
@@ -93,7 +93,7 @@ fn section_edit(
     symbol: &Symbol,
     slot: bpf_insn,
     has_next: bool,
-) -> Result<Edit, Fault>
+) -> Result<Edit, SlotFault>
     ensures { result ≡ section_edit (map_inputs rule.now) section relocation symbol.now slot has_next }
 {
     if slot.is_pseudo_call() || rule.text_sections.contains(&section) {
@@ -101,7 +101,7 @@ fn section_edit(
     }
     match map_target_at(rule.tables, relocation.symbol_index, section) {
         Some(target) => target_edit(target, symbol.address, slot, has_next),
-        None => Err(Fault::SectionNotFound(section)),
+        None => Err(SlotFault::SectionNotFound(section)),
     }
 }
 
@@ -111,11 +111,11 @@ pub fn map_edit(
     relocation: Relocation,
     slot: bpf_insn,
     has_next: bool,
-) -> Result<Edit, Fault>
+) -> Result<Edit, SlotFault>
     ensures { result ≡ map_edit (map_inputs rule.now) relocation slot has_next }
 {
     let Some(symbol) = rule.symbols.get(relocation.symbol_index) else {
-        return Err(Fault::UnknownSymbol);
+        return Err(SlotFault::UnknownSymbol);
     };
     match symbol.section_index {
         Some(section) => section_edit(rule, section, relocation, symbol, slot, has_next),

@@ -11,7 +11,7 @@ use ebpf_parts::maps::Map;
 use std::alloc::{AllocError, Global};
 
 /// What a slot takes from a map.
-#[derive(Clone, Copy, Debug, PartialEq, Eq)]
+#[derive(Clone, Copy)]
 pub struct MapTarget {
     /// The map's descriptor.
     pub descriptor: i32,
@@ -20,7 +20,7 @@ pub struct MapTarget {
 }
 
 /// The maps by the index of the symbol that names them, and by that of their section.
-#[derive(Debug, Drop)]
+#[derive(Drop)]
 pub struct MapTables {
     /// The last map of each symbol.
     pub by_symbol: ByIndex<MapTarget>,

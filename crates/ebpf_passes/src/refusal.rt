@@ -3,8 +3,8 @@
 use ebpf_parts::Relocation;
 
 /// Why a relocation can't be applied.
-#[derive(Clone, Copy, Debug, PartialEq, Eq)]
-pub enum Fault {
+#[derive(Clone, Copy)]
+pub enum SlotFault {
     /// Its symbol is not there.
     UnknownSymbol,
     /// It can't be applied where it stands.
@@ -20,12 +20,12 @@ pub enum Fault {
 }
 
 /// A relocation that can't be applied.
-#[derive(Clone, Copy, Debug, PartialEq, Eq)]
-pub struct Refusal {
+#[derive(Clone, Copy)]
+pub struct SlotRefusal {
     /// Its offset in the section, in bytes.
     pub offset: u64,
     /// The relocation.
     pub relocation: Relocation,
     /// Why.
-    pub fault: Fault,
+    pub fault: SlotFault,
 }

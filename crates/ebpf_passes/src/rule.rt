@@ -6,7 +6,7 @@ ghost use Rattle.ebpf_passes.specs.Rules.{rule_edit_of, rule_symbols};
 use crate::edit::Edit;
 use crate::extern_rule::{ExternRule, extern_edit};
 use crate::map_rule::{MapRule, map_edit};
-use crate::refusal::Fault;
+use crate::refusal::SlotFault;
 use ebpf_base::ByIndex;
 use ebpf_model::Symbol;
 use ebpf_parts::Relocation;
@@ -28,7 +28,7 @@ impl<'a> Rule<'a> {
         relocation: Relocation,
         slot: bpf_insn,
         has_next: bool,
-    ) -> Result<Edit, Fault>
+    ) -> Result<Edit, SlotFault>
         ensures { result ≡ rule_edit_of self.now relocation slot has_next }
     {
         match self {

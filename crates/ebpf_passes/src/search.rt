@@ -11,7 +11,7 @@ ghost use Rattle.ebpf_passes.specs.InPlaceEdits.{pending_slot, pending_of, pendi
 ghost use Rattle.ebpf_passes.specs.declared.edit.Edit.TheVariants.{Stay};
 
 use crate::edit::Edit;
-use crate::refusal::{Fault, Refusal};
+use crate::refusal::{SlotFault, SlotRefusal};
 use crate::rule::Rule;
 use ebpf_model::{Function, Walk};
 use ebpf_parts::Relocation;
@@ -48,13 +48,13 @@ fn edit_of(
     pending: Pending,
     distance: u64,
     relocation: Relocation,
-) -> Result<Edit, Fault>
+) -> Result<Edit, SlotFault>
     requires { distance / 8 < length slots.now }
     ensures tried { pending_after (distance / 8) result ≡ tried (rule_edit_of rule.now) slots.now pending distance relocation }
     ensures stays { pending ≡ None → result ≡ Ok Stay → slots_after_relocation (rule_edit_of rule.now) distance relocation slots.now ≡ slots.now }
 {
     if distance % 8 != 0 {
-        return Err(Fault::InvalidOffset);
+        return Err(SlotFault::InvalidOffset);
     }
     let at = (distance / 8) as usize;
     let slot = pending_slot(pending, at, slots[at]);
@@ -68,7 +68,7 @@ pub fn edits_or_refusal(
     rule: &Rule<'_>,
     walk: &mut Walk<'_>,
     function: &Function,
-) -> Result<bool, Refusal>
+) -> Result<bool, SlotRefusal>
     requires { IsBefore walk.old function.now.section_offset }
     ensures refusal { fault_of result ≡ first_refusal (rule_edit_of rule.now) (unwrap_or (walked_relocations walk.old) empty) function.now }
     ensures stays { IfOk result (λ edits. edits ≡ false → slots_after (edit_at (rule_edit_of rule.now) (unwrap_or (walked_relocations walk.old) empty) function.now.section_offset (length function.now.instructions)) function.now.instructions ≡ function.now.instructions) }
@@ -91,7 +91,7 @@ pub fn edits_or_refusal(
                 edits = edits || !edit.stays();
             }
             Err(fault) => {
-                return Err(Refusal {
+                return Err(SlotRefusal {
                     offset,
                     relocation,
                     fault,

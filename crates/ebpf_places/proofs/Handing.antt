@@ -4,7 +4,7 @@ use Rattle.std.specs.Prelude.{MatchBool, ⊤}
 use Rattle.std.specs.Result.{IsErrAnd}
 use Rattle.ebpf_base.specs.Faults.{Gives}
 use Rattle.ebpf_places.specs.declared.fault.PlaceFault.{PlaceFault}
-use Rattle.ebpf_places.specs.Memory.{MemoryAside, is_memory}
+use Rattle.ebpf_places.specs.Memory.{MemoryAside, is_place_memory}
 
 -- the error is this one
 pub handed_on : {X E : Type 0} (r : Result X E) (e : E) → IsErrAnd r (λ f. f ≡ e) → r ≡ Err e
@@ -40,6 +40,6 @@ pub exact : {X E : Type 0} (memory : E → Bool) (r stated : Result X E) → sta
 exact memory r stated is = exact_at memory r stated is
 
 -- what holds of the stated answer holds of the one that is given, memory aside
-pub aside : {X : Type 0} (Holds : Result X PlaceFault → Type 0) (r stated : Result X PlaceFault) → Gives is_memory r stated → Holds stated → MemoryAside r Holds
+pub aside : {X : Type 0} (Holds : Result X PlaceFault → Type 0) (r stated : Result X PlaceFault) → Gives is_place_memory r stated → Holds stated → MemoryAside r Holds
 aside Holds (Ok x) stated is holds = subst Holds is holds
-aside Holds (Err e) stated is holds = matched (is_memory e) (stated ≡ Err e) (Holds (Err e)) (λ same. subst Holds same holds) is
+aside Holds (Err e) stated is holds = matched (is_place_memory e) (stated ≡ Err e) (Holds (Err e)) (λ same. subst Holds same holds) is

@@ -3,7 +3,7 @@
 ghost use Rattle.std.specs.Prelude.{◌≡◌};
 ghost use Rattle.ebpf_base.specs.Faults.{Gives};
 ghost use Rattle.ebpf_places.specs.Members.{named_role, role, anonymous_role};
-ghost use Rattle.ebpf_places.specs.Memory.{is_memory};
+ghost use Rattle.ebpf_places.specs.Memory.{is_place_memory};
 
 use crate::fault::PlaceFault;
 use ebpf_btf::{Btf, BtfMember};
@@ -47,7 +47,7 @@ fn anonymous_role(target: &Btf, inside: u32, member: &BtfMember) -> Result<Role,
 
 /// What a member with a name is.
 fn named_role(wanted: Wanted<'_>, member: &BtfMember) -> Result<Role, PlaceFault>
-    ensures { Gives is_memory result (named_role wanted.entry.local.now wanted.entry.target.now wanted.entry.name.now wanted.entry.local_type member.now.name_offset member.now.btf_type) }
+    ensures { Gives is_place_memory result (named_role wanted.entry.local.now wanted.entry.target.now wanted.entry.name.now wanted.entry.local_type member.now.name_offset member.now.btf_type) }
 {
     if !wanted.target.is_name_at(member.name_offset, wanted.name)? {
         return Ok(Role::Other);
@@ -65,7 +65,7 @@ fn named_role(wanted: Wanted<'_>, member: &BtfMember) -> Result<Role, PlaceFault
 
 /// What a member is, inside so many anonymous ones.
 pub fn role_of(wanted: Wanted<'_>, inside: u32, member: &BtfMember) -> Result<Role, PlaceFault>
-    ensures { Gives is_memory result (role wanted.entry.local.now wanted.entry.target.now wanted.entry.name.now wanted.entry.local_type inside member.now.name_offset member.now.btf_type) }
+    ensures { Gives is_place_memory result (role wanted.entry.local.now wanted.entry.target.now wanted.entry.name.now wanted.entry.local_type inside member.now.name_offset member.now.btf_type) }
 {
     if member.name_offset == 0 {
         return anonymous_role(wanted.target, inside, member);

@@ -4,7 +4,7 @@ ghost use Rattle.std.specs.Prelude.{◌≡◌, ◌+◌, ◌-◌, ◌*◌, ◌<�
 ghost use Rattle.ebpf_base.specs.Faults.{Gives};
 ghost use Rattle.ebpf_places.specs.FirstMembers.{IsFirstMember};
 ghost use Rattle.ebpf_places.specs.Members.{member_search, members_in};
-ghost use Rattle.ebpf_places.specs.Memory.{MemoryAside, is_memory};
+ghost use Rattle.ebpf_places.specs.Memory.{MemoryAside, is_place_memory};
 ghost use Rattle.ebpf_places.specs.MemberViews.{view};
 ghost use Rattle.ebpf_places.specs.Searches.{IsFoundSmall, run_search, search_entries, first_fitting};
 ghost use Rattle.ebpf_places.specs.PrivateContracts.{IsSmall};
@@ -50,7 +50,7 @@ fn search(
     requires depth { inside ≤ 64 }
     requires room { bits ≤ inside * 2 ^ 32 }
     ensures gives { let name_search = member_search wanted.entry.local.now wanted.entry.target.now wanted.entry.name.now wanted.entry.local_type in
-        Gives is_memory result (run_search name_search entries (view name_search (64 - inside) inside bits (members_in wanted.entry.target.now.types parent))) }
+        Gives is_place_memory result (run_search name_search entries (view name_search (64 - inside) inside bits (members_in wanted.entry.target.now.types parent))) }
     ensures small { IsSmall result }
 {
     let Some(ty) = type_at(wanted.target, parent) else {
@@ -96,7 +96,7 @@ fn search(
 #[tactic(auto, unfolding(crate::specs::Searches::first_fitting))]
 fn find(wanted: Wanted<'_>, parent: u32) -> Result<Option<FoundMember>, PlaceFault>
     ensures same { let name_search = member_search wanted.entry.local.now wanted.entry.target.now wanted.entry.name.now wanted.entry.local_type in
-        Gives is_memory result (first_fitting name_search search_entries (members_in wanted.entry.target.now.types parent)) }
+        Gives is_place_memory result (first_fitting name_search search_entries (members_in wanted.entry.target.now.types parent)) }
     ensures small { IsFoundSmall result }
 {
     match search(wanted, parent, 0, 0, SEARCH_ENTRIES)? {
@@ -123,7 +123,7 @@ pub fn find_member(
     local_type: u32,
 ) -> Result<Option<FoundMember>, PlaceFault>
     ensures first { MemoryAside result (λ answer. IsFirstMember local.now target.now name.now local_type parent answer) }
-    ensures same { Gives is_memory result (first_fitting (member_search local.now target.now name.now local_type) search_entries (members_in target.now.types parent)) }
+    ensures same { Gives is_place_memory result (first_fitting (member_search local.now target.now name.now local_type) search_entries (members_in target.now.types parent)) }
     ensures small { IsFoundSmall result }
 {
     let wanted = Wanted {

@@ -2,7 +2,7 @@
 
 ghost use Rattle.std.specs.Prelude.{◌≡◌, ◌+◌, ◌*◌, ◌<◌, ◌≤◌, ◌^◌, nat_lt, if◌then◌else◌, Some, None, Ok};
 ghost use Rattle.ebpf_base.specs.Faults.{Gives};
-ghost use Rattle.ebpf_places.specs.Memory.{MemoryAside, is_memory};
+ghost use Rattle.ebpf_places.specs.Memory.{MemoryAside, is_place_memory};
 ghost use Rattle.ebpf_places.specs.Paths.{PathLeads};
 ghost use Rattle.ebpf_places.specs.Places.{root_spot, by_index, by_name, followed, is_accepted, ends_in_last_member, is_last_of, place_of, stepped, element_spot, member_spot};
 
@@ -147,7 +147,7 @@ fn by_name(
     local_type: u32,
 ) -> Result<Option<Spot>, PlaceFault>
     requires { from.parts < 64 }
-    ensures { Gives is_memory result (by_name local.now target.now from type_id name.now local_type) }
+    ensures { Gives is_place_memory result (by_name local.now target.now from type_id name.now local_type) }
 {
     match find_member(local, target, type_id, name, local_type)? {
         Some(member) => Ok(Some(member_spot(from, member)?)),
@@ -157,7 +157,7 @@ fn by_name(
 
 /// Where a step leads from a spot.
 fn follow(local: &Btf, target: &Btf, from: Spot, by: &Step) -> Result<Option<Spot>, PlaceFault>
-    ensures { Gives is_memory result (stepped local.now target.now from by.now) }
+    ensures { Gives is_place_memory result (stepped local.now target.now from by.now) }
 {
     if from.parts >= PATH_PARTS {
         return Err(PlaceFault::NestingLevel);
@@ -178,7 +178,7 @@ fn follow_all(
     path: &[Step],
     from: Spot,
 ) -> Result<Option<Place>, PlaceFault>
-    ensures { Gives is_memory result (followed local.now target.now path.now from) }
+    ensures { Gives is_place_memory result (followed local.now target.now path.now from) }
 {
     let mut spot = from;
     for by in path {
@@ -205,7 +205,7 @@ fn place(
     root_type: u32,
     path: &[Step],
 ) -> Result<Option<Place>, PlaceFault>
-    ensures { Gives is_memory result (place_of local.now target.now root_type path.now) }
+    ensures { Gives is_place_memory result (place_of local.now target.now root_type path.now) }
 {
     let Some((first, path)) = path.split_first() else {
         return Ok(None);
@@ -235,7 +235,7 @@ pub fn place_in(
     path: &[Step],
 ) -> Result<Option<Place>, PlaceFault>
     ensures leads { MemoryAside result (PathLeads local.now target.now root_type path.now) }
-    ensures same { Gives is_memory result (place_of local.now target.now root_type path.now) }
+    ensures same { Gives is_place_memory result (place_of local.now target.now root_type path.now) }
 {
     place(local, target, root_type, path)
 }

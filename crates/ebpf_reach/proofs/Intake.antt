@@ -4,7 +4,7 @@ use Rattle.std.proofs.lemmas.List.Sums.{sum_by-set}
 use Rattle.std.proofs.lemmas.Bool.Decides.{eqb_tells}
 use Rattle.ebpf_linker.specs.Functions.{Among}
 use Rattle.ebpf_reach.specs.declared.registers.Registers.{Registers}
-use Rattle.ebpf_reach.specs.declared.steps.Step.{Step}
+use Rattle.ebpf_reach.specs.declared.steps.SlotState.{SlotState}
 use Rattle.ebpf_reach.specs.Registers.{IsBelow}
 use Rattle.ebpf_reach.specs.PrivateContracts.{least_upper_bound}
 use Rattle.ebpf_reach.specs.Counted.{changes_left}
@@ -44,7 +44,7 @@ taken_changed A B C mid new i (inl p) (inl q) k = inl (q ∙ p)
 taken_changed A B C mid new i (inr m) (inl q) k = inr (k m)
 taken_changed A B C mid new i p (inr m) k = inr m
 
-pub taken_then : (s t : List Step) (A B C : Assignment) (old mid new : List ℕ) → TakesIn s A B old mid → TakesIn t B C mid new → TakesIn (s ++ t) A C old new
+pub taken_then : (s t : List SlotState) (A B C : Assignment) (old mid new : List ℕ) → TakesIn s A B old mid → TakesIn t B C mid new → TakesIn (s ++ t) A C old new
 taken_then s t A B C old mid new p q = record {
   as_many = q.as_many ∙ p.as_many;
   holds = holds_both C s t (holds_above B C s q.above p.holds) q.holds;
@@ -125,6 +125,6 @@ same_taken A old p a b some as_many same = record {
 }
 
 -- what was taken in, told by other words
-pub taken_as : (s : List Step) (A B C : Assignment) (old mid new : List ℕ) → C ≡ B → new ≡ mid → TakesIn s A B old mid → TakesIn s A C old new
+pub taken_as : (s : List SlotState) (A B C : Assignment) (old mid new : List ℕ) → C ≡ B → new ≡ mid → TakesIn s A B old mid → TakesIn s A C old new
 taken_as s A B C old mid new p q t =
     subst (λ (u : Assignment). TakesIn s A u old new) (sym p) (subst (λ (u : List ℕ). TakesIn s A B old u) (sym q) t)

@@ -2,7 +2,7 @@
 use Rattle.std.proofs.Common.{◌≡◌, ℕ, zero, suc, Bool, true, List, [], ◌∷◌, length, Option, Some, None, refl, sym, ◌∙◌, subst, inl, inr, arith}
 use Rattle.std.specs.Prelude.{is_some, slice_get}
 use Rattle.ebpf_reach.specs.declared.registers.Registers.{Registers}
-use Rattle.ebpf_reach.specs.declared.steps.Step.{Step}
+use Rattle.ebpf_reach.specs.declared.steps.SlotState.{SlotState}
 use Rattle.ebpf_reach.specs.Registers.{IsBelow, unknown}
 use Rattle.ebpf_reach.specs.Steps.{steps}
 use Rattle.ebpf_reach.specs.Reached.{AreBelow, Assignment, Holds, IsStateBelow, reached, state_at}
@@ -31,9 +31,9 @@ answer_is_one slots one other p q =
     p.is ∙ (same_flags p.assignment q.assignment (p.least.closed.as_many ∙ sym q.least.closed.as_many) (p.least.least q.assignment q.least.closed) (q.least.least p.assignment p.least.closed) ∙ sym q.is)
 
 -- what holds a list of steps holds each of them
-holds_step : (A : Assignment) (s : List Step) (step : Step) → Holds A s → IsStep s step → IsStateBelow (Some step.registers) (state_at A step.place)
+holds_step : (A : Assignment) (s : List SlotState) (step : SlotState) → Holds A s → IsStep s step → IsStateBelow (Some step.registers) (state_at A step.place)
 holds_step A [] step h m = absurd m
-holds_step A (x ∷ s) step h (inl e) = let P : Step → Type 0 = λ u. IsStateBelow (Some u.registers) (state_at A u.place) in subst P e h.0
+holds_step A (x ∷ s) step h (inl e) = let P : SlotState → Type 0 = λ u. IsStateBelow (Some u.registers) (state_at A u.place) in subst P e h.0
 holds_step A (x ∷ s) step h (inr m) = holds_step A s step h.1 m
 
 comes_below : (A : Assignment) (i : ℕ) (a b : Registers) (z : Option Registers) → state_at A i ≡ z → IsBelow a b → IsStateBelow (Some b) z → (c : Registers) × (state_at A i ≡ Some c) × IsBelow a c

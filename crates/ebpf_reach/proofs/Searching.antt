@@ -5,7 +5,7 @@ use Rattle.std.proofs.lemmas.Bool.Decides.{leb_tells}
 use Rattle.ebpf_linker.specs.Functions.{Among}
 use Rattle.ebpf_parts.specs.declared.insn.bpf_insn.{bpf_insn}
 use Rattle.ebpf_reach.specs.declared.registers.Registers.{Registers}
-use Rattle.ebpf_reach.specs.declared.steps.Step.{Step}
+use Rattle.ebpf_reach.specs.declared.steps.SlotState.{SlotState}
 use Rattle.ebpf_reach.specs.Registers.{unknown}
 use Rattle.ebpf_reach.specs.Steps.{steps_to, steps}
 use Rattle.ebpf_reach.specs.Reached.{Assignment, Holds, IsClosed, IsLeast, IsStateBelow, state_at}
@@ -41,7 +41,7 @@ searched_on slots A B rest new i s t = record {
   held = λ j. held_on slots A B rest new i j t (t.changed j) (s.held j);
 }
 
-pub searched_less : (slots : List bpf_insn) (A B : Assignment) (rest new : List ℕ) (i : ℕ) (s : List Step) → TakesIn s A B rest new → work_left B new < work_left A (rest ++ i ∷ [])
+pub searched_less : (slots : List bpf_insn) (A B : Assignment) (rest new : List ℕ) (i : ℕ) (s : List SlotState) → TakesIn s A B rest new → work_left B new < work_left A (rest ++ i ∷ [])
 searched_less slots A B rest new i s t =
     let less = t.less in
     let longer = length-append rest (i ∷ []) in

@@ -6,7 +6,7 @@ use Rattle.ebpf_parts.specs.declared.insn.bpf_insn.{bpf_insn}
 use Rattle.ebpf_parts.specs.Slots.{dst_of}
 use Rattle.ebpf_linker.specs.Slots.{Flow, Return, PseudoCall, WideLoad, Jump, Branch, Next, flow}
 use Rattle.ebpf_reach.specs.declared.registers.Registers.{Registers}
-use Rattle.ebpf_reach.specs.declared.steps.Step.{Step}
+use Rattle.ebpf_reach.specs.declared.steps.SlotState.{SlotState}
 use Rattle.ebpf_reach.specs.Registers.{IsBelow, unknown, learned, called}
 use Rattle.ebpf_reach.specs.Effects.{decided, wide_load_result}
 use Rattle.ebpf_reach.specs.Steps.{next_index, callback, steps_by_flow, target_index, steps_to, steps, steps_at, ways}
@@ -24,20 +24,20 @@ state_below_through (Some a) None z p q = absurd p
 state_below_through (Some a) (Some b) None p q = absurd q
 state_below_through (Some a) (Some b) (Some c) p q = below_through a b c p q
 
-pub holds_both : (A : Assignment) (s t : List Step) → Holds A s → Holds A t → Holds A (s ++ t)
+pub holds_both : (A : Assignment) (s t : List SlotState) → Holds A s → Holds A t → Holds A (s ++ t)
 holds_both A [] t p q = q
 holds_both A (x ∷ s) t p q = (p.0, holds_both A s t p.1 q)
 
-pub holds_first : (A : Assignment) (s t : List Step) → Holds A (s ++ t) → Holds A s
+pub holds_first : (A : Assignment) (s t : List SlotState) → Holds A (s ++ t) → Holds A s
 holds_first A [] t p = tt
 holds_first A (x ∷ s) t p = (p.0, holds_first A s t p.1)
 
-pub holds_second : (A : Assignment) (s t : List Step) → Holds A (s ++ t) → Holds A t
+pub holds_second : (A : Assignment) (s t : List SlotState) → Holds A (s ++ t) → Holds A t
 holds_second A [] t p = p
 holds_second A (x ∷ s) t p = holds_second A s t p.1
 
 -- a higher assignment holds no less
-pub holds_above : (A B : Assignment) (s : List Step) → AreBelow A B → Holds A s → Holds B s
+pub holds_above : (A B : Assignment) (s : List SlotState) → AreBelow A B → Holds A s → Holds B s
 holds_above A B [] p h = tt
 holds_above A B (x ∷ s) p h = (state_below_through (Some x.registers) (state_at A x.place) (state_at B x.place) h.0 (p x.place), holds_above A B s p h.1)
 
@@ -50,7 +50,7 @@ leads_below slots A (negsuc n) a b p h = tt
 leads_below slots A (pos n) a b p h = one_below A (nat_lt n (length slots)) n a b p h
 
 -- a jump that decides takes one of the two ways of one that doesn't
-ways_below : (A : Assignment) (x y : Option Bool) (s t u v : List Step) → Tells x y → (Holds A u → Holds A s) → (Holds A v → Holds A t) → Holds A (ways y u v) → Holds A (ways x s t)
+ways_below : (A : Assignment) (x y : Option Bool) (s t u v : List SlotState) → Tells x y → (Holds A u → Holds A s) → (Holds A v → Holds A t) → Holds A (ways y u v) → Holds A (ways x s t)
 ways_below A None None s t u v p q r h = holds_both A s t (q (holds_first A u v h)) (r (holds_second A u v h))
 ways_below A (Some true) None s t u v p q r h = r (holds_second A u v h)
 ways_below A (Some false) None s t u v p q r h = q (holds_first A u v h)

@@ -3,7 +3,7 @@ use Rattle.std.specs.Prelude.{ℕ, Option, Some, None, List, [], ◌∷◌, if�
 use Rattle.ebpf_reach.specs.declared.registers.Registers.{Registers}
 use Rattle.std.specs.Option.{option_to_list}
 use Rattle.ebpf_parts.specs.declared.insn.bpf_insn.{bpf_insn}
-use Rattle.ebpf_reach.specs.declared.steps.Step.{Step}
+use Rattle.ebpf_reach.specs.declared.steps.SlotState.{SlotState}
 use Rattle.ebpf_reach.specs.Steps.{steps}
 
 -- where two paths meet, equal numbers stay
@@ -21,10 +21,10 @@ abbrev pub least_upper_bound : Registers → Registers → Registers
 least_upper_bound a b = record { numbers = commons a.numbers b.numbers }
 
 -- the steps that are given as two at most
-abbrev pub pair_to_list : Option Step × Option Step → List Step
+abbrev pub pair_to_list : Option SlotState × Option SlotState → List SlotState
 pair_to_list pair = option_to_list pair.0 ++ option_to_list pair.1
 
 -- none of them leaves the program
-pub record AreWithin (slots : List bpf_insn) (pair : Option Step × Option Step) : Type 0 where
+pub record AreWithin (slots : List bpf_insn) (pair : Option SlotState × Option SlotState) : Type 0 where
   pub first : IfSome pair.0 (λ step. step.place < length slots)
   pub second : IfSome pair.1 (λ step. step.place < length slots)

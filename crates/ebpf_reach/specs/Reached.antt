@@ -2,7 +2,7 @@
 use Rattle.std.specs.Prelude.{◌≡◌, ℕ, pos, Bool, Option, Some, None, is_some, List, [], ◌∷◌, length, map, slice_index_or, ⊤}
 use Rattle.ebpf_parts.specs.declared.insn.bpf_insn.{bpf_insn}
 use Rattle.ebpf_reach.specs.declared.registers.Registers.{Registers}
-use Rattle.ebpf_reach.specs.declared.steps.Step.{Step}
+use Rattle.ebpf_reach.specs.declared.steps.SlotState.{SlotState}
 use Rattle.ebpf_reach.specs.Registers.{IsBelow, unknown}
 use Rattle.ebpf_reach.specs.Steps.{steps_to, steps}
 
@@ -24,7 +24,7 @@ abbrev pub AreBelow : Assignment → Assignment → Type 0
 AreBelow A B = (i : ℕ) → IsStateBelow (state_at A i) (state_at B i)
 
 -- an assignment holds steps: where each leads is reached, and no more is known there than behind the step
-abbrev pub Holds : Assignment → List Step → Type 0
+abbrev pub Holds : Assignment → List SlotState → Type 0
 Holds A [] = ⊤
 Holds A (step ∷ more) = IsStateBelow (Some step.registers) (state_at A step.place) × Holds A more
 

@@ -3,7 +3,7 @@ use Rattle.std.specs.Prelude.{◌≡◌, ℕ, ◌+◌, ◌*◌, ◌≤◌, ◌�
 use Rattle.std.specs.List.{sum_by}
 use Rattle.ebpf_linker.specs.Functions.{Among}
 use Rattle.ebpf_reach.specs.declared.registers.Registers.{Registers}
-use Rattle.ebpf_reach.specs.declared.steps.Step.{Step}
+use Rattle.ebpf_reach.specs.declared.steps.SlotState.{SlotState}
 use Rattle.ebpf_reach.specs.Counted.{changes_left}
 use Rattle.ebpf_parts.specs.declared.insn.bpf_insn.{bpf_insn}
 use Rattle.ebpf_reach.specs.Registers.{unknown}
@@ -15,7 +15,7 @@ abbrev pub work_left : Assignment → List ℕ → ℕ
 work_left A pending = 2 * sum_by changes_left A + length pending
 
 -- Steps were taken in: from A with some slots pending to B with others.
-pub record TakesIn (steps : List Step) (A B : Assignment) (old new : List ℕ) : Type 0 where
+pub record TakesIn (steps : List SlotState) (A B : Assignment) (old new : List ℕ) : Type 0 where
   pub as_many : length B ≡ length A
   pub holds : Holds B steps
   pub above : AreBelow A B
@@ -25,7 +25,7 @@ pub record TakesIn (steps : List Step) (A B : Assignment) (old new : List ℕ) :
   pub less : work_left B new ≤ work_left A old
 
 -- the steps from a slot, if it is reached
-abbrev pub steps_if_reached : List bpf_insn → ℕ → Option Registers → List Step
+abbrev pub steps_if_reached : List bpf_insn → ℕ → Option Registers → List SlotState
 steps_if_reached slots i None = []
 steps_if_reached slots i (Some a) = steps slots i a
 

@@ -5,7 +5,7 @@ use Rattle.ebpf_parts.specs.declared.insn.bpf_insn.{bpf_insn}
 use Rattle.ebpf_linker.specs.Slots.{Flow, Branch, flow, slot_at_integer}
 use Rattle.ebpf_linker.specs.Machine.{State, StepResult, Goes, Ends, Waits, Leaves, run_steps, begin, flat_code, step_at}
 use Rattle.ebpf_reach.specs.declared.registers.Registers.{Registers}
-use Rattle.ebpf_reach.specs.declared.steps.Step.{Step}
+use Rattle.ebpf_reach.specs.declared.steps.SlotState.{SlotState}
 use Rattle.ebpf_reach.specs.Registers.{IsBelow, known}
 use Rattle.ebpf_reach.specs.Effects.{decided}
 use Rattle.ebpf_reach.specs.Steps.{steps}
@@ -67,7 +67,7 @@ pub record AreNumbers (a : Registers) : Type 0 where
   pub as_many : length a.numbers ≡ 11
   pub each : (r : ℕ) → r < 11 → IsSome (known a r)
 
-abbrev pub IsStep : List Step → Step → Type 0
+abbrev pub IsStep : List SlotState → SlotState → Type 0
 IsStep [] step = ⊥
 IsStep (s ∷ more) step = (s ≡ step) ⊎ IsStep more step
 
@@ -75,7 +75,7 @@ IsStep (s ∷ more) step = (s ≡ step) ⊎ IsStep more step
 -- steps, with the numbers that these tell and any others in the registers of which they tell nothing.
 pub data ComesTo (slots : List bpf_insn) : ℕ → Registers → Type 0 where
   Begins : (a : Registers) → 0 < length slots → AreNumbers a → ComesTo slots 0 a
-  GoesOn : (i : ℕ) (a b : Registers) (step : Step) → ComesTo slots i a → IsStep (steps slots i a) step → AreNumbers b → IsBelow b step.registers → ComesTo slots step.place b
+  GoesOn : (i : ℕ) (a b : Registers) (step : SlotState) → ComesTo slots i a → IsStep (steps slots i a) step → AreNumbers b → IsBelow b step.registers → ComesTo slots step.place b
 
 -- Each slot to which a machine comes is reached, and no register holds another number than the one that is known.
 abbrev pub MachinesAreReached : Type 0

@@ -8,7 +8,7 @@ ghost use Rattle.ebpf_reach.specs.PrivateContracts.{common, least_upper_bound};
 pub const COUNT: usize = 11;
 
 /// The numbers that the registers r0 to r10 are known to hold.
-#[derive(Clone, Copy, Debug, PartialEq, Eq)]
+#[derive(Clone, Copy, PartialEq, Eq)]
 pub struct Registers {
     /// The number of each register, or nothing.
     pub numbers: [Option<u64>; 11],

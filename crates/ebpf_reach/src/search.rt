@@ -7,7 +7,7 @@ ghost use Rattle.ebpf_reach.specs.Steps.{steps};
 ghost use Rattle.ebpf_reach.specs.Searched.{Searched, TakesIn, steps_if_reached};
 
 use crate::registers::Registers;
-use crate::steps::{Step, step_to, steps_from};
+use crate::steps::{SlotState, step_to, steps_from};
 use ebpf_base::Items;
 use ebpf_parts::insn::bpf_insn;
 use std::alloc::{AllocError, Global};
@@ -34,7 +34,7 @@ impl Search {
     }
 
     // Reaches a slot once more. Where that forgets a number, the slot is to be followed once more.
-    fn join_state(&mut self, step: Step, before: Registers) -> Result<(), AllocError>
+    fn join_state(&mut self, step: SlotState, before: Registers) -> Result<(), AllocError>
         requires within { step.place < vec_len self.old.states }
         requires before { state_at self.old.states.items step.place ≡ Some before }
         ensures { OnOk result (TakesIn (step ∷ []) self.old.states.items self.new.states.items self.old.pending.items self.new.pending.items) }
@@ -47,7 +47,7 @@ impl Search {
     }
 
     // Reaches a slot with what is known of the registers.
-    fn reach(&mut self, step: Step) -> Result<(), AllocError>
+    fn reach(&mut self, step: SlotState) -> Result<(), AllocError>
         requires { step.place < vec_len self.old.states }
         ensures { OnOk result (TakesIn (step ∷ []) self.old.states.items self.new.states.items self.old.pending.items self.new.pending.items) }
     {
@@ -58,7 +58,7 @@ impl Search {
     }
 
     // Takes a step, if there is one.
-    fn take(&mut self, step: Option<Step>) -> Result<(), AllocError>
+    fn take(&mut self, step: Option<SlotState>) -> Result<(), AllocError>
         requires { IfSome step (λ step. step.place < vec_len self.old.states) }
         ensures { OnOk result (TakesIn (option_to_list step) self.old.states.items self.new.states.items self.old.pending.items self.new.pending.items) }
     {

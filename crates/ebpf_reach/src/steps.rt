@@ -13,26 +13,31 @@ use ebpf_parts::insn::bpf_insn;
 use ebpf_parts::insn::opcodes::{BPF_PSEUDO_FUNC, EXIT, JA, JA32, JMP, JMP32, LD_IMM64};
 
 /// A slot that is reached, and what is known of the registers there.
-#[derive(Clone, Copy, Debug, PartialEq, Eq)]
-pub struct Step {
+#[derive(Clone, Copy)]
+pub struct SlotState {
     pub place: usize,
     pub registers: Registers,
 }
 
 /// The step to a place, if the program has it.
-pub fn step_to(slots: &[bpf_insn], place: usize, registers: Registers) -> Option<Step>
+pub fn step_to(slots: &[bpf_insn], place: usize, registers: Registers) -> Option<SlotState>
     ensures steps_to { option_to_list result ≡ steps_to slots.now (pos place) registers }
     ensures within { IfSome result (λ step. step.place < length slots.now) }
 {
     if place < slots.len() {
-        Some(Step { place, registers })
+        Some(SlotState { place, registers })
     } else {
         None
     }
 }
 
 // The step to the place so many slots behind the next one.
-fn step_further(slots: &[bpf_insn], place: usize, by: i32, registers: Registers) -> Option<Step>
+fn step_further(
+    slots: &[bpf_insn],
+    place: usize,
+    by: i32,
+    registers: Registers,
+) -> Option<SlotState>
     requires { place < length slots.now }
     ensures steps_to { option_to_list result ≡ steps_to slots.now (target_index place by) registers }
     ensures within { IfSome result (λ step. step.place < length slots.now) }
@@ -49,7 +54,7 @@ fn ways(
     place: usize,
     slot: bpf_insn,
     registers: Registers,
-) -> (Option<Step>, Option<Step>)
+) -> (Option<SlotState>, Option<SlotState>)
     requires { place < length slots.now }
     ensures ways { pair_to_list result ≡ ways (decided slot registers) (steps_to slots.now (next_index place) registers) (steps_to slots.now (target_index place slot.off) registers) }
     ensures within { AreWithin slots.now result }
@@ -64,7 +69,7 @@ fn ways(
 }
 
 // The step to the first slot of a callback, where a wide load has its address.
-fn callback(slots: &[bpf_insn], place: usize, slot: bpf_insn) -> Option<Step>
+fn callback(slots: &[bpf_insn], place: usize, slot: bpf_insn) -> Option<SlotState>
     requires { place < length slots.now }
     ensures steps_to { option_to_list result ≡ callback slots.now place slot }
     ensures within { IfSome result (λ step. step.place < length slots.now) }
@@ -88,7 +93,7 @@ fn steps_of(
     place: usize,
     slot: bpf_insn,
     registers: Registers,
-) -> (Option<Step>, Option<Step>)
+) -> (Option<SlotState>, Option<SlotState>)
     requires { place < length slots.now }
     ensures steps { pair_to_list result ≡ steps_by_flow slots.now place slot registers (flow slot) }
     ensures within { AreWithin slots.now result }
@@ -129,7 +134,7 @@ pub fn steps_from(
     slots: &[bpf_insn],
     place: usize,
     registers: Registers,
-) -> (Option<Step>, Option<Step>)
+) -> (Option<SlotState>, Option<SlotState>)
     requires { place < length slots.now }
     ensures steps { pair_to_list result ≡ steps slots.now place registers }
     ensures within { AreWithin slots.now result }

@@ -15,7 +15,7 @@ use Rattle.ebpf_model.specs.declared.error.RelocationError.{RelocationError}
 use Rattle.ebpf_model.specs.declared.error.RelocationError.TheVariants.{UnknownProgram}
 use Rattle.ebpf_model.specs.declared.function.Function.{Function}
 use Rattle.ebpf_reloc.specs.Linking.{ProgramValue, key_of, with_linked, IsLinked, IsProgramFault, IsProgramRefusal}
-use Rattle.ebpf_model.specs.Memory.{is_memory, is_memory_at}
+use Rattle.ebpf_model.specs.Memory.{is_slot_memory, is_memory_at}
 use Rattle.ebpf_reloc.specs.Numbers.{function_keys, function_list, key_in}
 use Rattle.ebpf_reloc.specs.PrivateContracts.{number_of_key}
 use Rattle.ebpf_reloc.specs.SlotTargets.{LinkableValue}
@@ -72,12 +72,12 @@ module _ (parts : LinkableValue) where
 
 -- a fault, with the program's name
 pub with_name : (parts : LinkableValue) (program : ProgramValue) (error : RelocationError) (e : EbpfRelocationError) → MatchBool (is_memory_at e) ⊤ (e ≡ record { function = program.name; error = error })
-    → MatchBool (is_memory error) ⊤ (IsProgramFault parts (key_of program) error) → MatchBool (is_memory_at e) ⊤ (IsProgramRefusal parts program e)
+    → MatchBool (is_slot_memory error) ⊤ (IsProgramFault parts (key_of program) error) → MatchBool (is_memory_at e) ⊤ (IsProgramRefusal parts program e)
 with_name parts program error e is fault = step (is_memory_at e) refl is
   where
     step : (b : Bool) → is_memory_at e ≡ b → MatchBool b ⊤ (e ≡ record { function = program.name; error = error }) → MatchBool b ⊤ (IsProgramRefusal parts program e)
     step true at h = tt
     step false at h =
-        let other : is_memory error ≡ false = sym (ap is_memory_at h) ∙ at in
+        let other : is_slot_memory error ≡ false = sym (ap is_memory_at h) ∙ at in
         let stands : IsProgramFault parts (key_of program) error = subst (λ (b : Bool). MatchBool b ⊤ (IsProgramFault parts (key_of program) error)) other fault in
         subst (λ (x : EbpfRelocationError). IsProgramRefusal parts program x) (sym h) (refl, stands)

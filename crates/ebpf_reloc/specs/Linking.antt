@@ -13,7 +13,7 @@ use Rattle.ebpf_model.specs.declared.error.RelocationError.{RelocationError}
 use Rattle.ebpf_model.specs.declared.error.RelocationError.TheVariants.{UnknownProgram}
 use Rattle.ebpf_model.specs.declared.function.Function.{Function}
 use Rattle.ebpf_reloc.specs.SlotTargets.{LinkableValue}
-use Rattle.ebpf_model.specs.Keys.{FunctionKey}
+use Rattle.ebpf_model.specs.Keys.{FunctionKey, key_address, key_section}
 use Rattle.ebpf_reloc.specs.References.{functions_of}
 
 -- a program: its name, and the section and the address of its function
@@ -48,7 +48,7 @@ pub record IsLinked (parts : LinkableValue) (key : FunctionKey) (linked : Functi
 -- why the program at a key can't be linked: no function stands there, or the least fault of its references
 abbrev pub IsProgramFault : LinkableValue → FunctionKey → RelocationError → Type 0
 IsProgramFault parts key e =
-    MatchOption (get parts.functions key) (e ≡ UnknownProgram key.0 key.1) (λ _. LeastFault (functions_of parts) (checked_references (functions_of parts) key) key e)
+    MatchOption (get parts.functions key) (e ≡ UnknownProgram (key_section key) (key_address key)) (λ _. LeastFault (functions_of parts) (checked_references (functions_of parts) key) key e)
 
 -- the refusal of a program: its name, and its fault
 abbrev pub IsProgramRefusal : LinkableValue → ProgramValue → EbpfRelocationError → Type 0

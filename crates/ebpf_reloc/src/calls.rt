@@ -3,7 +3,7 @@
 ghost use Rattle.std.specs.Prelude.{◌≡◌, ◌+◌, ◌*◌, length, map, IfOk, OnOk};
 ghost use Rattle.std.specs.FinMap.{get};
 ghost use Rattle.ebpf_reloc.specs.PrivateContracts.{numbered_target, calls_of, calls_from};
-ghost use Rattle.ebpf_model.specs.Walks.{found_at, walked_relocations, IsBefore, IsReady};
+ghost use Rattle.ebpf_model.specs.Walks.{found_at, walked_relocations, IsBefore, IsWithinFunction};
 ghost use Rattle.ebpf_reloc.specs.SlotTargets.{slot_target_of, relocation_of, read};
 ghost use Rattle.std.specs.List.Sorted.{IsStrictlySortedBy};
 ghost use Rattle.ebpf_base.specs.Keys.{key_cmp};

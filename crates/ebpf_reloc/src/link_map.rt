@@ -4,7 +4,7 @@ ghost use Rattle.std.specs.Prelude.{◌≡◌, ◌<◌, length, map, IfOk, IfErr
 ghost use Rattle.ebpf_reloc.specs.LinkMaps.{IsLinkMapAt};
 ghost use Rattle.ebpf_reloc.specs.PrivateContracts.{named_copy, IsKeyedLinkMapAnswer};
 ghost use Rattle.ebpf_reloc.specs.Linking.{key_of, IsProgramFault, IsProgramRefusal};
-ghost use Rattle.ebpf_model.specs.Memory.{is_memory, is_memory_at, NamesNoneForMemory};
+ghost use Rattle.ebpf_model.specs.Memory.{is_slot_memory, is_memory_at, NamesNoneForMemory};
 ghost use Rattle.ebpf_reloc.specs.Numbers.{function_keys, function_list, key_in};
 ghost use Rattle.ebpf_reloc.specs.SlotTargets.{read};
 
@@ -113,7 +113,7 @@ impl<'a> NumberedFunctions<'a> {
         requires number { number < length (function_keys (read self.now.parts).functions) }
         requires answer { IsKeyedLinkMapAnswer (read self.now.parts) number answer }
         ensures mapped { IfOk result (λ m. IsLinkMapAt (read self.now.parts) (key_in (function_keys (read self.now.parts).functions) number) m) }
-        ensures fault { IfErr result (λ e. MatchBool (is_memory e) ⊤ (IsProgramFault (read self.now.parts) (key_in (function_keys (read self.now.parts).functions) number) e)) }
+        ensures fault { IfErr result (λ e. MatchBool (is_slot_memory e) ⊤ (IsProgramFault (read self.now.parts) (key_in (function_keys (read self.now.parts).functions) number) e)) }
     {
         let functions = self.functions.as_slice();
         match answer {
@@ -137,7 +137,7 @@ impl<'a> NumberedFunctions<'a> {
         address: u64,
     ) -> Result<LinkMap, RelocationError>
         ensures mapped { IfOk result (λ m. IsLinkMapAt (read self.now.parts) (section, address) m) }
-        ensures fault { IfErr result (λ e. MatchBool (is_memory e) ⊤ (IsProgramFault (read self.now.parts) (section, address) e)) }
+        ensures fault { IfErr result (λ e. MatchBool (is_slot_memory e) ⊤ (IsProgramFault (read self.now.parts) (section, address) e)) }
     {
         match number_of_key(self.keys.as_slice(), section, address) {
             Some(number) => {

@@ -5,7 +5,7 @@ ghost use Rattle.std.specs.FinMap as map;
 ghost use Rattle.ebpf_linker.specs.Renaming.{answer_named};
 ghost use Rattle.ebpf_linker.specs.Result.{IsLinking};
 ghost use Rattle.ebpf_reloc.specs.Linking.{ProgramValue, key_of, with_linked, IsLinked, IsProgramFault, IsProgramRefusal, AreLinked, IsFirstRefusal};
-ghost use Rattle.ebpf_model.specs.Memory.{is_memory, is_memory_at, NamesNoneForMemory};
+ghost use Rattle.ebpf_model.specs.Memory.{is_slot_memory, is_memory_at, NamesNoneForMemory};
 ghost use Rattle.ebpf_reloc.specs.Numbers.{function_keys, function_list, key_in, with_function_names};
 ghost use Rattle.ebpf_reloc.specs.SlotTargets.{read};
 ghost use Rattle.ebpf_reloc.specs.References.{functions_of};
@@ -92,7 +92,7 @@ impl<'a> NumberedFunctions<'a> {
         requires number { number < length (function_keys (read self.now.parts).functions) }
         requires answer { IsLinking (functions_of (read self.now.parts)) (key_in (function_keys (read self.now.parts).functions) number) (answer_named (with_function_names (function_list (read self.now.parts).functions)) answer) }
         ensures linked { IfOk result (λ f. IsLinked (read self.now.parts) (key_in (function_keys (read self.now.parts).functions) number) f) }
-        ensures fault { IfErr result (λ e. MatchBool (is_memory e) ⊤ (IsProgramFault (read self.now.parts) (key_in (function_keys (read self.now.parts).functions) number) e)) }
+        ensures fault { IfErr result (λ e. MatchBool (is_slot_memory e) ⊤ (IsProgramFault (read self.now.parts) (key_in (function_keys (read self.now.parts).functions) number) e)) }
     {
         match answer {
             Ok(linked) => Ok(with_linked(self.function(number), linked)?),
@@ -108,7 +108,7 @@ impl<'a> NumberedFunctions<'a> {
         address: u64,
     ) -> Result<Function, RelocationError>
         ensures linked { IfOk result (λ f. IsLinked (read self.now.parts) (section, address) f) }
-        ensures fault { IfErr result (λ e. MatchBool (is_memory e) ⊤ (IsProgramFault (read self.now.parts) (section, address) e)) }
+        ensures fault { IfErr result (λ e. MatchBool (is_slot_memory e) ⊤ (IsProgramFault (read self.now.parts) (section, address) e)) }
     {
         match number_of_key(self.keys.as_slice(), section, address) {
             Some(number) => {

@@ -13,7 +13,7 @@ use ebpf_parts::insn::bpf_insn;
 use std::collections::HashSet;
 
 /// What a slot refers to.
-#[derive(Clone, Copy, Debug, PartialEq, Eq)]
+#[derive(Clone, Copy)]
 pub enum SlotTarget {
     /// Nowhere: the slot is no reference.
     Absent,

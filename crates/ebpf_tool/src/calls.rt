@@ -18,7 +18,7 @@ const POISON: u32 = 195_896_080;
 const ABSENT: u32 = 2_002_000_000;
 
 /// What a slot calls by a number.
-#[derive(Clone, Copy, Debug, PartialEq, Eq)]
+#[derive(Clone, Copy)]
 enum Called {
     /// The helper function of a number.
     Helper(u32),

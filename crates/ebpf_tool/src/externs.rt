@@ -28,8 +28,8 @@ pub struct KernelExterns {
 }
 
 /// What a kernel has for an extern with a type.
-#[derive(Debug, Drop)]
-enum Answer {
+#[derive(Drop)]
+enum ExternAnswer {
     /// A function or variable with a type that fits, by its id.
     Found(u32),
     /// None of the name.
@@ -67,14 +67,14 @@ fn left_out(known: ExternDesc) -> ExternDesc {
 }
 
 /// Why a kernel has no extern.
-fn reason_of(alloc: Global, answer: &Answer) -> Result<String, AllocError> {
+fn reason_of(alloc: Global, answer: &ExternAnswer) -> Result<String, AllocError> {
     let words = match answer {
-        Answer::Missing(Sort::Function) => "no such function (a module's?)",
-        Answer::Missing(Sort::Variable) => "no such variable (a module's?)",
-        Answer::OtherType(Sort::Function) => "another signature",
-        Answer::OtherType(Sort::Variable) => "another type",
-        Answer::Unreadable(error) => return format!(in alloc; "{error}"),
-        Answer::Found(_) => "",
+        ExternAnswer::Missing(Sort::Function) => "no such function (a module's?)",
+        ExternAnswer::Missing(Sort::Variable) => "no such variable (a module's?)",
+        ExternAnswer::OtherType(Sort::Function) => "another signature",
+        ExternAnswer::OtherType(Sort::Variable) => "another type",
+        ExternAnswer::Unreadable(error) => return format!(in alloc; "{error}"),
+        ExternAnswer::Found(_) => "",
     };
     String::from_str(alloc, words)
 }
@@ -95,14 +95,14 @@ fn answer_for(
     name: &str,
     sort: Sort,
     held: u32,
-) -> Answer {
+) -> ExternAnswer {
     let Some(id) = symbols.id(sort, name) else {
-        return Answer::Missing(sort);
+        return ExternAnswer::Missing(sort);
     };
     match holds_alike(local, held, kernel, id) {
-        Ok(true) => Answer::Found(id),
-        Ok(false) => Answer::OtherType(sort),
-        Err(error) => Answer::Unreadable(error),
+        Ok(true) => ExternAnswer::Found(id),
+        Ok(false) => ExternAnswer::OtherType(sort),
+        Err(error) => ExternAnswer::Unreadable(error),
     }
 }
 
@@ -113,7 +113,7 @@ fn answer_of(
     symbols: &KernelSymbols,
     name: &str,
     known: &ExternDesc,
-) -> Answer {
+) -> ExternAnswer {
     match local.type_by_id(known.btf_id) {
         Ok(BtfType::Func { btf_type, .. }) => {
             answer_for(local, kernel, symbols, name, Sort::Function, btf_type)
@@ -121,8 +121,8 @@ fn answer_of(
         Ok(BtfType::Var { btf_type, .. }) => {
             answer_for(local, kernel, symbols, name, Sort::Variable, btf_type)
         }
-        Ok(_) => Answer::Unreadable(BtfError::InvalidDatasec),
-        Err(error) => Answer::Unreadable(error),
+        Ok(_) => ExternAnswer::Unreadable(BtfError::InvalidDatasec),
+        Err(error) => ExternAnswer::Unreadable(error),
     }
 }
 
@@ -133,9 +133,9 @@ fn lack(
     lacking: &mut Vec<Lacking>,
     name: &str,
     known: ExternDesc,
-    answer: &Answer,
+    answer: &ExternAnswer,
 ) -> Result<ExternDesc, AllocError> {
-    if known.is_weak && !matches!(answer, Answer::Unreadable(_)) {
+    if known.is_weak && !matches!(answer, ExternAnswer::Unreadable(_)) {
         return Ok(left_out(known));
     }
     lacking.push(Lacking {
@@ -157,8 +157,8 @@ fn add_typed(
     for (name, known) in typed.iter() {
         let name = name.as_str();
         let written = match answer_of(local, kernel, &symbols, name, known) {
-            Answer::Found(id) => resolved(*known, id),
-            Answer::Unreadable(BtfError::OutOfMemory) => return Err(AllocError),
+            ExternAnswer::Found(id) => resolved(*known, id),
+            ExternAnswer::Unreadable(BtfError::OutOfMemory) => return Err(AllocError),
             answer => lack(alloc, &mut externs.lacking, name, *known, &answer)?,
         };
         externs

@@ -6,7 +6,7 @@ use std::alloc::{AllocError, Global};
 use std::collections::{BTreeMap, BTreeSet};
 
 /// What a finding means for the programs.
-#[derive(Clone, Copy, Debug, PartialEq, Eq, PartialOrd, Ord)]
+#[derive(Clone, Copy, PartialEq, Eq, PartialOrd, Ord)]
 pub enum Rank {
     /// A program breaks.
     Breaks,
@@ -17,7 +17,7 @@ pub enum Rank {
 }
 
 /// What is found: findings of one topic are told together.
-#[derive(Debug, PartialEq, Eq, PartialOrd, Ord, Drop)]
+#[derive(PartialEq, Eq, PartialOrd, Ord, Drop)]
 pub struct Topic {
     /// What it means.
     pub rank: Rank,
@@ -46,7 +46,7 @@ impl Topic {
 }
 
 /// A place in a linked program. Contracts say nothing of it.
-#[derive(Debug, Drop)]
+#[derive(Drop)]
 pub struct Location {
     /// The function that the slot was copied from, and the slot in it, where it is not the program's own.
     pub within: Option<(Text, usize)>,

@@ -3,7 +3,7 @@
 use crate::findings::{At, Found, Location, Rank, Topic};
 use crate::kinds::Kind;
 use crate::names::Quoted;
-use crate::session::{Answer, KernelAnswer, Session};
+use crate::session::{Judgement, KernelAnswer, Session};
 use ebpf_base::Text;
 use std::collections::{BTreeMap, BTreeSet};
 use std::io::{self, Write};
@@ -50,8 +50,8 @@ fn write_kernel<W: Write>(out: &mut W, session: &Session, kernel: &KernelAnswer)
     let name = Quoted(kernel.name.as_str());
     write!(out, "{{\"name\":{name},")?;
     match &kernel.answer {
-        Answer::Judged(_) => write_breaking(out, session, kernel)?,
-        Answer::Unread(sentence) => {
+        Judgement::Judged(_) => write_breaking(out, session, kernel)?,
+        Judgement::Unread(sentence) => {
             let sentence = Quoted(sentence.as_str());
             write!(out, "\"error\":{sentence}")?;
         }

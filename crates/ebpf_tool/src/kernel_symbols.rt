@@ -6,7 +6,7 @@ use ebpf_model::ExternDesc;
 use std::alloc::{AllocError, Global};
 
 /// Whether a function or a variable is looked up.
-#[derive(Clone, Copy, Debug, PartialEq, Eq)]
+#[derive(Clone, Copy)]
 pub enum Sort {
     /// A function.
     Function,
@@ -15,7 +15,7 @@ pub enum Sort {
 }
 
 /// The lowest ids of the FUNC and the VAR of a name.
-#[derive(Clone, Copy, Debug, PartialEq, Eq)]
+#[derive(Clone, Copy)]
 struct Ids {
     function: Option<u32>,
     variable: Option<u32>,

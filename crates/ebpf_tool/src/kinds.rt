@@ -3,7 +3,7 @@
 use ebpf_ext::RelocationKind;
 
 /// What a finding is about: what a record asks, or something else that a kernel has to have.
-#[derive(Clone, Copy, Debug, PartialEq, Eq, PartialOrd, Ord)]
+#[derive(Clone, Copy, PartialEq, Eq, PartialOrd, Ord)]
 pub enum Kind {
     /// The place of a field in bytes.
     ByteOffset,

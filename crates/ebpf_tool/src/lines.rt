@@ -7,7 +7,7 @@ use ebpf_model::Function;
 use std::alloc::{AllocError, Global};
 
 /// A slot in the copy of a function.
-#[derive(Clone, Copy, Debug, PartialEq, Eq)]
+#[derive(Clone, Copy)]
 pub struct Span {
     /// Where the copy begins.
     pub begin: usize,

@@ -26,7 +26,7 @@ pub struct Linked {
 }
 
 /// Why a program, or all, can't be linked, in a sentence.
-pub type Refusal = String;
+pub type RefusalText = String;
 
 /// Descriptors of an object's own maps: 1 and on, in byte order of their names.
 fn own_descriptors(alloc: Global, object: &Object) -> Result<Vec<(&str, i32)>, AllocError> {
@@ -44,24 +44,39 @@ fn is_memory(error: &EbpfRelocationError) -> bool {
     matches!(error.error, RelocationError::OutOfMemory)
 }
 
-/// The refusal of a pass, in a sentence.
-///
-/// # Errors
-///
-/// `AllocError` where memory was refused, in the pass or for the sentence.
-fn explained(alloc: Global, object: &Object, error: PrepareError) -> Result<Refusal, AllocError> {
-    let for_memory = match &error {
+/// Whether memory was refused in a pass.
+fn is_for_memory(error: &PrepareError) -> bool {
+    match error {
         PrepareError::OutOfMemory => true,
         PrepareError::Maps(refusal)
         | PrepareError::Externs(refusal)
         | PrepareError::Calls(refusal) => is_memory(refusal),
         _ => false,
-    };
-    if for_memory {
+    }
+}
+
+/// The refusal of a pass, in a sentence.
+fn sentence(alloc: Global, object: &Object, error: &PrepareError) -> Result<String, AllocError> {
+    if is_for_memory(error) {
         return Err(AllocError);
     }
-    let explained = object.explain(&error);
+    let explained = object.explain(error);
     format!(in alloc; "{explained}")
+}
+
+/// The refusal of a pass, in a sentence; the error is let go.
+///
+/// # Errors
+///
+/// `AllocError` where memory was refused, in the pass or for the sentence.
+fn explained(
+    alloc: Global,
+    object: &Object,
+    error: PrepareError,
+) -> Result<RefusalText, AllocError> {
+    let sentence = sentence(alloc, object, &error);
+    drop(error);
+    sentence
 }
 
 /// Writes descriptors of an object's own maps and what is known of its externs.
@@ -88,14 +103,18 @@ pub fn written_object(
     loaded: &Loaded,
     written: ByKey<Items<bpf_insn>>,
     externs: ByName<ExternDesc>,
-) -> Result<Result<Object, Refusal>, AllocError> {
+) -> Result<Result<Object, RefusalText>, AllocError> {
     let descriptors = own_descriptors(alloc, &loaded.object)?;
     let mut object = loaded.object.clone()?;
     object.externs = externs;
     put_slots(&mut object.functions, written);
     match write_passes(alloc, &mut object, &descriptors) {
         Ok(()) => Ok(Ok(object)),
-        Err(error) => Ok(Err(explained(alloc, &object, error)?)),
+        Err(error) => {
+            let sentence = explained(alloc, &object, error);
+            drop(object);
+            Ok(Err(sentence?))
+        }
     }
 }
 
@@ -177,7 +196,7 @@ impl<'a> Linker<'a> {
         &self,
         alloc: Global,
         program: &Chosen,
-    ) -> Result<Result<Option<Function>, Refusal>, AllocError> {
+    ) -> Result<Result<Option<Function>, RefusalText>, AllocError> {
         if let Some(together) = &self.together {
             return match together.get(program.key) {
                 Some(function) => Ok(Ok(Some(function.clone()?))),
@@ -210,7 +229,7 @@ impl<'a> Linker<'a> {
         &self,
         alloc: Global,
         program: &Chosen,
-    ) -> Result<Result<Option<Linked>, Refusal>, AllocError> {
+    ) -> Result<Result<Option<Linked>, RefusalText>, AllocError> {
         let function = match self.function(alloc, program)? {
             Ok(Some(function)) => function,
             Ok(None) => return Ok(Ok(None)),

@@ -14,7 +14,7 @@ use ebpf_parts::Reading;
 use std::alloc::{AllocError, Global};
 
 /// A CO-RE relocation.
-#[derive(Clone, Copy, Debug, PartialEq, Eq)]
+#[derive(Clone, Copy)]
 pub struct Record {
     /// What is asked.
     pub relocation: Relocation,

@@ -8,7 +8,7 @@ use std::alloc::{AllocError, Global};
 use std::collections::BTreeMap;
 
 /// A map that a function uses.
-#[derive(Debug, Drop)]
+#[derive(Drop)]
 pub struct MapUse {
     /// The map's name.
     pub name: Text,

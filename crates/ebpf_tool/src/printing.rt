@@ -3,7 +3,7 @@
 use crate::findings::{At, Found, Location, Rank, Topic};
 use crate::kinds::Kind;
 use crate::names::{Shown, last_part};
-use crate::session::{Answer, KernelAnswer, Session};
+use crate::session::{Judgement, KernelAnswer, Session};
 use std::collections::{BTreeMap, BTreeSet};
 use std::io::{self, Write};
 
@@ -26,11 +26,11 @@ pub fn write_kernel<W: Write>(
     let name = Shown(kernel.name.as_str());
     let breaking = kernel.breaking();
     match &kernel.answer {
-        Answer::Unread(_) => writeln!(out, "unread  -/{programs} programs  {name}"),
-        Answer::Judged(_) if breaking > 0 => {
+        Judgement::Unread(_) => writeln!(out, "unread  -/{programs} programs  {name}"),
+        Judgement::Judged(_) if breaking > 0 => {
             writeln!(out, "breaks  {breaking}/{programs} programs  {name}")
         }
-        Answer::Judged(_) => writeln!(out, "ok      {programs}/{programs} programs  {name}"),
+        Judgement::Judged(_) => writeln!(out, "ok      {programs}/{programs} programs  {name}"),
     }
 }
 

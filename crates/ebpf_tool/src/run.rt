@@ -8,7 +8,7 @@ use crate::loaded::{Loaded, load};
 use crate::names::Shown;
 use crate::printing::{Manner, write_findings, write_kernel};
 use crate::programs::{counting, unknown_name};
-use crate::session::{Answer, Session};
+use crate::session::{Judgement, Session};
 use crate::words::{CheckWords, Command, WordsError, read_words};
 use ebpf_base::Text;
 use ebpf_object::obj::ExplainedParse;
@@ -18,7 +18,7 @@ use std::io::{self, BufWriter, ErrorKind, Stdout, Write};
 use std::process::ExitCode;
 
 /// Why the work ends before its end.
-#[derive(Debug, Drop)]
+#[derive(Drop)]
 enum Stop {
     /// What was told already; with the status.
     Told(u8),
@@ -76,6 +76,24 @@ fn usage(rt: &HostRuntime, error: &WordsError<'_>) -> Result<u8, Stop> {
     Ok(2)
 }
 
+/// Says why an object is refused.
+fn refuse(rt: &HostRuntime, path: &str, file: &[u8], error: &ParseError) -> Stop {
+    if matches!(error, ParseError::OutOfMemory) {
+        return Stop::Memory;
+    }
+    let alloc = rt.alloc();
+    let explained = ExplainedParse::new(file, error);
+    match format!(in alloc; "{explained}") {
+        Ok(sentence) => {
+            let path = Shown(path);
+            let sentence = Shown(sentence.as_str());
+            let _ = eprintln!(rt; "ebpf: {path}: {sentence}");
+            Stop::Told(1)
+        }
+        Err(_) => Stop::Memory,
+    }
+}
+
 /// Reads the object's file.
 fn load_file(rt: &HostRuntime, words: &CheckWords) -> Result<Loaded, Stop> {
     let alloc = rt.alloc();
@@ -86,14 +104,10 @@ fn load_file(rt: &HostRuntime, words: &CheckWords) -> Result<Loaded, Stop> {
     };
     match load(alloc, &file, words.all) {
         Ok(loaded) => Ok(loaded),
-        Err(ParseError::OutOfMemory) => Err(Stop::Memory),
         Err(error) => {
-            let explained = ExplainedParse::new(&file, &error);
-            let sentence = format!(in alloc; "{explained}")?;
-            let path = Shown(path);
-            let sentence = Shown(sentence.as_str());
-            let _ = eprintln!(rt; "ebpf: {path}: {sentence}");
-            Err(Stop::Told(1))
+            let stop = refuse(rt, path, &file, &error);
+            drop(error);
+            Err(stop)
         }
     }
 }
@@ -150,7 +164,7 @@ fn tell_unread(rt: &HostRuntime, session: &Session) {
     let Some(kernel) = session.kernels.last() else {
         return;
     };
-    if let Answer::Unread(sentence) = &kernel.answer {
+    if let Judgement::Unread(sentence) = &kernel.answer {
         let name = Shown(kernel.name.as_str());
         let sentence = Shown(sentence.as_str());
         let _ = eprintln!(rt; "ebpf: {name}: {sentence}");

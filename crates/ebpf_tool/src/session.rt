@@ -21,8 +21,8 @@ fn status_of(unread: usize, broken: usize) -> u8
 }
 
 /// What is known of a kernel.
-#[derive(Debug, Drop)]
-pub enum Answer {
+#[derive(Drop)]
+pub enum Judgement {
     /// Whether each program that counts breaks on it.
     Judged(Vec<bool>),
     /// Why its types can't be read.
@@ -30,33 +30,33 @@ pub enum Answer {
 }
 
 /// A kernel with what is known of it.
-#[derive(Debug, Drop)]
+#[derive(Drop)]
 pub struct KernelAnswer {
     /// Its name.
     pub name: Text,
     /// What is known.
-    pub answer: Answer,
+    pub answer: Judgement,
 }
 
 impl KernelAnswer {
     /// How many programs break; none where nothing is known.
     pub fn breaking(&self) -> usize {
         match &self.answer {
-            Answer::Judged(programs) => programs.iter().filter(|breaks| **breaks).count(),
-            Answer::Unread(_) => 0,
+            Judgement::Judged(programs) => programs.iter().filter(|breaks| **breaks).count(),
+            Judgement::Unread(_) => 0,
         }
     }
 
     /// Whether its types were read.
     pub fn is_judged(&self) -> bool {
-        matches!(self.answer, Answer::Judged(_))
+        matches!(self.answer, Judgement::Judged(_))
     }
 
     /// Whether the program of a number breaks on it.
     pub fn breaks(&self, program: usize) -> bool {
         match &self.answer {
-            Answer::Judged(programs) => programs.get(program).copied().unwrap_or(false),
-            Answer::Unread(_) => false,
+            Judgement::Judged(programs) => programs.get(program).copied().unwrap_or(false),
+            Judgement::Unread(_) => false,
         }
     }
 }
@@ -91,7 +91,7 @@ impl Session {
         let programs = judge_kernel(alloc, &mut self.findings, &self.loaded, kernel, number)?;
         self.kernels.push(KernelAnswer {
             name,
-            answer: Answer::Judged(programs),
+            answer: Judgement::Judged(programs),
         })?;
         Ok(())
     }
@@ -100,7 +100,7 @@ impl Session {
     pub fn note_unread(&mut self, name: Text, sentence: Text) -> Result<(), AllocError> {
         self.kernels.push(KernelAnswer {
             name,
-            answer: Answer::Unread(sentence),
+            answer: Judgement::Unread(sentence),
         })?;
         Ok(())
     }

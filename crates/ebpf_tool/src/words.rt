@@ -5,7 +5,7 @@ use std::alloc::{AllocError, AllocFailed, Global};
 use thiserror::Error;
 
 /// What a command line asks for.
-#[derive(Debug, Drop)]
+#[derive(Drop)]
 pub enum Command {
     /// What `ebpf` does, in general.
     Help,
@@ -18,7 +18,7 @@ pub enum Command {
 }
 
 /// What `ebpf check` is to do.
-#[derive(Debug, Drop)]
+#[derive(Drop)]
 pub struct CheckWords {
     /// The object's file.
     pub file: Text,
@@ -33,7 +33,7 @@ pub struct CheckWords {
 }
 
 /// Why words can't be read.
-#[derive(Clone, Copy, Debug, Error, PartialEq, Eq)]
+#[derive(Clone, Copy, Debug, Error)]
 pub enum WordsError<'a> {
     /// There is no word.
     #[error("no command")]
@@ -71,7 +71,7 @@ impl<T: Drop> From<AllocFailed<T>> for WordsError<'_> {
 }
 
 /// An option of `ebpf check`.
-#[derive(Clone, Copy, Debug, PartialEq, Eq)]
+#[derive(Clone, Copy)]
 enum Choice {
     Program,
     All,

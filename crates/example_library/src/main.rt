@@ -14,55 +14,85 @@ use ebpf_object::obj::Btf;
 use ebpf_object::prepare::{PrepareError, Steps};
 use std::{env, fs, io};
 
-/// Prints what came of a copy of an object, or of the object itself.
-fn print_outcome(rt: &HostRuntime, outcome: &Result<Object, PrepareError>) -> io::Result<()> {
-    match outcome {
-        Ok(object) => slots::print_programs(rt, object),
-        Err(error) => refusals::print_gone(rt, error),
+/// What is printed of an object, or of why there is none.
+trait Shown {
+    fn show(&self, rt: &HostRuntime) -> io::Result<()>;
+}
+
+impl Shown for Object {
+    fn show(&self, rt: &HostRuntime) -> io::Result<()> {
+        slots::print_programs(rt, self)
     }
 }
 
-/// Prints what came of an object that is still there.
-fn print_in_place(
+impl Shown for PrepareError {
+    fn show(&self, rt: &HostRuntime) -> io::Result<()> {
+        refusals::print_gone(rt, self)
+    }
+}
+
+/// Prints what came of an object that was copied or taken.
+fn show_outcome<T: Shown + Drop, E: Shown + Drop>(
+    rt: &HostRuntime,
+    outcome: Result<T, E>,
+) -> io::Result<()> {
+    match &outcome {
+        Ok(object) => object.show(rt),
+        Err(error) => error.show(rt),
+    }
+}
+
+/// What is printed of why an object stayed as it was.
+trait Refusal {
+    fn show_refusal(&self, rt: &HostRuntime, object: &Object) -> io::Result<()>;
+}
+
+impl Refusal for PrepareError {
+    fn show_refusal(&self, rt: &HostRuntime, object: &Object) -> io::Result<()> {
+        refusals::print_refused(rt, object, self)
+    }
+}
+
+/// Prints what came of an object where it stands.
+fn show_in_place<E: Refusal + Drop>(
     rt: &HostRuntime,
     object: &Object,
-    answer: &Result<(), PrepareError>,
+    answer: Result<(), E>,
 ) -> io::Result<()> {
-    match answer {
+    match &answer {
         Ok(()) => slots::print_programs(rt, object),
-        Err(error) => refusals::print_refused(rt, object, error),
+        Err(error) => error.show_refusal(rt, object),
     }
 }
 
-/// Prepares a copy of the object for a kernel.
+/// Prepares a copy of the object for a kernel, with these descriptors.
+fn go_with_fds(
+    rt: &HostRuntime,
+    object: &Object,
+    kernel: &Btf,
+    descriptors: &[(&str, i32)],
+    symbols: &[u8],
+) -> io::Result<()> {
+    let steps = Steps::all(kernel, descriptors);
+    let outcome = preparing::copied(rt.alloc(), object, &steps, symbols);
+    show_outcome(rt, outcome)
+}
+
+/// Prepares a copy of the object for a kernel, with the descriptors that lines say.
 fn go_copied(
     rt: &HostRuntime,
     object: &Object,
     kernel: &Btf,
-    descriptors: &[(&str, i32)],
     symbols: &[u8],
+    lines: &str,
 ) -> io::Result<()> {
     println!(rt; "a copy, all passes in one call")?;
-    let steps = Steps::all(kernel, descriptors);
-    let outcome = preparing::copied(rt.alloc(), object, &steps, symbols);
-    print_outcome(rt, &outcome)
+    let descriptors = making::descriptors(rt.alloc(), object, lines)?;
+    go_with_fds(rt, object, kernel, &descriptors, symbols)
 }
 
-/// Prepares the object for a kernel pass by pass.
-fn go_one_by_one(
-    rt: &HostRuntime,
-    object: &Object,
-    kernel: &Btf,
-    descriptors: &[(&str, i32)],
-    symbols: &[u8],
-) -> io::Result<()> {
-    println!(rt; "the passes one by one")?;
-    let copy = object.clone()?;
-    let outcome = passes::one_by_one(rt.alloc(), copy, kernel, descriptors, symbols);
-    print_outcome(rt, &outcome)
-}
-
-/// Prepares the object itself for a kernel, with names of maps that are written out, and links nothing.
+/// Prepares an object for a kernel, with names of maps that are written out, and links nothing; it is a copy here, since
+/// the object is prepared in other ways too.
 fn go_taken(rt: &HostRuntime, object: &Object, kernel: &Btf, symbols: &[u8]) -> io::Result<()> {
     println!(rt; "the object itself, not linked")?;
     let descriptors = [("counts", 3), (".bss", 4), (".rodata", 5)];
@@ -72,69 +102,91 @@ fn go_taken(rt: &HostRuntime, object: &Object, kernel: &Btf, symbols: &[u8]) -> 
         .with_externs(kernel);
     let copy = object.clone()?;
     let outcome = preparing::taken(rt.alloc(), copy, &steps, symbols);
-    print_outcome(rt, &outcome)
+    show_outcome(rt, outcome)
 }
 
 /// Prepares the object where it stands.
 fn go_in_place(
     rt: &HostRuntime,
-    object: &Object,
+    object: &mut Object,
     steps: &Steps<'_>,
     symbols: &[u8],
 ) -> io::Result<()> {
-    let copy = object.clone()?;
-    let (object, answer) = preparing::in_place(rt.alloc(), copy, steps, symbols);
-    print_in_place(rt, &object, &answer)
+    let answer = preparing::in_place(rt.alloc(), object, steps, symbols);
+    show_in_place(rt, object, answer)
 }
 
 /// Prepares the object without descriptors, which is refused.
-fn go_without_fds(rt: &HostRuntime, object: &Object) -> io::Result<()> {
+fn go_without_fds(rt: &HostRuntime, object: &mut Object) -> io::Result<()> {
     println!(rt; "in place, without descriptors")?;
     go_in_place(rt, object, &Steps::without_kernel(&[]), &[])
 }
 
 /// Looks for externs by symbols alone, which is refused where one has a type.
-fn go_by_symbols(rt: &HostRuntime, object: &Object, symbols: &[u8]) -> io::Result<()> {
+fn go_by_symbols(rt: &HostRuntime, object: &mut Object, symbols: &[u8]) -> io::Result<()> {
     println!(rt; "in place, externs by symbols alone")?;
     let steps = Steps::none().with_externs_by_symbols();
     go_in_place(rt, object, &steps, symbols)
 }
 
 /// Links programs whose externs are left alone, which is refused where one is called.
-fn go_unresolved(rt: &HostRuntime, object: &Object) -> io::Result<()> {
+fn go_unresolved(rt: &HostRuntime, object: &mut Object) -> io::Result<()> {
     println!(rt; "in place, externs left alone")?;
     let descriptors = [("counts", 3), (".bss", 4), (".rodata", 5)];
     go_in_place(rt, object, &Steps::without_kernel(&descriptors), &[])
+}
+
+/// Prepares the object in ways that are refused, each of which leaves it as it was.
+fn go_refused(rt: &HostRuntime, object: &mut Object, symbols: &[u8]) -> io::Result<()> {
+    go_without_fds(rt, object)?;
+    go_by_symbols(rt, object, symbols)?;
+    go_unresolved(rt, object)
+}
+
+/// Prepares the object for a kernel pass by pass.
+fn go_one_by_one(
+    rt: &HostRuntime,
+    object: &mut Object,
+    kernel: &Btf,
+    symbols: &[u8],
+) -> io::Result<()> {
+    println!(rt; "the passes one by one")?;
+    let descriptors = [("counts", 3), (".bss", 4), (".rodata", 5)];
+    let answer = passes::one_by_one(rt.alloc(), object, kernel, &descriptors, symbols);
+    show_in_place(rt, object, answer)
 }
 
 /// Parses a file that is cut, which is refused.
 fn go_cut(rt: &HostRuntime, file: &[u8]) -> io::Result<()> {
     println!(rt; "a file without its end")?;
     let cut = file.get(..file.len() / 2).unwrap_or(file);
-    match preparing::parsed(rt.alloc(), cut) {
-        Ok(object) => slots::print_programs(rt, &object),
-        Err(error) => refusals::print_unparsed(rt, cut, &error),
-    }
+    let parsed = preparing::parsed(rt.alloc(), cut);
+    let shown = match &parsed {
+        Ok(object) => slots::print_programs(rt, object),
+        Err(error) => refusals::print_unparsed(rt, cut, error),
+    };
+    drop(parsed);
+    shown
 }
 
 /// Prepares the object in each way for a kernel whose types are known.
 fn go_for_kernel(
     rt: &HostRuntime,
-    object: &Object,
+    object: &mut Object,
     kernel: &Btf,
     symbols: &[u8],
     lines: &str,
 ) -> io::Result<()> {
-    let descriptors = making::descriptors(rt.alloc(), object, lines)?;
-    go_copied(rt, object, kernel, &descriptors, symbols)?;
-    go_one_by_one(rt, object, kernel, &descriptors, symbols)?;
-    go_taken(rt, object, kernel, symbols)
+    go_copied(rt, object, kernel, symbols, lines)?;
+    go_taken(rt, object, kernel, symbols)?;
+    go_refused(rt, object, symbols)?;
+    go_one_by_one(rt, object, kernel, symbols)
 }
 
 /// Reads a kernel's types, and prepares the object for it.
 fn go_with_types(
     rt: &HostRuntime,
-    object: &Object,
+    object: &mut Object,
     types: Vec<u8>,
     symbols: &[u8],
     lines: &str,
@@ -145,13 +197,6 @@ fn go_with_types(
     }
 }
 
-/// Prepares the object in ways that are refused.
-fn go_refused(rt: &HostRuntime, object: &Object, symbols: &[u8]) -> io::Result<()> {
-    go_without_fds(rt, object)?;
-    go_by_symbols(rt, object, symbols)?;
-    go_unresolved(rt, object)
-}
-
 /// Prints what a file has.
 fn print_file(rt: &HostRuntime, file: &[u8], object: &Object) -> io::Result<()> {
     listing::print_parts(rt, object)?;
@@ -159,31 +204,19 @@ fn print_file(rt: &HostRuntime, file: &[u8], object: &Object) -> io::Result<()> 
     listing::print_license(rt, object)
 }
 
-/// Prepares an object in each way.
-fn go_on(
-    rt: &HostRuntime,
-    object: &Object,
-    types: Vec<u8>,
-    symbols: &[u8],
-    lines: &str,
-) -> io::Result<()> {
-    go_with_types(rt, object, types, symbols, lines)?;
-    go_refused(rt, object, symbols)
-}
-
 /// Sets a variable of the object, prints what the file has, and prepares the object in each way.
 fn go_with(
     rt: &HostRuntime,
     file: &[u8],
-    object: Object,
+    object: &mut Object,
     types: Vec<u8>,
     symbols: &[u8],
     lines: &str,
 ) -> io::Result<()> {
-    match making::with_step(rt.alloc(), object, 2) {
-        Ok(object) => {
-            print_file(rt, file, &object)?;
-            go_on(rt, &object, types, symbols, lines)
+    match making::set_step(rt.alloc(), object, 2) {
+        Ok(()) => {
+            print_file(rt, file, object)?;
+            go_with_types(rt, object, types, symbols, lines)
         }
         Err(error) => refusals::print_unparsed(rt, file, &error),
     }
@@ -198,7 +231,7 @@ fn go_through(
     lines: &str,
 ) -> io::Result<()> {
     match preparing::parsed(rt.alloc(), file) {
-        Ok(object) => go_with(rt, file, object, types, symbols, lines),
+        Ok(mut object) => go_with(rt, file, &mut object, types, symbols, lines),
         Err(error) => refusals::print_unparsed(rt, file, &error),
     }
 }

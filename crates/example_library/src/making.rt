@@ -33,14 +33,10 @@ pub fn descriptors<'a>(
     Ok(descriptors)
 }
 
-/// The object with another value of its variable `step`, which goes into the first value of the map of its section.
-pub fn with_step(alloc: Global, object: Object, step: u32) -> Result<Object, ParseError> {
-    let mut object = object;
+/// Gives the variable `step` of the object another value, which goes into the first value of the map of its section.
+pub fn set_step(alloc: Global, object: &mut Object, step: u32) -> Result<(), ParseError> {
     let bytes = step.to_le_bytes();
     let mut values = HashMap::new(alloc);
     values.insert("step", (bytes.as_slice(), true))?;
-    match object.patch_map_data(values) {
-        Ok(()) => Ok(object),
-        Err(error) => Err(error),
-    }
+    object.patch_map_data(values)
 }

@@ -5,66 +5,58 @@ use ebpf_object::obj::Btf;
 use ebpf_object::prepare::{PrepareError, relocate_own_maps};
 use std::alloc::Global;
 
-/// The object with its functions relocated to a kernel's types.
-fn typed(object: Object, kernel: &Btf) -> Result<Object, PrepareError> {
-    let mut object = object;
+/// Relocates the functions to a kernel's types.
+fn relocate_types(object: &mut Object, kernel: &Btf) -> Result<(), PrepareError> {
     match object.relocate_btf(kernel) {
-        Ok(()) => Ok(object),
+        Ok(()) => Ok(()),
         Err(error) => Err(PrepareError::Types(error)),
     }
 }
 
-/// The object with the descriptors of its maps in the slots.
-fn fds_written(
+/// Writes the descriptors of the object's maps into the slots.
+fn write_fds(
     alloc: Global,
-    object: Object,
+    object: &mut Object,
     descriptors: &[(&str, i32)],
-) -> Result<Object, PrepareError> {
-    let mut object = object;
-    match relocate_own_maps(alloc, &mut object, descriptors) {
-        Ok(()) => Ok(object),
-        Err(error) => Err(error),
-    }
+) -> Result<(), PrepareError> {
+    relocate_own_maps(alloc, object, descriptors)
 }
 
-/// The object with what a kernel has of its externs: ids by its types, addresses by the lines of its symbols.
-fn resolved(object: Object, kernel: &Btf, symbols: &[u8]) -> Result<Object, PrepareError> {
-    let mut object = object;
+/// Finds what a kernel has of the object's externs: ids by its types, addresses by the lines of its symbols.
+fn resolve(object: &mut Object, kernel: &Btf, symbols: &[u8]) -> Result<(), PrepareError> {
     match object.resolve_externs(Some(kernel), symbols) {
-        Ok(()) => Ok(object),
+        Ok(()) => Ok(()),
         Err(error) => Err(PrepareError::Ksyms(error)),
     }
 }
 
-/// The object with these ids and addresses in the slots.
-fn written(object: Object) -> Result<Object, PrepareError> {
-    let mut object = object;
+/// Writes these ids and addresses into the slots.
+fn write_externs(object: &mut Object) -> Result<(), PrepareError> {
     match object.relocate_externs() {
-        Ok(()) => Ok(object),
+        Ok(()) => Ok(()),
         Err(error) => Err(PrepareError::Externs(error)),
     }
 }
 
-/// The object with each program linked with the functions that it reaches.
-fn linked(object: Object) -> Result<Object, PrepareError> {
-    let mut object = object;
+/// Links each program with the functions that it reaches.
+fn link(object: &mut Object) -> Result<(), PrepareError> {
     match object.relocate_own_calls() {
-        Ok(()) => Ok(object),
+        Ok(()) => Ok(()),
         Err(error) => Err(PrepareError::Calls(error)),
     }
 }
 
-/// The object after all passes.
+/// Makes all passes over the object.
 pub fn one_by_one(
     alloc: Global,
-    object: Object,
+    object: &mut Object,
     kernel: &Btf,
     descriptors: &[(&str, i32)],
     symbols: &[u8],
-) -> Result<Object, PrepareError> {
-    let object = typed(object, kernel)?;
-    let object = fds_written(alloc, object, descriptors)?;
-    let object = resolved(object, kernel, symbols)?;
-    let object = written(object)?;
-    linked(object)
+) -> Result<(), PrepareError> {
+    relocate_types(object, kernel)?;
+    write_fds(alloc, object, descriptors)?;
+    resolve(object, kernel, symbols)?;
+    write_externs(object)?;
+    link(object)
 }

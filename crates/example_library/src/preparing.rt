@@ -35,14 +35,12 @@ pub fn taken(
     prepare_object(alloc, object, steps, symbols)
 }
 
-/// The object after the steps, and why they were refused: then it is as it was.
+/// The object where it stands; after a refusal it is as it was.
 pub fn in_place(
     alloc: Global,
-    object: Object,
+    object: &mut Object,
     steps: &Steps<'_>,
     symbols: &[u8],
-) -> (Object, Result<(), PrepareError>) {
-    let mut object = object;
-    let answer = prepare_in_place(alloc, &mut object, steps, symbols);
-    (object, answer)
+) -> Result<(), PrepareError> {
+    prepare_in_place(alloc, object, steps, symbols)
 }

@@ -38,10 +38,13 @@ fn print_programs(rt: &HostRuntime, object: &Object) -> io::Result<()> {
 
 /// Prints what a file has, or why it is refused.
 fn print_file(rt: &HostRuntime, file: &[u8]) -> io::Result<()> {
-    match linked(rt.alloc(), file) {
-        Ok(object) => print_programs(rt, &object),
+    let prepared = linked(rt.alloc(), file);
+    let printed = match &prepared {
+        Ok(object) => print_programs(rt, object),
         Err(error) => println!(rt; "{error}"),
-    }
+    };
+    drop(prepared);
+    printed
 }
 
 fn main(rt: HostRuntime) -> io::Result<()> {

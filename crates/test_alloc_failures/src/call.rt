@@ -1,25 +1,47 @@
 //! Calls by their names, and the marks around the one that is looked at.
 
+use crate::given::Kernel;
 use std::fmt::Debug;
 use std::io;
 
-/// The name of a call, the word behind it (the empty one where there is none), and whether it is the one that is looked
-/// at.
+/// The name of a call, the word behind it (the empty one where there is none), what it may be given of a kernel, where it
+/// is told, and whether it is the one that is looked at.
 #[derive(Clone, Copy)]
 pub struct Call<'a> {
+    pub rt: &'a HostRuntime,
+    pub kernel: Kernel<'a>,
     pub name: &'a str,
     pub word: &'a str,
     pub is_last: bool,
 }
 
+/// A name and the word behind it, as `NAME` or `NAME=WORD`.
+fn split<'a>(text: &'a str) -> (&'a str, &'a str) {
+    text.split_once('=').unwrap_or((text, ""))
+}
+
 impl<'a> Call<'a> {
-    /// The call that a text says, as `NAME` or `NAME=WORD`.
-    pub fn new(text: &'a str, is_last: bool) -> Call<'a> {
-        let (name, word) = text.split_once('=').unwrap_or((text, ""));
+    /// The call that a text says, which is looked at.
+    pub fn new(rt: &'a HostRuntime, kernel: Kernel<'a>, text: &'a str) -> Call<'a> {
+        let (name, word) = split(text);
         Call {
+            rt,
+            kernel,
             name,
             word,
-            is_last,
+            is_last: true,
+        }
+    }
+
+    /// A call that is made before this one.
+    pub fn before(&self, text: &'a str) -> Call<'a> {
+        let (name, word) = split(text);
+        Call {
+            rt: self.rt,
+            kernel: self.kernel,
+            name,
+            word,
+            is_last: false,
         }
     }
 
@@ -29,28 +51,32 @@ impl<'a> Call<'a> {
     }
 
     /// Says that the call begins. A mark that can't be written is missed where the output is read.
-    pub fn begin(&self, rt: &HostRuntime) {
+    pub fn begin(&self) {
         if self.is_last {
-            let _ = println!(rt; "== begin");
+            let _ = println!(self.rt; "== begin");
         }
     }
 
     /// Says that the call has ended.
-    pub fn end(&self, rt: &HostRuntime) {
+    pub fn end(&self) {
         if self.is_last {
-            let _ = println!(rt; "== end");
+            let _ = println!(self.rt; "== end");
         }
     }
 
     /// Says that the call has ended, and what it answered.
-    pub fn tell<T: Debug>(&self, rt: &HostRuntime, answer: &T) -> io::Result<()> {
-        self.end(rt);
-        println!(rt; "answer: {answer:?}")
+    pub fn tell<T: Debug + Drop>(&self, answer: T) -> io::Result<()> {
+        self.end();
+        say(self.rt, "answer: ", answer)
     }
 
     /// Says that no call has this name.
-    pub fn miss(&self, rt: &HostRuntime) -> io::Result<()> {
-        let name = self.name;
-        println!(rt; "no call {name}")
+    pub fn miss(&self) -> io::Result<()> {
+        say(self.rt, "no call ", self.name)
     }
+}
+
+/// Prints a value behind a text.
+pub fn say<T: Debug + Drop>(rt: &HostRuntime, text: &str, value: T) -> io::Result<()> {
+    println!(rt; "{text}{value:?}")
 }

@@ -1,6 +1,6 @@
 //! Calls on the bytes of a file, on its sections and on names.
 
-use crate::call::Call;
+use crate::call::{Call, say};
 use ebpf_btf::{Btf, Endianness};
 use ebpf_elf::{ElfFile, ElfSection};
 use ebpf_ext::BtfExt;
@@ -8,32 +8,17 @@ use ebpf_parts::insn::copy_instructions;
 use ebpf_parts::{ProgramSection, Section};
 use std::io;
 
-/// The slots of bytes.
-fn slots(rt: &HostRuntime, bytes: &[u8], call: Call<'_>) -> io::Result<()> {
-    call.begin(rt);
-    let answer = copy_instructions(rt.alloc(), bytes);
-    call.tell(rt, &answer)
-}
-
-/// The kind of program that the name of a section says.
-fn program_section(rt: &HostRuntime, call: Call<'_>) -> io::Result<()> {
-    call.begin(rt);
-    let answer = ProgramSection::from_str(rt.alloc(), call.word);
-    call.tell(rt, &answer)
-}
-
 /// A section with its relocations.
-fn section(rt: &HostRuntime, section: &ElfSection<'_>, call: Call<'_>) -> io::Result<()> {
-    call.begin(rt);
-    let answer = Section::from_elf(rt.alloc(), section);
-    call.tell(rt, &answer)
+fn section(section: &ElfSection<'_>, call: &Call<'_>) -> io::Result<()> {
+    call.begin();
+    call.tell(Section::from_elf(call.rt.alloc(), section))
 }
 
 /// The section that the word names.
-fn named_section(rt: &HostRuntime, file: &ElfFile<'_>, call: Call<'_>) -> io::Result<()> {
+fn named_section(file: &ElfFile<'_>, call: &Call<'_>) -> io::Result<()> {
     match file.section_by_name(call.word) {
-        Some(found) => section(rt, &found, call),
-        None => println!(rt; "no such section"),
+        Some(found) => section(&found, call),
+        None => say(call.rt, "no section ", call.word),
     }
 }
 
@@ -46,49 +31,43 @@ fn data_of<'a>(file: &ElfFile<'a>, name: &str) -> &'a [u8] {
 }
 
 /// What is said of instructions, with the names in these types.
-fn ext_with(
-    rt: &HostRuntime,
-    data: &[u8],
-    order: Endianness,
-    types: &Btf,
-    call: Call<'_>,
-) -> io::Result<()> {
-    call.begin(rt);
-    let answer = BtfExt::parse(rt.alloc(), data, order, types);
-    call.tell(rt, &answer)
+fn ext_with(data: &[u8], order: Endianness, types: &Btf, call: &Call<'_>) -> io::Result<()> {
+    call.begin();
+    call.tell(BtfExt::parse(call.rt.alloc(), data, order, types))
 }
 
 /// What is said of instructions.
-fn ext(rt: &HostRuntime, file: &ElfFile<'_>, call: Call<'_>) -> io::Result<()> {
+fn ext(file: &ElfFile<'_>, call: &Call<'_>) -> io::Result<()> {
     let (data, order) = (data_of(file, ".BTF.ext"), file.endianness());
-    match Btf::parse(rt.alloc(), data_of(file, ".BTF"), order) {
-        Ok(types) => ext_with(rt, data, order, &types, call),
-        Err(error) => println!(rt; "no types: {error:?}"),
+    match Btf::parse(call.rt.alloc(), data_of(file, ".BTF"), order) {
+        Ok(types) => ext_with(data, order, &types, call),
+        Err(error) => say(call.rt, "no types: ", error),
     }
 }
 
 /// A call on a file.
-fn on_elf(rt: &HostRuntime, file: &ElfFile<'_>, call: Call<'_>) -> io::Result<()> {
+fn on_elf(file: &ElfFile<'_>, call: &Call<'_>) -> io::Result<()> {
     match call.name {
-        "section" => named_section(rt, file, call),
-        "ext" => ext(rt, file, call),
-        _ => call.miss(rt),
+        "section" => named_section(file, call),
+        "ext" => ext(file, call),
+        _ => call.miss(),
     }
 }
 
-/// A call on the file that bytes are.
-fn with_elf(rt: &HostRuntime, bytes: &[u8], call: Call<'_>) -> io::Result<()> {
-    match ElfFile::parse(bytes) {
-        Ok(file) => on_elf(rt, &file, call),
-        Err(error) => println!(rt; "no file: {error:?}"),
+/// A call on bytes that are no file, or on a name.
+fn on_bytes(bytes: &[u8], call: &Call<'_>) -> io::Result<()> {
+    call.begin();
+    match call.name {
+        "slots" => call.tell(copy_instructions(call.rt.alloc(), bytes)),
+        "program_section" => call.tell(ProgramSection::from_str(call.rt.alloc(), call.word)),
+        _ => call.miss(),
     }
 }
 
 /// A call on bytes, on the file that they are, or on a name.
-pub fn on_code(rt: &HostRuntime, bytes: &[u8], call: Call<'_>) -> io::Result<()> {
-    match call.name {
-        "slots" => slots(rt, bytes, call),
-        "program_section" => program_section(rt, call),
-        _ => with_elf(rt, bytes, call),
+pub fn on_code(bytes: &[u8], call: &Call<'_>) -> io::Result<()> {
+    match ElfFile::parse(bytes) {
+        Ok(file) => on_elf(&file, call),
+        Err(_) => on_bytes(bytes, call),
     }
 }

@@ -3,7 +3,7 @@
 use ebpf_btf::Btf;
 
 /// The bytes of the files.
-#[derive(Debug, Drop)]
+#[derive(Drop)]
 pub struct Files {
     pub object: Vec<u8>,
     pub types: Vec<u8>,
@@ -15,4 +15,14 @@ pub struct Files {
 pub struct Kernel<'a> {
     pub types: Option<&'a Btf>,
     pub lines: &'a [u8],
+}
+
+impl Files {
+    /// What calls are given of a kernel.
+    pub fn kernel<'a>(&'a self, types: Option<&'a Btf>) -> Kernel<'a> {
+        Kernel {
+            types,
+            lines: self.lines.as_slice(),
+        }
+    }
 }

@@ -11,16 +11,15 @@ mod code;
 mod given;
 mod kept;
 mod object;
-mod object_text;
 mod passes;
 mod prepared;
-mod resolving;
 mod run;
 mod small;
 mod still;
 mod still_file;
 mod still_object;
 mod still_types;
+mod subject;
 mod type_questions;
 mod types;
 
@@ -28,13 +27,13 @@ use crate::given::Files;
 use crate::run::run;
 use std::{env, fs, io};
 
-/// The words of the command line after the program's own name.
-fn gather(rt: &HostRuntime) -> io::Result<Vec<String>> {
-    let mut words = Vec::new(rt.alloc());
-    for word in env::args(rt)?.skip(1) {
-        words.push(word)?;
-    }
-    Ok(words)
+/// Reads the files.
+fn read_files(rt: &HostRuntime, object: &str, types: &str, lines: &str) -> io::Result<Files> {
+    Ok(Files {
+        object: fs::read(rt, object)?,
+        types: fs::read(rt, types)?,
+        lines: fs::read(rt, lines)?,
+    })
 }
 
 /// Reads the files, and makes the calls.
@@ -42,15 +41,11 @@ fn run_words(rt: &HostRuntime, words: &[String]) -> io::Result<()> {
     let [object, types, lines, subject, calls @ ..] = words else {
         return println!(rt; "usage: test_alloc_failures OBJECT TYPES LINES SUBJECT CALL..");
     };
-    let files = Files {
-        object: fs::read(rt, object.as_str())?,
-        types: fs::read(rt, types.as_str())?,
-        lines: fs::read(rt, lines.as_str())?,
-    };
+    let files = read_files(rt, object.as_str(), types.as_str(), lines.as_str())?;
     run(rt, &files, subject.as_str(), calls)
 }
 
 fn main(rt: HostRuntime) -> io::Result<()> {
-    let words = gather(&rt)?;
+    let words: Vec<String> = env::args(&rt)?.skip(1).collect(rt.alloc())?;
     run_words(&rt, words.as_slice())
 }

@@ -1,68 +1,64 @@
 //! Calls on an object.
 
-use crate::call::Call;
-use crate::given::Kernel;
+use crate::call::{Call, say};
 use crate::kept::on_kept;
-use crate::object_text::{print_object, tell_object};
 use crate::passes::pass;
+use crate::subject::{Shown, Subject, make_calls, tell_made};
 use ebpf_object::Object;
+use std::fmt::Debug;
 use std::io;
 
+/// Says that a call has ended, and what object it answered.
+pub fn tell_object<E: Debug + Drop>(answer: Result<Object, E>, call: &Call<'_>) -> io::Result<()> {
+    match answer {
+        Ok(object) => tell_made(object, call),
+        Err(error) => call.tell(Err::<(), E>(error)),
+    }
+}
+
 /// Parses the bytes.
-pub fn parse(rt: &HostRuntime, bytes: &[u8], call: Call<'_>) -> io::Result<()> {
-    call.begin(rt);
-    let answer = Object::parse(rt.alloc(), bytes);
-    tell_object(rt, call, &answer)
+pub fn parse(bytes: &[u8], call: &Call<'_>) -> io::Result<()> {
+    call.begin();
+    tell_object(Object::parse(call.rt.alloc(), bytes), call)
 }
 
 /// Copies the object.
-fn clone(rt: &HostRuntime, object: &Object, call: Call<'_>) -> io::Result<()> {
-    call.begin(rt);
-    let answer: Result<_, _> = object.clone();
-    tell_object(rt, call, &answer)
+fn clone(object: &Object, call: &Call<'_>) -> io::Result<()> {
+    call.begin();
+    let copy: Result<_, _> = object.clone();
+    tell_object(copy, call)
 }
 
-/// The call that is looked at.
-fn look(
-    rt: &HostRuntime,
-    object: &mut Object,
-    kernel: Kernel<'_>,
-    call: Call<'_>,
-) -> io::Result<()> {
-    match call.name {
-        "clone" => clone(rt, object, call),
-        _ if call.name.starts_with("kept_") => on_kept(rt, object, call),
-        _ => pass(rt, object, kernel, call),
+impl Shown for Object {
+    fn show(&self, rt: &HostRuntime, text: &str) -> io::Result<()> {
+        let file = (
+            &self.endianness,
+            &self.license,
+            &self.kernel_version,
+            &self.section_infos,
+            &self.symbol_table,
+            &self.relocations,
+        );
+        let types = (&self.btf, &self.btf_ext, &self.programs);
+        let changed = (&self.externs, &self.maps, &self.functions);
+        say(rt, text, (file, types, changed))
     }
 }
 
-/// Makes the calls one after the other, the last one between the marks, and prints the object before and behind it.
-fn calls_on(
-    rt: &HostRuntime,
-    object: &mut Object,
-    kernel: Kernel<'_>,
-    calls: &[String],
-) -> io::Result<()> {
-    let Some((last, front)) = calls.split_last() else {
-        return println!(rt; "no call");
-    };
-    for call in front {
-        pass(rt, object, kernel, Call::new(call.as_str(), false))?;
+impl Subject for Object {
+    fn make(&mut self, call: &Call<'_>) -> io::Result<()> {
+        match call.name {
+            "clone" => clone(self, call),
+            _ if call.name.starts_with("kept_") => on_kept(self, call),
+            _ => pass(self, call),
+        }
     }
-    print_object(rt, "before:", object)?;
-    look(rt, object, kernel, Call::new(last.as_str(), true))?;
-    print_object(rt, "after:", object)
 }
 
 /// Makes the calls on the object that the bytes are.
-pub fn on_object(
-    rt: &HostRuntime,
-    bytes: &[u8],
-    kernel: Kernel<'_>,
-    calls: &[String],
-) -> io::Result<()> {
-    match Object::parse(rt.alloc(), bytes) {
-        Ok(mut object) => calls_on(rt, &mut object, kernel, calls),
-        Err(error) => println!(rt; "no object: {error:?}"),
+pub fn on_object<'a>(bytes: &[u8], front: &'a [String], last: &Call<'a>) -> io::Result<()> {
+    match Object::parse(last.rt.alloc(), bytes) {
+        Ok(object) => make_calls(object, front, last),
+        Err(error) => say(last.rt, "no object: ", error),
     }
 }

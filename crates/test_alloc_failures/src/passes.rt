@@ -1,27 +1,14 @@
 //! The passes over an object.
 
-use crate::call::Call;
-use crate::given::Kernel;
-use crate::resolving::{resolve_externs, resolve_lines, resolve_text};
+use crate::call::{Call, say};
 use ebpf_base::ByName;
 use ebpf_btf::Btf;
 use ebpf_object::Object;
 use ebpf_parts::maps::Map;
 use std::alloc::{AllocError, Global};
 use std::collections::{HashMap, HashSet};
+use std::io::BufRead;
 use std::{io, mem};
-
-/// Relocates the functions to these types.
-fn relocate_btf(
-    rt: &HostRuntime,
-    object: &mut Object,
-    types: &Btf,
-    call: Call<'_>,
-) -> io::Result<()> {
-    call.begin(rt);
-    let answer = object.relocate_btf(types);
-    call.tell(rt, &answer)
-}
 
 /// Maps with their names and the descriptors 1 and on.
 fn numbered<'a>(
@@ -39,50 +26,65 @@ fn numbered<'a>(
 
 /// Writes the descriptors of these maps.
 fn relocate_given_maps(
-    rt: &HostRuntime,
     object: &mut Object,
     given: &[(&str, i32, &Map)],
     sections: &HashSet<usize>,
-    call: Call<'_>,
+    call: &Call<'_>,
 ) -> io::Result<()> {
-    call.begin(rt);
-    let answer = object.relocate_maps(given.iter().copied(), sections);
-    call.tell(rt, &answer)
+    call.begin();
+    call.tell(object.relocate_maps(given.iter().copied(), sections))
+}
+
+/// Writes the descriptors of maps that are not the object's.
+fn relocate_other_maps(
+    object: &mut Object,
+    maps: &ByName<Map>,
+    sections: &HashSet<usize>,
+    call: &Call<'_>,
+) -> io::Result<()> {
+    match numbered(call.rt.alloc(), maps) {
+        Ok(given) => relocate_given_maps(object, &given, sections, call),
+        Err(error) => say(call.rt, "no descriptors: ", error),
+    }
 }
 
 /// Writes the descriptors of the object's own maps, which are taken out so long.
 fn relocate_maps(
-    rt: &HostRuntime,
     object: &mut Object,
     sections: &HashSet<usize>,
-    call: Call<'_>,
+    call: &Call<'_>,
 ) -> io::Result<()> {
-    let maps = mem::replace(&mut object.maps, ByName::new(rt.alloc()));
-    let said = match numbered(rt.alloc(), &maps) {
-        Ok(given) => relocate_given_maps(rt, object, &given, sections, call),
-        Err(error) => println!(rt; "no descriptors: {error:?}"),
-    };
-    object.maps = maps;
+    let mut maps = ByName::new(call.rt.alloc());
+    mem::swap(&mut object.maps, &mut maps);
+    let said = relocate_other_maps(object, &maps, sections, call);
+    mem::swap(&mut object.maps, &mut maps);
     said
-}
-
-/// Writes the externs.
-fn relocate_externs(rt: &HostRuntime, object: &mut Object, call: Call<'_>) -> io::Result<()> {
-    call.begin(rt);
-    let answer = object.relocate_externs();
-    call.tell(rt, &answer)
 }
 
 /// Links the programs with what they reach.
 fn relocate_calls(
-    rt: &HostRuntime,
     object: &mut Object,
     sections: &HashSet<usize>,
-    call: Call<'_>,
+    call: &Call<'_>,
 ) -> io::Result<()> {
-    call.begin(rt);
-    let answer = object.relocate_calls(sections);
-    call.tell(rt, &answer)
+    call.begin();
+    call.tell(object.relocate_calls(sections))
+}
+
+/// Makes a pass that is told which sections hold functions.
+fn pass_with(object: &mut Object, sections: &HashSet<usize>, call: &Call<'_>) -> io::Result<()> {
+    match call.name {
+        "relocate_maps" => relocate_maps(object, sections, call),
+        _ => relocate_calls(object, sections, call),
+    }
+}
+
+/// The same, where the object tells.
+fn pass_over_sections(object: &mut Object, call: &Call<'_>) -> io::Result<()> {
+    match object.text_sections(call.rt.alloc()) {
+        Ok(sections) => pass_with(object, &sections, call),
+        Err(error) => say(call.rt, "no sections: ", error),
+    }
 }
 
 /// Each of these variables with a value; one whose name has a `?` behind it need not be there.
@@ -93,71 +95,61 @@ fn values<'a>(
 ) -> Result<HashMap<&'a str, (&'a [u8], bool)>, AllocError> {
     let mut values = HashMap::new(alloc);
     for name in names.split(',') {
-        match name.strip_suffix('?') {
-            Some(name) => values.insert(name, (value, false))?,
-            None => values.insert(name, (value, true))?,
-        };
+        let bare = name.strip_suffix('?').unwrap_or(name);
+        values.insert(bare, (value, bare.len() == name.len()))?;
     }
     Ok(values)
 }
 
 /// Writes the kernel's lines as the value of variables.
-fn patch_map_data(
-    rt: &HostRuntime,
-    object: &mut Object,
-    kernel: Kernel<'_>,
-    call: Call<'_>,
-) -> io::Result<()> {
-    let values = values(rt.alloc(), call.word, kernel.lines)?;
-    call.begin(rt);
-    let answer = object.patch_map_data(values);
-    call.tell(rt, &answer)
+fn patch_map_data(object: &mut Object, call: &Call<'_>) -> io::Result<()> {
+    let values = values(call.rt.alloc(), call.word, call.kernel.lines)?;
+    call.begin();
+    call.tell(object.patch_map_data(values))
 }
 
-/// Makes the functions fit for a kernel without the newer helpers.
-fn sanitize_functions(rt: &HostRuntime, object: &mut Object, call: Call<'_>) -> io::Result<()> {
-    call.begin(rt);
-    object.sanitize_functions(|| false);
-    call.tell(rt, &"done")
+/// Resolves the externs with the kernel's lines, all of them read before.
+fn resolve_lines(object: &mut Object, call: &Call<'_>) -> io::Result<()> {
+    let lines: Vec<io::Result<String>> = call
+        .kernel
+        .lines
+        .lines(call.rt.alloc())
+        .collect(call.rt.alloc())?;
+    call.begin();
+    call.tell(object.resolve_lines(call.kernel.types, lines.into_iter()))
 }
 
-/// Makes a pass that is told which sections hold functions.
-fn pass_with(
-    rt: &HostRuntime,
-    object: &mut Object,
-    sections: &HashSet<usize>,
-    call: Call<'_>,
-) -> io::Result<()> {
-    match call.name {
-        "relocate_maps" => relocate_maps(rt, object, sections, call),
-        _ => relocate_calls(rt, object, sections, call),
+/// Relocates the functions to a kernel's types where there are some.
+fn relocate_btf(object: &mut Object, types: Option<&Btf>, call: &Call<'_>) -> io::Result<()> {
+    match types {
+        Some(types) => call.tell(object.relocate_btf(types)),
+        None => call.miss(),
     }
 }
 
-/// The same, where the object tells.
-fn pass_over_sections(rt: &HostRuntime, object: &mut Object, call: Call<'_>) -> io::Result<()> {
-    match object.text_sections(rt.alloc()) {
-        Ok(sections) => pass_with(rt, object, &sections, call),
-        Err(error) => println!(rt; "no sections: {error:?}"),
+/// Makes a pass that is given what the kernel has, or nothing.
+fn pass_at_once(object: &mut Object, call: &Call<'_>) -> io::Result<()> {
+    call.begin();
+    let (types, lines) = (call.kernel.types, call.kernel.lines);
+    match call.name {
+        "relocate_btf" => relocate_btf(object, types, call),
+        "resolve_externs" => call.tell(object.resolve_externs(types, lines)),
+        "resolve_text" => call.tell(object.resolve_text(types, lines)),
+        "relocate_externs" => call.tell(object.relocate_externs()),
+        "sanitize_functions" => {
+            object.sanitize_functions(|| false);
+            call.tell("done")
+        }
+        _ => call.miss(),
     }
 }
 
 /// Makes a pass over an object.
-pub fn pass(
-    rt: &HostRuntime,
-    object: &mut Object,
-    kernel: Kernel<'_>,
-    call: Call<'_>,
-) -> io::Result<()> {
-    match (call.name, kernel.types) {
-        ("relocate_btf", Some(types)) => relocate_btf(rt, object, types, call),
-        ("relocate_maps" | "relocate_calls", _) => pass_over_sections(rt, object, call),
-        ("resolve_externs", _) => resolve_externs(rt, object, kernel, call),
-        ("resolve_lines", _) => resolve_lines(rt, object, kernel, call),
-        ("resolve_text", _) => resolve_text(rt, object, kernel, call),
-        ("relocate_externs", _) => relocate_externs(rt, object, call),
-        ("patch_map_data", _) => patch_map_data(rt, object, kernel, call),
-        ("sanitize_functions", _) => sanitize_functions(rt, object, call),
-        _ => call.miss(rt),
+pub fn pass(object: &mut Object, call: &Call<'_>) -> io::Result<()> {
+    match call.name {
+        "relocate_maps" | "relocate_calls" => pass_over_sections(object, call),
+        "resolve_lines" => resolve_lines(object, call),
+        "patch_map_data" => patch_map_data(object, call),
+        _ => pass_at_once(object, call),
     }
 }

@@ -2,7 +2,7 @@
 
 use crate::call::Call;
 use crate::given::Kernel;
-use crate::object_text::tell_object;
+use crate::object::tell_object;
 use ebpf_inspect::inspect;
 use ebpf_object::prepare::{Steps, prepare};
 use std::io;
@@ -19,40 +19,41 @@ const DESCRIPTORS: [(&'static str, i32); 8] = [
     ("other", 8),
 ];
 
+/// What is given, where it is chosen.
+fn chosen<T: Copy>(given: Option<T>, is_chosen: bool) -> Option<T> {
+    if is_chosen { given } else { None }
+}
+
 /// The steps whose first letters a word has.
 fn steps<'a>(kernel: Kernel<'a>, word: &str, given: &'a [(&'a str, i32)]) -> Steps<'a> {
     Steps {
-        target_btf: kernel.types.filter(|_| word.contains('t')),
-        map_fds: Some(given).filter(|_| word.contains('m')),
-        externs: Some(kernel.types).filter(|_| word.contains('e')),
+        target_btf: chosen(kernel.types, word.contains('t')),
+        map_fds: chosen(Some(given), word.contains('m')),
+        externs: chosen(Some(kernel.types), word.contains('e')),
         calls: word.contains('c'),
     }
 }
 
-/// Prepares the file by the steps whose first letters the call's name has.
-pub fn prepare_file(
-    rt: &HostRuntime,
-    bytes: &[u8],
-    kernel: Kernel<'_>,
-    call: Call<'_>,
-) -> io::Result<()> {
-    let given = DESCRIPTORS;
-    let steps = steps(kernel, call.name, &given);
-    call.begin(rt);
-    let answer = prepare(rt.alloc(), bytes, &steps, kernel.lines);
-    tell_object(rt, call, &answer)
+/// Prepares the file by these steps.
+fn prepare_by(bytes: &[u8], steps: &Steps<'_>, call: &Call<'_>) -> io::Result<()> {
+    call.begin();
+    let answer = prepare(call.rt.alloc(), bytes, steps, call.kernel.lines);
+    tell_object(answer, call)
 }
 
-/// Inspects the file, by the same steps.
-pub fn inspect_file(
-    rt: &HostRuntime,
-    bytes: &[u8],
-    kernel: Kernel<'_>,
-    call: Call<'_>,
-) -> io::Result<()> {
+/// Inspects the file by these steps.
+fn inspect_by(bytes: &[u8], steps: &Steps<'_>, call: &Call<'_>) -> io::Result<()> {
+    call.begin();
+    call.tell(inspect(call.rt.alloc(), bytes, steps, call.kernel.lines))
+}
+
+/// Prepares the file by the steps whose first letters the call's name has, or inspects it by them.
+pub fn on_steps(bytes: &[u8], is_inspected: bool, call: &Call<'_>) -> io::Result<()> {
     let given = DESCRIPTORS;
-    let steps = steps(kernel, call.name, &given);
-    call.begin(rt);
-    let answer = inspect(rt.alloc(), bytes, &steps, kernel.lines);
-    call.tell(rt, &answer)
+    let steps = steps(call.kernel, call.name, &given);
+    if is_inspected {
+        inspect_by(bytes, &steps, call)
+    } else {
+        prepare_by(bytes, &steps, call)
+    }
 }

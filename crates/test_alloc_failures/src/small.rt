@@ -1,6 +1,6 @@
 //! Small types that grow by one: something is added to so many as the word says, or all is copied.
 
-use crate::call::Call;
+use crate::call::{Call, say};
 use ebpf_base::{ByIndex, ByKey, ByName, ByOffset, BySection, Items, Text};
 use std::alloc::{AllocError, Global};
 use std::fmt::Debug;
@@ -8,16 +8,10 @@ use std::io;
 
 /// A type that grows by the entry of a number.
 trait Grow: Debug + Drop {
-    fn empty(alloc: Global) -> Self;
-
     fn add(&mut self, alloc: Global, number: u32) -> Result<(), AllocError>;
 }
 
 impl Grow for ByName<u32> {
-    fn empty(alloc: Global) -> ByName<u32> {
-        ByName::new(alloc)
-    }
-
     fn add(&mut self, alloc: Global, number: u32) -> Result<(), AllocError> {
         self.insert(format!(in alloc; "name{number}")?, number)?;
         Ok(())
@@ -25,10 +19,6 @@ impl Grow for ByName<u32> {
 }
 
 impl Grow for ByIndex<u32> {
-    fn empty(alloc: Global) -> ByIndex<u32> {
-        ByIndex::new(alloc)
-    }
-
     fn add(&mut self, _alloc: Global, number: u32) -> Result<(), AllocError> {
         self.insert(number as usize, number)?;
         Ok(())
@@ -36,10 +26,6 @@ impl Grow for ByIndex<u32> {
 }
 
 impl Grow for ByKey<u32> {
-    fn empty(alloc: Global) -> ByKey<u32> {
-        ByKey::new(alloc)
-    }
-
     fn add(&mut self, _alloc: Global, number: u32) -> Result<(), AllocError> {
         self.insert((1, u64::from(number)), number)?;
         Ok(())
@@ -47,10 +33,6 @@ impl Grow for ByKey<u32> {
 }
 
 impl Grow for ByOffset<u32> {
-    fn empty(alloc: Global) -> ByOffset<u32> {
-        ByOffset::new(alloc)
-    }
-
     fn add(&mut self, _alloc: Global, number: u32) -> Result<(), AllocError> {
         self.insert(u64::from(number), number)?;
         Ok(())
@@ -58,10 +40,6 @@ impl Grow for ByOffset<u32> {
 }
 
 impl Grow for BySection<u32> {
-    fn empty(alloc: Global) -> BySection<u32> {
-        BySection::new(alloc)
-    }
-
     fn add(&mut self, _alloc: Global, number: u32) -> Result<(), AllocError> {
         self.insert(number as usize, number)?;
         Ok(())
@@ -69,18 +47,13 @@ impl Grow for BySection<u32> {
 }
 
 impl Grow for Items<u32> {
-    fn empty(alloc: Global) -> Items<u32> {
-        Items::new(alloc)
-    }
-
     fn add(&mut self, _alloc: Global, number: u32) -> Result<(), AllocError> {
         self.extend_from_slice(&[number])
     }
 }
 
-/// Adds so many.
-fn filled<T: Grow>(alloc: Global, count: u32) -> Result<T, AllocError> {
-    let mut entries = T::empty(alloc);
+/// So many more entries.
+fn filled<T: Grow>(alloc: Global, mut entries: T, count: u32) -> Result<T, AllocError> {
     for number in 0..count {
         entries.add(alloc, number)?;
     }
@@ -88,45 +61,47 @@ fn filled<T: Grow>(alloc: Global, count: u32) -> Result<T, AllocError> {
 }
 
 /// Adds one more, and prints all before and afterwards.
-fn add_one<T: Grow>(rt: &HostRuntime, mut entries: T, call: Call<'_>) -> io::Result<()> {
-    let _ = println!(rt; "before:\n{entries:?}");
-    call.begin(rt);
-    let answer = entries.add(rt.alloc(), call.number());
-    let _ = call.tell(rt, &answer);
-    println!(rt; "after:\n{entries:?}")
+fn add_one<T: Grow>(mut entries: T, call: &Call<'_>) -> io::Result<()> {
+    let _ = say(call.rt, "before:\n", &entries);
+    call.begin();
+    let _ = call.tell(entries.add(call.rt.alloc(), call.number()));
+    say(call.rt, "after:\n", entries)
 }
 
 /// Adds one more to so many.
-fn grown<T: Grow>(rt: &HostRuntime, call: Call<'_>) -> io::Result<()> {
-    add_one::<T>(rt, filled(rt.alloc(), call.number())?, call)
+fn grown<T: Grow>(empty: T, call: &Call<'_>) -> io::Result<()> {
+    add_one(filled(call.rt.alloc(), empty, call.number())?, call)
 }
 
 /// Copies a list.
-fn copy(rt: &HostRuntime, call: Call<'_>) -> io::Result<()> {
-    let items: Items<u32> = filled(rt.alloc(), call.number())?;
-    call.begin(rt);
-    let answer = items.copied();
-    call.tell(rt, &answer)
+fn copy_of(items: &Items<u32>, call: &Call<'_>) -> io::Result<()> {
+    call.begin();
+    call.tell(items.copied())
+}
+
+/// Copies a list of so many.
+fn copy(call: &Call<'_>) -> io::Result<()> {
+    let items: Items<u32> = filled(call.rt.alloc(), Items::new(call.rt.alloc()), call.number())?;
+    copy_of(&items, call)
 }
 
 /// A text of the word.
-fn text(rt: &HostRuntime, call: Call<'_>) -> io::Result<()> {
-    call.begin(rt);
-    let answer = Text::from_str(rt.alloc(), call.word);
-    call.tell(rt, &answer)
+fn text(call: &Call<'_>) -> io::Result<()> {
+    call.begin();
+    call.tell(Text::from_str(call.rt.alloc(), call.word))
 }
 
 /// A call on a small type.
-pub fn on_small(rt: &HostRuntime, call: Call<'_>) -> io::Result<()> {
+pub fn on_small(call: &Call<'_>) -> io::Result<()> {
     match call.name {
-        "by_name" => grown::<ByName<u32>>(rt, call),
-        "by_index" => grown::<ByIndex<u32>>(rt, call),
-        "by_key" => grown::<ByKey<u32>>(rt, call),
-        "by_offset" => grown::<ByOffset<u32>>(rt, call),
-        "by_section" => grown::<BySection<u32>>(rt, call),
-        "extended" => grown::<Items<u32>>(rt, call),
-        "copied" => copy(rt, call),
-        "text" => text(rt, call),
-        _ => call.miss(rt),
+        "by_name" => grown::<ByName<u32>>(ByName::new(call.rt.alloc()), call),
+        "by_index" => grown::<ByIndex<u32>>(ByIndex::new(call.rt.alloc()), call),
+        "by_key" => grown::<ByKey<u32>>(ByKey::new(call.rt.alloc()), call),
+        "by_offset" => grown::<ByOffset<u32>>(ByOffset::new(call.rt.alloc()), call),
+        "by_section" => grown::<BySection<u32>>(BySection::new(call.rt.alloc()), call),
+        "extended" => grown::<Items<u32>>(Items::new(call.rt.alloc()), call),
+        "copied" => copy(call),
+        "text" => text(call),
+        _ => call.miss(),
     }
 }

@@ -94,9 +94,9 @@ fn of_slots(object: &Object) -> u64 {
 }
 
 /// Reads an object, and makes maps without lists.
-pub fn read_object(rt: &HostRuntime, object: &Object, call: Call<'_>) -> io::Result<()> {
-    call.begin(rt);
+pub fn read_object(object: &Object, call: &Call<'_>) -> io::Result<()> {
+    call.begin();
     let read = [of_maps(object), of_object(object), of_slots(object)];
-    let made = [changed_map(rt.alloc()), map_by_info(rt.alloc())];
-    call.tell(rt, &(read, made))
+    let made = [changed_map(call.rt.alloc()), map_by_info(call.rt.alloc())];
+    call.tell((read, made))
 }

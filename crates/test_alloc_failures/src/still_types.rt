@@ -1,10 +1,8 @@
 //! Calls on types that take no memory.
 
-use crate::call::Call;
 use crate::still::mix;
 use ebpf_btf::{Btf, BtfMember, BtfType, Rows};
 use ebpf_candidates::types_are_compatible;
-use std::io;
 
 /// What is read of the members of a type.
 fn of_members(seen: u64, ty: &BtfType<'_>, members: &Rows<'_, BtfMember>) -> u64 {
@@ -52,17 +50,10 @@ fn of_id(seen: u64, types: &Btf, id: u32) -> u64 {
 }
 
 /// What is read of the first types.
-fn of_types(types: &Btf) -> u64 {
+pub fn of_types(types: &Btf) -> u64 {
     let mut seen = types.len() as u64;
     for id in 0..100 {
         seen = of_id(seen, types, id);
     }
     seen
-}
-
-/// Reads types.
-pub fn read_types(rt: &HostRuntime, types: &Btf, call: Call<'_>) -> io::Result<()> {
-    call.begin(rt);
-    let answer = of_types(types);
-    call.tell(rt, &answer)
 }

@@ -1,62 +1,73 @@
 //! Calls on types.
 
-use crate::call::Call;
+use crate::call::{Call, say};
+use crate::subject::{Shown, Subject, make_calls};
 use crate::type_questions::ask;
 use ebpf_btf::{Btf, BtfType, Endianness};
 use std::io;
 
 /// Parses the types.
-pub fn parse_types(rt: &HostRuntime, bytes: &[u8], call: Call<'_>) -> io::Result<()> {
-    call.begin(rt);
-    let answer = Btf::parse(rt.alloc(), bytes, Endianness::Little);
-    call.tell(rt, &answer)
+pub fn parse_types(bytes: &[u8], call: &Call<'_>) -> io::Result<()> {
+    call.begin();
+    call.tell(Btf::parse(call.rt.alloc(), bytes, Endianness::Little))
 }
 
 /// Takes bytes over as types.
-pub fn take_types(rt: &HostRuntime, bytes: Vec<u8>, call: Call<'_>) -> io::Result<()> {
-    call.begin(rt);
-    let answer = Btf::from_vec(bytes, Endianness::Little);
-    call.tell(rt, &answer)
+pub fn take_types(bytes: &[u8], call: &Call<'_>) -> io::Result<()> {
+    let bytes = Vec::from_slice(call.rt.alloc(), bytes)?;
+    call.begin();
+    call.tell(Btf::from_vec(bytes, Endianness::Little))
 }
 
 /// Adds the word to the strings.
-fn add_string(rt: &HostRuntime, types: &mut Btf, call: Call<'_>) -> io::Result<()> {
-    call.begin(rt);
-    let answer = types.add_string(call.word);
-    call.tell(rt, &answer)
+fn add_string(types: &mut Btf, call: &Call<'_>) -> io::Result<()> {
+    call.begin();
+    call.tell(types.add_string(call.word))
 }
 
 /// Adds a type.
-fn add(rt: &HostRuntime, types: &mut Btf, ty: &BtfType<'_>, call: Call<'_>) -> io::Result<()> {
-    call.begin(rt);
-    let answer = types.add_type(ty);
-    call.tell(rt, &answer)
+fn add(types: &mut Btf, ty: &BtfType<'_>, call: &Call<'_>) -> io::Result<()> {
+    call.begin();
+    call.tell(types.add_type(ty))
+}
+
+/// Adds the type of a copy whose id the word is.
+fn add_from(types: &mut Btf, copy: &Btf, call: &Call<'_>) -> io::Result<()> {
+    match copy.type_by_id(call.number()) {
+        Ok(again) => add(types, &again, call),
+        Err(error) => say(call.rt, "no such type: ", error),
+    }
 }
 
 /// Adds the type again whose id the word is.
-fn add_type(rt: &HostRuntime, types: &mut Btf, call: Call<'_>) -> io::Result<()> {
+fn add_type(types: &mut Btf, call: &Call<'_>) -> io::Result<()> {
     let copy: Result<Btf, _> = types.clone();
-    let Ok(copy) = copy else {
-        return println!(rt; "no copy");
-    };
-    match copy.type_by_id(call.number()) {
-        Ok(again) => add(rt, types, &again, call),
-        Err(_) => println!(rt; "no such type"),
+    match copy {
+        Ok(copy) => add_from(types, &copy, call),
+        Err(error) => say(call.rt, "no copy: ", error),
     }
 }
 
-/// A call on types.
-fn call_on(rt: &HostRuntime, types: &mut Btf, call: Call<'_>) -> io::Result<()> {
-    match call.name {
-        "add_string" => add_string(rt, types, call),
-        "add_type" => add_type(rt, types, call),
-        _ => ask(rt, types, call),
+impl Shown for Btf {
+    fn show(&self, rt: &HostRuntime, text: &str) -> io::Result<()> {
+        say(rt, text, self)
     }
 }
 
-/// Makes the call, and prints the types before and behind it.
-pub fn on_types(rt: &HostRuntime, types: &mut Btf, call: Call<'_>) -> io::Result<()> {
-    println!(rt; "before:\n{types:?}")?;
-    call_on(rt, types, call)?;
-    println!(rt; "after:\n{types:?}")
+impl Subject for Btf {
+    fn make(&mut self, call: &Call<'_>) -> io::Result<()> {
+        match call.name {
+            "add_string" => add_string(self, call),
+            "add_type" => add_type(self, call),
+            _ => ask(self, call),
+        }
+    }
+}
+
+/// Makes the calls on the types that the bytes are.
+pub fn on_types<'a>(bytes: &[u8], front: &'a [String], last: &Call<'a>) -> io::Result<()> {
+    match Btf::parse(last.rt.alloc(), bytes, Endianness::Little) {
+        Ok(types) => make_calls(types, front, last),
+        Err(error) => say(last.rt, "no types: ", error),
+    }
 }

@@ -7,7 +7,7 @@ use std::alloc::{AllocError, Global};
 use test_cases::{Action, Files, Outcomes};
 
 /// What actions on type information give.
-#[derive(Clone, Copy, Debug)]
+#[derive(Clone, Copy)]
 pub struct TypeOutcomes;
 
 impl Outcomes for TypeOutcomes {

@@ -4,7 +4,7 @@ use std::alloc::{AllocError, Global};
 use std::ops::Range;
 
 /// An action: whether its file is read broadly, its name, and the words behind it.
-#[derive(Debug, Drop)]
+#[derive(Drop)]
 pub struct Action<'a> {
     pub is_broad: bool,
     pub name: &'a str,

@@ -3,7 +3,7 @@
 use std::io::{self, BufRead, ErrorKind, Read};
 
 /// Bytes, and what stands behind them: the end, or a failure at each read.
-#[derive(Debug, Drop)]
+#[derive(Drop)]
 pub struct FailingReader<'a> {
     bytes: &'a [u8],
     failure: Option<ErrorKind>,

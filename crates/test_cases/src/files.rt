@@ -4,7 +4,7 @@ use crate::hex::put_hex;
 use std::alloc::{AllocError, Global};
 
 /// A file and its name.
-#[derive(Debug, Drop)]
+#[derive(Drop)]
 struct NamedFile {
     name: String,
     bytes: Vec<u8>,
@@ -12,7 +12,7 @@ struct NamedFile {
 
 /// How many times bytes stand, and how a little endian number among them grows from one time to the next: its place,
 /// and by how much.
-#[derive(Clone, Copy, Debug)]
+#[derive(Clone, Copy)]
 pub struct Rise {
     pub times: u64,
     pub place: usize,
@@ -30,7 +30,7 @@ fn add_at(bytes: &mut [u8], place: usize, step: u64) {
 }
 
 /// The files of a case, by name.
-#[derive(Debug, Drop)]
+#[derive(Drop)]
 pub struct Files {
     alloc: Global,
     files: Vec<NamedFile>,

@@ -27,6 +27,19 @@ fn write_outcome<W: Write>(out: &mut W, words: &str, outcome: &str) -> io::Resul
     Ok(())
 }
 
+/// Writes an action and what it gives of the files of its case.
+fn run_action<O: Outcomes, W: Write>(
+    alloc: Global,
+    outcomes: &O,
+    files: &Files,
+    words: &str,
+    out: &mut W,
+) -> io::Result<()> {
+    let action = Action::read(alloc, words)?;
+    let outcome = outcomes.outcome(alloc, files, &action)?;
+    write_outcome(out, words, outcome.as_str())
+}
+
 /// Runs the cases of a text. Writes the name of each case, its actions and what they give; and, for a line that is no
 /// line of a case, that it is none.
 fn run_text<O: Outcomes, W: Write>(
@@ -41,14 +54,21 @@ fn run_text<O: Outcomes, W: Write>(
             Task::Nothing => {}
             Task::Case(name) => writeln!(out, "{name}")?,
             Task::Unknown => writeln!(out, "no case: {line}")?,
-            Task::Action(words) => {
-                let action = Action::read(alloc, words)?;
-                let outcome = outcomes.outcome(alloc, &files, &action)?;
-                write_outcome(out, words, outcome.as_str())?;
-            }
+            Task::Action(words) => run_action(alloc, outcomes, &files, words, out)?,
         }
     }
     Ok(())
+}
+
+/// Runs the cases of a file.
+fn run_file<O: Outcomes, W: Write>(
+    rt: &HostRuntime,
+    outcomes: &O,
+    path: &str,
+    out: &mut W,
+) -> io::Result<()> {
+    let text = fs::read_to_string(rt, path)?;
+    run_text(rt.alloc(), outcomes, text.as_str(), out)
 }
 
 /// Runs the cases of the files that the command line names, and prints what they give.
@@ -59,8 +79,7 @@ fn run_text<O: Outcomes, W: Write>(
 pub fn run_cases<O: Outcomes>(rt: &HostRuntime, outcomes: &O) -> io::Result<()> {
     let mut out = BufWriter::new(rt.alloc(), rt.stdout())?;
     for path in env::args(rt)?.skip(1) {
-        let text = fs::read_to_string(rt, path.as_str())?;
-        run_text(rt.alloc(), outcomes, text.as_str(), &mut out)?;
+        run_file(rt, outcomes, path.as_str(), &mut out)?;
     }
     out.flush()
 }

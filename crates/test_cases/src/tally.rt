@@ -4,7 +4,7 @@ use std::alloc::{AllocError, Global};
 use std::ops::Range;
 
 /// Outcomes, and how many times each was met, in the order in which they were met first.
-#[derive(Debug, Drop)]
+#[derive(Drop)]
 pub struct Tally {
     alloc: Global,
     counts: Vec<(String, u64)>,

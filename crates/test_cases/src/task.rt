@@ -4,7 +4,7 @@ use crate::files::{Files, Rise};
 use std::alloc::AllocError;
 
 /// What is left to do for a line, once the files have taken what it says of them.
-#[derive(Clone, Copy, Debug)]
+#[derive(Clone, Copy)]
 pub enum Task<'a> {
     /// Nothing.
     Nothing,

@@ -11,7 +11,7 @@ use std::alloc::{AllocError, Global};
 use test_cases::{Action, Files, Outcomes};
 
 /// What actions on object files give.
-#[derive(Clone, Copy, Debug)]
+#[derive(Clone, Copy)]
 pub struct ObjectOutcomes;
 
 impl Outcomes for ObjectOutcomes {

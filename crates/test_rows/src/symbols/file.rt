@@ -15,7 +15,7 @@ const STEPS: Steps<'static> = Steps {
 };
 
 /// A file to prepare.
-#[derive(Clone, Copy, Debug)]
+#[derive(Clone, Copy)]
 pub struct File<'a> {
     pub bytes: &'a [u8],
 }

@@ -2,7 +2,7 @@ use Rattle.std.proofs.Common.{◌≡◌, Some, None, inr, ap, ◌∙◌, sym, su
 use Rattle.std.specs.Prelude.{⊤, MatchBool, MatchOption}
 use Rattle.ebpf_object.specs.PatchValues.{globals_of}
 use Rattle.ebpf_object.specs.Patches.{all_patched, patches_of, patches_fault}
-use Rattle.ebpf_parts.specs.Memory.{is_memory}
+use Rattle.ebpf_parts.specs.Memory.{is_parse_memory}
 use Rattle.ebpf_c.specs.Handles.{IsRefusal}
 use Rattle.ebpf_c.specs.Numbers.{parse_refusal}
 use Rattle.ebpf_c.specs.Refusal.{plain}
@@ -29,6 +29,6 @@ returns-in-Err-clause-why c =
     let same = text_same c.args.name.now c.in-Some.name.now c.in-Some.ensures in
     let one : globals_of c.in-Ok.globals.entries ≡ one_value c.args.name.now c.args.value.now c.args.must_exist = c.in-Ok.ensures ∙ ap (λ n. one_value n c.args.value.now c.args.must_exist) same in
     subst
-    (λ text. MatchOption text (c.parse_refusal.result ≡ plain BAD_NAME) (λ _. IsRefusal (λ e. MatchBool (is_memory e) ⊤ (patches_fault o.symbol_table o.maps (one_value c.args.name.now c.args.value.now c.args.must_exist) ≡ Some e)) parse_refusal c.parse_refusal.result))
+    (λ text. MatchOption text (c.parse_refusal.result ≡ plain BAD_NAME) (λ _. IsRefusal (λ e. MatchBool (is_parse_memory e) ⊤ (patches_fault o.symbol_table o.maps (one_value c.args.name.now c.args.value.now c.args.must_exist) ≡ Some e)) parse_refusal c.parse_refusal.result))
     c.in-Some.ensures
-    (inr (c.in-Err.error, subst (λ g. MatchBool (is_memory c.in-Err.error) ⊤ (patches_fault o.symbol_table o.maps g ≡ Some c.in-Err.error)) one c.in-Err.ensures.fault, c.parse_refusal.ensures.refusal))
+    (inr (c.in-Err.error, subst (λ g. MatchBool (is_parse_memory c.in-Err.error) ⊤ (patches_fault o.symbol_table o.maps g ≡ Some c.in-Err.error)) one c.in-Err.ensures.fault, c.parse_refusal.ensures.refusal))

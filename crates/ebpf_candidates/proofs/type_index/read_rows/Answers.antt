@@ -4,7 +4,7 @@ use Rattle.ebpf_candidates.specs.declared.type_row.TypeRow.{TypeRow}
 use Rattle.ebpf_btf.specs.Types.{kind_of, name_off}
 use Rattle.ebpf_candidates.specs.PrivateContracts.{readable_at}
 use Rattle.ebpf_candidates.specs.SomeKinds.{has_kind}
-use Rattle.ebpf_candidates.specs.NameMarks.{is_marked, name_hash}
+use Rattle.ebpf_candidates.specs.NameMarks.{is_hash_marked, name_hash}
 use Rattle.ebpf_candidates.specs.TypeRows.{marked_row, named_row, readable_name}
 use Rattle.ebpf_candidates.proofs.CandidateRows.{in_marks, named, out_of_marks, rows_more, rows_pass, rows_skip}
 use Rattle.ebpf_candidates.proofs.Heads.{headed, is_there, drop_found}
@@ -73,8 +73,8 @@ loop-id-preserved-then-is_empty c =
       kinds = (c.in_ok-add_anonymous.ensures.kinds, c.loop-id.invariant.kinds.1);
     }
 
-pub loop-id-preserved-then-not-is_marked : goal.loop-id-preserved-then-not-is_marked
-loop-id-preserved-then-not-is_marked c =
+pub loop-id-preserved-then-not-is_hash_marked : goal.loop-id-preserved-then-not-is_hash_marked
+loop-id-preserved-then-not-is_hash_marked c =
     let info = c.args.names.now in
     let marks = c.args.marks.now in
     let i = c.loop-id.id in
@@ -86,7 +86,7 @@ loop-id-preserved-then-not-is_marked c =
     let some : (c.in-Some-name.name.now ≡ []) → ⊥ = some_bytes c.in-Some-name.name.now c.if-is_empty.ensures in
     let text : readable_name info head.ty ≡ Some c.in-Some-name.name.now = ap (readable_at info.strings) head.named ∙ sym c.in-Some-name.ensures in
     let row : TypeRow = a_row (name_hash c.in-Some-name.name.now) i in
-    let out : is_marked marks row.hash ≡ false = ap (is_marked marks) (sym c.name_hash-hash.ensures) ∙ sym c.if-not-is_marked.ensures in
+    let out : is_hash_marked marks row.hash ≡ false = ap (is_hash_marked marks) (sym c.name_hash-hash.ensures) ∙ sym c.if-not-is_hash_marked.ensures in
     let none : marked_row marks (named_row i (readable_name info head.ty)) ≡ None =
     ap (λ o. marked_row marks (named_row i o)) text ∙ ap (marked_row marks) (named i c.in-Some-name.name.now some) ∙ out_of_marks marks row out in
     record {
@@ -110,7 +110,7 @@ loop-id-preserved c =
     let made : named_row i (readable_name info head.ty) ≡ Some (a_row c.name_hash-hash.result i) =
     ap (named_row i) text ∙ named i c.in-Some-name.name.now some ∙ ap (λ (h : ℕ). Some (a_row h i)) (sym c.name_hash-hash.ensures) in
     let row : marked_row c.args.marks.now (named_row i (readable_name info head.ty)) ≡ Some (a_row c.name_hash-hash.result i) =
-    ap (marked_row c.args.marks.now) made ∙ in_marks c.args.marks.now (a_row c.name_hash-hash.result i) (sym c.if-not-is_marked.ensures) in
+    ap (marked_row c.args.marks.now) made ∙ in_marks c.args.marks.now (a_row c.name_hash-hash.result i) (sym c.if-not-is_hash_marked.ensures) in
     record {
       rows = rw c.in_ok-push.ensures.items (rows_more c.args.kinds.now c.args.marks.now info info.types i head.ty _ _ here in_it row ∙ c.loop-id.invariant.rows);
       without = λ kind among. rw (anonymous_skip info kind info.types i head.ty here (has_name _ c.in-Some-name.name.now text some)) (c.loop-id.invariant.without kind among);

@@ -12,7 +12,7 @@ returns-in-Ok-print_object-clause-done g c =
       text = c.in-Ok-print_object.ensures.text;
     }
 
-pub returns-clause-refused : goal.returns-clause-refused
-returns-clause-refused g c =
+pub returns-in-Err-print_object-clause-refused : goal.returns-in-Err-print_object-clause-refused
+returns-in-Err-print_object-clause-refused g c =
     lacking c.args.file.now (option_map (λ bytes. bytes.items) c.args.btf) (g.K.SymbolSource.source c.args.kallsyms) c.in-Ok.object c.in-Ok.ensures.linked (option_copied c.args.program) c.in-Err-print_object.failure
     c.in-Err-print_object.ensures.refused

@@ -7,7 +7,7 @@ use Rattle.ebpf_declarations.specs.Maps.{btf_maps_fault}
 use Rattle.ebpf_declarations.specs.NamedSections.{ids_fault, unreadable_name_fault}
 use Rattle.ebpf_declarations.proofs.NamedSections.{refused_first}
 use Rattle.ebpf_declarations.proofs.btf_defined_maps.found_in.Goals as goal
-use Rattle.ebpf_parts.specs.Memory.{is_memory}
+use Rattle.ebpf_parts.specs.Memory.{is_parse_memory}
 
 pub returns-in_err-found-clause-fault : goal.returns-in_err-found-clause-fault
 returns-in_err-found-clause-fault c =
@@ -16,10 +16,10 @@ returns-in_err-found-clause-fault c =
     let whole = c.requires.found.fault c.args.reading c.args.section.now.name c.in-Some.ids.now there (get c.args.symbols.now) c.args.section.now.index.0 in
     let result : c.from_residual.result ≡ Err c.in_err-found.field-0.0 = search rules in
     let ids : c.as_slice.result.now ≡ c.in-Some.ids.now = search rules in
-    let wrong = subst (λ l. MatchBool (is_memory c.in_err-found.field-0.0) ⊤ (ids_fault c.args.reading info (get c.args.symbols.now) c.args.section.now.index.0 l ≡ Some c.in_err-found.field-0.0)) ids c.in_err-found.ensures.fault in
-    subst (λ r. Refuses is_memory r (btf_maps_fault c.args.reading info (get c.args.symbols.now) c.args.section.now.index.0 c.args.section.now.name)) (sym result)
-    (subst (λ x. MatchBool (is_memory c.in_err-found.field-0.0) ⊤ (x ≡ Some c.in_err-found.field-0.0)) whole
-    (refused_first is_memory c.in_err-found.field-0.0 _ (unreadable_name_fault c.args.sections.now.unreadable) wrong))
+    let wrong = subst (λ l. MatchBool (is_parse_memory c.in_err-found.field-0.0) ⊤ (ids_fault c.args.reading info (get c.args.symbols.now) c.args.section.now.index.0 l ≡ Some c.in_err-found.field-0.0)) ids c.in_err-found.ensures.fault in
+    subst (λ r. Refuses is_parse_memory r (btf_maps_fault c.args.reading info (get c.args.symbols.now) c.args.section.now.index.0 c.args.section.now.name)) (sym result)
+    (subst (λ x. MatchBool (is_parse_memory c.in_err-found.field-0.0) ⊤ (x ≡ Some c.in_err-found.field-0.0)) whole
+    (refused_first is_parse_memory c.in_err-found.field-0.0 _ (unreadable_name_fault c.args.sections.now.unreadable) wrong))
 
 pub returns-in-Some-unreadable-clause-fault : goal.returns-in-Some-unreadable-clause-fault
 returns-in-Some-unreadable-clause-fault c =

@@ -1,7 +1,7 @@
 use Rattle.std.proofs.Common.{sym, subst, ◌∙◌}
 use Rattle.std.specs.Iterator.{Yields}
 use Rattle.ebpf_base.specs.Keys.{lent_bytes}
-use Rattle.ebpf_ksyms.specs.Faults.{is_memory}
+use Rattle.ebpf_ksyms.specs.Faults.{is_ksyms_memory}
 use Rattle.ebpf_ksyms.specs.PrivateContracts.{value_named}
 use Rattle.ebpf_ksyms.proofs.Reading.{first_known, lines_fault-none, match_then, no_lines, read-more, refused-here, some_names, tells-more, yields-push}
 use Rattle.ebpf_ksyms.proofs.lines.addresses_in.Goals as goal
@@ -24,7 +24,7 @@ loop-item-preserved g c = record {
 
 pub returns-in-Err-clause-fault : goal.returns-in-Err-clause-fault
 returns-in-Err-clause-fault g c =
-    match_then (is_memory c.in-Err.error)
+    match_then (is_ksyms_memory c.in-Err.error)
     (λ h. record {
       items = c.loop-item.yielded;
       item = c.in-Some.item;

@@ -6,7 +6,7 @@ use Rattle.ebpf_base.specs.Faults.{first_some}
 use Rattle.ebpf_base.specs.Keys.{lent_bytes}
 use Rattle.ebpf_ksyms.specs.Entries.{externs_from}
 use Rattle.ebpf_ksyms.specs.Externs.{NamedExtern, IsResolutionFault, IsResolved, kernel_ids_of, renewed, wanted_names}
-use Rattle.ebpf_ksyms.specs.Faults.{is_memory}
+use Rattle.ebpf_ksyms.specs.Faults.{is_ksyms_memory}
 use Rattle.ebpf_ksyms.specs.PrivateContracts.{value_named}
 use Rattle.ebpf_ksyms.specs.AddressesByLine.{AreRead, StopsAt}
 use Rattle.ebpf_ksyms.specs.TypelessExterns.{known_at, typeless_as, typeless_refused}
@@ -28,7 +28,7 @@ returns-in_err-typed-clause-fault g c =
     let local = c.in-Some.local.now in
     let all : c.deref-2.result.now ≡ entries c.args.externs.now = c.deref-2.ensures.value ∙ c.in_ok-all.ensures in
     let p = err_from_is_err_and c.from_residual-in_err-typed.result c.from_residual-in_err-typed.ensures.1 in
-    rw (p.1, p.2) (match_then (is_memory c.in_err-typed.field-0.0)
+    rw (p.1, p.2) (match_then (is_ksyms_memory c.in_err-typed.field-0.0)
     (λ h. subst (λ b. IsResolutionFault g.I.Iterator.next_gives c.args.lines (option_copied b) kernel c.args.externs.now c.in_err-typed.field-0.0) (sym c.in-Some.is)
     (at_type g.I.Iterator.next_gives c.args.lines kernel c.args.externs.now local c.in_err-typed.field-0.0 (sym (ap (first_some (typed_refused (kernel_ids_of kernel) local kernel)) all) ∙ h)))
     c.in_err-typed.ensures.fault)
@@ -41,7 +41,7 @@ returns-in_err-addresses-clause-fault g c =
     let types : first_some (typed_refused (kernel_ids_of kernel) local kernel) (entries c.args.externs.now) ≡ None = sym (ap (first_some (typed_refused (kernel_ids_of kernel) local kernel)) all) ∙ c.in_ok-typed.ensures.fault in
     let names : lent_bytes c.deref-4.result.now ≡ wanted_names (entries c.args.externs.now) = ap lent_bytes c.deref-4.ensures.value ∙ c.in_ok-wanted_names.ensures ∙ ap wanted_names (c.deref-3.ensures.value ∙ c.in_ok-all.ensures) in
     let p = err_from_is_err_and c.from_residual-in_err-addresses.result c.from_residual-in_err-addresses.ensures.1 in
-    rw (p.1, p.2) (match_then (is_memory c.in_err-addresses.field-0.0)
+    rw (p.1, p.2) (match_then (is_ksyms_memory c.in_err-addresses.field-0.0)
     (λ h. subst (λ b. IsResolutionFault g.I.Iterator.next_gives c.args.lines (option_copied b) kernel c.args.externs.now c.in_err-addresses.field-0.0) (sym c.in-Some.is)
     (at_line g.I.Iterator.next_gives c.args.lines kernel c.args.externs.now local c.in_err-addresses.field-0.0 types
     (subst (λ ns. StopsAt g.I.Iterator.next_gives c.args.lines ns c.in_err-addresses.field-0.0) names h)))
@@ -56,7 +56,7 @@ returns-in_err-after-clause-fault g c =
     let names : lent_bytes c.deref-4.result.now ≡ wanted_names (entries c.args.externs.now) = ap lent_bytes c.deref-4.ensures.value ∙ c.in_ok-wanted_names.ensures ∙ ap wanted_names (c.deref-3.ensures.value ∙ c.in_ok-all.ensures) in
     let typed : c.deref-5.result.now ≡ renewed (typed_as (kernel_ids_of kernel) local kernel) (entries c.args.externs.now) = c.deref-5.ensures.value ∙ c.in_ok-typed.ensures.stands ∙ ap (renewed (typed_as (kernel_ids_of kernel) local kernel)) all in
     let p = err_from_is_err_and c.from_residual-in_err-after.result c.from_residual-in_err-after.ensures.1 in
-    rw (p.1, p.2) (match_then (is_memory c.in_err-after.field-0.0)
+    rw (p.1, p.2) (match_then (is_ksyms_memory c.in_err-after.field-0.0)
     (λ h. subst (λ b. IsResolutionFault g.I.Iterator.next_gives c.args.lines (option_copied b) kernel c.args.externs.now c.in_err-after.field-0.0) (sym c.in-Some.is)
     (at_name g.I.Iterator.next_gives c.args.lines kernel c.args.externs.now local c.in_err-after.field-0.0 (value_named c.in_ok-addresses.addresses) types
     (subst (λ ns. AreRead g.I.Iterator.next_gives c.args.lines ns (value_named c.in_ok-addresses.addresses)) names c.in_ok-addresses.ensures.ok)

@@ -1,7 +1,7 @@
 use Rattle.std.proofs.Common.{subst}
 use Rattle.std.specs.Prelude.{IfErr, IfOk, MatchBool, ⊤}
 use Rattle.std.specs.Option.{option_copied}
-use Rattle.ebpf_ksyms.specs.Faults.{is_memory}
+use Rattle.ebpf_ksyms.specs.Faults.{is_ksyms_memory}
 use Rattle.ebpf_ksyms.specs.Texts.{IsRefusedBy, IsResolvedBy}
 use Rattle.ebpf_ksyms.proofs.FromText.{all_refused, all_resolved}
 use Rattle.ebpf_ksyms.proofs.resolve.resolve_text.Goals as goal
@@ -19,5 +19,5 @@ returns-clause-fault c =
     let local = option_copied c.args.btf in
     let kernel = option_copied c.args.kernel_btf in
     let externs = c.args.externs.now in
-    subst (λ text. IfErr c.resolve_lines.result (λ e. MatchBool (is_memory e) ⊤ (IsRefusedBy text local kernel externs e))) c.new.ensures.text
+    subst (λ text. IfErr c.resolve_lines.result (λ e. MatchBool (is_ksyms_memory e) ⊤ (IsRefusedBy text local kernel externs e))) c.new.ensures.text
     (all_refused c.new.result c.new.ensures.error local kernel externs c.resolve_lines.result c.resolve_lines.ensures.fault)

@@ -16,7 +16,7 @@ use Rattle.ebpf_parsing.proofs.Lasts.{all_lasts, fewer_lasts}
 use Rattle.ebpf_parsing.proofs.FromFile.{all_from}
 use Rattle.ebpf_parsing.specs.PrivateContracts.{AreOf}
 use Rattle.ebpf_parsing.proofs.object_tables.read_by_last.Goals as goal
-use Rattle.ebpf_parts.specs.Memory.{is_memory}
+use Rattle.ebpf_parts.specs.Memory.{is_parse_memory}
 use Rattle.ebpf_parts.specs.declared.error.ParseError.{ParseError}
 use Rattle.ebpf_parts.specs.Sections.{section_of, section_fault}
 
@@ -24,7 +24,7 @@ pub loop-section-init : goal.loop-section-init
 unfolding sections_fault map_entries program_entries function_entries relocation_entries name_entries
 loop-section-init c =
     let file = c.args.file.now in
-    let metadata = c.args.metadata.now in
+    let metadata = c.args.inputs.now in
     let ys = file_symbols file in
     let empty : c.new-object_tables.result ≡ object_tables_from c.args.section_infos = search rules in
     let items : c.into_iter-section-iterator.result ≡ sections file = search rules in
@@ -49,7 +49,7 @@ loop-section-preserved c =
     let file = c.args.file.now in
     let ys = file_symbols file in
     let s = c.in-Some.section in
-    let metadata = c.args.metadata.now in
+    let metadata = c.args.inputs.now in
     let front : c.loop-section.section-iterator ≡ s ∷ c.next.new.self = search rules in
     let other : is_type_information s ≡ false = search rules in
     let of_section : c.of-in-loop-section.result.now ≡ section_symbols ys s.index = search rules in
@@ -76,8 +76,8 @@ returns-in_err-add_section-clause-fault c =
     let file = c.args.file.now in
     let ys = file_symbols file in
     let s = c.in-Some.section in
-    let types = c.args.metadata.now.btf in
-    let reading = c.args.metadata.now.reading in
+    let types = c.args.inputs.now.btf in
+    let reading = c.args.inputs.now.reading in
     let front : c.loop-section.section-iterator ≡ s ∷ c.next.new.self = search rules in
     let other : is_type_information s ≡ false = search rules in
     let of_section : c.of-in-loop-section.result.now ≡ section_symbols ys s.index = search rules in
@@ -85,6 +85,6 @@ returns-in_err-add_section-clause-fault c =
     = sym c.loop-section.invariant.fault ∙ ap (λ r. first_some (read_fault reading types file) (others r)) front ∙ fault_more reading types file s c.next.new.self other
     ∙ ap (λ g. or_else (or_else (section_fault s) (fault_in reading types (section_of s) g)) (first_some (read_fault reading types file) (others c.next.new.self))) (sym of_section) in
     let e : ParseError = c.in_err-add_section.field-0.0 in
-    let result : c.from_residual-in_err-add_section.result ≡ Err e = search rules in
-    let there = refused_first is_memory e (or_else (section_fault s) (fault_in reading types (section_of s) c.of-in-loop-section.result.now)) (first_some (read_fault reading types file) (others c.next.new.self)) c.in_err-add_section.ensures.fault in
-    subst (λ r. Refuses is_memory r (sections_fault reading types file)) (sym result) (subst (λ x. MatchBool (is_memory e) ⊤ (x ≡ Some e)) (sym whole) there)
+    let result : c.from_residual.result ≡ Err e = search rules in
+    let there = refused_first is_parse_memory e (or_else (section_fault s) (fault_in reading types (section_of s) c.of-in-loop-section.result.now)) (first_some (read_fault reading types file) (others c.next.new.self)) c.in_err-add_section.ensures.fault in
+    subst (λ r. Refuses is_parse_memory r (sections_fault reading types file)) (sym result) (subst (λ x. MatchBool (is_parse_memory e) ⊤ (x ≡ Some e)) (sym whole) there)

@@ -2,7 +2,7 @@ use Rattle.std.proofs.Common.{◌≡◌, false}
 use Rattle.std.specs.FinMap.{entries}
 use Rattle.ebpf_base.specs.Faults.{first_some}
 use Rattle.ebpf_base.specs.Mapped.{mapped_entries}
-use Rattle.ebpf_model.specs.Walks.{IsReady}
+use Rattle.ebpf_model.specs.Walks.{IsWithinFunction}
 use Rattle.ebpf_passes.specs.Relocated.{function_fault, first_fault, relocated}
 use Rattle.ebpf_passes.specs.Rules.{rule_edit_of, rule_symbols}
 use Rattle.ebpf_passes.proofs.functions.check_functions.Given as goal
@@ -13,5 +13,5 @@ abbrev pub invariant-loop-function : goal.invariant-loop-function
 invariant-loop-function l = record {
   fault : first_some (λ e. function_fault (rule_edit_of l.rule) (rule_symbols l.rule) l.relocations e.1) l.function-iterator ≡ first_fault (rule_edit_of l.rule) (rule_symbols l.rule) l.relocations l.functions;
   stay : l.edits ≡ false → mapped_entries (relocated (rule_edit_of l.rule) l.relocations) l.function-iterator ≡ l.function-iterator → mapped_entries (relocated (rule_edit_of l.rule) l.relocations) (entries l.functions) ≡ entries l.functions;
-  ready : IsReady l.relocations l.walk;
+  ready : IsWithinFunction l.relocations l.walk;
 }

@@ -2,7 +2,7 @@ use Rattle.std.proofs.Common.{◌-◌, ◌+◌, Ok, Err, refl, sym, ap, ◌∙�
 use Rattle.ebpf_places.specs.declared.role.Role.TheVariants.{Other, Misfit, Fitting}
 use Rattle.ebpf_places.specs.declared.search.Answer.TheVariants.{Absent, Found}
 use Rattle.ebpf_places.specs.Members.{member_search}
-use Rattle.ebpf_places.specs.Memory.{is_memory}
+use Rattle.ebpf_places.specs.Memory.{is_place_memory}
 use Rattle.ebpf_places.proofs.Handing.{handed_on, refused}
 use Rattle.ebpf_places.proofs.MemberSteps.{all_left, arm, entered, full, none_in, past}
 use Rattle.ebpf_places.proofs.Shallow.{shallow}
@@ -25,7 +25,7 @@ returns-then-left-eq0-clause-gives t c =
 
 pub returns-in_err-role-clause-gives : goal.returns-in_err-role-clause-gives
 returns-in_err-role-clause-gives t c =
-    refused is_memory is_memory c.in_err-role.field-0.0 c.in_err-role.field-0.0 _ c.from_residual.result _
+    refused is_place_memory is_place_memory c.in_err-role.field-0.0 c.in_err-role.field-0.0 _ c.from_residual.result _
     (handed_on c.from_residual.result c.in_err-role.field-0.0 c.from_residual.ensures.1) refl
     (λ is. c.loop-index.invariant
     ∙ arm (member_search c.args.wanted.local.now c.args.wanted.target.now c.args.wanted.name.now c.args.wanted.local_type) c.args.parent c.in-Some.ty c.in-Some-members.members (64 - c.args.inside) c.args.inside c.args.bits c.loop-index.index c.loop-index.left (c.loop-index.left - 1) c.at-member.result (Err c.in_err-role.field-0.0) c.at-member.ensures.found (omega arith) (known_role c.args.wanted.local.now c.args.wanted.target.now c.args.wanted.name.now c.args.wanted.local_type c.args.inside _ ∙ is))
@@ -49,7 +49,7 @@ returns-in-Fitting-clause-gives t c =
 pub returns-in_err-answer-in-Anonymous-clause-gives : goal.returns-in_err-answer-in-Anonymous-clause-gives
 returns-in_err-answer-in-Anonymous-clause-gives t c =
     let role_is = known_role c.args.wanted.local.now c.args.wanted.target.now c.args.wanted.name.now c.args.wanted.local_type c.args.inside _ ∙ c.in_ok-role.ensures ∙ ap Ok c.in-Anonymous.is in
-    refused is_memory is_memory c.in_err-answer-in-Anonymous.field-0.0 c.in_err-answer-in-Anonymous.field-0.0 _ c.from_residual-in_err-answer-in-Anonymous.result _
+    refused is_place_memory is_place_memory c.in_err-answer-in-Anonymous.field-0.0 c.in_err-answer-in-Anonymous.field-0.0 _ c.from_residual-in_err-answer-in-Anonymous.result _
     (handed_on c.from_residual-in_err-answer-in-Anonymous.result c.in_err-answer-in-Anonymous.field-0.0 c.from_residual-in_err-answer-in-Anonymous.ensures.1) refl
     (λ is. c.loop-index.invariant
     ∙ entered (member_search c.args.wanted.local.now c.args.wanted.target.now c.args.wanted.name.now c.args.wanted.local_type) c.args.parent c.in-Some.ty c.in-Some-members.members c.args.inside c.args.bits c.loop-index.index c.loop-index.left (c.loop-index.left - 1) c.at-member.result c.in-Anonymous.type_id (c.args.bits + c.from.result) _ (Err c.in_err-answer-in-Anonymous.field-0.0) c.at-member.ensures.found (omega arith) (shallow c.args.wanted.local.now c.args.wanted.target.now c.args.wanted.name.now c.args.wanted.local_type c.args.inside _ c.in-Anonymous.type_id role_is) role_is (sym (known_members c.args.wanted.local.now c.args.wanted.target.now c.args.wanted.name.now c.args.wanted.local_type c.in-Anonymous.type_id)) (rw (c.from.ensures, c.member_bit_offset.ensures) refl) is)

@@ -1,12 +1,12 @@
 use Rattle.std.proofs.Common.{Some, None, Ok, Err, refl, sym, ap, ◌∙◌, arith}
-use Rattle.ebpf_places.specs.Memory.{is_memory}
+use Rattle.ebpf_places.specs.Memory.{is_place_memory}
 use Rattle.ebpf_places.proofs.Handing.{handed_on, refused}
 use Rattle.ebpf_places.proofs.PathSteps.{path_at, path_end}
 use Rattle.ebpf_places.proofs.walk.follow_all.Goals as goal
 
 pub returns-in_err-next : goal.returns-in_err-next
 returns-in_err-next c =
-    refused is_memory is_memory c.in_err-next.field-0.0 c.in_err-next.field-0.0 _ c.from_residual.result _
+    refused is_place_memory is_place_memory c.in_err-next.field-0.0 c.in_err-next.field-0.0 _ c.from_residual.result _
     (handed_on c.from_residual.result c.in_err-next.field-0.0 c.from_residual.ensures.1) refl
     (λ is. sym c.loop-by.invariant
     ∙ path_at c.args.local.now c.args.target.now c.args.path.now c.loop-by.by-index _ c.loop-by.spot (Err c.in_err-next.field-0.0) (omega arith) c.by-item.is is)

@@ -5,18 +5,18 @@ use Rattle.std.specs.Int.{w16, w32, cast_signed, cast_unsigned}
 use Rattle.std.proofs.lemmas.Int.{to_z-of_z}
 use Rattle.ebpf_parts.specs.Slots.{dst_of}
 use Rattle.ebpf_reach.specs.declared.registers.Registers.{Registers}
-use Rattle.ebpf_reach.specs.declared.steps.Step.{Step}
+use Rattle.ebpf_reach.specs.declared.steps.SlotState.{SlotState}
 use Rattle.ebpf_reach.specs.Registers.{unknown, learned, called}
 use Rattle.ebpf_reach.specs.Effects.{after, wide_load_result}
 use Rattle.ebpf_reach.specs.Steps.{next_index, steps_by_flow, target_index, steps_to}
 use Rattle.ebpf_reach.proofs.Flows as flows
 use Rattle.ebpf_reach.proofs.steps.steps_of.Goals as goal
 
-both : (a b c d : List Step) → a ≡ b → c ≡ d → a ++ c ≡ b ++ d
+both : (a b c d : List SlotState) → a ≡ b → c ≡ d → a ++ c ≡ b ++ d
 both a b c d p q = cc
 
 -- what a step far off leads to, at what its distance and its registers are
-led : (f : ℤ → Registers → List Step) (d e : ℤ) (a b : Registers) (s : List Step) → s ≡ f d a → d ≡ e → a ≡ b → s ≡ f e b
+led : (f : ℤ → Registers → List SlotState) (d e : ℤ) (a b : Registers) (s : List SlotState) → s ≡ f d a → d ≡ e → a ≡ b → s ≡ f e b
 led f d e a b s p q r = cc
 
 pub returns-then-slot-clause-steps : goal.returns-then-slot-clause-steps

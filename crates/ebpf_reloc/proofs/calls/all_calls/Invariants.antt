@@ -1,5 +1,5 @@
 use Rattle.std.proofs.Common.{◌≡◌, ◌++◌, drop, map}
-use Rattle.ebpf_model.specs.Walks.{IsReady}
+use Rattle.ebpf_model.specs.Walks.{IsWithinFunction}
 use Rattle.ebpf_reloc.specs.PrivateContracts.{calls_from}
 use Rattle.ebpf_reloc.specs.SlotTargets.{read}
 use Rattle.ebpf_reloc.proofs.calls.all_calls.Given as goal
@@ -8,5 +8,5 @@ use Rattle.ebpf_reloc.proofs.calls.all_calls.Given as goal
 abbrev pub invariant-loop-number : goal.invariant-loop-number
 invariant-loop-number l = record {
   calls : map (λ v. v.items) l.calls.items ++ calls_from (read l.parts) l.keys l.number (map (λ f. f.now) (drop l.number l.functions)) ≡ calls_from (read l.parts) l.keys 0 (map (λ f. f.now) l.functions);
-  ready : IsReady (read l.parts).relocations l.walk;
+  ready : IsWithinFunction (read l.parts).relocations l.walk;
 }

@@ -3,7 +3,7 @@ use Rattle.std.proofs.lemmas.List.{get_or_read}
 use Rattle.ebpf_btf.specs.EssentialNames.{essential_name}
 use Rattle.ebpf_candidates.specs.Candidates.{candidates}
 use Rattle.ebpf_candidates.specs.IndexedTypes.{IndexedTypes, has_named}
-use Rattle.ebpf_candidates.specs.NameMarks.{is_marked, name_hash}
+use Rattle.ebpf_candidates.specs.NameMarks.{is_hash_marked, name_hash}
 use Rattle.ebpf_candidates.specs.SomeKinds.{has_kind}
 use Rattle.ebpf_candidates.proofs.CandidateRows.{candidates_named}
 use Rattle.ebpf_candidates.proofs.NameMarks.{first_holds, second_holds}
@@ -31,5 +31,5 @@ returns c =
     let name : c.essential_name-name.result.now ≡ essential_name c.args.name.now = c.essential_name-name.ensures ∙ ap essential_name c.as_bytes.ensures.value in
     let some : (c.essential_name-name.result.now ≡ []) → ⊥ = some_bytes c.essential_name-name.result.now c.if-is_empty.ensures in
     let found = candidates_named c.self.inside.kinds c.self.inside.marks.items c.self.inside.names c.args.kind among c.args.name.now c.self.inside.rows.items c.self.inside.ids.items c.row_range-start.result.0 c.row_range-start.result.1 c.kind_number-number.result c.essential_name-name.result.now
-    c.kind_number-number.ensures.number name some (ap (λ n. is_marked c.self.inside.marks.items (name_hash n)) name ∙ second_holds _ _ has) c.self.invariant.same_rows c.self.invariant.same_ids (rw c.deref.ensures.value at c.row_range-start.ensures.all) in
+    c.kind_number-number.ensures.number name some (ap (λ n. is_hash_marked c.self.inside.marks.items (name_hash n)) name ∙ second_holds _ _ has) c.self.invariant.same_rows c.self.invariant.same_ids (rw c.deref.ensures.value at c.row_range-start.ensures.all) in
     rw c.deref-2.ensures.value (found ∙ ap (λ (s : IndexedTypes). candidates s.info c.args.kind c.args.name.now) c.self.view_is)

@@ -4,7 +4,7 @@ use Rattle.ebpf_reloc.proofs.Finished.{is_fault, unless_memory}
 use Rattle.ebpf_reloc.proofs.KeyedLinkMaps.{is_mapped}
 use Rattle.ebpf_reloc.specs.PrivateContracts.{named_copy, IsKeyedLinkMapAnswer}
 use Rattle.ebpf_model.specs.declared.function.Function.{Function}
-use Rattle.ebpf_model.specs.Memory.{is_memory}
+use Rattle.ebpf_model.specs.Memory.{is_slot_memory}
 use Rattle.ebpf_reloc.specs.Numbers.{function_keys, function_list, key_in, with_function_names}
 use Rattle.ebpf_reloc.specs.SlotTargets.{read}
 use Rattle.ebpf_reloc.specs.References.{functions_of}
@@ -30,5 +30,5 @@ returns-in_ok-with_function_names-in-Err-clause-fault c =
     let list = ap (map (λ f. f.now)) c.as_slice-functions.ensures.value ∙ c.args.self.now.are_functions in
     let same = c.in_ok-with_function_names-in-Err.ensures ∙ ap (λ (gs : List Function). with_function_names gs c.in-Err.fault) list in
     let linking = subst (IsKeyedLinkMapAnswer parts c.args.number) c.in-Err.is c.requires.answer in
-    unless_memory (is_memory c.in_ok-with_function_names-in-Err.field-0)
+    unless_memory (is_slot_memory c.in_ok-with_function_names-in-Err.field-0)
     (is_fault parts c.args.number c.in_ok-with_function_names-in-Err.field-0 c.requires.number (subst (λ e. IsLinking (functions_of parts) (key_in (function_keys parts.functions) c.args.number) (Err e)) (sym same) linking))

@@ -7,7 +7,7 @@ use Rattle.ebpf_reloc.proofs.Finished.{no_program}
 use Rattle.ebpf_reloc.proofs.Keys.{number_names}
 use Rattle.ebpf_reloc.specs.Linking.{IsProgramFault}
 use Rattle.ebpf_reloc.specs.LinkMaps.{IsLinkMapAt}
-use Rattle.ebpf_model.specs.Memory.{is_memory}
+use Rattle.ebpf_model.specs.Memory.{is_slot_memory}
 use Rattle.ebpf_reloc.specs.Numbers.{function_keys}
 use Rattle.ebpf_reloc.specs.PrivateContracts.{number_of_key}
 use Rattle.ebpf_reloc.specs.SlotTargets.{read}
@@ -40,7 +40,7 @@ returns-in_ok-answer-in-Some-clause-fault c =
     let key : ℕ × ℕ = (c.args.section, c.args.address) in
     let keys = c.as_slice.ensures.value ∙ c.args.self.now.are_keys in
     let named = (number_names (function_keys c.args.self.now.parts.functions.now) key c.in-Some.number (sym (c.in-Some.ensures ∙ ap (λ (ks : List (ℕ × ℕ)). number_of_key ks key) keys))).1 in
-    subst (λ (k : ℕ × ℕ). IfErr c.keyed_link_map.result (λ e. MatchBool (is_memory e) ⊤ (IsProgramFault (read c.args.self.now.parts) k e))) named c.keyed_link_map.ensures.fault
+    subst (λ (k : ℕ × ℕ). IfErr c.keyed_link_map.result (λ e. MatchBool (is_slot_memory e) ⊤ (IsProgramFault (read c.args.self.now.parts) k e))) named c.keyed_link_map.ensures.fault
 
 pub returns-in-None-clause-fault : goal.returns-in-None-clause-fault
 returns-in-None-clause-fault c =

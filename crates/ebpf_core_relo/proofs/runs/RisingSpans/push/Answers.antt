@@ -2,7 +2,7 @@ use Rattle.std.proofs.Common.{List, ◌≤◌, sym, subst}
 use Rattle.ebpf_core_relo.specs.SpanLists.{last_start}
 use Rattle.ebpf_core_relo.specs.declared.spans.Span.{Span}
 use Rattle.ebpf_core_relo.proofs.Tops.{topped_by}
-use Rattle.ebpf_core_relo.proofs.runs.Run.push.Goals as goal
+use Rattle.ebpf_core_relo.proofs.runs.RisingSpans.push.Goals as goal
 
 pub invariant_of-self-2 : goal.invariant_of-self-2
 invariant_of-self-2 c =

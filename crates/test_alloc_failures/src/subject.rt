@@ -1,0 +1,41 @@
+//! What calls are made on, one after the other.
+
+use crate::call::Call;
+use std::io;
+
+/// What can be printed.
+pub trait Shown: Drop {
+    /// Prints all that it holds, behind a text.
+    fn show(&self, rt: &HostRuntime, text: &str) -> io::Result<()>;
+}
+
+/// What calls are made on.
+pub trait Subject: Shown {
+    /// Makes a call.
+    fn make(&mut self, call: &Call<'_>) -> io::Result<()>;
+}
+
+/// Makes a call, and prints the subject before and behind it.
+fn look_at<T: Subject>(subject: &mut T, call: &Call<'_>) -> io::Result<()> {
+    subject.show(call.rt, "before:\n")?;
+    subject.make(call)?;
+    subject.show(call.rt, "after:\n")
+}
+
+/// Makes the calls, and prints the subject before the last one and behind it.
+pub fn make_calls<'a, T: Subject>(
+    mut subject: T,
+    front: &'a [String],
+    last: &Call<'a>,
+) -> io::Result<()> {
+    for text in front {
+        subject.make(&last.before(text.as_str()))?;
+    }
+    look_at(&mut subject, last)
+}
+
+/// Says that a call has ended, and what it made.
+pub fn tell_made<T: Shown>(made: T, call: &Call<'_>) -> io::Result<()> {
+    call.end();
+    made.show(call.rt, "answer: Ok ")
+}
