@@ -91,7 +91,7 @@ impl Code<'_> {
 }
 
 /// Why a run stands.
-#[derive(Clone, Copy)]
+#[derive(Clone, Copy, Debug)]
 enum Stop {
     /// It goes on.
     Going,
