@@ -101,6 +101,9 @@ def by_crate(seen):
     seconds, most, spans, edits = defaultdict(lambda: defaultdict(float)), defaultdict(lambda: defaultdict(int)), {}, {}
     tried = defaultdict(list)
     for it in sorted(seen.values(), key=lambda it: it.began):
+        # The quick tests have the sources of libraries read, and prove nothing.
+        if "--lib" in it.words:
+            continue
         name, phase = it.after("--crate-name"), phase_of(it)
         most[name][phase] = max(most[name][phase], it.most)
         if phase == "edits":
@@ -129,7 +132,7 @@ def reading_seconds(seen):
     found = {}
     for it in seen.values():
         name = it.after("--crate-name")
-        if name in found or phase_of(it) != "proof":
+        if name in found or "--lib" in it.words or phase_of(it) != "proof":
             continue
         with tempfile.TemporaryDirectory() as room:
             (Path(room) / "src").mkdir()

@@ -1,5 +1,8 @@
 //! What `ebpf` says of itself.
 
+/// The usage line of `ebpf`.
+pub const USAGE: &str = "usage: ebpf check | list FILE ..   (ebpf --help says more)";
+
 /// The usage line of `ebpf check`.
 pub const CHECK_USAGE: &str =
     "usage: ebpf check FILE [KERNEL ..] [--program NAME ..] [--all] [--json]";
@@ -9,6 +12,7 @@ pub const HELP: &str = "usage: ebpf COMMAND ..
        ebpf --help | --version
 
   check    whether an object's programs run on kernels
+  list     what an object has: programs, maps, helpers, externs, CO-RE records
 
 ebpf COMMAND --help says more of a command.";
 
@@ -28,6 +32,23 @@ fields, types and enumerators they need that a kernel lacks.
 
 Status: 0 each program runs on each kernel; 1 one breaks, or FILE is refused;
 2 for other words, and where a file or a kernel's types can't be read.";
+
+/// The usage line of `ebpf list`.
+pub const LIST_USAGE: &str = "usage: ebpf list FILE [--json]";
+
+/// What `ebpf list --help` prints behind the usage line.
+pub const LIST_HELP: &str = "
+Lists what an eBPF object file has: its programs with their slots before and after
+linking, its maps, the helper functions that its programs call, its externs, the
+values that it wants of the kernel's configuration, its CO-RE records, and the
+functions that no program reaches.
+
+  FILE            an object file, as clang makes it
+  -j, --json      prints JSON
+  -h, --help      prints this
+  -V, --version   prints the version
+
+Status: 0; 1 where FILE is refused; 2 for other words, and where it can't be read.";
 
 /// What `ebpf --version` prints.
 pub const VERSION: &str = "ebpf 0.1.0";

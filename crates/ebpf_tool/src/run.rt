@@ -1,246 +1,35 @@
 //! From the words of a command line to a status.
 
-use crate::files::{KernelFile, gather_words, kernel_files, read_file};
-use crate::help::{CHECK_HELP, CHECK_USAGE, HELP, VERSION};
-use crate::json::write_json;
-use crate::kernels::kernel_types;
-use crate::loaded::{Loaded, load};
-use crate::names::Shown;
-use crate::printing::{Manner, write_findings, write_kernel};
-use crate::programs::{counting, unknown_name};
-use crate::session::{Judgement, Session};
-use crate::words::{CheckWords, Command, WordsError, read_words};
-use ebpf_base::Text;
-use ebpf_object::obj::ExplainedParse;
-use ebpf_parts::ParseError;
-use std::alloc::AllocError;
-use std::io::{self, BufWriter, ErrorKind, Stdout, Write};
+use crate::help::{CHECK_HELP, CHECK_USAGE, HELP, LIST_HELP, LIST_USAGE, USAGE, VERSION};
+use crate::words::{Command, WordsError, read_words};
+use ebpf_check::check;
+use ebpf_list::list;
+use ebpf_report::files::gather_words;
+use ebpf_report::names::Shown;
+use ebpf_report::stop::{Stop, stopped};
 use std::process::ExitCode;
 
-/// Why the work ends before its end.
-#[derive(Drop)]
-enum Stop {
-    /// What was told already; with the status.
-    Told(u8),
-    /// The output can't be written.
-    Output(io::Error),
-    /// No memory was found.
-    Memory,
-}
-
-impl From<AllocError> for Stop {
-    fn from(_error: AllocError) -> Stop {
-        Stop::Memory
+/// The usage line of the command that words begin with.
+fn usage_of(words: &[String]) -> &'static str {
+    match words.first() {
+        Some(word) => match word.as_str() {
+            "check" => CHECK_USAGE,
+            "list" => LIST_USAGE,
+            _ => USAGE,
+        },
+        None => USAGE,
     }
-}
-
-impl From<io::Error> for Stop {
-    fn from(error: io::Error) -> Stop {
-        Stop::Output(error)
-    }
-}
-
-/// Says why nothing more is done, and gives the status. An output whose reader is gone ends without a word.
-fn stopped(rt: &HostRuntime, stop: Stop) -> u8 {
-    match stop {
-        Stop::Told(status) => status,
-        Stop::Output(error) if matches!(error.kind(), ErrorKind::BrokenPipe) => 2,
-        Stop::Output(error) => {
-            let _ = eprintln!(rt; "ebpf: cannot write: {error}");
-            2
-        }
-        Stop::Memory => {
-            let _ = eprintln!(rt; "ebpf: out of memory");
-            2
-        }
-    }
-}
-
-/// Says what is wrong with a file, and gives the status.
-fn complain(rt: &HostRuntime, path: &str, error: &io::Error) -> Stop {
-    if matches!(error.kind(), ErrorKind::OutOfMemory) {
-        return Stop::Memory;
-    }
-    let path = Shown(path);
-    let _ = eprintln!(rt; "ebpf: {path}: {error}");
-    Stop::Told(2)
 }
 
 /// Says why words can't be read, with the usage line, and gives the status.
-fn usage(rt: &HostRuntime, error: &WordsError<'_>) -> Result<u8, Stop> {
+fn usage(rt: &HostRuntime, words: &[String], error: &WordsError<'_>) -> Result<u8, Stop> {
     let alloc = rt.alloc();
     let sentence = format!(in alloc; "{error}")?;
     let sentence = Shown(sentence.as_str());
     let _ = eprintln!(rt; "ebpf: {sentence}");
-    let _ = eprintln!(rt; "{CHECK_USAGE}");
+    let usage = usage_of(words);
+    let _ = eprintln!(rt; "{usage}");
     Ok(2)
-}
-
-/// Says why an object is refused.
-fn refuse(rt: &HostRuntime, path: &str, file: &[u8], error: &ParseError) -> Stop {
-    if matches!(error, ParseError::OutOfMemory) {
-        return Stop::Memory;
-    }
-    let alloc = rt.alloc();
-    let explained = ExplainedParse::new(file, error);
-    match format!(in alloc; "{explained}") {
-        Ok(sentence) => {
-            let path = Shown(path);
-            let sentence = Shown(sentence.as_str());
-            let _ = eprintln!(rt; "ebpf: {path}: {sentence}");
-            Stop::Told(1)
-        }
-        Err(_) => Stop::Memory,
-    }
-}
-
-/// Reads the object's file.
-fn load_file(rt: &HostRuntime, words: &CheckWords) -> Result<Loaded, Stop> {
-    let alloc = rt.alloc();
-    let path = words.file.as_str();
-    let file = match read_file(rt, path) {
-        Ok(file) => file,
-        Err(error) => return Err(complain(rt, path, &error)),
-    };
-    match load(alloc, &file, words.all) {
-        Ok(loaded) => Ok(loaded),
-        Err(error) => {
-            let stop = refuse(rt, path, &file, &error);
-            drop(error);
-            Err(stop)
-        }
-    }
-}
-
-/// Reads the object's file, and keeps the programs that count.
-fn load_chosen(rt: &HostRuntime, words: &CheckWords) -> Result<Loaded, Stop> {
-    let loaded = load_file(rt, words)?;
-    let names = words.programs.as_slice();
-    if let Some(name) = unknown_name(&loaded.programs, names) {
-        let path = Shown(words.file.as_str());
-        let name = Shown(name);
-        let _ = eprintln!(rt; "ebpf: {path}: no program {name}");
-        return Err(Stop::Told(2));
-    }
-    let programs = counting(rt.alloc(), loaded.programs, names)?;
-    Ok(Loaded { programs, ..loaded })
-}
-
-/// Judges the programs over the kernel of a file.
-fn judge_file(rt: &HostRuntime, session: &mut Session, name: Text) -> Result<(), Stop> {
-    let alloc = rt.alloc();
-    let bytes = match read_file(rt, name.as_str()) {
-        Ok(bytes) => bytes,
-        Err(error) if matches!(error.kind(), ErrorKind::OutOfMemory) => return Err(Stop::Memory),
-        Err(error) => {
-            let sentence = format!(in alloc; "{error}")?;
-            return Ok(session.note_unread(name, Text::from_string(sentence))?);
-        }
-    };
-    match kernel_types(alloc, bytes, session.loaded.object.endianness) {
-        Ok(kernel) => Ok(session.judge(alloc, name, &kernel)?),
-        Err(error) => {
-            let sentence = format!(in alloc; "{error}")?;
-            Ok(session.note_unread(name, Text::from_string(sentence))?)
-        }
-    }
-}
-
-/// Judges the programs over a kernel; notes a folder that gives no file.
-fn judge_kernel_file(
-    rt: &HostRuntime,
-    session: &mut Session,
-    kernel: &KernelFile,
-) -> Result<(), Stop> {
-    let name = kernel.path.clone()?;
-    match &kernel.fault {
-        Some(fault) => Ok(session.note_unread(name, fault.clone()?)?),
-        None => judge_file(rt, session, name),
-    }
-}
-
-/// Tells a kernel's types that can't be read.
-fn tell_unread(rt: &HostRuntime, session: &Session) {
-    let Some(kernel) = session.kernels.last() else {
-        return;
-    };
-    if let Judgement::Unread(sentence) = &kernel.answer {
-        let name = Shown(kernel.name.as_str());
-        let sentence = Shown(sentence.as_str());
-        let _ = eprintln!(rt; "ebpf: {name}: {sentence}");
-    }
-}
-
-/// Tells a kernel that is done.
-fn tell_kernel(out: &mut BufWriter<Stdout>, session: &Session) -> io::Result<()> {
-    let programs = session.loaded.programs.len();
-    match session.kernels.last() {
-        Some(kernel) => {
-            write_kernel(out, kernel, programs)?;
-            out.flush()
-        }
-        None => Ok(()),
-    }
-}
-
-/// Judges the programs over each kernel, and tells it when it is done.
-fn judge_kernels(
-    rt: &HostRuntime,
-    words: &CheckWords,
-    session: &mut Session,
-    kernels: &[KernelFile],
-    out: &mut BufWriter<Stdout>,
-) -> Result<(), Stop> {
-    for kernel in kernels {
-        judge_kernel_file(rt, session, kernel)?;
-        tell_unread(rt, session);
-        if !words.json {
-            tell_kernel(out, session)?;
-        }
-    }
-    Ok(())
-}
-
-/// Tells what was found on all kernels.
-fn tell_findings(
-    words: &CheckWords,
-    session: &Session,
-    out: &mut BufWriter<Stdout>,
-) -> io::Result<()> {
-    if words.json {
-        write_json(out, session)?;
-    } else {
-        write_findings(out, session, Manner { all: words.all })?;
-    }
-    out.flush()
-}
-
-/// Judges the programs over these kernels, tells what was found, and gives the status.
-fn check_files(
-    rt: &HostRuntime,
-    words: &CheckWords,
-    session: &mut Session,
-    kernels: &[KernelFile],
-) -> Result<u8, Stop> {
-    let mut out = BufWriter::new(rt.alloc(), rt.stdout())?;
-    judge_kernels(rt, words, session, kernels, &mut out)?;
-    tell_findings(words, session, &mut out)?;
-    Ok(session.status())
-}
-
-/// Judges the programs over the kernels that the words name, tells what was found, and gives the status.
-fn check_kernels(rt: &HostRuntime, words: &CheckWords, session: &mut Session) -> Result<u8, Stop> {
-    let kernels = kernel_files(rt, words.kernels.as_slice())?;
-    check_files(rt, words, session, kernels.as_slice())
-}
-
-/// Does what `ebpf check` is asked. It alone holds the object, and leaves early nowhere while it does: each way out of a
-/// function is proved to let go of what it holds.
-fn check(rt: &HostRuntime, words: &CheckWords) -> Result<u8, Stop> {
-    let name = words.file.clone()?;
-    let loaded = load_chosen(rt, words)?;
-    let mut session = Session::new(rt.alloc(), name, loaded);
-    check_kernels(rt, words, &mut session)
 }
 
 /// Prints a text.
@@ -249,16 +38,21 @@ fn tell(rt: &HostRuntime, text: &str) -> Result<u8, Stop> {
     Ok(0)
 }
 
+/// Prints the usage line of a command and what it does.
+fn tell_both(rt: &HostRuntime, usage: &str, help: &str) -> Result<u8, Stop> {
+    tell(rt, usage)?;
+    tell(rt, help)
+}
+
 /// Does what a command line asks.
 fn obey(rt: &HostRuntime, command: &Command) -> Result<u8, Stop> {
     match command {
         Command::Help => tell(rt, HELP),
-        Command::CheckHelp => {
-            tell(rt, CHECK_USAGE)?;
-            tell(rt, CHECK_HELP)
-        }
+        Command::CheckHelp => tell_both(rt, CHECK_USAGE, CHECK_HELP),
+        Command::ListHelp => tell_both(rt, LIST_USAGE, LIST_HELP),
         Command::Version => tell(rt, VERSION),
         Command::Check(words) => check(rt, words),
+        Command::List(words) => list(rt, words),
     }
 }
 
@@ -273,7 +67,7 @@ pub fn start(rt: &HostRuntime) -> ExitCode {
     };
     let done = match read_words(rt.alloc(), &words) {
         Ok(command) => obey(rt, &command),
-        Err(error) => usage(rt, &error),
+        Err(error) => usage(rt, &words, &error),
     };
     match done {
         Ok(status) => ExitCode::from(status),

@@ -1,6 +1,8 @@
 //! The words of a command line of `ebpf`.
 
 use ebpf_base::{Items, Text};
+use ebpf_check::CheckWords;
+use ebpf_list::ListWords;
 use std::alloc::{AllocError, AllocFailed, Global};
 use thiserror::Error;
 
@@ -11,25 +13,14 @@ pub enum Command {
     Help,
     /// What `ebpf check` does.
     CheckHelp,
+    /// What `ebpf list` does.
+    ListHelp,
     /// The program's version.
     Version,
     /// An object's programs over kernels.
     Check(CheckWords),
-}
-
-/// What `ebpf check` is to do.
-#[derive(Drop)]
-pub struct CheckWords {
-    /// The object's file.
-    pub file: Text,
-    /// The kernels: files and folders.
-    pub kernels: Items<Text>,
-    /// The programs that count, where they are named.
-    pub programs: Items<Text>,
-    /// Whether all is told: every kernel by name, and each value that moved.
-    pub all: bool,
-    /// Whether it is told as JSON.
-    pub json: bool,
+    /// What an object has.
+    List(ListWords),
 }
 
 /// Why words can't be read.
@@ -53,6 +44,9 @@ pub enum WordsError<'a> {
     /// No file is named.
     #[error("no FILE")]
     NoFile,
+    /// A second file is named, of a command that takes one.
+    #[error("one FILE, and not {0}")]
+    SecondFile(&'a str),
     /// No memory was found.
     #[error("out of memory")]
     OutOfMemory,
@@ -70,7 +64,14 @@ impl<T: Drop> From<AllocFailed<T>> for WordsError<'_> {
     }
 }
 
-/// An option of `ebpf check`.
+/// A command that reads an object.
+#[derive(Clone, Copy, PartialEq, Eq)]
+enum Verb {
+    Check,
+    List,
+}
+
+/// An option of a command.
 #[derive(Clone, Copy)]
 enum Choice {
     Program,
@@ -80,11 +81,11 @@ enum Choice {
     Version,
 }
 
-/// The option of a name.
-fn choice_of(name: &str) -> Option<Choice> {
+/// The option of a name that a command has.
+fn choice_of(verb: Verb, name: &str) -> Option<Choice> {
     match name {
-        "--program" => Some(Choice::Program),
-        "--all" => Some(Choice::All),
+        "--program" if verb == Verb::Check => Some(Choice::Program),
+        "--all" if verb == Verb::Check => Some(Choice::All),
         "-j" | "--json" => Some(Choice::Json),
         "-h" | "--help" => Some(Choice::Help),
         "-V" | "--version" => Some(Choice::Version),
@@ -110,20 +111,29 @@ fn parted(word: &str) -> (&str, Option<&str>) {
 
 /// What words have said so far.
 #[derive(Drop)]
-struct Options {
-    files: Vec<Text>,
-    programs: Items<Text>,
+struct Options<'a> {
+    files: Vec<&'a str>,
+    programs: Vec<&'a str>,
     all: bool,
     json: bool,
     help: bool,
     version: bool,
 }
 
-impl Options {
-    fn new(alloc: Global) -> Options {
+/// Copies of words.
+fn copies(alloc: Global, words: &[&str]) -> Result<Items<Text>, AllocError> {
+    let mut texts = Items::new(alloc);
+    for word in words {
+        texts.push(Text::from_str(alloc, word)?)?;
+    }
+    Ok(texts)
+}
+
+impl<'a> Options<'a> {
+    fn new(alloc: Global) -> Options<'a> {
         Options {
             files: Vec::new(alloc),
-            programs: Items::new(alloc),
+            programs: Vec::new(alloc),
             all: false,
             json: false,
             help: false,
@@ -143,44 +153,60 @@ impl Options {
     }
 
     /// What `ebpf check` is asked for.
-    fn command(self, alloc: Global) -> Result<Command, WordsError<'static>> {
-        if self.help {
-            return Ok(Command::CheckHelp);
-        }
-        if self.version {
-            return Ok(Command::Version);
-        }
-        let mut files = self.files.into_iter();
-        let Some(file) = files.next() else {
+    fn check(&self, alloc: Global) -> Result<Command, WordsError<'a>> {
+        let Some((file, kernels)) = self.files.split_first() else {
             return Err(WordsError::NoFile);
         };
-        let mut kernels = Items::new(alloc);
-        for kernel in files {
-            kernels.push(kernel)?;
-        }
         Ok(Command::Check(CheckWords {
-            file,
-            kernels,
-            programs: self.programs,
+            file: Text::from_str(alloc, file)?,
+            kernels: copies(alloc, kernels)?,
+            programs: copies(alloc, &self.programs)?,
             all: self.all,
             json: self.json,
         }))
     }
+
+    /// What `ebpf list` is asked for.
+    fn list(&self, alloc: Global) -> Result<Command, WordsError<'a>> {
+        let Some((file, others)) = self.files.split_first() else {
+            return Err(WordsError::NoFile);
+        };
+        match others.first() {
+            Some(other) => Err(WordsError::SecondFile(other)),
+            None => Ok(Command::List(ListWords {
+                file: Text::from_str(alloc, file)?,
+                json: self.json,
+            })),
+        }
+    }
+
+    /// What a command is asked for.
+    fn command(&self, alloc: Global, verb: Verb) -> Result<Command, WordsError<'a>> {
+        if self.version && !self.help {
+            return Ok(Command::Version);
+        }
+        match verb {
+            Verb::Check if self.help => Ok(Command::CheckHelp),
+            Verb::List if self.help => Ok(Command::ListHelp),
+            Verb::Check => self.check(alloc),
+            Verb::List => self.list(alloc),
+        }
+    }
 }
 
-/// Reads an option; whether the next word is its value.
+/// Reads an option; its name, where the next word is its value.
 fn read_option<'a>(
-    alloc: Global,
-    options: &mut Options,
+    verb: Verb,
+    options: &mut Options<'a>,
     word: &'a str,
 ) -> Result<Option<&'a str>, WordsError<'a>> {
     let (name, value) = parted(word);
-    let Some(choice) = choice_of(name) else {
+    let Some(choice) = choice_of(verb, name) else {
         return Err(WordsError::UnknownOption(word));
     };
     match (choice, value) {
         (Choice::Program, Some(value)) => {
-            options.programs.push(Text::from_str(alloc, value)?)?;
+            options.programs.push(value)?;
             Ok(None)
         }
         (Choice::Program, None) => Ok(Some(name)),
@@ -192,43 +218,48 @@ fn read_option<'a>(
     }
 }
 
-/// Reads the words behind `check`.
-fn read_check<'a>(alloc: Global, words: &'a [String]) -> Result<Command, WordsError<'a>> {
+/// Reads the words behind a command.
+fn read_options<'a>(
+    alloc: Global,
+    verb: Verb,
+    words: &'a [String],
+) -> Result<Command, WordsError<'a>> {
     let mut options = Options::new(alloc);
     let mut waits = None;
     let mut only_files = false;
     for word in words {
         let word = word.as_str();
         if waits.is_some() {
-            options.programs.push(Text::from_str(alloc, word)?)?;
+            options.programs.push(word)?;
             waits = None;
         } else if only_files || !is_option(word) {
-            options.files.push(Text::from_str(alloc, word)?)?;
+            options.files.push(word)?;
         } else if word == "--" {
             only_files = true;
         } else {
-            waits = read_option(alloc, &mut options, word)?;
+            waits = read_option(verb, &mut options, word)?;
         }
     }
     match waits {
         Some(name) => Err(WordsError::NoValue(name)),
-        None => options.command(alloc),
+        None => options.command(alloc, verb),
     }
 }
 
-/// What the words of a command line ask for: `check` with its words, `--help` or `--version`. An option may stand
+/// What the words of a command line ask for: a command with its words, `--help` or `--version`. An option may stand
 /// anywhere before `--`, with `=` and its value or with its value as the next word.
 ///
 /// # Errors
 ///
-/// `NoCommand`, `UnknownCommand`, and of `check` the first word that can't be read, in their order; `NoValue` where the
-/// last option lacks its value; `NoFile`. `OutOfMemory` where memory is refused.
+/// `NoCommand`, `UnknownCommand`, and of a command the first word that can't be read, in their order; `NoValue` where the
+/// last option lacks its value; `NoFile`, `SecondFile`. `OutOfMemory` where memory is refused.
 pub fn read_words<'a>(alloc: Global, words: &'a [String]) -> Result<Command, WordsError<'a>> {
     let Some((first, rest)) = words.split_first() else {
         return Err(WordsError::NoCommand);
     };
     match first.as_str() {
-        "check" => read_check(alloc, rest),
+        "check" => read_options(alloc, Verb::Check, rest),
+        "list" => read_options(alloc, Verb::List, rest),
         "-h" | "--help" | "help" => Ok(Command::Help),
         "-V" | "--version" => Ok(Command::Version),
         word if is_option(word) => Err(WordsError::UnknownOption(word)),

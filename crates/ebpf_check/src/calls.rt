@@ -1,7 +1,6 @@
 //! The calls that a kernel can't do.
 
 use crate::findings::{Findings, Topic};
-use crate::kinds::Kind;
 use crate::sites::{Site, Spot};
 use crate::verdict::{Answers, topic_of};
 use ebpf_loading::KernelNumbers;
@@ -9,6 +8,7 @@ use ebpf_object::Object;
 use ebpf_parts::insn::bpf_insn;
 use ebpf_parts::insn::opcodes::CALL;
 use ebpf_reloc::CodeCopy;
+use ebpf_report::kinds::Kind;
 use std::alloc::{AllocError, Global};
 
 /// The number that a poisoned slot calls.

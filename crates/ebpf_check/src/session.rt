@@ -1,7 +1,7 @@
 //! An object over kernels, one after the other.
 
 ghost use Rattle.std.specs.Prelude.{◌≡◌};
-ghost use Rattle.ebpf_tool.specs.Statuses.{status_of};
+ghost use Rattle.ebpf_check.specs.Statuses.{status_of};
 
 use crate::findings::{Findings, Rank};
 use crate::loaded::Loaded;

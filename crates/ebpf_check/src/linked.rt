@@ -1,7 +1,6 @@
 //! The programs of an object as a kernel would get them.
 
 use crate::loaded::Loaded;
-use crate::programs::Chosen;
 use ebpf_base::{ByKey, ByName, Items};
 use ebpf_core_relo::put_slots;
 use ebpf_model::{EbpfRelocationError, ExternDesc, Function, RelocationError};
@@ -11,6 +10,7 @@ use ebpf_object::relocation::ProgramMaps;
 use ebpf_parts::insn::bpf_insn;
 use ebpf_reach::reached_slots;
 use ebpf_reloc::{CodeCopy, Linkable, ProgramKey, relocate_calls};
+use ebpf_report::programs::ObjectProgram;
 use std::alloc::{AllocError, Global};
 use std::collections::HashSet;
 
@@ -119,7 +119,7 @@ pub fn written_object(
 }
 
 /// What the linker needs of a program.
-fn key_of(program: &Chosen) -> ProgramKey<'_> {
+fn key_of(program: &ObjectProgram) -> ProgramKey<'_> {
     ProgramKey {
         name: program.name.as_str(),
         section_index: program.key.0,
@@ -128,7 +128,7 @@ fn key_of(program: &Chosen) -> ProgramKey<'_> {
 }
 
 /// What the linker needs of each program.
-fn keys_of(alloc: Global, programs: &[Chosen]) -> Result<Vec<ProgramKey<'_>>, AllocError> {
+fn keys_of(alloc: Global, programs: &[ObjectProgram]) -> Result<Vec<ProgramKey<'_>>, AllocError> {
     let mut keys = Vec::with_capacity(alloc, programs.len())?;
     for program in programs {
         keys.push(key_of(program))?;
@@ -176,7 +176,7 @@ impl<'a> Linker<'a> {
         alloc: Global,
         object: &'a Object,
         sections: &'a HashSet<usize>,
-        programs: &[Chosen],
+        programs: &[ObjectProgram],
     ) -> Result<Linker<'a>, AllocError> {
         let Ok(maps) = object.program_maps(sections) else {
             return Err(AllocError);
@@ -195,7 +195,7 @@ impl<'a> Linker<'a> {
     fn function(
         &self,
         alloc: Global,
-        program: &Chosen,
+        program: &ObjectProgram,
     ) -> Result<Result<Option<Function>, RefusalText>, AllocError> {
         if let Some(together) = &self.together {
             return match together.get(program.key) {
@@ -211,7 +211,11 @@ impl<'a> Linker<'a> {
     }
 
     /// The copies that a program is made of.
-    fn copies(&self, alloc: Global, program: &Chosen) -> Result<Items<CodeCopy>, AllocError> {
+    fn copies(
+        &self,
+        alloc: Global,
+        program: &ObjectProgram,
+    ) -> Result<Items<CodeCopy>, AllocError> {
         match self.maps.of(program.name.as_str()) {
             Ok(Some(map)) => Ok(map.copies),
             Ok(None) => Ok(Items::new(alloc)),
@@ -228,7 +232,7 @@ impl<'a> Linker<'a> {
     pub fn linked(
         &self,
         alloc: Global,
-        program: &Chosen,
+        program: &ObjectProgram,
     ) -> Result<Result<Option<Linked>, RefusalText>, AllocError> {
         let function = match self.function(alloc, program)? {
             Ok(Some(function)) => function,

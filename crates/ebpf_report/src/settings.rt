@@ -29,7 +29,7 @@ fn name_of(alloc: Global, types: &Btf, entry: &DataSecEntry) -> Result<Option<Te
 }
 
 /// The names of the externs that the kernel's configuration gives, in the order in which the object has them.
-pub fn wanted_settings(alloc: Global, object: &Object) -> Result<Items<Text>, AllocError> {
+pub fn object_settings(alloc: Global, object: &Object) -> Result<Items<Text>, AllocError> {
     let mut names = Items::new(alloc);
     let Some(types) = &object.btf else {
         return Ok(names);

@@ -1,9 +1,6 @@
 //! An object, read once for all kernels.
 
-use crate::map_uses::{MapUse, map_uses};
 use crate::own_values::own_value;
-use crate::programs::{Chosen, section_names};
-use crate::wanted::wanted_settings;
 use ebpf_base::{ByKey, ByName, Items, Text};
 use ebpf_btf::Btf;
 use ebpf_ext::Relocation;
@@ -11,6 +8,9 @@ use ebpf_model::ExternDesc;
 use ebpf_object::Object;
 use ebpf_object::obj::ParseError;
 use ebpf_parts::Reading;
+use ebpf_report::map_uses::{MapUse, map_uses};
+use ebpf_report::programs::{ObjectProgram, object_programs};
+use ebpf_report::settings::object_settings;
 use std::alloc::{AllocError, Global};
 
 /// A CO-RE relocation.
@@ -28,7 +28,7 @@ pub struct Loaded {
     /// The object, read broadly.
     pub object: Object,
     /// The programs that count, in byte order of their names.
-    pub programs: Vec<Chosen>,
+    pub programs: Vec<ObjectProgram>,
     /// Its records, section by section and in order.
     pub records: Vec<Record>,
     /// The maps that functions use, by the functions' keys.
@@ -84,7 +84,7 @@ fn typed_externs(alloc: Global, object: &Object) -> Result<ByName<ExternDesc>, A
 /// What is asked of an object.
 #[derive(Drop)]
 struct Needs {
-    programs: Vec<Chosen>,
+    programs: Vec<ObjectProgram>,
     records: Vec<Record>,
     map_uses: ByKey<Items<MapUse>>,
     typed: ByName<ExternDesc>,
@@ -94,10 +94,10 @@ struct Needs {
 /// What is asked of an object, which it borrows: each way out of a function is proved to let go of what it holds.
 fn needs_of(alloc: Global, file: &[u8], object: &Object, all: bool) -> Result<Needs, AllocError> {
     let records = records_of(alloc, object, all)?;
-    let programs = section_names(alloc, file, object)?;
+    let programs = object_programs(alloc, file, object)?;
     let map_uses = map_uses(alloc, object)?;
     let typed = typed_externs(alloc, object)?;
-    let settings = wanted_settings(alloc, object)?;
+    let settings = object_settings(alloc, object)?;
     Ok(Needs {
         programs,
         records,

@@ -2,7 +2,6 @@
 
 use crate::externs::{Lacking, kernel_externs};
 use crate::findings::{Findings, Rank, Topic};
-use crate::kinds::Kind;
 use crate::linked::{Linked, Linker, written_object};
 use crate::loaded::Loaded;
 use crate::sites::{Site, judge_copy};
@@ -10,6 +9,7 @@ use ebpf_base::{ByKey, Items};
 use ebpf_btf::Btf;
 use ebpf_core_relo::RecordOutcome;
 use ebpf_loading::{AttachTarget, KernelNumbers, attach_target};
+use ebpf_report::kinds::Kind;
 use std::alloc::{AllocError, Global};
 
 /// A kernel's answers to an object.

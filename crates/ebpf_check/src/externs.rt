@@ -6,6 +6,7 @@ use ebpf_base::{ByName, Text};
 use ebpf_btf::{Btf, BtfError, BtfType};
 use ebpf_candidates::types_are_compatible;
 use ebpf_model::ExternDesc;
+use ebpf_report::unknown_externs::{add_settings, add_unknown, unknown};
 use std::alloc::{AllocError, Global};
 
 /// An extern that has to be there, and that a kernel lacks.
@@ -38,15 +39,6 @@ enum ExternAnswer {
     OtherType(Sort),
     /// Types that can't be read, or an extern that is neither a function nor a variable.
     Unreadable(BtfError),
-}
-
-/// An extern whose value isn't known.
-fn unknown(known: ExternDesc) -> ExternDesc {
-    ExternDesc {
-        kernel_btf_id: Some(1),
-        is_resolved: true,
-        ..known
-    }
 }
 
 /// An extern that a kernel has, by its id.
@@ -164,39 +156,6 @@ fn add_typed(
         externs
             .written
             .insert(String::from_str(alloc, name)?, written)?;
-    }
-    Ok(())
-}
-
-/// Notes the externs of which nothing is known yet.
-fn add_unknown(
-    all: &ByName<ExternDesc>,
-    written: &mut ByName<ExternDesc>,
-) -> Result<(), AllocError> {
-    for (name, known) in all.iter() {
-        if written.contains_key(name.as_str()) {
-            continue;
-        }
-        written.insert(name.clone()?, unknown(*known))?;
-    }
-    Ok(())
-}
-
-/// An extern that the kernel's configuration gives, of which nothing is known.
-const SETTING: ExternDesc = ExternDesc {
-    btf_id: 0,
-    is_typed: false,
-    is_weak: false,
-    kernel_btf_id: Some(1),
-    ksym_addr: None,
-    is_resolved: true,
-};
-
-/// Notes the externs that the kernel's configuration gives.
-fn add_settings(names: &[Text], written: &mut ByName<ExternDesc>) -> Result<(), AllocError> {
-    for name in names {
-        let name = name.clone()?;
-        written.insert(name.into_string(), SETTING)?;
     }
     Ok(())
 }

@@ -1,28 +1,10 @@
-//! Files and folders, read.
+//! The kernels that words name: files, and folders of files.
 
 use crate::kernel_order::compare_names;
 use ebpf_base::{Items, Text};
 use std::alloc::{AllocError, Global};
-use std::io::{self, ErrorKind, Read};
-use std::{env, fs};
-
-/// The words of the command line after the program's own name.
-pub fn gather_words(rt: &HostRuntime) -> io::Result<Vec<String>> {
-    let mut words = Vec::new(rt.alloc());
-    for word in env::args(rt)?.skip(1) {
-        words.push(word)?;
-    }
-    Ok(words)
-}
-
-/// The bytes of a file up to its end, whatever size it states: files of /sys and /proc state others.
-pub fn read_file(rt: &HostRuntime, path: &str) -> io::Result<Vec<u8>> {
-    let mut file = fs::open(rt, path)?;
-    let size = file.metadata()?.len().min(1 << 40) as usize;
-    let mut bytes = Vec::with_capacity(rt.alloc(), size.saturating_add(1))?;
-    file.read_to_end(&mut bytes)?;
-    Ok(bytes)
-}
+use std::fs;
+use std::io::{self, ErrorKind};
 
 /// Whether a path leads to a folder. One that can't be looked at is none, and can't be read either.
 fn is_folder(rt: &HostRuntime, path: &str) -> bool {

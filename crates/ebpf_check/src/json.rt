@@ -1,17 +1,13 @@
 //! What `ebpf check --json` prints.
 
 use crate::findings::{At, Found, Location, Rank, Topic};
-use crate::kinds::Kind;
-use crate::names::Quoted;
 use crate::session::{Judgement, KernelAnswer, Session};
 use ebpf_base::Text;
+use ebpf_report::json::separate;
+use ebpf_report::kinds::Kind;
+use ebpf_report::names::Quoted;
 use std::collections::{BTreeMap, BTreeSet};
 use std::io::{self, Write};
-
-/// Writes a comma before all but the first of a list.
-fn separate<W: Write>(out: &mut W, is_first: bool) -> io::Result<()> {
-    if is_first { Ok(()) } else { write!(out, ",") }
-}
 
 /// Writes the programs that count.
 fn write_programs<W: Write>(out: &mut W, session: &Session) -> io::Result<()> {

@@ -1,7 +1,7 @@
 //! What was found over kernels, put together by what it is about.
 
-use crate::kinds::Kind;
 use ebpf_base::Text;
+use ebpf_report::kinds::Kind;
 use std::alloc::{AllocError, Global};
 use std::collections::{BTreeMap, BTreeSet};
 

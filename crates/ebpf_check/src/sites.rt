@@ -2,11 +2,9 @@
 
 use crate::calls::judge_calls;
 use crate::findings::{At, Findings, Location, Rank, Topic};
-use crate::kinds::Kind;
 use crate::lines::{Lines, Span};
 use crate::linked::Linked;
 use crate::loaded::Record;
-use crate::map_uses::MapUse;
 use crate::record_names::record_name;
 use crate::verdict::{Answers, topic_of};
 use ebpf_btf::{Btf, BtfKind};
@@ -16,6 +14,8 @@ use ebpf_ext::{Relocation, RelocationKind};
 use ebpf_parts::insn::bpf_insn;
 use ebpf_parts::insn::opcodes::{ALU, ALU64, LD};
 use ebpf_reloc::CodeCopy;
+use ebpf_report::kinds::Kind;
+use ebpf_report::map_uses::MapUse;
 use std::alloc::{AllocError, Global};
 
 /// A linked program, whose slots are judged.

@@ -1,0 +1,204 @@
+//! What an object has.
+
+use crate::helpers::{Users, helper_users, map_users};
+use crate::layout::{Layout, layouts, unlinked_layouts, unreached, write_externs};
+use crate::records::{Asked, counted_records};
+use ebpf_base::{ByKey, Items, Text};
+use ebpf_btf::{Btf, BtfError, BtfKind};
+use ebpf_elf::ElfFile;
+use ebpf_model::ExternDesc;
+use ebpf_object::Object;
+use ebpf_report::map_uses::{MapUse, map_uses};
+use ebpf_report::programs::{ObjectProgram, object_programs};
+use ebpf_report::settings::object_settings;
+use std::alloc::{AllocError, Global};
+use std::collections::BTreeMap;
+
+/// An extern.
+#[derive(Drop)]
+pub struct Extern {
+    /// Its name.
+    pub name: Text,
+    /// Whether it is a function; else it is a variable.
+    pub is_function: bool,
+    /// Whether its type is compared with the kernel's.
+    pub is_typed: bool,
+    /// Whether it may be absent.
+    pub is_weak: bool,
+}
+
+/// What stands in an object before its externs are written.
+#[derive(Drop)]
+pub struct Wanted {
+    /// The programs, in byte order of their names.
+    pub programs: Vec<ObjectProgram>,
+    /// The externs, in byte order of their names.
+    pub externs: Items<Extern>,
+    /// The names of the externs that the kernel's configuration gives.
+    pub settings: Items<Text>,
+    /// The maps that functions use.
+    pub map_uses: ByKey<Items<MapUse>>,
+    /// How many types the file has, where it has some.
+    pub types: Option<usize>,
+}
+
+/// What an object has, table by table.
+#[derive(Drop)]
+pub struct Listing<'a> {
+    /// The object.
+    pub object: &'a Object,
+    /// What stood in it.
+    pub wanted: &'a Wanted,
+    /// What each program is made of, in the order of the programs.
+    pub layouts: &'a Items<Layout>,
+    /// The programs that use a map, by the map's name.
+    pub map_users: Users<&'a str>,
+    /// The programs that call a helper function, by its number.
+    pub helper_users: Users<u32>,
+    /// How many CO-RE records ask what of which type.
+    pub records: BTreeMap<Asked, usize>,
+    /// The functions that no program reaches.
+    pub unreached: Vec<(usize, u64)>,
+}
+
+/// Whether a type is a function.
+fn is_function(types: Option<&Btf>, id: u32) -> bool {
+    let Some(types) = types else {
+        return false;
+    };
+    let Ok(ty) = types.type_by_id(id) else {
+        return false;
+    };
+    ty.kind() == BtfKind::Func
+}
+
+/// An extern of a name.
+fn extern_of(
+    alloc: Global,
+    types: Option<&Btf>,
+    name: &str,
+    known: &ExternDesc,
+) -> Result<Extern, AllocError> {
+    Ok(Extern {
+        name: Text::from_str(alloc, name)?,
+        is_function: is_function(types, known.btf_id),
+        is_typed: known.is_typed,
+        is_weak: known.is_weak,
+    })
+}
+
+/// The externs of an object.
+fn externs(alloc: Global, object: &Object) -> Result<Items<Extern>, AllocError> {
+    let mut all = Items::new(alloc);
+    for (name, known) in object.externs.iter() {
+        all.push(extern_of(alloc, object.btf.as_ref(), name.as_str(), known)?)?;
+    }
+    Ok(all)
+}
+
+/// How many types a file has, without void; None where it has none. To those of its object the variable is added that
+/// stands for the kernel's functions.
+fn file_types(alloc: Global, file: &[u8], object: &Object) -> Result<Option<usize>, AllocError> {
+    let Ok(file) = ElfFile::parse(file) else {
+        return Ok(None);
+    };
+    let Some(section) = file.section_by_name(".BTF") else {
+        return Ok(None);
+    };
+    let Ok(bytes) = section.data() else {
+        return Ok(None);
+    };
+    match Btf::parse(alloc, bytes, object.endianness) {
+        Ok(types) => Ok(Some(types.len().saturating_sub(1))),
+        Err(BtfError::OutOfMemory) => Err(AllocError),
+        Err(_) => Ok(None),
+    }
+}
+
+/// What stands in an object.
+pub fn wanted_by(alloc: Global, file: &[u8], object: &Object) -> Result<Wanted, AllocError> {
+    let programs = object_programs(alloc, file, object)?;
+    let externs = externs(alloc, object)?;
+    let settings = object_settings(alloc, object)?;
+    let map_uses = map_uses(alloc, object)?;
+    let types = file_types(alloc, file, object)?;
+    Ok(Wanted {
+        programs,
+        externs,
+        settings,
+        map_uses,
+        types,
+    })
+}
+
+/// What each program of an object is made of. Its externs are written meanwhile.
+pub fn layouts_of(
+    alloc: Global,
+    object: &mut Object,
+    wanted: &Wanted,
+) -> Result<Items<Layout>, AllocError> {
+    if write_externs(alloc, object, wanted.settings.as_slice())? {
+        layouts(alloc, object, &wanted.programs)
+    } else {
+        unlinked_layouts(alloc, &wanted.programs)
+    }
+}
+
+/// What an object has, whose externs are written.
+pub fn listing_of<'a>(
+    alloc: Global,
+    object: &'a Object,
+    wanted: &'a Wanted,
+    layouts: &'a Items<Layout>,
+) -> Result<Listing<'a>, AllocError> {
+    let made = layouts.as_slice();
+    let map_users = map_users(alloc, &wanted.map_uses, made)?;
+    let helper_users = helper_users(alloc, object, made)?;
+    let records = counted_records(alloc, object)?;
+    let unreached = unreached(alloc, object, made)?;
+    Ok(Listing {
+        object,
+        wanted,
+        layouts,
+        map_users,
+        helper_users,
+        records,
+        unreached,
+    })
+}
+
+impl<'a> Listing<'a> {
+    /// The license, where the file states one.
+    pub fn license(&self) -> Option<&[u8]> {
+        if self.object.states_license() {
+            Some(self.object.license.as_slice())
+        } else {
+            None
+        }
+    }
+
+    /// How many CO-RE records there are.
+    pub fn record_count(&self) -> usize {
+        let mut all: usize = 0;
+        for (_, count) in self.records.iter() {
+            all = all.saturating_add(*count);
+        }
+        all
+    }
+
+    /// How many slots the function of a key has.
+    pub fn slots_of(&self, key: (usize, u64)) -> usize {
+        match self.object.functions.get(key) {
+            Some(function) => function.instructions.len(),
+            None => 0,
+        }
+    }
+
+    /// The numbers of the programs that use the map of a name.
+    pub fn users_of_map(&self, name: &'a str) -> &[usize] {
+        match self.map_users.get(&name) {
+            Some(numbers) => numbers.as_slice(),
+            None => &[],
+        }
+    }
+}

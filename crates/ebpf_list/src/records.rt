@@ -1,0 +1,79 @@
+//! The CO-RE records of an object, counted.
+
+use ebpf_btf::Btf;
+use ebpf_ext::Relocation;
+use ebpf_object::Object;
+use ebpf_report::kinds::Kind;
+use ebpf_report::types::add_type;
+use std::alloc::{AllocError, Global};
+use std::collections::BTreeMap;
+
+/// What records ask of a type of the object.
+#[derive(PartialEq, Eq, PartialOrd, Ord, Drop)]
+pub struct Asked {
+    /// The type.
+    pub name: String,
+    /// What is asked.
+    pub kind: Kind,
+}
+
+/// How many records ask something of a type, by the type's id.
+type ByType = BTreeMap<(u32, Kind), usize>;
+
+/// Counts the records of a section.
+fn count_section(counts: &mut ByType, records: &[Relocation]) -> Result<(), AllocError> {
+    for record in records {
+        let asked = (record.type_id, Kind::of(record.kind));
+        let before = counts.get(&asked).copied().unwrap_or(0);
+        counts.insert(asked, before.saturating_add(1))?;
+    }
+    Ok(())
+}
+
+/// Counts the records of an object.
+fn counts(alloc: Global, object: &Object) -> Result<ByType, AllocError> {
+    let mut counts = BTreeMap::new(alloc);
+    let Some(ext) = &object.btf_ext else {
+        return Ok(counts);
+    };
+    for section in ext.relocations() {
+        count_section(&mut counts, section.1.as_slice())?;
+    }
+    Ok(counts)
+}
+
+/// Adds to the count of what is asked of a type of a name.
+fn add_count(
+    all: &mut BTreeMap<Asked, usize>,
+    asked: Asked,
+    count: usize,
+) -> Result<(), AllocError> {
+    let before = all.get(&asked).copied().unwrap_or(0);
+    all.insert(asked, before.saturating_add(count))?;
+    Ok(())
+}
+
+/// How many records ask what of which type, in byte order of the types' names; none of an object without types.
+pub fn counted_records(
+    alloc: Global,
+    object: &Object,
+) -> Result<BTreeMap<Asked, usize>, AllocError> {
+    let mut all = BTreeMap::new(alloc);
+    let Some(local) = &object.btf else {
+        return Ok(all);
+    };
+    let counts = counts(alloc, object)?;
+    for ((type_id, kind), count) in counts.iter() {
+        let name = type_name(alloc, local, *type_id)?;
+        let asked = Asked { name, kind: *kind };
+        add_count(&mut all, asked, *count)?;
+    }
+    Ok(all)
+}
+
+/// The kind and the name of a type.
+fn type_name(alloc: Global, local: &Btf, type_id: u32) -> Result<String, AllocError> {
+    let mut name = String::new(alloc);
+    add_type(&mut name, local, type_id)?;
+    Ok(name)
+}

@@ -1,0 +1,74 @@
+//! What an object's file has, told.
+
+use crate::json::write_json;
+use crate::layout::Layout;
+use crate::listing::{Wanted, layouts_of, listing_of, wanted_by};
+use crate::text::write_listing;
+use crate::words::ListWords;
+use ebpf_base::Items;
+use ebpf_object::Object;
+use ebpf_parts::Reading;
+use ebpf_report::files::read_file;
+use ebpf_report::stop::{Stop, complain, refuse};
+use std::io::{BufWriter, Write};
+
+/// Tells what an object has, as text or as JSON.
+fn tell(
+    rt: &HostRuntime,
+    words: &ListWords,
+    object: &Object,
+    wanted: &Wanted,
+    layouts: &Items<Layout>,
+) -> Result<(), Stop> {
+    let alloc = rt.alloc();
+    let listing = listing_of(alloc, object, wanted, layouts)?;
+    let mut out = BufWriter::new(alloc, rt.stdout())?;
+    if words.json {
+        write_json(&mut out, words.file.as_str(), &listing)?;
+    } else {
+        write_listing(alloc, &mut out, words.file.as_str(), &listing)?;
+    }
+    out.flush()?;
+    Ok(())
+}
+
+/// Tells what an object has, whose externs are written meanwhile.
+fn list_object(
+    rt: &HostRuntime,
+    words: &ListWords,
+    file: &[u8],
+    object: &mut Object,
+) -> Result<(), Stop> {
+    let alloc = rt.alloc();
+    let wanted = wanted_by(alloc, file, object)?;
+    let layouts = layouts_of(alloc, object, &wanted)?;
+    tell(rt, words, object, &wanted, &layouts)
+}
+
+/// Tells what the object of a file's bytes has.
+fn list_bytes(rt: &HostRuntime, words: &ListWords, file: &[u8]) -> Result<(), Stop> {
+    match Object::parse_as(rt.alloc(), file, Reading::Broad) {
+        Ok(mut object) => {
+            let done = list_object(rt, words, file, &mut object);
+            drop(object);
+            done
+        }
+        Err(error) => {
+            let stop = refuse(rt, words.file.as_str(), file, &error);
+            drop(error);
+            Err(stop)
+        }
+    }
+}
+
+/// Does what `ebpf list` is asked, and gives the status.
+pub fn list(rt: &HostRuntime, words: &ListWords) -> Result<u8, Stop> {
+    let path = words.file.as_str();
+    match read_file(rt, path) {
+        Ok(file) => {
+            list_bytes(rt, words, &file)?;
+            Ok(0)
+        }
+        Err(error) => Err(complain(rt, path, &error)),
+    }
+}

@@ -1,0 +1,12 @@
+//! What `ebpf list` is asked.
+
+use ebpf_base::Text;
+
+/// What `ebpf list` is to do.
+#[derive(Drop)]
+pub struct ListWords {
+    /// The object's file.
+    pub file: Text,
+    /// Whether it is told as JSON.
+    pub json: bool,
+}
