@@ -20,6 +20,3 @@ pub use by_section::BySection;
 pub use endianness::Endianness;
 pub use items::Items;
 pub use text::Text;
-
-#[cfg(test)]
-mod tests;

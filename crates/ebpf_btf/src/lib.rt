@@ -17,8 +17,6 @@ mod readable;
 pub mod rows;
 mod steps;
 pub mod strings;
-#[cfg(test)]
-mod tests;
 mod types;
 mod types_iter;
 mod variants;

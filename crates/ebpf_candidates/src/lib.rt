@@ -10,8 +10,6 @@ pub mod laws;
 mod name_looks;
 mod name_marks;
 mod pair;
-#[cfg(test)]
-mod tests;
 mod type_index;
 mod type_names;
 mod type_row;

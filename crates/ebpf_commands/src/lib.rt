@@ -17,6 +17,3 @@ pub use inspect::{print_reports, run_inspect};
 pub use link::{prepare_all, print_programs, run_link};
 pub use opened::{Command, start};
 pub use preparation::{map_names, numbered_descriptors};
-
-#[cfg(test)]
-mod tests;

@@ -24,6 +24,3 @@ pub use error::BtfRelocationError;
 pub use outcomes::record_outcomes;
 pub use record_outcome::{RecordOutcome, RecordOutcomes, RecordResult, RecordSlot};
 pub use relocate::{put_slots, relocate_slots};
-
-#[cfg(test)]
-mod tests;

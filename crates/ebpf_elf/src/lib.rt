@@ -33,6 +33,3 @@ pub use section::ElfSection;
 pub use sections::Sections;
 pub use symbol::ElfSymbol;
 pub use symbols::Symbols;
-
-#[cfg(test)]
-mod tests;

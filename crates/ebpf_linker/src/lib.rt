@@ -5,10 +5,6 @@ mod bases;
 mod body;
 mod copies;
 pub mod link_map;
-#[cfg(test)]
-mod link_map_tests;
-#[cfg(test)]
-mod machines;
 mod program;
 mod records;
 mod reference;
@@ -16,10 +12,6 @@ mod search;
 pub mod slot;
 mod soundness;
 mod tables;
-#[cfg(test)]
-mod test_functions;
-#[cfg(test)]
-mod tests;
 
 pub use body::{Body, LinkedProgram};
 pub use program::link;

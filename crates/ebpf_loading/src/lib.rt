@@ -13,6 +13,3 @@ mod texts;
 pub use attach::{AttachTarget, attach_target};
 pub use kernel_numbers::KernelNumbers;
 pub use map_type_ids::{MapTypeIds, map_types};
-
-#[cfg(test)]
-mod tests;

@@ -18,6 +18,3 @@ pub use places::{Place, PlaceEnd};
 pub use search::{FoundMember, find_member};
 pub use steps::Step;
 pub use walk::place_in;
-
-#[cfg(test)]
-mod tests;

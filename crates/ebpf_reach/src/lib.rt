@@ -8,7 +8,5 @@ pub mod laws;
 mod registers;
 mod search;
 mod steps;
-#[cfg(test)]
-mod tests;
 
 pub use search::reached_slots;

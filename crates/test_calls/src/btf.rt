@@ -1,8 +1,8 @@
-use crate::{
+use ebpf_base::Items;
+use ebpf_btf::{
     Btf, BtfError, BtfMember, BtfType, Endianness, Enum64Fallback, Enum64VariantFallback, Rows,
     UnionFallback,
 };
-use ebpf_base::Items;
 use std::alloc::{AllocError, Global};
 use std::test::Fail;
 

@@ -1,6 +1,6 @@
 //! The words of a command line, and what is said where a file can't be read or a writer fails.
 
-use crate::{WordsError, cannot_read, read_words, run_link};
+use ebpf_commands::{WordsError, cannot_read, read_words, run_link};
 use std::alloc::{AllocError, Global};
 use std::io::{self, ErrorKind, Write};
 use std::test::Fail;

@@ -1,6 +1,6 @@
-use crate::{Place, PlaceFault, Step, place_in};
 use ebpf_base::Text;
 use ebpf_btf::{Btf, BtfError, BtfMember, BtfType, Rows};
+use ebpf_places::{Place, PlaceFault, Step, place_in};
 use std::alloc::{AllocError, Global};
 use std::test::Fail;
 

@@ -1,8 +1,8 @@
 // The types that maps are created with, by small types of an object.
 
-use crate::{MapTypeIds, map_types};
 use ebpf_base::Items;
 use ebpf_btf::{Btf, BtfError, BtfType, Rows};
+use ebpf_loading::{MapTypeIds, map_types};
 use ebpf_parts::EbpfSectionKind;
 use ebpf_parts::maps::{
     BtfMap, BtfMapDef, LegacyMap, Map, PinningType, bpf_map_def, bpf_map_info, parse_map_info,

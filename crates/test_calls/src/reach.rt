@@ -1,8 +1,8 @@
 //! Programs, and which of their slots are reached.
 
-use crate::reached_slots;
 use ebpf_parts::insn::bpf_insn;
 use ebpf_parts::insn::opcodes::{CALL, EXIT};
+use ebpf_reach::reached_slots;
 use std::alloc::{AllocError, Global};
 use std::test::Fail;
 

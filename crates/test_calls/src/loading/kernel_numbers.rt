@@ -1,7 +1,7 @@
 // Numbers that a kernel knows, by small enumerations.
 
-use crate::KernelNumbers;
 use ebpf_btf::{Btf, BtfEnum, BtfError, BtfType, Rows};
+use ebpf_loading::KernelNumbers;
 use std::alloc::Global;
 use std::test::Fail;
 

@@ -1,7 +1,7 @@
 //! Functions and references for tests.
 
-use crate::link_map::{NumberedLinkMap, link_map};
-use crate::{Body, Call, Fault, LinkedProgram, Tables, Target, is_sound, link};
+use ebpf_linker::link_map::{NumberedLinkMap, link_map};
+use ebpf_linker::{Body, Call, Fault, LinkedProgram, Tables, Target, is_sound, link};
 use ebpf_parts::insn::{bpf_insn, opcodes};
 use std::alloc::{AllocError, Global};
 

@@ -1,4 +1,4 @@
-// Rows over small types.
+//! What a loader is told, by small types.
 
 mod attach;
 mod kernel_numbers;

@@ -1,5 +1,8 @@
-use super::*;
 use ebpf_base::Endianness;
+use ebpf_elf::{
+    ElfFile, ElfReadError, ElfRelocation, ElfRelocationSection, ElfSection, ElfSymbol,
+    SectionIndex, SymbolKind,
+};
 use std::alloc::{AllocError, Global};
 use std::test::*;
 

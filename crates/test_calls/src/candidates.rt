@@ -1,5 +1,5 @@
-use crate::{KindsIndex, TypeIndex};
 use ebpf_btf::{Btf, BtfError, BtfKind, BtfMember, BtfType, Rows};
+use ebpf_candidates::{KindsIndex, TypeIndex};
 use std::alloc::Global;
 use std::test::Fail;
 

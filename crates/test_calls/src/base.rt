@@ -1,6 +1,6 @@
 // Each call that takes memory, once on its happy path.
 
-use super::*;
+use ebpf_base::{ByIndex, ByKey, ByName, ByOffset, BySection, Items, Text};
 use std::collections::{BTreeMap, HashMap};
 use std::test::Fail;
 

@@ -1,7 +1,7 @@
 // Targets of sections, in small types of a kernel.
 
-use crate::attach_target;
 use ebpf_btf::{Btf, BtfError, BtfType};
+use ebpf_loading::attach_target;
 use std::alloc::{AllocError, Global};
 use std::process::Abort;
 use std::test::Fail;

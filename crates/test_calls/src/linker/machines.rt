@@ -1,9 +1,9 @@
 //! The separate functions and the linked program, run beside each other.
 
-use crate::test_functions::{
+use super::functions::{
     CALL, CALLS, CALLS_TWICE, ENDS, EXIT, LOAD, NOTHING, TestReference, linked, lists, plain,
 };
-use crate::{Body, Call, Target};
+use ebpf_linker::{Body, Call, Target};
 use ebpf_parts::insn::{bpf_insn, opcodes};
 use std::alloc::{AllocError, Global};
 use std::test::Fail;

@@ -1,10 +1,10 @@
 //! Programs and functions linked, as texts.
 
-use crate::test_functions::{
+use super::functions::{
     CALLS, CALLS_TWICE, ENDS, EXIT, LOAD, NOTHING, TestReference, linked, linked_at, lists, plain,
 };
-use crate::{Body, Call, Fault, LinkedProgram, Tables, Target};
 use ebpf_ext::{bpf_func_info, bpf_line_info};
+use ebpf_linker::{Body, Call, Fault, LinkedProgram, Tables, Target};
 use ebpf_parts::insn::bpf_insn;
 use std::alloc::{AllocError, Global};
 use std::test::Fail;

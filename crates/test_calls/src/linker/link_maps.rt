@@ -1,10 +1,10 @@
 //! What programs are made of, beside the slots that linking writes.
 
-use crate::link_map::NumberedLinkMap;
-use crate::test_functions::{
+use super::functions::{
     CALLS, CALLS_TWICE, ENDS, EXIT, LOAD, NOTHING, TestReference, link_map_of, linked, lists, plain,
 };
-use crate::{Body, Fault, LinkedProgram, Target};
+use ebpf_linker::link_map::NumberedLinkMap;
+use ebpf_linker::{Body, Fault, LinkedProgram, Target};
 use std::alloc::{AllocError, Global};
 use std::test::Fail;
 

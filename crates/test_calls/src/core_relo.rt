@@ -1,6 +1,6 @@
-use crate::{RecordOutcome, RecordOutcomes, RecordResult, record_outcomes};
 use ebpf_base::{ByKey, ByName, Items, Text};
 use ebpf_btf::{Btf, BtfEnum, BtfError, BtfMember, BtfType, Endianness, Rows};
+use ebpf_core_relo::{RecordOutcome, RecordOutcomes, RecordResult, record_outcomes};
 use ebpf_elf::SectionIndex;
 use ebpf_ext::{BtfExt, FuncSecInfo, LineSecInfo};
 use ebpf_model::Function;
