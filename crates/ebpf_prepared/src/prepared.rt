@@ -9,8 +9,9 @@ use ebpf_base::{Items, Text};
 use ebpf_object::Object;
 use ebpf_object::relocation::LinkMap;
 use ebpf_parts::Reading;
+use ebpf_report::object_file::read_object;
 use ebpf_report::programs::{ObjectProgram, object_programs};
-use ebpf_report::refuse::{check_names, read_given, refuse_parsing};
+use ebpf_report::refuse::{check_names, refuse_parsing};
 use ebpf_report::stop::Stop;
 use std::alloc::{AllocError, Global};
 
@@ -155,7 +156,7 @@ pub fn prepare_file(
     words: &PrepareWords,
     map_slots: MapSlots,
 ) -> Result<Prepared, Stop> {
-    let file = read_given(rt, words.json, words.file.as_str())?;
+    let file = read_object(rt, words.json, words.file.as_str(), words.object)?;
     let parsed = parsed(rt, words, &file)?;
     let made = made_of(rt, words, &file, &parsed, map_slots);
     with_parsed(file, parsed, made)

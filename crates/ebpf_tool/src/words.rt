@@ -159,6 +159,7 @@ impl<'a> Options<'a> {
         };
         Ok(Command::Check(CheckWords {
             file: Text::from_str(alloc, file)?,
+            object: None,
             kernels: copies(alloc, kernels)?,
             programs: copies(alloc, &self.programs)?,
             all: self.all,
@@ -175,6 +176,7 @@ impl<'a> Options<'a> {
             Some(other) => Err(WordsError::SecondFile(other)),
             None => Ok(Command::List(ListWords {
                 file: Text::from_str(alloc, file)?,
+                object: None,
                 json: self.json,
             })),
         }
