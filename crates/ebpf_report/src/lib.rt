@@ -3,6 +3,7 @@
 #![tactic(auto)]
 
 pub mod files;
+pub mod helper_names;
 pub mod json;
 pub mod kinds;
 pub mod map_uses;
