@@ -8,7 +8,6 @@ mod json;
 mod kernel_files;
 mod kernel_order;
 mod kernel_symbols;
-mod kernels;
 mod linked;
 mod loaded;
 mod own_values;

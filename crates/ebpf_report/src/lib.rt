@@ -2,13 +2,18 @@
 //! end.
 #![tactic(auto)]
 
+pub mod compressed;
 pub mod files;
 pub mod helper_names;
 pub mod json;
+pub mod kernel_types;
 pub mod kinds;
 pub mod map_uses;
 pub mod names;
+mod parse_help;
 pub mod programs;
+pub mod refusal;
+pub mod refuse;
 pub mod settings;
 pub mod stop;
 pub mod types;

@@ -1,0 +1,90 @@
+//! Why an object can't be prepared, in words.
+
+use crate::pass_help::pass_help;
+use crate::words::PrepareWords;
+use ebpf_core_relo::RelocationError as CoreError;
+use ebpf_ksyms::KsymsError;
+use ebpf_model::RelocationError;
+use ebpf_object::Object;
+use ebpf_object::prepare::PrepareError;
+use ebpf_parts::ParseError;
+use ebpf_report::refusal::{Refusal, help_of};
+use ebpf_report::refuse::refused;
+use ebpf_report::stop::Stop;
+use ebpf_variants::{
+    variant_of_parsing, variant_of_relocation, variant_of_resolving, variant_of_type_relocation,
+};
+use std::alloc::{AllocError, Global};
+
+/// Whether memory was refused.
+fn is_memory(error: &PrepareError) -> bool {
+    match error {
+        PrepareError::Parse(error) => matches!(error, ParseError::OutOfMemory),
+        PrepareError::Types(refusal) => matches!(refusal.error, CoreError::OutOfMemory),
+        PrepareError::Ksyms(error) => matches!(error, KsymsError::OutOfMemory),
+        PrepareError::Maps(refusal)
+        | PrepareError::Externs(refusal)
+        | PrepareError::Calls(refusal) => matches!(refusal.error, RelocationError::OutOfMemory),
+        PrepareError::OutOfMemory => true,
+    }
+}
+
+/// The stage that refused, as sentences of errors begin with it and as it is told, and the name of its error.
+fn stage_of(error: &PrepareError) -> (&'static str, &'static str, &'static str) {
+    match error {
+        PrepareError::Parse(error) => ("parse: ", "parse", variant_of_parsing(error)),
+        PrepareError::Types(refusal) => {
+            (
+                "types: ",
+                "types",
+                variant_of_type_relocation(&refusal.error),
+            )
+        }
+        PrepareError::Maps(refusal) => ("maps: ", "maps", variant_of_relocation(&refusal.error)),
+        PrepareError::Ksyms(error) => ("ksyms: ", "externs", variant_of_resolving(error)),
+        PrepareError::Externs(refusal) => {
+            (
+                "externs: ",
+                "externs",
+                variant_of_relocation(&refusal.error),
+            )
+        }
+        PrepareError::Calls(refusal) => ("calls: ", "calls", variant_of_relocation(&refusal.error)),
+        PrepareError::OutOfMemory => ("", "memory", "OutOfMemory"),
+    }
+}
+
+/// Why a pass refuses an object.
+fn refusal_of(
+    alloc: Global,
+    object: &Object,
+    error: &PrepareError,
+    knows_types: bool,
+) -> Result<Refusal, AllocError> {
+    let (front, stage, variant) = stage_of(error);
+    let explained = object.explain(error);
+    let sentence = format!(in alloc; "{explained}")?;
+    let sentence = sentence.as_str();
+    Ok(Refusal {
+        stage,
+        variant,
+        text: String::from_str(alloc, sentence.strip_prefix(front).unwrap_or(sentence))?,
+        help: help_of(alloc, pass_help(error, knows_types))?,
+    })
+}
+
+/// Says why a pass refuses an object, which is as it was before the pass; why the work ends.
+pub fn refuse_preparing(
+    rt: &HostRuntime,
+    words: &PrepareWords,
+    object: &Object,
+    error: &PrepareError,
+) -> Stop {
+    if is_memory(error) {
+        return Stop::Memory;
+    }
+    match refusal_of(rt.alloc(), object, error, words.btf.is_some()) {
+        Ok(refusal) => refused(rt, words.json, words.file.as_str(), &refusal, 1),
+        Err(_) => Stop::Memory,
+    }
+}
