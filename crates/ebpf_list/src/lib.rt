@@ -8,9 +8,7 @@ mod license;
 mod listing;
 mod records;
 mod run;
-mod table;
 mod text;
-mod type_names;
 mod words;
 
 pub use run::list;
