@@ -7,6 +7,7 @@ mod pass_help;
 mod passes;
 mod prepared;
 mod refusals;
+mod refused_slots;
 mod words;
 
 pub use map_slots::MapSlots;

@@ -3,6 +3,7 @@
 use ebpf_core_relo::RelocationError as CoreError;
 use ebpf_ksyms::KsymsError;
 use ebpf_model::RelocationError;
+use ebpf_object::Object;
 use ebpf_object::prepare::PrepareError;
 
 /// What one can do about a CO-RE record.
@@ -29,21 +30,47 @@ fn types_help(error: &CoreError) -> Option<&'static str> {
     }
 }
 
+/// What words give of a kernel.
+#[derive(Clone, Copy)]
+pub struct Given {
+    /// Its types.
+    pub types: bool,
+    /// Its symbols.
+    pub symbols: bool,
+}
+
+/// What one can do about a function that isn't found.
+fn function_help(given: Given) -> &'static str {
+    if given.types {
+        "this kernel's types lack it (a module's aren't searched): declare it `__weak`, and ask `bpf_ksym_exists`"
+    } else {
+        "give the kernel's types: `--btf /sys/kernel/btf/vmlinux`"
+    }
+}
+
+/// What one can do about a variable that isn't found.
+fn variable_help(object: &Object, name: &str, given: Given) -> &'static str {
+    let is_typed = object.externs.get(name).is_some_and(|known| known.is_typed);
+    if is_typed {
+        return "this kernel's types lack it (a module's aren't searched): declare it `__weak`";
+    }
+    if given.symbols {
+        "these symbols lack it, or have no addresses (read /proc/kallsyms as root): declare it `__weak`"
+    } else {
+        "give the kernel's symbols, read as root: `--kallsyms /proc/kallsyms`; or declare it `__weak`"
+    }
+}
+
 /// What one can do about an extern that can't be resolved.
-fn resolving_help(error: &KsymsError, knows_types: bool) -> Option<&'static str> {
+fn resolving_help(object: &Object, error: &KsymsError, given: Given) -> Option<&'static str> {
     match error {
         KsymsError::TypedKsymRequiresKernelBtf => {
             Some("give the kernel's types: `--btf /sys/kernel/btf/vmlinux`")
         }
-        KsymsError::VariableNotFound { .. } => Some(
-            "give the kernel's symbols as root: `--kallsyms /proc/kallsyms`; or declare the extern `__weak`",
-        ),
-        KsymsError::FunctionNotFound { .. } if knows_types => Some(
-            "this kernel's types lack it (a module's aren't searched): declare it `__weak`, and ask `bpf_ksym_exists`",
-        ),
-        KsymsError::FunctionNotFound { .. } => {
-            Some("give the kernel's types: `--btf /sys/kernel/btf/vmlinux`")
+        KsymsError::VariableNotFound { name, .. } => {
+            Some(variable_help(object, name.as_str(), given))
         }
+        KsymsError::FunctionNotFound { .. } => Some(function_help(given)),
         KsymsError::IncompatibleFunctionSignature { .. }
         | KsymsError::IncompatibleVariableType { .. } => {
             Some("declare it as this kernel has it, or `__weak`")
@@ -69,7 +96,9 @@ fn slots_help(error: &RelocationError) -> Option<&'static str> {
         | RelocationError::InvalidLineInfo { .. } => {
             Some("the object is damaged or was changed: compile it again")
         }
-        RelocationError::SectionNotFound { .. } => Some("maps stand in \".maps\" or \"maps\""),
+        RelocationError::SectionNotFound { .. } => Some(
+            "maps stand in \".maps\" or \"maps\", variables in \".data\", \".rodata\" or \".bss\"",
+        ),
         RelocationError::InvalidRelocationOffset { .. } => Some(
             "`readelf -r` shows the relocation, `llvm-objdump -d` the instruction",
         ),
@@ -96,11 +125,11 @@ fn slots_help(error: &RelocationError) -> Option<&'static str> {
     }
 }
 
-/// What one can do about an object that a pass refuses; `knows_types` says whether the kernel's types are given.
-pub fn pass_help(error: &PrepareError, knows_types: bool) -> Option<&'static str> {
+/// What one can do about an object that a pass refuses.
+pub fn pass_help(object: &Object, error: &PrepareError, given: Given) -> Option<&'static str> {
     match error {
         PrepareError::Types(refusal) => types_help(&refusal.error),
-        PrepareError::Ksyms(error) => resolving_help(error, knows_types),
+        PrepareError::Ksyms(error) => resolving_help(object, error, given),
         PrepareError::Maps(refusal)
         | PrepareError::Externs(refusal)
         | PrepareError::Calls(refusal) => slots_help(&refusal.error),

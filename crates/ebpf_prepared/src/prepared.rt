@@ -6,6 +6,7 @@ use crate::passes::{Passed, pass_all};
 use crate::refusals::refuse_preparing;
 use crate::words::PrepareWords;
 use ebpf_base::{Items, Text};
+use ebpf_btf::Btf;
 use ebpf_object::Object;
 use ebpf_object::relocation::LinkMap;
 use ebpf_parts::Reading;
@@ -28,6 +29,8 @@ pub struct Prepared {
     pub programs: Vec<ObjectProgram>,
     /// What each of them is made of, in the same order: copies of functions, and the references between these.
     pub link_maps: Items<LinkMap>,
+    /// The kernel's types, where words give them.
+    pub types: Option<Btf>,
 }
 
 /// Whether a text is among others.
@@ -87,18 +90,6 @@ fn passed(
     }
 }
 
-/// An object after all passes over what words give of a kernel.
-fn passed_over_kernel(
-    rt: &HostRuntime,
-    words: &PrepareWords,
-    parsed: &Object,
-    programs: &[ObjectProgram],
-    map_slots: MapSlots,
-) -> Result<Passed, Stop> {
-    let kernel = given_kernel(rt, words, parsed.endianness)?;
-    passed(rt, words, parsed, programs, map_slots, &kernel)
-}
-
 /// The object of a file's bytes, read broadly; one that can't be parsed is told.
 fn parsed(rt: &HostRuntime, words: &PrepareWords, file: &[u8]) -> Result<Object, Stop> {
     match Object::parse_as(rt.alloc(), file, Reading::Broad) {
@@ -116,6 +107,7 @@ fn parsed(rt: &HostRuntime, words: &PrepareWords, file: &[u8]) -> Result<Object,
 struct Made {
     programs: Vec<ObjectProgram>,
     passed: Passed,
+    types: Option<Btf>,
 }
 
 /// The programs of an object that words choose, and the object after all passes.
@@ -127,8 +119,13 @@ fn made_of(
     map_slots: MapSlots,
 ) -> Result<Made, Stop> {
     let programs = chosen_programs(rt, words, file, parsed)?;
-    let passed = passed_over_kernel(rt, words, parsed, &programs, map_slots)?;
-    Ok(Made { programs, passed })
+    let kernel = given_kernel(rt, words, parsed.endianness)?;
+    let passed = passed(rt, words, parsed, &programs, map_slots, &kernel)?;
+    Ok(Made {
+        programs,
+        passed,
+        types: kernel.types,
+    })
 }
 
 /// An object with what was made of it.
@@ -140,6 +137,7 @@ fn with_parsed(file: Vec<u8>, parsed: Object, made: Result<Made, Stop>) -> Resul
             object: made.passed.object,
             programs: made.programs,
             link_maps: made.passed.link_maps,
+            types: made.types,
         }),
         Err(stop) => {
             drop(parsed);

@@ -4,6 +4,8 @@
 
 pub mod compressed;
 pub mod files;
+pub mod helper_calls;
+pub mod helper_names;
 pub mod json;
 pub mod kernel_types;
 pub mod kinds;
@@ -17,5 +19,7 @@ pub mod refusal;
 pub mod refuse;
 pub mod settings;
 pub mod stop;
+pub mod table;
+pub mod type_names;
 pub mod types;
 pub mod unknown_externs;

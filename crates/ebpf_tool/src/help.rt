@@ -1,7 +1,7 @@
 //! What `ebpf` says of itself.
 
 /// The usage line of `ebpf`.
-pub const USAGE: &str = "usage: ebpf check | list FILE ..   (ebpf --help says more)";
+pub const USAGE: &str = "usage: ebpf check | inspect | list FILE ..   (ebpf --help says more)";
 
 /// The usage line of `ebpf check`.
 pub const CHECK_USAGE: &str =
@@ -12,6 +12,7 @@ pub const HELP: &str = "usage: ebpf COMMAND ..
        ebpf --help | --version
 
   check    whether an object's programs run on kernels
+  inspect  what an object's linked programs are made of
   list     what an object has: programs, maps, helpers, externs, CO-RE records
 
 ebpf COMMAND --help says more of a command.";
@@ -49,6 +50,28 @@ functions that no program reaches.
   -V, --version   prints the version
 
 Status: 0; 1 where FILE is refused; 2 for other words, and where it can't be read.";
+
+/// The usage line of `ebpf inspect`.
+pub const INSPECT_USAGE: &str =
+    "usage: ebpf inspect FILE [--btf FILE] [--kallsyms FILE] [--program NAME ..] [--json]";
+
+/// What `ebpf inspect --help` prints behind the usage line.
+pub const INSPECT_HELP: &str = "
+Tells what the programs of an eBPF object file are made of once they are linked with
+the functions that they reach: the copies of functions, the references between them,
+the maps, helper functions and kernel functions that they use, and how far they are
+from the kernel's limits.
+
+  FILE             an object file, as clang makes it
+  --btf FILE       the kernel's types: raw BTF, or an ELF file with a section .BTF
+  --kallsyms FILE  the kernel's symbols, as /proc/kallsyms
+  --program NAME   tells of this program; may be repeated
+  -j, --json       prints JSON
+  -h, --help       prints this
+  -V, --version    prints the version
+
+Status: 0; 1 where FILE is refused; 2 for other words, for a program that FILE lacks,
+and where a file can't be read.";
 
 /// What `ebpf --version` prints.
 pub const VERSION: &str = "ebpf 0.1.0";

@@ -3,6 +3,7 @@
 use ebpf_base::{Items, Text};
 use ebpf_check::CheckWords;
 use ebpf_list::ListWords;
+use ebpf_prepared::PrepareWords;
 use std::alloc::{AllocError, AllocFailed, Global};
 use thiserror::Error;
 
@@ -15,12 +16,16 @@ pub enum Command {
     CheckHelp,
     /// What `ebpf list` does.
     ListHelp,
+    /// What `ebpf inspect` does.
+    InspectHelp,
     /// The program's version.
     Version,
     /// An object's programs over kernels.
     Check(CheckWords),
     /// What an object has.
     List(ListWords),
+    /// What an object's linked programs are made of.
+    Inspect(PrepareWords),
 }
 
 /// Why words can't be read.
@@ -41,6 +46,12 @@ pub enum WordsError<'a> {
     /// An option has a value that it doesn't take.
     #[error("{0} takes no value")]
     NeedlessValue(&'a str),
+    /// An option that is given once has a second value.
+    #[error("{0} is given twice")]
+    SecondValue(&'a str),
+    /// An option has a value that is no number.
+    #[error("{name} takes a number, and not {value}")]
+    NoNumber { name: &'a str, value: &'a str },
     /// No file is named.
     #[error("no FILE")]
     NoFile,
@@ -69,12 +80,16 @@ impl<T: Drop> From<AllocFailed<T>> for WordsError<'_> {
 enum Verb {
     Check,
     List,
+    Inspect,
 }
 
 /// An option of a command.
 #[derive(Clone, Copy)]
 enum Choice {
     Program,
+    Object,
+    Btf,
+    Kallsyms,
     All,
     Json,
     Help,
@@ -84,7 +99,10 @@ enum Choice {
 /// The option of a name that a command has.
 fn choice_of(verb: Verb, name: &str) -> Option<Choice> {
     match name {
-        "--program" if verb == Verb::Check => Some(Choice::Program),
+        "--program" if verb != Verb::List => Some(Choice::Program),
+        "--object" => Some(Choice::Object),
+        "--btf" if verb == Verb::Inspect => Some(Choice::Btf),
+        "--kallsyms" if verb == Verb::Inspect => Some(Choice::Kallsyms),
         "--all" if verb == Verb::Check => Some(Choice::All),
         "-j" | "--json" => Some(Choice::Json),
         "-h" | "--help" => Some(Choice::Help),
@@ -114,6 +132,9 @@ fn parted(word: &str) -> (&str, Option<&str>) {
 struct Options<'a> {
     files: Vec<&'a str>,
     programs: Vec<&'a str>,
+    object: Option<usize>,
+    btf: Option<&'a str>,
+    kallsyms: Option<&'a str>,
     all: bool,
     json: bool,
     help: bool,
@@ -129,11 +150,38 @@ fn copies(alloc: Global, words: &[&str]) -> Result<Items<Text>, AllocError> {
     Ok(texts)
 }
 
+/// A copy of a word that may be absent.
+fn copy(alloc: Global, word: Option<&str>) -> Result<Option<Text>, AllocError> {
+    match word {
+        Some(word) => Ok(Some(Text::from_str(alloc, word)?)),
+        None => Ok(None),
+    }
+}
+
+/// The number that is an option's value.
+fn number_of<'a>(name: &'a str, value: &'a str) -> Result<usize, WordsError<'a>> {
+    match value.parse() {
+        Ok(number) => Ok(number),
+        Err(_) => Err(WordsError::NoNumber { name, value }),
+    }
+}
+
+/// Whether an option has a value.
+fn has_value(choice: Choice) -> bool {
+    matches!(
+        choice,
+        Choice::Program | Choice::Object | Choice::Btf | Choice::Kallsyms
+    )
+}
+
 impl<'a> Options<'a> {
     fn new(alloc: Global) -> Options<'a> {
         Options {
             files: Vec::new(alloc),
             programs: Vec::new(alloc),
+            object: None,
+            btf: None,
+            kallsyms: None,
             all: false,
             json: false,
             help: false,
@@ -148,7 +196,35 @@ impl<'a> Options<'a> {
             Choice::Json => self.json = true,
             Choice::Help => self.help = true,
             Choice::Version => self.version = true,
-            Choice::Program => {}
+            Choice::Program | Choice::Object | Choice::Btf | Choice::Kallsyms => {}
+        }
+    }
+
+    /// Notes the value of an option of a name.
+    fn take(
+        &mut self,
+        choice: Choice,
+        name: &'a str,
+        value: &'a str,
+    ) -> Result<(), WordsError<'a>> {
+        match choice {
+            Choice::Program => self.programs.push(value)?,
+            Choice::Object if self.object.is_none() => self.object = Some(number_of(name, value)?),
+            Choice::Btf if self.btf.is_none() => self.btf = Some(value),
+            Choice::Kallsyms if self.kallsyms.is_none() => self.kallsyms = Some(value),
+            _ => return Err(WordsError::SecondValue(name)),
+        }
+        Ok(())
+    }
+
+    /// The one file that is named.
+    fn one_file(&self) -> Result<&'a str, WordsError<'a>> {
+        let Some((file, others)) = self.files.split_first() else {
+            return Err(WordsError::NoFile);
+        };
+        match others.first() {
+            Some(other) => Err(WordsError::SecondFile(other)),
+            None => Ok(file),
         }
     }
 
@@ -159,7 +235,7 @@ impl<'a> Options<'a> {
         };
         Ok(Command::Check(CheckWords {
             file: Text::from_str(alloc, file)?,
-            object: None,
+            object: self.object,
             kernels: copies(alloc, kernels)?,
             programs: copies(alloc, &self.programs)?,
             all: self.all,
@@ -169,17 +245,25 @@ impl<'a> Options<'a> {
 
     /// What `ebpf list` is asked for.
     fn list(&self, alloc: Global) -> Result<Command, WordsError<'a>> {
-        let Some((file, others)) = self.files.split_first() else {
-            return Err(WordsError::NoFile);
-        };
-        match others.first() {
-            Some(other) => Err(WordsError::SecondFile(other)),
-            None => Ok(Command::List(ListWords {
-                file: Text::from_str(alloc, file)?,
-                object: None,
-                json: self.json,
-            })),
-        }
+        let file = self.one_file()?;
+        Ok(Command::List(ListWords {
+            file: Text::from_str(alloc, file)?,
+            object: self.object,
+            json: self.json,
+        }))
+    }
+
+    /// What `ebpf inspect` is asked for.
+    fn inspect(&self, alloc: Global) -> Result<Command, WordsError<'a>> {
+        let file = self.one_file()?;
+        Ok(Command::Inspect(PrepareWords {
+            file: Text::from_str(alloc, file)?,
+            object: self.object,
+            btf: copy(alloc, self.btf)?,
+            kallsyms: copy(alloc, self.kallsyms)?,
+            programs: copies(alloc, &self.programs)?,
+            json: self.json,
+        }))
     }
 
     /// What a command is asked for.
@@ -190,30 +274,32 @@ impl<'a> Options<'a> {
         match verb {
             Verb::Check if self.help => Ok(Command::CheckHelp),
             Verb::List if self.help => Ok(Command::ListHelp),
+            Verb::Inspect if self.help => Ok(Command::InspectHelp),
             Verb::Check => self.check(alloc),
             Verb::List => self.list(alloc),
+            Verb::Inspect => self.inspect(alloc),
         }
     }
 }
 
-/// Reads an option; its name, where the next word is its value.
+/// Reads an option; itself with its name, where the next word is its value.
 fn read_option<'a>(
     verb: Verb,
     options: &mut Options<'a>,
     word: &'a str,
-) -> Result<Option<&'a str>, WordsError<'a>> {
+) -> Result<Option<(Choice, &'a str)>, WordsError<'a>> {
     let (name, value) = parted(word);
     let Some(choice) = choice_of(verb, name) else {
         return Err(WordsError::UnknownOption(word));
     };
-    match (choice, value) {
-        (Choice::Program, Some(value)) => {
-            options.programs.push(value)?;
+    match value {
+        Some(value) if has_value(choice) => {
+            options.take(choice, name, value)?;
             Ok(None)
         }
-        (Choice::Program, None) => Ok(Some(name)),
-        (_, Some(_)) => Err(WordsError::NeedlessValue(name)),
-        (choice, None) => {
+        Some(_) => Err(WordsError::NeedlessValue(name)),
+        None if has_value(choice) => Ok(Some((choice, name))),
+        None => {
             options.choose(choice);
             Ok(None)
         }
@@ -231,8 +317,8 @@ fn read_options<'a>(
     let mut only_files = false;
     for word in words {
         let word = word.as_str();
-        if waits.is_some() {
-            options.programs.push(word)?;
+        if let Some((choice, name)) = waits {
+            options.take(choice, name, word)?;
             waits = None;
         } else if only_files || !is_option(word) {
             options.files.push(word)?;
@@ -243,7 +329,7 @@ fn read_options<'a>(
         }
     }
     match waits {
-        Some(name) => Err(WordsError::NoValue(name)),
+        Some((_, name)) => Err(WordsError::NoValue(name)),
         None => options.command(alloc, verb),
     }
 }
@@ -253,8 +339,8 @@ fn read_options<'a>(
 ///
 /// # Errors
 ///
-/// `NoCommand`, `UnknownCommand`, and of a command the first word that can't be read, in their order; `NoValue` where the
-/// last option lacks its value; `NoFile`, `SecondFile`. `OutOfMemory` where memory is refused.
+/// `NoCommand`, `UnknownCommand`, and of a command the first word that can't be read, in their order, also a second value; `NoValue`
+/// where the last option lacks its value; `NoFile`, `SecondFile`. `OutOfMemory` where memory is refused.
 pub fn read_words<'a>(alloc: Global, words: &'a [String]) -> Result<Command, WordsError<'a>> {
     let Some((first, rest)) = words.split_first() else {
         return Err(WordsError::NoCommand);
@@ -262,6 +348,7 @@ pub fn read_words<'a>(alloc: Global, words: &'a [String]) -> Result<Command, Wor
     match first.as_str() {
         "check" => read_options(alloc, Verb::Check, rest),
         "list" => read_options(alloc, Verb::List, rest),
+        "inspect" => read_options(alloc, Verb::Inspect, rest),
         "-h" | "--help" | "help" => Ok(Command::Help),
         "-V" | "--version" => Ok(Command::Version),
         word if is_option(word) => Err(WordsError::UnknownOption(word)),
