@@ -1,7 +1,8 @@
 //! What `ebpf` says of itself.
 
 /// The usage line of `ebpf`.
-pub const USAGE: &str = "usage: ebpf check | inspect | list FILE ..   (ebpf --help says more)";
+pub const USAGE: &str =
+    "usage: ebpf check | inspect | link | list FILE ..   (ebpf --help says more)";
 
 /// The usage line of `ebpf check`.
 pub const CHECK_USAGE: &str =
@@ -13,6 +14,7 @@ pub const HELP: &str = "usage: ebpf COMMAND ..
 
   check    whether an object's programs run on kernels
   inspect  what an object's linked programs are made of
+  link     an object's finished programs, as instructions or bytes
   list     what an object has: programs, maps, helpers, externs, CO-RE records
 
 ebpf COMMAND --help says more of a command.";
@@ -67,6 +69,28 @@ from the kernel's limits.
   --kallsyms FILE  the kernel's symbols, as /proc/kallsyms
   --program NAME   tells of this program; may be repeated
   -j, --json       prints JSON
+  -h, --help       prints this
+  -V, --version    prints the version
+
+Status: 0; 1 where FILE is refused; 2 for other words, for a program that FILE lacks,
+and where a file can't be read.";
+
+/// The usage line of `ebpf link`.
+pub const LINK_USAGE: &str =
+    "usage: ebpf link FILE [--btf FILE] [--kallsyms FILE] [--program NAME ..] [--bytes] [--lines]";
+
+/// What `ebpf link --help` prints behind the usage line.
+pub const LINK_HELP: &str = "
+Prints the finished programs of an eBPF object file as instructions: each linked with
+the functions that it reaches, with the types, maps and externs of a kernel written,
+calls and loads by name, and what CO-RE records wrote.
+
+  FILE             an object file, as clang makes it
+  --btf FILE       the kernel's types: raw BTF, or an ELF file with a section .BTF
+  --kallsyms FILE  the kernel's symbols, as /proc/kallsyms
+  --program NAME   prints this program; may be repeated
+  --bytes          prints each slot as its bytes
+  --lines          prints source lines above the instructions
   -h, --help       prints this
   -V, --version    prints the version
 
