@@ -2,6 +2,7 @@
 
 use ebpf_base::{Items, Text};
 use ebpf_check::CheckWords;
+use ebpf_link_command::LinkWords;
 use ebpf_list::ListWords;
 use ebpf_prepared::PrepareWords;
 use std::alloc::{AllocError, AllocFailed, Global};
@@ -18,6 +19,8 @@ pub enum Command {
     ListHelp,
     /// What `ebpf inspect` does.
     InspectHelp,
+    /// What `ebpf link` does.
+    LinkHelp,
     /// The program's version.
     Version,
     /// An object's programs over kernels.
@@ -26,6 +29,8 @@ pub enum Command {
     List(ListWords),
     /// What an object's linked programs are made of.
     Inspect(PrepareWords),
+    /// An object's linked programs.
+    Link(LinkWords),
 }
 
 /// Why words can't be read.
@@ -81,6 +86,14 @@ enum Verb {
     Check,
     List,
     Inspect,
+    Link,
+}
+
+impl Verb {
+    /// Whether it links programs, for a kernel that options may name.
+    fn links(self) -> bool {
+        matches!(self, Verb::Inspect | Verb::Link)
+    }
 }
 
 /// An option of a command.
@@ -91,6 +104,8 @@ enum Choice {
     Btf,
     Kallsyms,
     All,
+    Bytes,
+    Lines,
     Json,
     Help,
     Version,
@@ -101,10 +116,12 @@ fn choice_of(verb: Verb, name: &str) -> Option<Choice> {
     match name {
         "--program" if verb != Verb::List => Some(Choice::Program),
         "--object" => Some(Choice::Object),
-        "--btf" if verb == Verb::Inspect => Some(Choice::Btf),
-        "--kallsyms" if verb == Verb::Inspect => Some(Choice::Kallsyms),
+        "--btf" if verb.links() => Some(Choice::Btf),
+        "--kallsyms" if verb.links() => Some(Choice::Kallsyms),
         "--all" if verb == Verb::Check => Some(Choice::All),
-        "-j" | "--json" => Some(Choice::Json),
+        "--bytes" if verb == Verb::Link => Some(Choice::Bytes),
+        "--lines" if verb == Verb::Link => Some(Choice::Lines),
+        "-j" | "--json" if verb != Verb::Link => Some(Choice::Json),
         "-h" | "--help" => Some(Choice::Help),
         "-V" | "--version" => Some(Choice::Version),
         _ => None,
@@ -136,6 +153,8 @@ struct Options<'a> {
     btf: Option<&'a str>,
     kallsyms: Option<&'a str>,
     all: bool,
+    bytes: bool,
+    lines: bool,
     json: bool,
     help: bool,
     version: bool,
@@ -183,6 +202,8 @@ impl<'a> Options<'a> {
             btf: None,
             kallsyms: None,
             all: false,
+            bytes: false,
+            lines: false,
             json: false,
             help: false,
             version: false,
@@ -193,6 +214,8 @@ impl<'a> Options<'a> {
     fn choose(&mut self, choice: Choice) {
         match choice {
             Choice::All => self.all = true,
+            Choice::Bytes => self.bytes = true,
+            Choice::Lines => self.lines = true,
             Choice::Json => self.json = true,
             Choice::Help => self.help = true,
             Choice::Version => self.version = true,
@@ -253,16 +276,30 @@ impl<'a> Options<'a> {
         }))
     }
 
-    /// What `ebpf inspect` is asked for.
-    fn inspect(&self, alloc: Global) -> Result<Command, WordsError<'a>> {
+    /// What is to be prepared.
+    fn prepare(&self, alloc: Global) -> Result<PrepareWords, WordsError<'a>> {
         let file = self.one_file()?;
-        Ok(Command::Inspect(PrepareWords {
+        Ok(PrepareWords {
             file: Text::from_str(alloc, file)?,
             object: self.object,
             btf: copy(alloc, self.btf)?,
             kallsyms: copy(alloc, self.kallsyms)?,
             programs: copies(alloc, &self.programs)?,
             json: self.json,
+        })
+    }
+
+    /// What `ebpf inspect` is asked for.
+    fn inspect(&self, alloc: Global) -> Result<Command, WordsError<'a>> {
+        Ok(Command::Inspect(self.prepare(alloc)?))
+    }
+
+    /// What `ebpf link` is asked for.
+    fn link(&self, alloc: Global) -> Result<Command, WordsError<'a>> {
+        Ok(Command::Link(LinkWords {
+            prepare: self.prepare(alloc)?,
+            bytes: self.bytes,
+            lines: self.lines,
         }))
     }
 
@@ -275,9 +312,11 @@ impl<'a> Options<'a> {
             Verb::Check if self.help => Ok(Command::CheckHelp),
             Verb::List if self.help => Ok(Command::ListHelp),
             Verb::Inspect if self.help => Ok(Command::InspectHelp),
+            Verb::Link if self.help => Ok(Command::LinkHelp),
             Verb::Check => self.check(alloc),
             Verb::List => self.list(alloc),
             Verb::Inspect => self.inspect(alloc),
+            Verb::Link => self.link(alloc),
         }
     }
 }
@@ -349,6 +388,7 @@ pub fn read_words<'a>(alloc: Global, words: &'a [String]) -> Result<Command, Wor
         "check" => read_options(alloc, Verb::Check, rest),
         "list" => read_options(alloc, Verb::List, rest),
         "inspect" => read_options(alloc, Verb::Inspect, rest),
+        "link" => read_options(alloc, Verb::Link, rest),
         "-h" | "--help" | "help" => Ok(Command::Help),
         "-V" | "--version" => Ok(Command::Version),
         word if is_option(word) => Err(WordsError::UnknownOption(word)),
