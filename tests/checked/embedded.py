@@ -9,7 +9,7 @@ X86_64, AARCH64, BPF, NONE = 62, 183, 247, 0
 EXECUTABLE, RELOCATABLE = 2, 1
 
 # What is said of an object whose section headers end behind its file.
-CUT = "ebpf: file: the section headers end behind the file (parse: ElfError)"
+CUT = "ebpf: file: the table of section headers passes the end of the file, or its headers have not 64 bytes (parse: ElfError)"
 
 
 def header(machine, kind=EXECUTABLE, order="<", wide=True):
