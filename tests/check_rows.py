@@ -1,5 +1,5 @@
 #!/usr/bin/env python3
-"""Runs `ebpf check` and `ebpf list` over examples/check and over files made here, beside what each has to print and its status. Ends with
+"""Runs `ebpf check`, `ebpf list` and `ebpf link` over examples/check and over files made here, beside what each has to print and its status. Ends with
 'N passed, M failed', and with status 1 where one failed.
 usage: check_rows.py PROGRAM      PROGRAM: the built program `ebpf`
 """
@@ -13,7 +13,7 @@ import tempfile
 from dataclasses import dataclass
 from pathlib import Path
 
-from checked import absences, functions, grouping, lacking, listing, sizes, telling, walks
+from checked import absences, functions, grouping, lacking, linking, listing, sizes, telling, walks
 
 TOP = Path(__file__).parents[1]
 EXAMPLE = TOP / "examples" / "check"
@@ -408,7 +408,7 @@ def main():
         shutil.copy(EXAMPLE / "memdrop.o", folder)
         shutil.copytree(EXAMPLE / "btf", Path(folder) / "btf")
         own = [example, as_json, kernels, unread, unlisted, files, lacks, names, words, closed_output]
-        below = [absences, walks, functions, lacking, telling, grouping, sizes, listing]
+        below = [absences, walks, functions, lacking, telling, grouping, sizes, listing, linking]
         for run in [*own, *(run for module in below for run in module.ROWS)]:
             try:
                 run(rows)
