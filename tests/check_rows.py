@@ -1,7 +1,6 @@
 #!/usr/bin/env python3
-"""Runs `ebpf check`, `ebpf list` and `ebpf inspect` over examples/check and over files made here, beside what each has to
-print and its status, and `ebpf inspect` beside `ebpf-inspect`. Ends with 'N passed, M failed', and with status 1 where one
-failed.
+"""Runs the commands of `ebpf` over examples/check and over files made here, beside what each has to print and its status, and
+`ebpf inspect` beside `ebpf-inspect`. Ends with 'N passed, M failed', and with status 1 where one failed.
 usage: check_rows.py PROGRAM INSPECT      PROGRAM: the built program `ebpf`; INSPECT: the built program `ebpf-inspect`
 """
 import ctypes

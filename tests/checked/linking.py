@@ -321,7 +321,7 @@ def closed_output(rows):
 def documented(rows):
     """The example of docs/TOOL.md."""
     page = (TOP / "docs" / "TOOL.md").read_text().split("$ ebpf link memdrop.o --btf btf/6.18 --program on_tick --lines\n")[1]
-    out = "".join(line.removeprefix("    ") + "\n" for line in page.split("\n\nThe line ")[0].split("\n"))
+    out = "".join(line.removeprefix("    ") + "\n" for line in page.split("\n\nThe line `program")[0].split("\n"))
     rows.row("docs/TOOL.md: ebpf link", ["link", "memdrop.o", "--btf", "btf/6.18", "--program", "on_tick", "--lines"], 0, out)
 
 
