@@ -109,7 +109,7 @@ fn slots_help(error: &RelocationError) -> Option<&'static str> {
             Some("give the kernel's types: `--btf /sys/kernel/btf/vmlinux`; or declare it `__weak`")
         }
         RelocationError::MapAddressOverflow { .. } => {
-            Some("the variable lies 2 GiB or more into its section")
+            Some("what is referred to lies 2 GiB or more into its section")
         }
         RelocationError::UnknownFunction { .. } => Some(
             "the function isn't in this file: link the objects first, by `bpftool gen object`",
