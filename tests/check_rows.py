@@ -1,7 +1,9 @@
 #!/usr/bin/env python3
-"""Runs the commands of `ebpf` over examples/check and over files made here, beside what each has to print and its status, and
-`ebpf inspect` beside `ebpf-inspect`. Ends with 'N passed, M failed', and with status 1 where one failed.
-usage: check_rows.py PROGRAM INSPECT      PROGRAM: the built program `ebpf`; INSPECT: the built program `ebpf-inspect`
+"""Runs `ebpf check`, `ebpf list`, `ebpf inspect` and `ebpf link` over examples/check and over files made here, beside what
+each has to print and its status, and the last two beside `ebpf-inspect` and `ebpf-link`. Ends with 'N passed, M failed', and
+with status 1 where one failed.
+usage: check_rows.py PROGRAM INSPECT LINK      PROGRAM: the built program `ebpf`; INSPECT: the built program `ebpf-inspect`;
+                                               LINK: the built program `ebpf-link`
 """
 import ctypes
 import json
@@ -100,9 +102,10 @@ def small_kernel(helpers=(1, 35, 113), map_types=(1, 2), hook="shrink_node"):
 class Rows:
     """What was run, and what failed."""
 
-    def __init__(self, program, inspect, folder):
+    def __init__(self, program, inspect, link, folder):
         self.program = program
         self.inspect = inspect
+        self.link = link
         self.folder = folder
         self.passed = 0
         self.failures = []
@@ -405,13 +408,13 @@ def closed_output(rows):
 
 
 def main():
-    program, inspect = (str(Path(word).resolve()) for word in sys.argv[1:3])
+    program, inspect, link = (str(Path(word).resolve()) for word in sys.argv[1:4])
     with tempfile.TemporaryDirectory() as folder:
-        rows = Rows(program, inspect, Path(folder))
+        rows = Rows(program, inspect, link, Path(folder))
         shutil.copy(EXAMPLE / "memdrop.o", folder)
         shutil.copytree(EXAMPLE / "btf", Path(folder) / "btf")
         own = [example, as_json, kernels, unread, unlisted, files, lacks, names, words, closed_output]
-        below = [absences, walks, functions, lacking, telling, grouping, sizes, listing, inspecting, refusing, linking, embedded]
+        below = [absences, walks, functions, lacking, telling, grouping, sizes, listing, inspecting, linking, refusing, embedded]
         for run in [*own, *(run for module in below for run in module.ROWS)]:
             try:
                 run(rows)

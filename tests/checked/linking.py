@@ -240,17 +240,14 @@ def as_bytes(rows):
     """`--bytes`: what `ebpf-link` prints."""
     data = objdump.OBJECTS["call"].read_bytes()
     linked(rows, "bytes", data, (CRATES / "ebpf_link" / "stdout").read_text(), words=["--bytes"])
-    linker = CRATES / "ebpf_link" / "out" / "ebpf_link"
     for name, path in objdump.OBJECTS.items():
         given = dict(WORDS.get(name, {}), **({"btf": TASKS} if name == "counter" else {}))
         ran = linked(rows, f"bytes of {name}", path.read_bytes(), None, given.get("btf"), given.get("kallsyms"), ["--bytes", "--lines"])
         counts = [int(count) for count in re.findall(r"^program .* slots (\d+)$", ran.stdout, re.MULTILINE)]
         slots = len(re.findall(r"^[0-9a-f]{2}( [0-9a-f]{2}){7}$", ran.stdout, re.MULTILINE))
         rows.expect(f"bytes of {name}: each slot a line", (slots, ran.stdout.count("\n")), (sum(counts), sum(counts) + len(counts)))
-        if not linker.exists():
-            continue
         options = [word for option in given for word in [f"--{option}", f"given.{option}"]]
-        other = subprocess.run([linker, "object", *options], cwd=rows.folder, capture_output=True, encoding="utf-8", timeout=120)
+        other = subprocess.run([rows.link, "object", *options], cwd=rows.folder, capture_output=True, encoding="utf-8", timeout=120)
         rows.expect(f"bytes of {name}: as ebpf-link has them", ran.stdout, other.stdout)
 
 

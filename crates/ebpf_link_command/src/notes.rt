@@ -87,6 +87,19 @@ fn records_of(alloc: Global, object: &Object) -> Result<Vec<Relocation>, AllocEr
     Ok(records)
 }
 
+/// Words on the slots of an object's records, which came to this.
+fn notes_of(
+    alloc: Global,
+    parsed: &Object,
+    local: &Btf,
+    outcomes: &Items<RecordOutcome>,
+) -> Result<RecordNotes, AllocError> {
+    let records = records_of(alloc, parsed)?;
+    let mut notes = RecordNotes::new(alloc);
+    notes.add_all(alloc, local, &records, outcomes)?;
+    Ok(notes)
+}
+
 impl RecordNotes {
     /// No words.
     fn new(alloc: Global) -> RecordNotes {
@@ -130,14 +143,11 @@ impl RecordNotes {
         parsed: &Object,
         types: Option<&Btf>,
     ) -> Result<RecordNotes, AllocError> {
-        let mut notes = RecordNotes::new(alloc);
         let (Some(local), Some(types)) = (&parsed.btf, types) else {
-            return Ok(notes);
+            return Ok(RecordNotes::new(alloc));
         };
         let outcomes = parsed.record_outcomes(types)?;
-        let records = records_of(alloc, parsed)?;
-        notes.add_all(alloc, local, &records, &outcomes.records)?;
-        Ok(notes)
+        notes_of(alloc, parsed, local, &outcomes.records)
     }
 
     /// Words on the slot of a number in the function of a key.

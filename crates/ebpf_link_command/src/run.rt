@@ -83,15 +83,35 @@ fn write_programs<W: Write>(
     Ok(())
 }
 
-/// Writes the programs of an object, prepared.
-fn tell(rt: &HostRuntime, prepared: &Prepared, manner: Manner) -> Result<(), Stop> {
+/// Writes the programs of an object, of whose slots is known where they come from.
+fn write_all(
+    rt: &HostRuntime,
+    prepared: &Prepared,
+    origins: &Origins<'_>,
+    manner: Manner,
+) -> Result<(), Stop> {
     let alloc = rt.alloc();
-    let notes = RecordNotes::of(alloc, &prepared.parsed, prepared.types.as_ref())?;
-    let origins = Origins::new(alloc, &prepared.object, &prepared.parsed, &notes)?;
     let mut out = BufWriter::new(alloc, rt.stdout())?;
-    write_programs(alloc, &mut out, prepared, &origins, manner)?;
+    write_programs(alloc, &mut out, prepared, origins, manner)?;
     out.flush()?;
     Ok(())
+}
+
+/// Writes the programs of an object; `notes` has words on the slots that records wrote.
+fn write_noted(
+    rt: &HostRuntime,
+    prepared: &Prepared,
+    notes: &RecordNotes,
+    manner: Manner,
+) -> Result<(), Stop> {
+    let origins = Origins::new(rt.alloc(), &prepared.object, &prepared.parsed, notes)?;
+    write_all(rt, prepared, &origins, manner)
+}
+
+/// Writes the programs of an object.
+fn write_prepared(rt: &HostRuntime, prepared: &Prepared, manner: Manner) -> Result<(), Stop> {
+    let notes = RecordNotes::of(rt.alloc(), &prepared.parsed, prepared.types.as_ref())?;
+    write_noted(rt, prepared, &notes, manner)
 }
 
 /// Does what `ebpf link` is asked, and gives the status.
@@ -101,6 +121,8 @@ pub fn link(rt: &HostRuntime, words: &LinkWords) -> Result<u8, Stop> {
         lines: words.lines,
     };
     let prepared = prepare_file(rt, &words.prepare, MapSlots::Numbered)?;
-    tell(rt, &prepared, manner)?;
+    let written = write_prepared(rt, &prepared, manner);
+    drop(prepared);
+    written?;
     Ok(0)
 }
