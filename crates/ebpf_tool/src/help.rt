@@ -57,8 +57,7 @@ Status: 0; 1 where FILE is refused; 2 for other words, and where it can't be rea
 
 /// The usage line of `ebpf inspect`.
 pub const INSPECT_USAGE: &str =
-    "usage: ebpf inspect FILE [--object N] [--btf FILE] [--kallsyms FILE] [--program NAME ..]
-                    [--json]";
+    "usage: ebpf inspect FILE [--object N] [--btf FILE] [--kallsyms FILE] [--program NAME ..] [--json]";
 
 /// What `ebpf inspect --help` prints behind the usage line.
 pub const INSPECT_HELP: &str = "
@@ -81,8 +80,7 @@ and where a file can't be read.";
 
 /// The usage line of `ebpf link`.
 pub const LINK_USAGE: &str =
-    "usage: ebpf link FILE [--object N] [--btf FILE] [--kallsyms FILE] [--program NAME ..]
-                 [--bytes] [--lines]";
+    "usage: ebpf link FILE [--object N] [--btf FILE] [--kallsyms FILE] [--program NAME ..] [--bytes] [--lines]";
 
 /// What `ebpf link --help` prints behind the usage line.
 pub const LINK_HELP: &str = "
