@@ -178,8 +178,8 @@ def unread(rows):
         told = json.loads(rows.run(*words, "--json").stdout)["error"]
         wanted = {"file": "object", "stage": "file", "variant": "NoProgram", "text": "no program r", "help": "its programs: p, q\n"}
         rows.expect(f"{verb}: no such program, JSON", told, wanted)
-    rows.write("hollow", object_of([function("f", EXIT)]))
-    refused(rows, "an object without programs", ["inspect", "hollow", "--program=p"], 2, "hollow", "no program p", "file", "NoProgram", "it has no program")
+    rows.write("bare", object_of([function("f", EXIT)]))
+    refused(rows, "an object without programs", ["inspect", "bare", "--program=p"], 2, "bare", "no program p", "file", "NoProgram", "it has no program")
     kernels = {
         "none": (b"none", "neither BTF nor an ELF file", "NoTypes", "give /sys/kernel/btf/vmlinux, or a copy of another kernel's"),
         "code": (tiny().bytes(), "no section .BTF", "NoSection", "`pahole -J FILE` adds a section .BTF to a kernel that has debug information"),
