@@ -139,7 +139,7 @@ def instructions(rows):
 
 
 def jumps(rows):
-    """Where jumps lead: to a slot of the function, to its first one, and nowhere out of it."""
+    """Where jumps lead: to a slot of the function, to its first one, and nowhere out of it; half a load at a function's end."""
     code = [
         program(go(1), go(-2), jump(1, 1, 7, 0, 32), slot(0x06, imm=-2), slot(0xE5, 0, 1), call("f"), EXIT, slot(0x05, 0, -9)),
         function("f", go(-1), go(1), EXIT),
@@ -149,6 +149,9 @@ def jumps(rows):
         ["f", "goto -0x1 <f>", "goto +0x1", "exit"],
     )
     linked(rows, "jumps", object_of(code), out)
+    # A load of 64 bits whose second slot would be that of the next copy.
+    halves = [program(call("f"), EXIT), function("f", go(0), slot(objdump.WIDE, 1)), function("g", EXIT)]
+    linked(rows, "half a wide load", object_of(halves), told(["p", "call f", "exit"], ["f", "goto +0x0 <f+1>", "<unknown>"]))
 
 
 def named(rows):
@@ -217,6 +220,10 @@ def records(rows):
         ["f", "r1 = 0x0  ; CO-RE <byte_off> struct s.a: 0 -> 0", "exit"],
     )
     linked(rows, "records of what is absent", object_of(code), out, LACKS_B)
+    # Two records about one slot: the second one's value stands.
+    twice = [program(Asks(b"", OFFSET, 2, "0:0"), Asks(MOVE, OFFSET, 2, "0:1"), EXIT)]
+    both = "CO-RE <byte_off> struct s.a: 0 -> 4; CO-RE <byte_off> struct s.b: 4 -> 8"
+    linked(rows, "two records about a slot", object_of(twice), told(["p", f"r1 = 0x8  ; {both}", "exit"]), moved)
     types = [integer("int", 4), enum_of("e", ("A", 5), ("B", 2**32 - 3), signed=1)]
     kernel = btf(integer("int", 4), enum_of("e", ("A", 2**32 - 1), ("B", 7), signed=1))
     code = [program(Asks(MOVE, VARIANT_VALUE, 2, "0"), Asks(MOVE, VARIANT_VALUE, 2, "1"), EXIT)]
