@@ -19,7 +19,7 @@ Each public error, variant by variant, with the sentence that it prints for one 
 
 - Numbers of sections and symbols are those of `readelf -S` and `readelf -s`, type ids those of `bpftool btf dump`, and relocations, instructions and members count from 0. Offsets and addresses are hexadecimal. Names stand in quotes, with escapes for what can't be printed.
 - An error has numbers where the object has names. `object.explain(&error)` prints a `PrepareError` with these names: the map that has no descriptor, the section, the symbol, the extern whose type needs the kernel's. An error of one pass is put in its stage's variant first, as `PrepareError::Maps(error)`, one of `patch_map_data` in `Parse`. Where a file can't be parsed, `ExplainedParse` has the sections' names from its bytes, and the place where the error tells none. Both take no memory.
-- `ebpf-link` and `ebpf-inspect` print the stage and the variant (`ebpf-link: maps: SectionNotFound`), C gets the variant's name (docs/C.md): look it up here, under the stage's error.
+- `ebpf-link` and `ebpf-inspect` print the stage and the variant (`ebpf-link: maps: SectionNotFound`), `ebpf` the sentence with both and what one can do (docs/TOOL.md, "Refusals"), C gets the variant's name (docs/C.md): look it up here, under the stage's error.
 - Want of memory is `OutOfMemory` of each type, in no place and of no function; more memory is what helps.
 - `maps::InvalidTypeBinding` and `programs::InvalidTypeBinding` (`try_from` of `bpf_map_type`, `bpf_prog_type`) hold the number that is no type, and have no sentence.
 """

@@ -47,8 +47,8 @@ fn write_kernel<W: Write>(out: &mut W, session: &Session, kernel: &KernelAnswer)
     write!(out, "{{\"name\":{name},")?;
     match &kernel.answer {
         Judgement::Judged(_) => write_breaking(out, session, kernel)?,
-        Judgement::Unread(sentence) => {
-            let sentence = Quoted(sentence.as_str());
+        Judgement::Unread(refusal) => {
+            let sentence = Quoted(refusal.text.as_str());
             write!(out, "\"error\":{sentence}")?;
         }
     }

@@ -1,8 +1,9 @@
 //! What records ask, answered by the object's own types.
 
 use ebpf_btf::{Btf, BtfKind};
-use ebpf_core::{NamedPath, local_path, outcome_among};
+use ebpf_core::{NamedPath, local_path};
 use ebpf_ext::{Relocation, RelocationKind};
+use ebpf_origins::answers::own_value_of;
 use ebpf_places::{Place, PlaceEnd};
 use std::alloc::Global;
 
@@ -66,7 +67,5 @@ pub fn own_value(alloc: Global, local: &Btf, relocation: &Relocation, all: bool)
     if !is_told(local, relocation, &path.path, all) {
         return None;
     }
-    let itself = [relocation.type_id];
-    let outcome = outcome_among(alloc, local, local, relocation, &path, &itself).ok()?;
-    outcome.value
+    own_value_of(alloc, local, relocation, &path)
 }

@@ -9,21 +9,6 @@ fn is_among(texts: &[Text], wanted: &str) -> bool {
     texts.iter().any(|text| text.is(wanted))
 }
 
-/// The first name that no program has.
-pub fn unknown_name<'a>(programs: &[ObjectProgram], names: &'a [Text]) -> Option<&'a str> {
-    for name in names {
-        if !has_name(programs, name.as_str()) {
-            return Some(name.as_str());
-        }
-    }
-    None
-}
-
-/// Whether a program has a name.
-fn has_name(programs: &[ObjectProgram], name: &str) -> bool {
-    programs.iter().any(|program| program.name.is(name))
-}
-
 /// The programs that count: those of the names or, without a name, those that are loaded unasked.
 pub fn counting(
     alloc: Global,

@@ -2,30 +2,29 @@
 
 use crate::json::write_json;
 use crate::kernel_files::{KernelFile, kernel_files};
-use crate::kernels::kernel_types;
 use crate::loaded::{Loaded, load};
 use crate::printing::{Manner, write_findings, write_kernel};
-use crate::programs::{counting, unknown_name};
+use crate::programs::counting;
 use crate::session::{Judgement, Session};
 use crate::words::CheckWords;
 use ebpf_base::Text;
-use ebpf_report::files::read_file;
-use ebpf_report::names::Shown;
-use ebpf_report::stop::{Stop, complain, refuse};
-use std::io::{self, BufWriter, ErrorKind, Stdout, Write};
+use ebpf_report::kernel_types::read_kernel;
+use ebpf_report::object_file::read_object;
+use ebpf_report::refusal::{READING, Refusal};
+use ebpf_report::refuse::{check_names, refuse_parsing, tell};
+use ebpf_report::stop::Stop;
+use std::alloc::{AllocError, Global};
+use std::io::{self, BufWriter, Stdout, Write};
 
 /// Reads the object's file.
 fn load_file(rt: &HostRuntime, words: &CheckWords) -> Result<Loaded, Stop> {
     let alloc = rt.alloc();
     let path = words.file.as_str();
-    let file = match read_file(rt, path) {
-        Ok(file) => file,
-        Err(error) => return Err(complain(rt, path, &error)),
-    };
+    let file = read_object(rt, words.json, path, words.object)?;
     match load(alloc, &file, words.all) {
         Ok(loaded) => Ok(loaded),
         Err(error) => {
-            let stop = refuse(rt, path, &file, &error);
+            let stop = refuse_parsing(rt, words.json, path, &file, &error);
             drop(error);
             Err(stop)
         }
@@ -36,34 +35,29 @@ fn load_file(rt: &HostRuntime, words: &CheckWords) -> Result<Loaded, Stop> {
 fn load_chosen(rt: &HostRuntime, words: &CheckWords) -> Result<Loaded, Stop> {
     let loaded = load_file(rt, words)?;
     let names = words.programs.as_slice();
-    if let Some(name) = unknown_name(&loaded.programs, names) {
-        let path = Shown(words.file.as_str());
-        let name = Shown(name);
-        let _ = eprintln!(rt; "ebpf: {path}: no program {name}");
-        return Err(Stop::Told(2));
-    }
+    let path = words.file.as_str();
+    check_names(rt, words.json, path, &loaded.programs, names)?;
     let programs = counting(rt.alloc(), loaded.programs, names)?;
     Ok(Loaded { programs, ..loaded })
 }
 
 /// Judges the programs over the kernel of a file.
 fn judge_file(rt: &HostRuntime, session: &mut Session, name: Text) -> Result<(), Stop> {
-    let alloc = rt.alloc();
-    let bytes = match read_file(rt, name.as_str()) {
-        Ok(bytes) => bytes,
-        Err(error) if matches!(error.kind(), ErrorKind::OutOfMemory) => return Err(Stop::Memory),
-        Err(error) => {
-            let sentence = format!(in alloc; "{error}")?;
-            return Ok(session.note_unread(name, Text::from_string(sentence))?);
-        }
-    };
-    match kernel_types(alloc, bytes, session.loaded.object.endianness) {
-        Ok(kernel) => Ok(session.judge(alloc, name, &kernel)?),
-        Err(error) => {
-            let sentence = format!(in alloc; "{error}")?;
-            Ok(session.note_unread(name, Text::from_string(sentence))?)
-        }
+    let order = session.loaded.object.endianness;
+    match read_kernel(rt, name.as_str(), order)? {
+        Ok(kernel) => Ok(session.judge(rt.alloc(), name, &kernel)?),
+        Err(refusal) => Ok(session.note_unread(name, refusal)?),
     }
+}
+
+/// That a folder gives no file.
+fn folder_refusal(alloc: Global, fault: &Text) -> Result<Refusal, AllocError> {
+    Ok(Refusal {
+        stage: READING,
+        variant: "CannotRead",
+        text: String::from_str(alloc, fault.as_str())?,
+        help: None,
+    })
 }
 
 /// Judges the programs over a kernel; notes a folder that gives no file.
@@ -74,7 +68,7 @@ fn judge_kernel_file(
 ) -> Result<(), Stop> {
     let name = kernel.path.clone()?;
     match &kernel.fault {
-        Some(fault) => Ok(session.note_unread(name, fault.clone()?)?),
+        Some(fault) => Ok(session.note_unread(name, folder_refusal(rt.alloc(), fault)?)?),
         None => judge_file(rt, session, name),
     }
 }
@@ -84,10 +78,8 @@ fn tell_unread(rt: &HostRuntime, session: &Session) {
     let Some(kernel) = session.kernels.last() else {
         return;
     };
-    if let Judgement::Unread(sentence) = &kernel.answer {
-        let name = Shown(kernel.name.as_str());
-        let sentence = Shown(sentence.as_str());
-        let _ = eprintln!(rt; "ebpf: {name}: {sentence}");
+    if let Judgement::Unread(refusal) = &kernel.answer {
+        tell(rt, kernel.name.as_str(), refusal);
     }
 }
 

@@ -8,6 +8,7 @@ use crate::loaded::Loaded;
 use crate::verdict::judge_kernel;
 use ebpf_base::Text;
 use ebpf_btf::Btf;
+use ebpf_report::refusal::Refusal;
 use std::alloc::{AllocError, Global};
 
 /// The status by how many kernels' types can't be read, and on how many kernels some program breaks.
@@ -26,7 +27,7 @@ pub enum Judgement {
     /// Whether each program that counts breaks on it.
     Judged(Vec<bool>),
     /// Why its types can't be read.
-    Unread(Text),
+    Unread(Refusal),
 }
 
 /// A kernel with what is known of it.
@@ -97,10 +98,10 @@ impl Session {
     }
 
     /// Notes a kernel whose types can't be read.
-    pub fn note_unread(&mut self, name: Text, sentence: Text) -> Result<(), AllocError> {
+    pub fn note_unread(&mut self, name: Text, refusal: Refusal) -> Result<(), AllocError> {
         self.kernels.push(KernelAnswer {
             name,
-            answer: Judgement::Unread(sentence),
+            answer: Judgement::Unread(refusal),
         })?;
         Ok(())
     }

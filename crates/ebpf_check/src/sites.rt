@@ -2,15 +2,15 @@
 
 use crate::calls::judge_calls;
 use crate::findings::{At, Findings, Location, Rank, Topic};
-use crate::lines::{Lines, Span};
 use crate::linked::Linked;
 use crate::loaded::Record;
-use crate::record_names::record_name;
 use crate::verdict::{Answers, topic_of};
-use ebpf_btf::{Btf, BtfKind};
+use ebpf_btf::Btf;
 use ebpf_core::Outcome;
 use ebpf_core_relo::{Absence, RecordResult, RelocationError};
-use ebpf_ext::{Relocation, RelocationKind};
+use ebpf_origins::answers::{absence_words, has_sign};
+use ebpf_origins::lines::{Lines, Span};
+use ebpf_origins::record_names::record_name;
 use ebpf_parts::insn::bpf_insn;
 use ebpf_parts::insn::opcodes::{ALU, ALU64, LD};
 use ebpf_reloc::CodeCopy;
@@ -153,18 +153,6 @@ fn note_record(
     findings.add(topic, answers.kernel, Some((at, place)))
 }
 
-/// Why a record has no value, in words.
-fn absence_words(absence: Absence) -> &'static str {
-    match absence {
-        Absence::NoType => "no such type (a module's?)",
-        Absence::TypeOfAnotherKind => "a type of another kind",
-        Absence::NoMember => "no such member",
-        Absence::MemberOfAnotherKind => "a member of another kind",
-        Absence::NoEnumerator => "no such enumerator",
-        Absence::NoValue => "no value",
-    }
-}
-
 /// Notes a record whose value is absent; whether its program breaks.
 fn judge_absent(
     alloc: Global,
@@ -196,18 +184,6 @@ fn judge_refused(
     let rank = Rank::Breaks;
     note_record(alloc, findings, answers, site, spot, record, rank, reason)?;
     Ok(true)
-}
-
-/// Whether the values of a record are shown with a sign: those of enumerators, but for enumerations of 64 bits that the
-/// object states to have none.
-fn has_sign(local: &Btf, relocation: &Relocation) -> bool {
-    if relocation.kind != RelocationKind::EnumVariantValue {
-        return false;
-    }
-    let Ok(ty) = local.resolved_type(relocation.type_id) else {
-        return true;
-    };
-    ty.is_signed() || ty.kind() != BtfKind::Enum64
 }
 
 /// Notes a value of a kind where it is another one than the object's own.

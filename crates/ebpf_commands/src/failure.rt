@@ -2,12 +2,12 @@
 
 ghost use Rattle.std.specs.Prelude.{◌≡◌};
 
-use crate::variants::{
+use ebpf_btf::BtfError;
+use ebpf_object::prepare::PrepareError;
+use ebpf_variants::{
     variant_of_parsing, variant_of_relocation, variant_of_resolving, variant_of_type_relocation,
     variant_of_types,
 };
-use ebpf_btf::BtfError;
-use ebpf_object::prepare::PrepareError;
 use std::fmt;
 use std::io::Write;
 

@@ -9,7 +9,6 @@ mod opened;
 mod preparation;
 mod program_text;
 mod report_text;
-mod variants;
 
 pub use arguments::{Words, WordsError, read_words};
 pub use failure::{Failure, cannot_read, report};

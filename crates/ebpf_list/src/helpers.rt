@@ -2,44 +2,14 @@
 
 use crate::layout::Layout;
 use ebpf_base::{ByKey, Items};
-use ebpf_model::Function;
 use ebpf_object::Object;
-use ebpf_parts::insn::bpf_insn;
-use ebpf_parts::insn::opcodes::CALL;
+use ebpf_report::helper_calls::helpers_by_function;
 use ebpf_report::map_uses::MapUse;
 use std::alloc::{AllocError, Global};
 use std::collections::{BTreeMap, BTreeSet};
 
 /// The numbers of programs, by what they use.
 pub type Users<K> = BTreeMap<K, Vec<usize>>;
-
-/// The helper function that an instruction calls.
-fn helper_of(instruction: bpf_insn) -> Option<u32> {
-    if instruction.code != CALL || instruction.src_reg() != 0 {
-        return None;
-    }
-    Some(instruction.imm.cast_unsigned())
-}
-
-/// The helper functions that a function calls.
-fn helpers_of(alloc: Global, function: &Function) -> Result<BTreeSet<u32>, AllocError> {
-    let mut helpers = BTreeSet::new(alloc);
-    for instruction in function.instructions.iter() {
-        if let Some(helper) = helper_of(*instruction) {
-            helpers.insert(helper)?;
-        }
-    }
-    Ok(helpers)
-}
-
-/// The helper functions that each function calls, by the functions' keys.
-fn helpers_by_function(alloc: Global, object: &Object) -> Result<ByKey<BTreeSet<u32>>, AllocError> {
-    let mut all = ByKey::new(alloc);
-    for (key, function) in object.functions.iter() {
-        all.insert(*key, helpers_of(alloc, function)?)?;
-    }
-    Ok(all)
-}
 
 /// Notes that the program of a number uses something, once.
 fn add_user<K: Ord + Drop>(

@@ -1,16 +1,16 @@
 //! What `ebpf list --json` prints.
 
-use crate::helper_names::helper_name;
 use crate::layout::Layout;
 use crate::license::QuotedBytes;
 use crate::listing::{Extern, Listing};
 use crate::text::{extern_word, order_word, pinning_word};
-use crate::type_names::{map_type_name, program_type_name};
 use ebpf_parts::maps::{Map, PinningType};
+use ebpf_report::helper_names::helper_name;
 use ebpf_report::json::separate;
 use ebpf_report::names::Quoted;
 use ebpf_report::programs::ObjectProgram;
 use ebpf_report::stop::Stop;
+use ebpf_report::type_names::{map_type_name, program_type_name};
 use std::io::{self, Write};
 
 /// Writes a text, or `null`.

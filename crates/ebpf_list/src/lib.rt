@@ -1,7 +1,6 @@
 //! `ebpf list`: what an object has.
 #![tactic(auto)]
 
-mod helper_names;
 mod helpers;
 mod json;
 mod layout;
@@ -9,9 +8,7 @@ mod license;
 mod listing;
 mod records;
 mod run;
-mod table;
 mod text;
-mod type_names;
 mod words;
 
 pub use run::list;

@@ -8,8 +8,9 @@ use crate::words::ListWords;
 use ebpf_base::Items;
 use ebpf_object::Object;
 use ebpf_parts::Reading;
-use ebpf_report::files::read_file;
-use ebpf_report::stop::{Stop, complain, refuse};
+use ebpf_report::object_file::read_object;
+use ebpf_report::refuse::refuse_parsing;
+use ebpf_report::stop::Stop;
 use std::io::{BufWriter, Write};
 
 /// Tells what an object has, as text or as JSON.
@@ -54,7 +55,7 @@ fn list_bytes(rt: &HostRuntime, words: &ListWords, file: &[u8]) -> Result<(), St
             done
         }
         Err(error) => {
-            let stop = refuse(rt, words.file.as_str(), file, &error);
+            let stop = refuse_parsing(rt, words.json, words.file.as_str(), file, &error);
             drop(error);
             Err(stop)
         }
@@ -63,12 +64,7 @@ fn list_bytes(rt: &HostRuntime, words: &ListWords, file: &[u8]) -> Result<(), St
 
 /// Does what `ebpf list` is asked, and gives the status.
 pub fn list(rt: &HostRuntime, words: &ListWords) -> Result<u8, Stop> {
-    let path = words.file.as_str();
-    match read_file(rt, path) {
-        Ok(file) => {
-            list_bytes(rt, words, &file)?;
-            Ok(0)
-        }
-        Err(error) => Err(complain(rt, path, &error)),
-    }
+    let file = read_object(rt, words.json, words.file.as_str(), words.object)?;
+    list_bytes(rt, words, &file)?;
+    Ok(0)
 }

@@ -1,16 +1,16 @@
 //! What `ebpf list` prints for people.
 
-use crate::helper_names::helper_name;
 use crate::layout::Layout;
 use crate::license::ShownBytes;
 use crate::listing::{Extern, Listing};
-use crate::table::{Column, Table};
-use crate::type_names::{map_type_name, program_type_name};
 use ebpf_base::Endianness;
 use ebpf_parts::maps::{Map, PinningType};
+use ebpf_report::helper_names::helper_name;
 use ebpf_report::names::Shown;
 use ebpf_report::programs::ObjectProgram;
 use ebpf_report::stop::Stop;
+use ebpf_report::table::{Column, Table};
+use ebpf_report::type_names::{map_type_name, program_type_name};
 use std::alloc::{AllocError, Global};
 use std::io::{self, Write};
 

@@ -1,8 +1,5 @@
 //! Why a command ends before its end, and what it says then.
 
-use crate::names::Shown;
-use ebpf_object::obj::ExplainedParse;
-use ebpf_parts::ParseError;
 use std::alloc::AllocError;
 use std::io::{self, ErrorKind};
 
@@ -42,33 +39,5 @@ pub fn stopped(rt: &HostRuntime, stop: Stop) -> u8 {
             let _ = eprintln!(rt; "ebpf: out of memory");
             2
         }
-    }
-}
-
-/// Says what is wrong with a file, and gives the status.
-pub fn complain(rt: &HostRuntime, path: &str, error: &io::Error) -> Stop {
-    if matches!(error.kind(), ErrorKind::OutOfMemory) {
-        return Stop::Memory;
-    }
-    let path = Shown(path);
-    let _ = eprintln!(rt; "ebpf: {path}: {error}");
-    Stop::Told(2)
-}
-
-/// Says why an object is refused.
-pub fn refuse(rt: &HostRuntime, path: &str, file: &[u8], error: &ParseError) -> Stop {
-    if matches!(error, ParseError::OutOfMemory) {
-        return Stop::Memory;
-    }
-    let alloc = rt.alloc();
-    let explained = ExplainedParse::new(file, error);
-    match format!(in alloc; "{explained}") {
-        Ok(sentence) => {
-            let path = Shown(path);
-            let sentence = Shown(sentence.as_str());
-            let _ = eprintln!(rt; "ebpf: {path}: {sentence}");
-            Stop::Told(1)
-        }
-        Err(_) => Stop::Memory,
     }
 }

@@ -1,8 +1,13 @@
 //! From the words of a command line to a status.
 
-use crate::help::{CHECK_HELP, CHECK_USAGE, HELP, LIST_HELP, LIST_USAGE, USAGE, VERSION};
+use crate::help::{
+    CHECK_HELP, CHECK_USAGE, HELP, INSPECT_HELP, INSPECT_USAGE, LINK_HELP, LINK_USAGE, LIST_HELP,
+    LIST_USAGE, USAGE, VERSION,
+};
 use crate::words::{Command, WordsError, read_words};
 use ebpf_check::check;
+use ebpf_inspect_command::inspect;
+use ebpf_link_command::link;
 use ebpf_list::list;
 use ebpf_report::files::gather_words;
 use ebpf_report::names::Shown;
@@ -15,6 +20,8 @@ fn usage_of(words: &[String]) -> &'static str {
         Some(word) => match word.as_str() {
             "check" => CHECK_USAGE,
             "list" => LIST_USAGE,
+            "inspect" => INSPECT_USAGE,
+            "link" => LINK_USAGE,
             _ => USAGE,
         },
         None => USAGE,
@@ -50,9 +57,13 @@ fn obey(rt: &HostRuntime, command: &Command) -> Result<u8, Stop> {
         Command::Help => tell(rt, HELP),
         Command::CheckHelp => tell_both(rt, CHECK_USAGE, CHECK_HELP),
         Command::ListHelp => tell_both(rt, LIST_USAGE, LIST_HELP),
+        Command::InspectHelp => tell_both(rt, INSPECT_USAGE, INSPECT_HELP),
+        Command::LinkHelp => tell_both(rt, LINK_USAGE, LINK_HELP),
         Command::Version => tell(rt, VERSION),
         Command::Check(words) => check(rt, words),
         Command::List(words) => list(rt, words),
+        Command::Inspect(words) => inspect(rt, words),
+        Command::Link(words) => link(rt, words),
     }
 }
 

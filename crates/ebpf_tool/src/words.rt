@@ -2,7 +2,9 @@
 
 use ebpf_base::{Items, Text};
 use ebpf_check::CheckWords;
+use ebpf_link_command::LinkWords;
 use ebpf_list::ListWords;
+use ebpf_prepared::PrepareWords;
 use std::alloc::{AllocError, AllocFailed, Global};
 use thiserror::Error;
 
@@ -15,12 +17,20 @@ pub enum Command {
     CheckHelp,
     /// What `ebpf list` does.
     ListHelp,
+    /// What `ebpf inspect` does.
+    InspectHelp,
+    /// What `ebpf link` does.
+    LinkHelp,
     /// The program's version.
     Version,
     /// An object's programs over kernels.
     Check(CheckWords),
     /// What an object has.
     List(ListWords),
+    /// What an object's linked programs are made of.
+    Inspect(PrepareWords),
+    /// An object's linked programs.
+    Link(LinkWords),
 }
 
 /// Why words can't be read.
@@ -41,6 +51,12 @@ pub enum WordsError<'a> {
     /// An option has a value that it doesn't take.
     #[error("{0} takes no value")]
     NeedlessValue(&'a str),
+    /// An option that is given once has a second value.
+    #[error("{0} is given twice")]
+    SecondValue(&'a str),
+    /// An option has a value that is no number.
+    #[error("{name} takes a number, and not {value}")]
+    NoNumber { name: &'a str, value: &'a str },
     /// No file is named.
     #[error("no FILE")]
     NoFile,
@@ -69,13 +85,27 @@ impl<T: Drop> From<AllocFailed<T>> for WordsError<'_> {
 enum Verb {
     Check,
     List,
+    Inspect,
+    Link,
+}
+
+impl Verb {
+    /// Whether it links programs, for a kernel that options may name.
+    fn links(self) -> bool {
+        matches!(self, Verb::Inspect | Verb::Link)
+    }
 }
 
 /// An option of a command.
 #[derive(Clone, Copy)]
 enum Choice {
     Program,
+    Object,
+    Btf,
+    Kallsyms,
     All,
+    Bytes,
+    Lines,
     Json,
     Help,
     Version,
@@ -84,9 +114,14 @@ enum Choice {
 /// The option of a name that a command has.
 fn choice_of(verb: Verb, name: &str) -> Option<Choice> {
     match name {
-        "--program" if verb == Verb::Check => Some(Choice::Program),
+        "--program" if verb != Verb::List => Some(Choice::Program),
+        "--object" => Some(Choice::Object),
+        "--btf" if verb.links() => Some(Choice::Btf),
+        "--kallsyms" if verb.links() => Some(Choice::Kallsyms),
         "--all" if verb == Verb::Check => Some(Choice::All),
-        "-j" | "--json" => Some(Choice::Json),
+        "--bytes" if verb == Verb::Link => Some(Choice::Bytes),
+        "--lines" if verb == Verb::Link => Some(Choice::Lines),
+        "-j" | "--json" if verb != Verb::Link => Some(Choice::Json),
         "-h" | "--help" => Some(Choice::Help),
         "-V" | "--version" => Some(Choice::Version),
         _ => None,
@@ -114,7 +149,12 @@ fn parted(word: &str) -> (&str, Option<&str>) {
 struct Options<'a> {
     files: Vec<&'a str>,
     programs: Vec<&'a str>,
+    object: Option<usize>,
+    btf: Option<&'a str>,
+    kallsyms: Option<&'a str>,
     all: bool,
+    bytes: bool,
+    lines: bool,
     json: bool,
     help: bool,
     version: bool,
@@ -129,12 +169,41 @@ fn copies(alloc: Global, words: &[&str]) -> Result<Items<Text>, AllocError> {
     Ok(texts)
 }
 
+/// A copy of a word that may be absent.
+fn copy(alloc: Global, word: Option<&str>) -> Result<Option<Text>, AllocError> {
+    match word {
+        Some(word) => Ok(Some(Text::from_str(alloc, word)?)),
+        None => Ok(None),
+    }
+}
+
+/// The number that is an option's value.
+fn number_of<'a>(name: &'a str, value: &'a str) -> Result<usize, WordsError<'a>> {
+    match value.parse() {
+        Ok(number) => Ok(number),
+        Err(_) => Err(WordsError::NoNumber { name, value }),
+    }
+}
+
+/// Whether an option has a value.
+fn has_value(choice: Choice) -> bool {
+    matches!(
+        choice,
+        Choice::Program | Choice::Object | Choice::Btf | Choice::Kallsyms
+    )
+}
+
 impl<'a> Options<'a> {
     fn new(alloc: Global) -> Options<'a> {
         Options {
             files: Vec::new(alloc),
             programs: Vec::new(alloc),
+            object: None,
+            btf: None,
+            kallsyms: None,
             all: false,
+            bytes: false,
+            lines: false,
             json: false,
             help: false,
             version: false,
@@ -145,10 +214,40 @@ impl<'a> Options<'a> {
     fn choose(&mut self, choice: Choice) {
         match choice {
             Choice::All => self.all = true,
+            Choice::Bytes => self.bytes = true,
+            Choice::Lines => self.lines = true,
             Choice::Json => self.json = true,
             Choice::Help => self.help = true,
             Choice::Version => self.version = true,
-            Choice::Program => {}
+            Choice::Program | Choice::Object | Choice::Btf | Choice::Kallsyms => {}
+        }
+    }
+
+    /// Notes the value of an option of a name.
+    fn take(
+        &mut self,
+        choice: Choice,
+        name: &'a str,
+        value: &'a str,
+    ) -> Result<(), WordsError<'a>> {
+        match choice {
+            Choice::Program => self.programs.push(value)?,
+            Choice::Object if self.object.is_none() => self.object = Some(number_of(name, value)?),
+            Choice::Btf if self.btf.is_none() => self.btf = Some(value),
+            Choice::Kallsyms if self.kallsyms.is_none() => self.kallsyms = Some(value),
+            _ => return Err(WordsError::SecondValue(name)),
+        }
+        Ok(())
+    }
+
+    /// The one file that is named.
+    fn one_file(&self) -> Result<&'a str, WordsError<'a>> {
+        let Some((file, others)) = self.files.split_first() else {
+            return Err(WordsError::NoFile);
+        };
+        match others.first() {
+            Some(other) => Err(WordsError::SecondFile(other)),
+            None => Ok(file),
         }
     }
 
@@ -159,6 +258,7 @@ impl<'a> Options<'a> {
         };
         Ok(Command::Check(CheckWords {
             file: Text::from_str(alloc, file)?,
+            object: self.object,
             kernels: copies(alloc, kernels)?,
             programs: copies(alloc, &self.programs)?,
             all: self.all,
@@ -168,16 +268,39 @@ impl<'a> Options<'a> {
 
     /// What `ebpf list` is asked for.
     fn list(&self, alloc: Global) -> Result<Command, WordsError<'a>> {
-        let Some((file, others)) = self.files.split_first() else {
-            return Err(WordsError::NoFile);
-        };
-        match others.first() {
-            Some(other) => Err(WordsError::SecondFile(other)),
-            None => Ok(Command::List(ListWords {
-                file: Text::from_str(alloc, file)?,
-                json: self.json,
-            })),
-        }
+        let file = self.one_file()?;
+        Ok(Command::List(ListWords {
+            file: Text::from_str(alloc, file)?,
+            object: self.object,
+            json: self.json,
+        }))
+    }
+
+    /// What is to be prepared.
+    fn prepare(&self, alloc: Global) -> Result<PrepareWords, WordsError<'a>> {
+        let file = self.one_file()?;
+        Ok(PrepareWords {
+            file: Text::from_str(alloc, file)?,
+            object: self.object,
+            btf: copy(alloc, self.btf)?,
+            kallsyms: copy(alloc, self.kallsyms)?,
+            programs: copies(alloc, &self.programs)?,
+            json: self.json,
+        })
+    }
+
+    /// What `ebpf inspect` is asked for.
+    fn inspect(&self, alloc: Global) -> Result<Command, WordsError<'a>> {
+        Ok(Command::Inspect(self.prepare(alloc)?))
+    }
+
+    /// What `ebpf link` is asked for.
+    fn link(&self, alloc: Global) -> Result<Command, WordsError<'a>> {
+        Ok(Command::Link(LinkWords {
+            prepare: self.prepare(alloc)?,
+            bytes: self.bytes,
+            lines: self.lines,
+        }))
     }
 
     /// What a command is asked for.
@@ -188,30 +311,34 @@ impl<'a> Options<'a> {
         match verb {
             Verb::Check if self.help => Ok(Command::CheckHelp),
             Verb::List if self.help => Ok(Command::ListHelp),
+            Verb::Inspect if self.help => Ok(Command::InspectHelp),
+            Verb::Link if self.help => Ok(Command::LinkHelp),
             Verb::Check => self.check(alloc),
             Verb::List => self.list(alloc),
+            Verb::Inspect => self.inspect(alloc),
+            Verb::Link => self.link(alloc),
         }
     }
 }
 
-/// Reads an option; its name, where the next word is its value.
+/// Reads an option; itself with its name, where the next word is its value.
 fn read_option<'a>(
     verb: Verb,
     options: &mut Options<'a>,
     word: &'a str,
-) -> Result<Option<&'a str>, WordsError<'a>> {
+) -> Result<Option<(Choice, &'a str)>, WordsError<'a>> {
     let (name, value) = parted(word);
     let Some(choice) = choice_of(verb, name) else {
         return Err(WordsError::UnknownOption(word));
     };
-    match (choice, value) {
-        (Choice::Program, Some(value)) => {
-            options.programs.push(value)?;
+    match value {
+        Some(value) if has_value(choice) => {
+            options.take(choice, name, value)?;
             Ok(None)
         }
-        (Choice::Program, None) => Ok(Some(name)),
-        (_, Some(_)) => Err(WordsError::NeedlessValue(name)),
-        (choice, None) => {
+        Some(_) => Err(WordsError::NeedlessValue(name)),
+        None if has_value(choice) => Ok(Some((choice, name))),
+        None => {
             options.choose(choice);
             Ok(None)
         }
@@ -229,8 +356,8 @@ fn read_options<'a>(
     let mut only_files = false;
     for word in words {
         let word = word.as_str();
-        if waits.is_some() {
-            options.programs.push(word)?;
+        if let Some((choice, name)) = waits {
+            options.take(choice, name, word)?;
             waits = None;
         } else if only_files || !is_option(word) {
             options.files.push(word)?;
@@ -241,7 +368,7 @@ fn read_options<'a>(
         }
     }
     match waits {
-        Some(name) => Err(WordsError::NoValue(name)),
+        Some((_, name)) => Err(WordsError::NoValue(name)),
         None => options.command(alloc, verb),
     }
 }
@@ -251,8 +378,8 @@ fn read_options<'a>(
 ///
 /// # Errors
 ///
-/// `NoCommand`, `UnknownCommand`, and of a command the first word that can't be read, in their order; `NoValue` where the
-/// last option lacks its value; `NoFile`, `SecondFile`. `OutOfMemory` where memory is refused.
+/// `NoCommand`, `UnknownCommand`, and of a command the first word that can't be read, in their order, also a second value; `NoValue`
+/// where the last option lacks its value; `NoFile`, `SecondFile`. `OutOfMemory` where memory is refused.
 pub fn read_words<'a>(alloc: Global, words: &'a [String]) -> Result<Command, WordsError<'a>> {
     let Some((first, rest)) = words.split_first() else {
         return Err(WordsError::NoCommand);
@@ -260,6 +387,8 @@ pub fn read_words<'a>(alloc: Global, words: &'a [String]) -> Result<Command, Wor
     match first.as_str() {
         "check" => read_options(alloc, Verb::Check, rest),
         "list" => read_options(alloc, Verb::List, rest),
+        "inspect" => read_options(alloc, Verb::Inspect, rest),
+        "link" => read_options(alloc, Verb::Link, rest),
         "-h" | "--help" | "help" => Ok(Command::Help),
         "-V" | "--version" => Ok(Command::Version),
         word if is_option(word) => Err(WordsError::UnknownOption(word)),

@@ -1,13 +1,16 @@
-//! The types of a kernel, from a file's bytes.
+//! The types of a kernel, from a file.
 
+use crate::refusal::{READING, Refusal, help_of};
+use crate::refuse::read_plain;
 use ebpf_btf::{Btf, BtfError, Endianness};
 use ebpf_elf::{ElfFile, ElfReadError};
-use std::alloc::Global;
+use ebpf_variants::variant_of_types;
+use std::alloc::{AllocError, Global};
 use thiserror::Error;
 
 /// Why a file gives no types.
 #[derive(Debug, Drop, Error)]
-pub enum KernelError {
+enum KernelError {
     /// It is neither raw types nor an ELF file.
     #[error("neither BTF nor an ELF file")]
     NoTypes,
@@ -79,7 +82,7 @@ fn types_in_section(alloc: Global, bytes: &[u8], order: Endianness) -> Result<Bt
 ///
 /// `Elf` and `NoSection` of an ELF file; `NoTypes` where the types don't begin as such; `OtherByteOrder` where they are
 /// of the other order than `order`; `Types` where they can't be read, also for want of memory.
-pub fn kernel_types(alloc: Global, bytes: Vec<u8>, order: Endianness) -> Result<Btf, KernelError> {
+fn kernel_types(alloc: Global, bytes: Vec<u8>, order: Endianness) -> Result<Btf, KernelError> {
     if is_elf(&bytes) {
         return types_in_section(alloc, &bytes, order);
     }
@@ -87,5 +90,65 @@ pub fn kernel_types(alloc: Global, bytes: Vec<u8>, order: Endianness) -> Result<
     match Btf::from_vec(bytes, order) {
         Ok(types) => Ok(types),
         Err(error) => Err(KernelError::Types(error)),
+    }
+}
+
+impl KernelError {
+    /// The name of the error.
+    fn variant(&self) -> &'static str {
+        match self {
+            KernelError::NoTypes => "NoTypes",
+            KernelError::Elf(_) => "ElfError",
+            KernelError::NoSection => "NoSection",
+            KernelError::OtherByteOrder => "OtherByteOrder",
+            KernelError::Types(error) => variant_of_types(error),
+        }
+    }
+
+    /// What one can do about it, where one can.
+    fn help(&self) -> Option<&'static str> {
+        match self {
+            KernelError::NoTypes => Some(
+                "give /sys/kernel/btf/vmlinux, or a copy of another kernel's",
+            ),
+            KernelError::NoSection => {
+                Some("`pahole -J FILE` adds a section .BTF to a kernel that has debug information")
+            }
+            KernelError::Elf(_) | KernelError::OtherByteOrder | KernelError::Types(_) => None,
+        }
+    }
+}
+
+/// Why a file gives no types, as a refusal.
+fn refusal_of(alloc: Global, error: &KernelError) -> Result<Refusal, AllocError> {
+    if matches!(error, KernelError::Types(BtfError::OutOfMemory)) {
+        return Err(AllocError);
+    }
+    Ok(Refusal {
+        stage: READING,
+        variant: error.variant(),
+        text: format!(in alloc; "{error}")?,
+        help: help_of(alloc, error.help())?,
+    })
+}
+
+/// The types of a kernel in a file, or why it gives none.
+///
+/// # Errors
+///
+/// The outer one where memory is refused.
+pub fn read_kernel(
+    rt: &HostRuntime,
+    path: &str,
+    order: Endianness,
+) -> Result<Result<Btf, Refusal>, AllocError> {
+    let alloc = rt.alloc();
+    let bytes = match read_plain(rt, path)? {
+        Ok(bytes) => bytes,
+        Err(refusal) => return Ok(Err(refusal)),
+    };
+    match kernel_types(alloc, bytes, order) {
+        Ok(types) => Ok(Ok(types)),
+        Err(error) => Ok(Err(refusal_of(alloc, &error)?)),
     }
 }

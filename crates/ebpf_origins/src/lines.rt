@@ -19,6 +19,15 @@ pub struct Span {
     pub leads: bool,
 }
 
+/// A source line: where its file's name stands in the strings of the types, and its number.
+#[derive(Clone, Copy, PartialEq, Eq)]
+pub struct LineNumber {
+    /// The offset of the name.
+    pub file_name_off: u32,
+    /// The number.
+    pub number: u32,
+}
+
 /// The source lines of a program's slots.
 #[derive(Drop)]
 pub struct Lines<'a> {
@@ -62,6 +71,16 @@ impl<'a> Lines<'a> {
             return None;
         }
         Some(record)
+    }
+
+    /// The line that begins at a slot, where one does.
+    pub fn beginning(&self, slot: usize) -> Option<LineNumber> {
+        let number = self.begins.get(slot)?;
+        let record = self.naming(*number)?;
+        Some(LineNumber {
+            file_name_off: record.file_name_off,
+            number: record.line_col >> 10,
+        })
     }
 
     /// The last record that begins at some slots and names a line.

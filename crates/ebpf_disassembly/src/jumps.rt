@@ -1,0 +1,124 @@
+//! Jumps, calls and the end of a function.
+
+use crate::opcodes::{
+    BPF_JEQ, BPF_JGE, BPF_JGT, BPF_JLE, BPF_JLT, BPF_JNE, BPF_JSET, BPF_JSGE, BPF_JSGT, BPF_JSLE,
+    BPF_JSLT, BPF_X, CALLX, JCOND, OPERATION,
+};
+use crate::operands::{Distance, Number, Operand, Register};
+use ebpf_parts::insn::bpf_insn;
+use ebpf_parts::insn::opcodes::{CALL, EXIT, JA, JA32, JMP32};
+use std::fmt;
+
+/// What goes on at another place than behind itself.
+#[derive(Clone, Copy)]
+pub enum Jump {
+    /// `goto +0x3`, `gotol +0x3`, `may_goto +0x3`
+    Always {
+        word: &'static str,
+        by: Distance,
+    },
+    /// `if r1 == 0x7 goto +0x3`
+    Where {
+        register: Register,
+        comparison: &'static str,
+        operand: Operand,
+        by: Distance,
+    },
+    /// `call 0x5`
+    Call {
+        number: Number,
+    },
+    /// `callx r1`
+    CallHeld {
+        register: Register,
+    },
+    /// `exit`
+    Exit,
+}
+
+impl Jump {
+    /// By how many slots it leads from the next one.
+    pub fn distance(&self) -> Option<i32> {
+        match self {
+            Jump::Always { by, .. } | Jump::Where { by, .. } => Some(by.0),
+            _ => None,
+        }
+    }
+}
+
+/// The comparison of a conditional jump.
+fn comparison_of(operation: u8) -> Option<&'static str> {
+    match operation {
+        BPF_JEQ => Some("=="),
+        BPF_JGT => Some(">"),
+        BPF_JGE => Some(">="),
+        BPF_JSET => Some("&"),
+        BPF_JNE => Some("!="),
+        BPF_JSGT => Some("s>"),
+        BPF_JSGE => Some("s>="),
+        BPF_JLT => Some("<"),
+        BPF_JLE => Some("<="),
+        BPF_JSLT => Some("s<"),
+        BPF_JSLE => Some("s<="),
+        _ => None,
+    }
+}
+
+/// What a conditional jump compares with.
+fn compared(instruction: bpf_insn, is_half: bool) -> Option<Operand> {
+    if instruction.code & BPF_X == 0 {
+        return Some(Operand::number(instruction.imm));
+    }
+    Some(Operand::Held(Register::of(instruction.src_reg(), is_half)?))
+}
+
+/// A conditional jump.
+fn decode_condition(instruction: bpf_insn) -> Option<Jump> {
+    let is_half = instruction.code % 8 == JMP32;
+    Some(Jump::Where {
+        register: Register::of(instruction.dst_reg(), is_half)?,
+        comparison: comparison_of(instruction.code & OPERATION)?,
+        operand: compared(instruction, is_half)?,
+        by: Distance(i32::from(instruction.off)),
+    })
+}
+
+/// A jump of a word.
+fn always(word: &'static str, by: i32) -> Option<Jump> {
+    let by = Distance(by);
+    Some(Jump::Always { word, by })
+}
+
+/// An instruction of the classes of jumps, decoded.
+pub fn decode_jump(instruction: bpf_insn) -> Option<Jump> {
+    match instruction.code {
+        JA => always("goto", i32::from(instruction.off)),
+        JA32 => always("gotol", instruction.imm),
+        JCOND => always("may_goto", i32::from(instruction.off)),
+        CALL => Some(Jump::Call {
+            number: Number(i64::from(instruction.imm)),
+        }),
+        CALLX => Some(Jump::CallHeld {
+            register: Register::full(instruction.dst_reg())?,
+        }),
+        EXIT if instruction.imm == 0 => Some(Jump::Exit),
+        _ => decode_condition(instruction),
+    }
+}
+
+impl fmt::Display for Jump {
+    fn fmt<W: fmt::Write>(&self, f: &mut fmt::Formatter<W>) -> fmt::Result {
+        match self {
+            Jump::Always { word, by } => write!(f, "{word} {by}"),
+            Jump::Where {
+                register,
+                comparison,
+                operand,
+                by,
+            } => write!(f, "if {register} {comparison} {operand} goto {by}"),
+            Jump::Call { number } => write!(f, "call {number}"),
+            Jump::CallHeld { register } => write!(f, "callx {register}"),
+            Jump::Exit => write!(f, "exit"),
+        }
+    }
+}

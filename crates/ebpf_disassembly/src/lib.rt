@@ -1,0 +1,13 @@
+//! The text of eBPF instructions, as `llvm-objdump` 19 writes it.
+#![tactic(auto)]
+
+mod arithmetic;
+mod atomics;
+mod jumps;
+mod loads;
+mod memory;
+mod opcodes;
+mod operands;
+mod operation;
+
+pub use operation::{Operation, decode};

@@ -1,0 +1,116 @@
+//! The deepest chain of calls of a linked program.
+
+use crate::edges::{Edge, calls_among};
+use std::alloc::{AllocError, Global};
+
+/// A walk over copies, each after all that refer to it.
+#[derive(Drop)]
+struct Walk {
+    /// How many references to each copy are still to come.
+    waiting: Vec<usize>,
+    /// How many functions the deepest chain to each copy has, its own too.
+    depths: Vec<usize>,
+    /// Copies that no reference is still to come to.
+    ready: Vec<usize>,
+}
+
+/// How many references lead to each copy.
+fn counted(alloc: Global, count: usize, edges: &[Edge]) -> Result<Vec<usize>, AllocError> {
+    let mut counts = vec![in alloc; 0usize; count]?;
+    for edge in edges {
+        if let Some(number) = counts.get_mut(edge.to) {
+            *number = number.saturating_add(1);
+        }
+    }
+    Ok(counts)
+}
+
+/// The copies that no reference leads to.
+fn without(alloc: Global, counts: &[usize]) -> Result<Vec<usize>, AllocError> {
+    let mut copies = Vec::with_capacity(alloc, counts.len())?;
+    for (copy, count) in counts.iter().enumerate() {
+        if *count == 0 {
+            copies.push(copy)?;
+        }
+    }
+    Ok(copies)
+}
+
+/// The references of a copy, among those in the order of the copies that refer.
+fn edges_from(edges: &[Edge], copy: usize) -> &[Edge] {
+    let start = edges.partition_point(|edge| edge.from < copy);
+    let Some(rest) = edges.get(start..) else {
+        return &[];
+    };
+    let length = rest.partition_point(|edge| edge.from <= copy);
+    rest.get(..length).unwrap_or(&[])
+}
+
+impl Walk {
+    fn new(alloc: Global, count: usize, edges: &[Edge]) -> Result<Walk, AllocError> {
+        let waiting = counted(alloc, count, edges)?;
+        let ready = without(alloc, &waiting)?;
+        let depths = vec![in alloc; 1usize; count]?;
+        Ok(Walk {
+            waiting,
+            depths,
+            ready,
+        })
+    }
+
+    /// Comes to a copy by one of its references, on a chain of so many functions.
+    fn arrive(&mut self, copy: usize, depth: usize) -> Result<(), AllocError> {
+        if let Some(known) = self.depths.get_mut(copy) {
+            *known = depth.max(*known);
+        }
+        let Some(waiting) = self.waiting.get_mut(copy) else {
+            return Ok(());
+        };
+        *waiting = waiting.saturating_sub(1);
+        if *waiting == 0 {
+            self.ready.push(copy)?;
+        }
+        Ok(())
+    }
+
+    /// Goes on from a copy by its references.
+    fn leave(&mut self, copy: usize, edges: &[Edge]) -> Result<(), AllocError> {
+        let depth = self.depths.get(copy).copied().unwrap_or(0);
+        for edge in edges {
+            self.arrive(edge.to, depth.saturating_add(1))?;
+        }
+        Ok(())
+    }
+
+    /// The functions of the deepest chain.
+    fn deepest(&self) -> usize {
+        self.depths.iter().copied().max().unwrap_or(0)
+    }
+}
+
+/// How many functions the deepest chain of these references has; none where one leads back to its beginning.
+fn longest(alloc: Global, count: usize, edges: &[Edge]) -> Result<Option<usize>, AllocError> {
+    let mut walk = Walk::new(alloc, count, edges)?;
+    for _ in 0..count {
+        let Some(copy) = walk.ready.pop() else {
+            return Ok(None);
+        };
+        walk.leave(copy, edges_from(edges, copy))?;
+    }
+    Ok(Some(walk.deepest()))
+}
+
+/// How many functions the deepest chain of calls of a program has, its own among them; `count` is that of its copies. A
+/// function counts as called where its address is loaded, unless such loads lead back to where they began: then it begins a
+/// chain of its own. None where calls lead back to where they began.
+pub fn deepest_chain(
+    alloc: Global,
+    count: usize,
+    edges: &[Edge],
+) -> Result<Option<usize>, AllocError> {
+    if let Some(chain) = longest(alloc, count, edges)? {
+        return Ok(Some(chain));
+    }
+    let calls = calls_among(alloc, edges)?;
+    longest(alloc, count, &calls)
+}

@@ -1,0 +1,14 @@
+//! `ebpf inspect`: what an object's linked programs are made of.
+#![tactic(auto)]
+
+mod chain;
+mod edges;
+mod json;
+mod kernel_calls;
+mod limits;
+mod parts;
+mod run;
+mod text;
+mod uses;
+
+pub use run::inspect;

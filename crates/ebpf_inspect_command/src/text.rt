@@ -1,0 +1,281 @@
+//! What `ebpf inspect` prints for people.
+
+use crate::edges::Edge;
+use crate::limits::{CHAIN, FUNCTIONS, MAPS, SLOTS};
+use crate::parts::ProgramParts;
+use ebpf_object::Object;
+use ebpf_object::relocation::{CodeCopy, Reference};
+use ebpf_report::helper_names::helper_name;
+use ebpf_report::names::Shown;
+use ebpf_report::stop::Stop;
+use ebpf_report::table::{Column, Table};
+use ebpf_report::type_names::{map_type_name, program_type_name};
+use std::alloc::{AllocError, Global};
+use std::collections::BTreeSet;
+use std::io::{self, Write};
+
+/// A text as a cell.
+fn cell(alloc: Global, text: &str) -> Result<String, AllocError> {
+    let shown = Shown(text);
+    format!(in alloc; "{shown}")
+}
+
+/// A number as a cell.
+fn count(alloc: Global, number: usize) -> Result<String, AllocError> {
+    format!(in alloc; "{number}")
+}
+
+/// A number beside the one that is the most, as a cell.
+fn share(alloc: Global, number: usize, most: usize) -> Result<String, AllocError> {
+    format!(in alloc; "{number}/{most}")
+}
+
+/// Writes a table under its name and the number of its rows; nothing where it has none.
+fn write_table<W: Write>(
+    out: &mut W,
+    name: &str,
+    rows: usize,
+    table: &Table<'_>,
+) -> io::Result<()> {
+    if rows == 0 {
+        return Ok(());
+    }
+    writeln!(out, "{name} {rows}")?;
+    table.write(out)
+}
+
+/// The columns of programs.
+const PROGRAM_COLUMNS: [Column; 7] = [
+    Column::Number("SLOTS"),
+    Column::Number("FUNCS"),
+    Column::Number("CHAIN"),
+    Column::Number("MAPS"),
+    Column::Word("TYPE"),
+    Column::Word("SECTION"),
+    Column::Word("NAME"),
+];
+
+/// The functions of the deepest chain of calls, as a cell.
+fn chain_cell(alloc: Global, chain: Option<usize>) -> Result<String, AllocError> {
+    match chain {
+        Some(chain) => share(alloc, chain, CHAIN),
+        None => String::from_str(alloc, "recursive"),
+    }
+}
+
+/// The row of a program.
+fn push_program(
+    alloc: Global,
+    table: &mut Table<'_>,
+    parts: &ProgramParts<'_>,
+) -> Result<(), AllocError> {
+    let section = parts.program.section.as_str();
+    table.push(share(alloc, parts.slots, SLOTS)?)?;
+    table.push(share(alloc, parts.map.copies.len(), FUNCTIONS)?)?;
+    table.push(chain_cell(alloc, parts.chain)?)?;
+    table.push(share(alloc, parts.uses.maps.len(), MAPS)?)?;
+    table.push(cell(alloc, program_type_name(section).unwrap_or("-"))?)?;
+    table.push(cell(alloc, section)?)?;
+    table.push(cell(alloc, parts.program.name.as_str())?)
+}
+
+/// Writes the programs beside the kernel's limits.
+fn write_programs<W: Write>(
+    alloc: Global,
+    out: &mut W,
+    programs: &[ProgramParts<'_>],
+) -> Result<(), Stop> {
+    let mut table = Table::new(alloc, &PROGRAM_COLUMNS)?;
+    for parts in programs {
+        push_program(alloc, &mut table, parts)?;
+    }
+    if programs.is_empty() {
+        writeln!(out, "PROGRAMS 0")?;
+    }
+    Ok(write_table(out, "PROGRAMS", programs.len(), &table)?)
+}
+
+/// The columns of copies of functions.
+const COPY_COLUMNS: [Column; 6] = [
+    Column::Number("BASE"),
+    Column::Number("SLOTS"),
+    Column::Number("BYTES"),
+    Column::Number("SECTION"),
+    Column::Number("ADDRESS"),
+    Column::Word("NAME"),
+];
+
+/// The row of a copy.
+fn push_copy(alloc: Global, table: &mut Table<'_>, copy: &CodeCopy) -> Result<(), AllocError> {
+    let (section, address) = copy.key;
+    table.push(count(alloc, copy.base)?)?;
+    table.push(count(alloc, copy.slots)?)?;
+    table.push(count(alloc, copy.slots.saturating_mul(8))?)?;
+    table.push(count(alloc, section)?)?;
+    table.push(format!(in alloc; "{address:#x}")?)?;
+    table.push(cell(alloc, copy.name.as_str())?)
+}
+
+/// Writes the copies that a program is made of.
+fn write_copies<W: Write>(alloc: Global, out: &mut W, copies: &[CodeCopy]) -> Result<(), Stop> {
+    let mut table = Table::new(alloc, &COPY_COLUMNS)?;
+    for copy in copies {
+        push_copy(alloc, &mut table, copy)?;
+    }
+    Ok(write_table(out, "COPIES", copies.len(), &table)?)
+}
+
+/// The columns of references.
+const REFERENCE_COLUMNS: [Column; 5] = [
+    Column::Number("SLOT"),
+    Column::Number("BASE"),
+    Column::Word("KIND"),
+    Column::Word("FROM"),
+    Column::Word("TO"),
+];
+
+/// The word for a reference.
+pub fn reference_word(is_call: bool) -> &'static str {
+    if is_call { "call" } else { "load" }
+}
+
+/// The name of a copy, by its number.
+fn copy_name(copies: &[CodeCopy], number: usize) -> &str {
+    match copies.get(number) {
+        Some(copy) => copy.name.as_str(),
+        None => "",
+    }
+}
+
+/// The row of a reference.
+fn push_reference(
+    alloc: Global,
+    table: &mut Table<'_>,
+    copies: &[CodeCopy],
+    reference: &Reference,
+    edge: Edge,
+) -> Result<(), AllocError> {
+    table.push(count(alloc, reference.place)?)?;
+    table.push(count(alloc, reference.base)?)?;
+    table.push(cell(alloc, reference_word(reference.is_call))?)?;
+    table.push(cell(alloc, copy_name(copies, edge.from))?)?;
+    table.push(cell(alloc, copy_name(copies, edge.to))?)
+}
+
+/// Writes the references between the copies of a program.
+fn write_references<W: Write>(
+    alloc: Global,
+    out: &mut W,
+    parts: &ProgramParts<'_>,
+) -> Result<(), Stop> {
+    let mut table = Table::new(alloc, &REFERENCE_COLUMNS)?;
+    let copies = parts.map.copies.as_slice();
+    let references = &parts.map.references;
+    for (reference, edge) in references.iter().zip(parts.edges.iter()) {
+        push_reference(alloc, &mut table, copies, reference, *edge)?;
+    }
+    Ok(write_table(out, "REFERENCES", references.len(), &table)?)
+}
+
+/// The columns of maps.
+const MAP_COLUMNS: [Column; 2] = [Column::Word("TYPE"), Column::Word("NAME")];
+
+/// The name of the type of the map of a name, or its number.
+fn map_type_cell(alloc: Global, object: &Object, name: &str) -> Result<String, AllocError> {
+    let Some(map) = object.maps.get(name) else {
+        return String::from_str(alloc, "-");
+    };
+    let number = map.map_type();
+    match map_type_name(number) {
+        Some(name) => String::from_str(alloc, name),
+        None => format!(in alloc; "{number}"),
+    }
+}
+
+/// Writes the maps that a program uses.
+fn write_maps<W: Write>(
+    alloc: Global,
+    out: &mut W,
+    object: &Object,
+    names: &BTreeSet<&str>,
+) -> Result<(), Stop> {
+    let mut table = Table::new(alloc, &MAP_COLUMNS)?;
+    for name in names.iter() {
+        table.push(map_type_cell(alloc, object, name)?)?;
+        table.push(cell(alloc, name)?)?;
+    }
+    Ok(write_table(out, "MAPS", names.len(), &table)?)
+}
+
+/// The columns of helper functions.
+const HELPER_COLUMNS: [Column; 2] = [Column::Number("NUMBER"), Column::Word("NAME")];
+
+/// The name of a helper function.
+fn helper_cell(alloc: Global, helper: u32) -> Result<String, AllocError> {
+    match helper_name(helper) {
+        Some(name) => format!(in alloc; "bpf_{name}"),
+        None => String::from_str(alloc, "-"),
+    }
+}
+
+/// Writes the helper functions that a program calls.
+fn write_helpers<W: Write>(
+    alloc: Global,
+    out: &mut W,
+    helpers: &BTreeSet<u32>,
+) -> Result<(), Stop> {
+    let mut table = Table::new(alloc, &HELPER_COLUMNS)?;
+    for helper in helpers.iter() {
+        table.push(format!(in alloc; "{helper}")?)?;
+        table.push(helper_cell(alloc, *helper)?)?;
+    }
+    Ok(write_table(out, "HELPERS", helpers.len(), &table)?)
+}
+
+/// The columns of functions of the kernel.
+const KERNEL_COLUMNS: [Column; 1] = [Column::Word("NAME")];
+
+/// Writes the functions of the kernel that a program calls.
+fn write_kernel_functions<W: Write>(
+    alloc: Global,
+    out: &mut W,
+    names: &BTreeSet<&str>,
+) -> Result<(), Stop> {
+    let mut table = Table::new(alloc, &KERNEL_COLUMNS)?;
+    for name in names.iter() {
+        table.push(cell(alloc, name)?)?;
+    }
+    Ok(write_table(out, "KERNEL FUNCTIONS", names.len(), &table)?)
+}
+
+/// Writes what a program is made of, below its name and its size.
+fn write_program<W: Write>(
+    alloc: Global,
+    out: &mut W,
+    object: &Object,
+    parts: &ProgramParts<'_>,
+) -> Result<(), Stop> {
+    let name = Shown(parts.program.name.as_str());
+    let slots = parts.slots;
+    let bytes = slots.saturating_mul(8);
+    writeln!(out, "\n{name}: {slots} slots, {bytes} bytes")?;
+    write_copies(alloc, out, parts.map.copies.as_slice())?;
+    write_references(alloc, out, parts)?;
+    write_maps(alloc, out, object, &parts.uses.maps)?;
+    write_helpers(alloc, out, &parts.uses.helpers)?;
+    write_kernel_functions(alloc, out, &parts.uses.kernel_functions)
+}
+
+/// Writes what the programs of an object are made of.
+pub fn write_inspected<W: Write>(
+    alloc: Global,
+    out: &mut W,
+    object: &Object,
+    programs: &[ProgramParts<'_>],
+) -> Result<(), Stop> {
+    write_programs(alloc, out, programs)?;
+    for parts in programs {
+        write_program(alloc, out, object, parts)?;
+    }
+    Ok(())
+}

@@ -1,0 +1,14 @@
+//! `ebpf link`: the finished programs of an object, as instructions or as bytes.
+#![tactic(auto)]
+
+mod bytes;
+mod instructions;
+mod linked;
+mod names;
+mod notes;
+mod origins;
+mod run;
+mod words;
+
+pub use run::link;
+pub use words::LinkWords;

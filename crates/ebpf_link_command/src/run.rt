@@ -1,0 +1,128 @@
+//! The programs of an object's file, linked and written.
+
+use crate::bytes::{write_head, write_slots};
+use crate::instructions::write_instructions;
+use crate::linked::Linked;
+use crate::notes::RecordNotes;
+use crate::origins::Origins;
+use crate::words::LinkWords;
+use ebpf_model::Function;
+use ebpf_prepared::{MapSlots, Prepared, prepare_file};
+use ebpf_reloc::LinkMap;
+use ebpf_report::programs::ObjectProgram;
+use ebpf_report::stop::Stop;
+use std::alloc::Global;
+use std::io::{self, BufWriter, Write};
+
+/// How programs are written.
+#[derive(Clone, Copy)]
+struct Manner {
+    bytes: bool,
+    lines: bool,
+}
+
+/// Writes a program as instructions.
+fn write_linked<W: Write>(
+    alloc: Global,
+    out: &mut W,
+    origins: &Origins<'_>,
+    function: &Function,
+    map: &LinkMap,
+    lines: bool,
+) -> Result<(), Stop> {
+    let linked = Linked::new(alloc, function, map, lines)?;
+    Ok(write_instructions(out, origins, &linked)?)
+}
+
+/// Writes the slots of a program.
+fn write_program<W: Write>(
+    alloc: Global,
+    out: &mut W,
+    origins: &Origins<'_>,
+    function: &Function,
+    map: &LinkMap,
+    manner: Manner,
+) -> Result<(), Stop> {
+    if manner.bytes {
+        return Ok(write_slots(out, function.instructions.as_slice())?);
+    }
+    write_linked(alloc, out, origins, function, map, manner.lines)
+}
+
+/// Writes the line of a program: behind an empty one where instructions of another one stand before it.
+fn write_name<W: Write>(
+    out: &mut W,
+    program: &ObjectProgram,
+    function: &Function,
+    stands_alone: bool,
+) -> io::Result<()> {
+    if !stands_alone {
+        writeln!(out, "")?;
+    }
+    write_head(out, program.name.as_str(), function.instructions.len())
+}
+
+/// Writes the programs.
+fn write_programs<W: Write>(
+    alloc: Global,
+    out: &mut W,
+    prepared: &Prepared,
+    origins: &Origins<'_>,
+    manner: Manner,
+) -> Result<(), Stop> {
+    let maps = prepared.link_maps.iter();
+    let mut stands_alone = true;
+    for (program, map) in prepared.programs.iter().zip(maps) {
+        let Some(function) = prepared.object.functions.get(program.key) else {
+            continue;
+        };
+        write_name(out, program, function, stands_alone)?;
+        write_program(alloc, out, origins, function, map, manner)?;
+        stands_alone = manner.bytes;
+    }
+    Ok(())
+}
+
+/// Writes the programs of an object, of whose slots is known where they come from.
+fn write_all(
+    rt: &HostRuntime,
+    prepared: &Prepared,
+    origins: &Origins<'_>,
+    manner: Manner,
+) -> Result<(), Stop> {
+    let alloc = rt.alloc();
+    let mut out = BufWriter::new(alloc, rt.stdout())?;
+    write_programs(alloc, &mut out, prepared, origins, manner)?;
+    out.flush()?;
+    Ok(())
+}
+
+/// Writes the programs of an object; `notes` has words on the slots that records wrote.
+fn write_noted(
+    rt: &HostRuntime,
+    prepared: &Prepared,
+    notes: &RecordNotes,
+    manner: Manner,
+) -> Result<(), Stop> {
+    let origins = Origins::new(rt.alloc(), &prepared.object, &prepared.parsed, notes)?;
+    write_all(rt, prepared, &origins, manner)
+}
+
+/// Writes the programs of an object.
+fn write_prepared(rt: &HostRuntime, prepared: &Prepared, manner: Manner) -> Result<(), Stop> {
+    let notes = RecordNotes::of(rt.alloc(), &prepared.parsed, prepared.types.as_ref())?;
+    write_noted(rt, prepared, &notes, manner)
+}
+
+/// Does what `ebpf link` is asked, and gives the status.
+pub fn link(rt: &HostRuntime, words: &LinkWords) -> Result<u8, Stop> {
+    let manner = Manner {
+        bytes: words.bytes,
+        lines: words.lines,
+    };
+    let prepared = prepare_file(rt, &words.prepare, MapSlots::Numbered)?;
+    let written = write_prepared(rt, &prepared, manner);
+    drop(prepared);
+    written?;
+    Ok(0)
+}

@@ -1,0 +1,51 @@
+//! What words give of a kernel.
+
+use crate::words::PrepareWords;
+use ebpf_btf::{Btf, Endianness};
+use ebpf_report::kernel_types::read_kernel;
+use ebpf_report::refuse::{read_given, refused};
+use ebpf_report::stop::Stop;
+
+/// What is known of a kernel.
+#[derive(Drop)]
+pub struct Kernel {
+    /// Its types.
+    pub types: Option<Btf>,
+    /// The text of its symbols; empty where none is given.
+    pub symbols: Vec<u8>,
+}
+
+/// The kernel's types, where words give a file of them; it is told where they can't be read.
+fn given_types(
+    rt: &HostRuntime,
+    words: &PrepareWords,
+    order: Endianness,
+) -> Result<Option<Btf>, Stop> {
+    let Some(path) = &words.btf else {
+        return Ok(None);
+    };
+    let path = path.as_str();
+    match read_kernel(rt, path, order)? {
+        Ok(types) => Ok(Some(types)),
+        Err(refusal) => Err(refused(rt, words.json, path, &refusal, 2)),
+    }
+}
+
+/// The text of the kernel's symbols, where words give a file of them, else an empty one.
+fn given_symbols(rt: &HostRuntime, words: &PrepareWords) -> Result<Vec<u8>, Stop> {
+    match &words.kallsyms {
+        Some(path) => read_given(rt, words.json, path.as_str()),
+        None => Ok(Vec::new(rt.alloc())),
+    }
+}
+
+/// What words give of a kernel: its types, in this byte order, and its symbols.
+pub fn given_kernel(
+    rt: &HostRuntime,
+    words: &PrepareWords,
+    order: Endianness,
+) -> Result<Kernel, Stop> {
+    let types = given_types(rt, words, order)?;
+    let symbols = given_symbols(rt, words)?;
+    Ok(Kernel { types, symbols })
+}

@@ -1,0 +1,16 @@
+//! An object, prepared as words say: what the commands of `ebpf` share that make finished programs of a file.
+#![tactic(auto)]
+
+mod kernel;
+mod map_slots;
+mod pass_help;
+mod passes;
+mod prepared;
+mod refusals;
+mod refused_slots;
+mod words;
+
+pub use map_slots::MapSlots;
+pub use prepared::{Prepared, prepare_file};
+pub use refusals::refuse_preparing;
+pub use words::PrepareWords;

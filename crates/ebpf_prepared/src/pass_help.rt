@@ -1,0 +1,138 @@
+//! What one can do about an object that a pass refuses.
+
+use ebpf_core_relo::RelocationError as CoreError;
+use ebpf_ksyms::KsymsError;
+use ebpf_model::RelocationError;
+use ebpf_object::Object;
+use ebpf_object::prepare::PrepareError;
+
+/// What one can do about a CO-RE record.
+fn types_help(error: &CoreError) -> Option<&'static str> {
+    match error {
+        CoreError::SectionNotFound
+        | CoreError::FunctionNotFound
+        | CoreError::InvalidAccessString { .. }
+        | CoreError::InvalidInstructionIndex { .. }
+        | CoreError::InvalidAccessIndex { .. } => {
+            Some("`.BTF.ext` is damaged or of another file: compile the object again")
+        }
+        CoreError::ConflictingCandidates { .. } => {
+            Some("give types of a kernel that has one type of that name")
+        }
+        CoreError::MaximumNestingLevelReached { .. } => Some("access the field in steps"),
+        CoreError::InvalidInstruction { .. } => Some("read the field by `BPF_CORE_READ`"),
+        CoreError::InvalidRelocationKindForType { .. } => Some(
+            "the sign and the shifts are those of a member, a value is that of an enumeration",
+        ),
+        CoreError::BtfError(_)
+        | CoreError::MissingTargetDefinition { .. }
+        | CoreError::OutOfMemory => None,
+    }
+}
+
+/// What words give of a kernel.
+#[derive(Clone, Copy)]
+pub struct Given {
+    /// Its types.
+    pub types: bool,
+    /// Its symbols.
+    pub symbols: bool,
+}
+
+/// What one can do about a function that isn't found.
+fn function_help(given: Given) -> &'static str {
+    if given.types {
+        "this kernel's types lack it (a module's aren't searched): declare it `__weak`, and ask `bpf_ksym_exists`"
+    } else {
+        "give the kernel's types: `--btf /sys/kernel/btf/vmlinux`"
+    }
+}
+
+/// What one can do about a variable that isn't found.
+fn variable_help(object: &Object, name: &str, given: Given) -> &'static str {
+    let is_typed = object.externs.get(name).is_some_and(|known| known.is_typed);
+    if is_typed {
+        return "this kernel's types lack it (a module's aren't searched): declare it `__weak`";
+    }
+    if given.symbols {
+        "these symbols lack it, or have no addresses (read /proc/kallsyms as root): declare it `__weak`"
+    } else {
+        "give the kernel's symbols, read as root: `--kallsyms /proc/kallsyms`; or declare it `__weak`"
+    }
+}
+
+/// What one can do about an extern that can't be resolved.
+fn resolving_help(object: &Object, error: &KsymsError, given: Given) -> Option<&'static str> {
+    match error {
+        KsymsError::TypedKsymRequiresKernelBtf => {
+            Some("give the kernel's types: `--btf /sys/kernel/btf/vmlinux`")
+        }
+        KsymsError::VariableNotFound { name, .. } => {
+            Some(variable_help(object, name.as_str(), given))
+        }
+        KsymsError::FunctionNotFound { .. } => Some(function_help(given)),
+        KsymsError::IncompatibleFunctionSignature { .. }
+        | KsymsError::IncompatibleVariableType { .. } => {
+            Some("declare it as this kernel has it, or `__weak`")
+        }
+        KsymsError::InvalidExternType { .. } => {
+            Some("declare it as a function or a variable with `__ksym`")
+        }
+        KsymsError::KallsymsAccessError(_) | KsymsError::KallsymsParseError(_) => {
+            Some("give the lines of /proc/kallsyms: address, letter, name")
+        }
+        KsymsError::AmbiguousResolution { .. } => {
+            Some("the kernel has two things of that name: take another")
+        }
+        KsymsError::BtfError(_) | KsymsError::OutOfMemory => None,
+    }
+}
+
+/// What one can do about slots that can't be written or linked.
+fn slots_help(error: &RelocationError) -> Option<&'static str> {
+    match error {
+        RelocationError::UnknownSymbol { .. }
+        | RelocationError::UnknownProgram { .. }
+        | RelocationError::InvalidLineInfo { .. } => {
+            Some("the object is damaged or was changed: compile it again")
+        }
+        RelocationError::SectionNotFound { .. } => Some(
+            "maps stand in \".maps\" or \"maps\", variables in \".data\", \".rodata\" or \".bss\"",
+        ),
+        RelocationError::InvalidRelocationOffset { .. } => Some(
+            "`readelf -r` shows the relocation, `llvm-objdump -d` the instruction",
+        ),
+        RelocationError::ExternNotFound { .. } => {
+            Some("declare it with `__ksym` and compile with `-g`")
+        }
+        RelocationError::UnresolvableSymbol { .. } => {
+            Some("give the kernel's types: `--btf /sys/kernel/btf/vmlinux`; or declare it `__weak`")
+        }
+        RelocationError::MapAddressOverflow { .. } => {
+            Some("what is referred to lies 2 GiB or more into its section")
+        }
+        RelocationError::UnknownFunction { .. } => Some(
+            "the function isn't in this file: link the objects first, by `bpftool gen object`",
+        ),
+        RelocationError::UnsupportedTextSymbol { .. } => {
+            Some("`readelf -s` shows the symbol; take the address of a function")
+        }
+        RelocationError::FunctionInfoMismatch { .. } => {
+            Some("compile all functions with `-g`, or none")
+        }
+        RelocationError::ProgramTooLong { .. } => Some("split the program"),
+        RelocationError::OutOfMemory => None,
+    }
+}
+
+/// What one can do about an object that a pass refuses.
+pub fn pass_help(object: &Object, error: &PrepareError, given: Given) -> Option<&'static str> {
+    match error {
+        PrepareError::Types(refusal) => types_help(&refusal.error),
+        PrepareError::Ksyms(error) => resolving_help(object, error, given),
+        PrepareError::Maps(refusal)
+        | PrepareError::Externs(refusal)
+        | PrepareError::Calls(refusal) => slots_help(&refusal.error),
+        PrepareError::Parse(_) | PrepareError::OutOfMemory => None,
+    }
+}

@@ -1,0 +1,184 @@
+//! Why an object can't be prepared, in words.
+
+use crate::pass_help::{Given, pass_help};
+use crate::refused_slots::refused_slot;
+use crate::words::PrepareWords;
+use ebpf_core_relo::RelocationError as CoreError;
+use ebpf_ksyms::KsymsError;
+use ebpf_model::RelocationError;
+use ebpf_object::Object;
+use ebpf_object::prepare::PrepareError;
+use ebpf_parts::ParseError;
+use ebpf_report::refusal::{Refusal, help_of};
+use ebpf_report::refuse::refused;
+use ebpf_report::settings::object_settings;
+use ebpf_report::stop::Stop;
+use ebpf_variants::{
+    variant_of_parsing, variant_of_relocation, variant_of_resolving, variant_of_type_relocation,
+};
+use std::alloc::{AllocError, Global};
+
+/// Whether memory was refused.
+fn is_memory(error: &PrepareError) -> bool {
+    match error {
+        PrepareError::Parse(error) => matches!(error, ParseError::OutOfMemory),
+        PrepareError::Types(refusal) => matches!(refusal.error, CoreError::OutOfMemory),
+        PrepareError::Ksyms(error) => matches!(error, KsymsError::OutOfMemory),
+        PrepareError::Maps(refusal)
+        | PrepareError::Externs(refusal)
+        | PrepareError::Calls(refusal) => matches!(refusal.error, RelocationError::OutOfMemory),
+        PrepareError::OutOfMemory => true,
+    }
+}
+
+/// The stage that refused, as sentences of errors begin with it and as it is told, and the name of its error.
+fn stage_of(error: &PrepareError) -> (&'static str, &'static str, &'static str) {
+    match error {
+        PrepareError::Parse(error) => ("parse: ", "parse", variant_of_parsing(error)),
+        PrepareError::Types(refusal) => {
+            (
+                "types: ",
+                "types",
+                variant_of_type_relocation(&refusal.error),
+            )
+        }
+        PrepareError::Maps(refusal) => ("maps: ", "maps", variant_of_relocation(&refusal.error)),
+        PrepareError::Ksyms(error) => ("ksyms: ", "externs", variant_of_resolving(error)),
+        PrepareError::Externs(refusal) => {
+            (
+                "externs: ",
+                "externs",
+                variant_of_relocation(&refusal.error),
+            )
+        }
+        PrepareError::Calls(refusal) => ("calls: ", "calls", variant_of_relocation(&refusal.error)),
+        PrepareError::OutOfMemory => ("", "memory", "OutOfMemory"),
+    }
+}
+
+/// The function that an error is about, and the slot of it, where they can be told.
+fn place_of<'a>(object: &Object, error: &'a PrepareError) -> Option<(&'a str, usize)> {
+    match error {
+        PrepareError::Maps(refusal)
+        | PrepareError::Externs(refusal)
+        | PrepareError::Calls(refusal) => {
+            let slot = refused_slot(object, refusal)?;
+            Some((refusal.function.as_str(), slot))
+        }
+        _ => None,
+    }
+}
+
+/// A sentence on a function, with the slot of it that the error is about.
+fn with_slot(
+    alloc: Global,
+    sentence: &str,
+    place: Option<(&str, usize)>,
+) -> Result<String, AllocError> {
+    let Some((function, slot)) = place else {
+        return String::from_str(alloc, sentence);
+    };
+    let front = format!(in alloc; "function {function:?}")?;
+    match sentence.strip_prefix(front.as_str()) {
+        Some(rest) => format!(in alloc; "{front}, slot {slot}{rest}"),
+        None => String::from_str(alloc, sentence),
+    }
+}
+
+/// The name of the extern of the kernel's configuration that an error is about.
+fn setting_of<'a>(
+    alloc: Global,
+    object: &Object,
+    error: &'a PrepareError,
+) -> Result<Option<&'a str>, AllocError> {
+    let PrepareError::Externs(refusal) = error else {
+        return Ok(None);
+    };
+    let RelocationError::ExternNotFound { name } = &refusal.error else {
+        return Ok(None);
+    };
+    let name = name.as_str();
+    let settings = object_settings(alloc, object)?;
+    if settings.iter().any(|setting| setting.is(name)) {
+        Ok(Some(name))
+    } else {
+        Ok(None)
+    }
+}
+
+/// The refusal of an extern of the kernel's configuration.
+fn setting_refusal(
+    alloc: Global,
+    name: &str,
+    place: Option<(&str, usize)>,
+) -> Result<Refusal, AllocError> {
+    let sentence = format!(in alloc;
+        "no value for the extern {name:?} of the kernel's configuration"
+    )?;
+    let text = match place {
+        Some((function, slot)) => {
+            format!(in alloc; "function {function:?}, slot {slot}: {sentence}")?
+        }
+        None => sentence,
+    };
+    let help = "loaders give these values, as libbpf does; here they are not written";
+    Ok(Refusal {
+        stage: "externs",
+        variant: "ExternNotFound",
+        text,
+        help: Some(String::from_str(alloc, help)?),
+    })
+}
+
+/// The sentence of an error, without the name of its stage.
+fn sentence_of(
+    alloc: Global,
+    object: &Object,
+    error: &PrepareError,
+    front: &str,
+) -> Result<String, AllocError> {
+    let explained = object.explain(error);
+    let sentence = format!(in alloc; "{explained}")?;
+    let sentence = sentence.as_str();
+    let bare = sentence.strip_prefix(front).unwrap_or(sentence);
+    with_slot(alloc, bare, place_of(object, error))
+}
+
+/// Why a pass refuses an object.
+fn refusal_of(
+    alloc: Global,
+    object: &Object,
+    error: &PrepareError,
+    given: Given,
+) -> Result<Refusal, AllocError> {
+    if let Some(name) = setting_of(alloc, object, error)? {
+        return setting_refusal(alloc, name, place_of(object, error));
+    }
+    let (front, stage, variant) = stage_of(error);
+    Ok(Refusal {
+        stage,
+        variant,
+        text: sentence_of(alloc, object, error, front)?,
+        help: help_of(alloc, pass_help(object, error, given))?,
+    })
+}
+
+/// Says why a pass refuses an object, which is as it was before the pass; why the work ends.
+pub fn refuse_preparing(
+    rt: &HostRuntime,
+    words: &PrepareWords,
+    object: &Object,
+    error: &PrepareError,
+) -> Stop {
+    if is_memory(error) {
+        return Stop::Memory;
+    }
+    let given = Given {
+        types: words.btf.is_some(),
+        symbols: words.kallsyms.is_some(),
+    };
+    match refusal_of(rt.alloc(), object, error, given) {
+        Ok(refusal) => refused(rt, words.json, words.file.as_str(), &refusal, 1),
+        Err(_) => Stop::Memory,
+    }
+}

@@ -1,0 +1,81 @@
+//! Why a file is refused, in words.
+
+use crate::names::{Quoted, Shown};
+use std::alloc::{AllocError, Global};
+use std::fmt;
+
+/// The stage at which files are read, and what is asked of them is looked for.
+pub const READING: &str = "file";
+
+/// Why a file is refused.
+#[derive(Drop)]
+pub struct Refusal {
+    /// The stage that refuses: `file`, `parse`, or a pass.
+    pub stage: &'static str,
+    /// The name of the error.
+    pub variant: &'static str,
+    /// The error in a sentence.
+    pub text: String,
+    /// What one can do, where one can.
+    pub help: Option<String>,
+}
+
+/// A help of known words.
+pub fn help_of(alloc: Global, words: Option<&str>) -> Result<Option<String>, AllocError> {
+    match words {
+        Some(words) => Ok(Some(String::from_str(alloc, words)?)),
+        None => Ok(None),
+    }
+}
+
+/// A refusal of a file as people read it: one line, and one more with the help.
+#[derive(Clone, Copy)]
+pub struct RefusalLines<'a> {
+    /// The file.
+    pub path: &'a str,
+    /// Why it is refused.
+    pub refusal: &'a Refusal,
+}
+
+impl fmt::Display for RefusalLines<'_> {
+    fn fmt<W: fmt::Write>(&self, f: &mut fmt::Formatter<W>) -> fmt::Result {
+        let refusal = self.refusal;
+        let (path, text) = (Shown(self.path), Shown(refusal.text.as_str()));
+        write!(f, "ebpf: {path}: {text}")?;
+        if refusal.stage != READING {
+            write!(f, " ({}: {})", refusal.stage, refusal.variant)?;
+        }
+        let Some(help) = &refusal.help else {
+            return Ok(());
+        };
+        let help = Shown(help.as_str());
+        write!(f, "\n  help: {help}")
+    }
+}
+
+/// A refusal of a file as JSON.
+#[derive(Clone, Copy)]
+pub struct RefusalObject<'a> {
+    /// The file.
+    pub path: &'a str,
+    /// Why it is refused.
+    pub refusal: &'a Refusal,
+}
+
+impl fmt::Display for RefusalObject<'_> {
+    fn fmt<W: fmt::Write>(&self, f: &mut fmt::Formatter<W>) -> fmt::Result {
+        let refusal = self.refusal;
+        let (stage, variant) = (refusal.stage, refusal.variant);
+        let (path, text) = (Quoted(self.path), Quoted(refusal.text.as_str()));
+        write!(f, "{{\"version\":1,\"error\":{{\"file\":{path}")?;
+        write!(f, ",\"stage\":\"{stage}\",\"variant\":\"{variant}\"")?;
+        write!(f, ",\"text\":{text},\"help\":")?;
+        match &refusal.help {
+            Some(help) => {
+                let help = Quoted(help.as_str());
+                write!(f, "{help}}}}}")
+            }
+            None => write!(f, "null}}}}"),
+        }
+    }
+}
