@@ -130,20 +130,27 @@ fn made_of(
 
 /// An object with what was made of it.
 fn with_parsed(file: Vec<u8>, parsed: Object, made: Result<Made, Stop>) -> Result<Prepared, Stop> {
-    match made {
-        Ok(made) => Ok(Prepared {
-            file,
-            parsed,
-            object: made.passed.object,
-            programs: made.programs,
-            link_maps: made.passed.link_maps,
-            types: made.types,
-        }),
+    let made = match made {
+        Ok(made) => made,
         Err(stop) => {
             drop(parsed);
-            Err(stop)
+            return Err(stop);
         }
-    }
+    };
+    let Made {
+        programs,
+        passed,
+        types,
+    } = made;
+    let Passed { object, link_maps } = passed;
+    Ok(Prepared {
+        file,
+        parsed,
+        object,
+        programs,
+        link_maps,
+        types,
+    })
 }
 
 /// Reads the object's file, broadly, then the kernel's types and symbols that words give, and makes all passes over the
