@@ -5,12 +5,12 @@ import subprocess
 from pathlib import Path
 
 from checked import objdump
-from checked.objects import GLOBAL, HAS_B, LACKS_B, WEAK, Asks, Code, Refers, address, call, function, go, helper, jump, move, object_of, program, wide
+from checked.objects import GLOBAL, LACKS_B, WEAK, Asks, Code, Refers, address, call, function, go, helper, jump, move, object_of, program, wide
 from growths.inputs import KERNEL, LINES, TASKS
 from rows.btf import btf, datasec, integer, prototype, variable
 from rows.btf import function as function_type
 from rows.core_sides import EXISTS, LOAD, MOVE, OFFSET, VARIANT_VALUE, WIDE, S, enum_of
-from rows.elf import BIG, CALL_CODE, EXIT, FUNCTION, LOAD64, NOTHING, File, slot
+from rows.elf import BIG, CALL_CODE, EXIT, FUNCTION, LOAD64, File, slot
 
 TOP = Path(__file__).parents[2]
 CRATES = TOP / "crates"
@@ -28,7 +28,7 @@ FUNCTIONS = {"call": {"kprobe/p": "p", ".text": "f"}}
 
 def told(*copies, name="p"):
     """A program's lines: of each copy the name and its instructions, a wide one as a pair whose second is None."""
-    lines, place, shown = [], 0, []
+    place, shown = 0, []
     for of, *texts in copies:
         shown.append(f"<{of}>:\n")
         for text in texts:
@@ -38,7 +38,7 @@ def told(*copies, name="p"):
             if text is not None:
                 shown.append(f"{place:8}:  {text}\n")
             place += 1
-    return f"program {name} slots {place}\n" + "".join(shown) + "".join(lines)
+    return f"program {name} slots {place}\n" + "".join(shown)
 
 
 def linked(rows, name, data, out, kernel=None, kallsyms=None, words=()):
@@ -181,7 +181,6 @@ def named(rows):
 def kernels(rows):
     """What is of the kernel, there and absent."""
     types = [integer("int", 4), prototype(0), function_type("kf", 2), function_type("gone", 2), variable("var", 0), datasec(".ksyms", 3, 4, 5)]
-    code = [program(call("kf"), call("gone"), address(1, "var"), address(2, "lost"), EXIT)]
     held = {"kf": GLOBAL, "gone": WEAK, "var": GLOBAL}
     kernel = btf(integer("int", 4), prototype(0), function_type("kf", 2))
     code = [program(call("kf"), call("gone"), address(1, "var"), EXIT)]
