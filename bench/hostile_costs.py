@@ -2,6 +2,7 @@
 """Measures ebpf-link on accepted files that are made to take long: time and memory have to grow as the file does.
 
 usage: hostile_costs.py PROGRAM [--base BYTES] [--seconds N] [WORD..]     WORD: only shapes whose name has it
+       hostile_costs.py EBPF --command COMMAND ..                         the same of a command of `ebpf`
        hostile_costs.py --make SHAPE BYTES FILE                           the files of one
 
 Each shape of costs/shapes.py is made with about BYTES (262144), twice and four times as many; one that asks for the
@@ -41,14 +42,16 @@ def shapes():
     return [line.split() for line in found.stdout.splitlines()]
 
 
-def measure(program, name, is_told, words, base, seconds, folder):
+def measure(program, name, is_told, words, asked, folder):
     """The shape at all sizes."""
-    runs = []
+    runs, base = [], asked.base
+    front = [program, asked.command] if asked.command else [program]
+    words = [] if asked.command == "list" else words
     for times in TIMES:
         path = os.path.join(folder, name)
         make(name, base * times, path)
         behind = [path + ".types" if word == "@types" else word for word in words]
-        runs.append(run([program, path, *behind], seconds))
+        runs.append(run([*front, path, *behind], asked.seconds))
         if runs[-1].status != 0:
             break
     return Measured(name, runs, is_told == "told")
@@ -61,7 +64,7 @@ def measure_all(asked):
         for name, is_told, *words in shapes():
             if asked.words and not any(word in name for word in asked.words):
                 continue
-            found = measure(os.path.abspath(asked.program), name, is_told, words, asked.base, asked.seconds, folder)
+            found = measure(os.path.abspath(asked.program), name, is_told, words, asked, folder)
             print(found.line(asked.base), flush=True)
             passed += not found.faults()
             failed += bool(found.faults())
@@ -84,6 +87,7 @@ def main(words):
     parser = argparse.ArgumentParser()
     parser.add_argument("program")
     parser.add_argument("words", nargs="*")
+    parser.add_argument("--command", choices=["list", "inspect", "link"])
     parser.add_argument("--base", type=int, default=262144)
     parser.add_argument("--seconds", type=int, default=60)
     return measure_all(parser.parse_intermixed_args(words))
