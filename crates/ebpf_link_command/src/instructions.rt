@@ -34,11 +34,11 @@ fn write_target<W: Write>(out: &mut W, spot: Spot<'_>, operation: &Operation) ->
 }
 
 /// Writes an instruction.
-fn write_instruction<W: Write>(
+fn write_instruction<'a, W: Write>(
     out: &mut W,
-    origins: &Origins<'_>,
-    linked: &Linked<'_>,
-    spot: Spot<'_>,
+    origins: &Origins<'a>,
+    linked: &Linked<'a>,
+    spot: Spot<'a>,
     operation: &Operation,
 ) -> io::Result<()> {
     if let Some(named) = origins.named(linked, spot) {
@@ -58,11 +58,11 @@ fn write_note<W: Write>(out: &mut W, note: Option<&str>) -> io::Result<()> {
 }
 
 /// Writes the line of an instruction.
-fn write_slot<W: Write>(
+fn write_slot<'a, W: Write>(
     out: &mut W,
-    origins: &Origins<'_>,
-    linked: &Linked<'_>,
-    spot: Spot<'_>,
+    origins: &Origins<'a>,
+    linked: &Linked<'a>,
+    spot: Spot<'a>,
     operation: &Operation,
 ) -> io::Result<()> {
     let place = spot.place();
@@ -135,11 +135,11 @@ fn write_line<W: Write>(
 }
 
 /// Writes the instructions of a copy under its function's name.
-fn write_copy<W: Write>(
+fn write_copy<'a, W: Write>(
     out: &mut W,
-    origins: &Origins<'_>,
-    linked: &Linked<'_>,
-    copy: &CodeCopy,
+    origins: &Origins<'a>,
+    linked: &Linked<'a>,
+    copy: &'a CodeCopy,
 ) -> io::Result<()> {
     let name = Shown(copy.name.as_str());
     writeln!(out, "<{name}>:")?;
@@ -162,10 +162,10 @@ fn write_copy<W: Write>(
 }
 
 /// Writes the instructions of a program, copy by copy.
-pub fn write_instructions<W: Write>(
+pub fn write_instructions<'a, W: Write>(
     out: &mut W,
-    origins: &Origins<'_>,
-    linked: &Linked<'_>,
+    origins: &Origins<'a>,
+    linked: &Linked<'a>,
 ) -> io::Result<()> {
     for copy in linked.copies {
         write_copy(out, origins, linked, copy)?;

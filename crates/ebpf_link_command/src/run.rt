@@ -22,12 +22,12 @@ struct Manner {
 }
 
 /// Writes a program as instructions.
-fn write_linked<W: Write>(
+fn write_linked<'a, W: Write>(
     alloc: Global,
     out: &mut W,
-    origins: &Origins<'_>,
-    function: &Function,
-    map: &LinkMap,
+    origins: &Origins<'a>,
+    function: &'a Function,
+    map: &'a LinkMap,
     lines: bool,
 ) -> Result<(), Stop> {
     let linked = Linked::new(alloc, function, map, lines)?;
@@ -35,12 +35,12 @@ fn write_linked<W: Write>(
 }
 
 /// Writes the slots of a program.
-fn write_program<W: Write>(
+fn write_program<'a, W: Write>(
     alloc: Global,
     out: &mut W,
-    origins: &Origins<'_>,
-    function: &Function,
-    map: &LinkMap,
+    origins: &Origins<'a>,
+    function: &'a Function,
+    map: &'a LinkMap,
     manner: Manner,
 ) -> Result<(), Stop> {
     if manner.bytes {
@@ -63,11 +63,11 @@ fn write_name<W: Write>(
 }
 
 /// Writes the programs.
-fn write_programs<W: Write>(
+fn write_programs<'a, W: Write>(
     alloc: Global,
     out: &mut W,
-    prepared: &Prepared,
-    origins: &Origins<'_>,
+    prepared: &'a Prepared,
+    origins: &Origins<'a>,
     manner: Manner,
 ) -> Result<(), Stop> {
     let maps = prepared.link_maps.iter();
@@ -84,10 +84,10 @@ fn write_programs<W: Write>(
 }
 
 /// Writes the programs of an object, of whose slots is known where they come from.
-fn write_all(
+fn write_all<'a>(
     rt: &HostRuntime,
-    prepared: &Prepared,
-    origins: &Origins<'_>,
+    prepared: &'a Prepared,
+    origins: &Origins<'a>,
     manner: Manner,
 ) -> Result<(), Stop> {
     let alloc = rt.alloc();
@@ -98,10 +98,10 @@ fn write_all(
 }
 
 /// Writes the programs of an object; `notes` has words on the slots that records wrote.
-fn write_noted(
+fn write_noted<'a>(
     rt: &HostRuntime,
-    prepared: &Prepared,
-    notes: &RecordNotes,
+    prepared: &'a Prepared,
+    notes: &'a RecordNotes,
     manner: Manner,
 ) -> Result<(), Stop> {
     let origins = Origins::new(rt.alloc(), &prepared.object, &prepared.parsed, notes)?;
