@@ -120,11 +120,6 @@ def files():
             tiny().data(".BTF", b"\x9f\xeb").bytes(),
             "the header of .BTF or .BTF.ext is cut or has another magic, or a part of it passes the end", "BtfError", TYPES_DAMAGED,
         ),
-        "another machine": (
-            changed(text_section((0, 8)), 18, b"\x3e"),
-            'no function of section 3 ".text" is at address 0x8, where its code goes on', "UnknownSymbol",
-            "the file is for another machine than eBPF: compile with `-target bpf`",
-        ),
     }
 
 

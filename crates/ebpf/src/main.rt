@@ -1,4 +1,4 @@
-//! `ebpf`: tells on which kernels the programs of an object run.
+//! `ebpf`: what object files have, what their linked programs are, and on which kernels they run.
 #![tactic(auto)]
 
 use std::process::ExitCode;

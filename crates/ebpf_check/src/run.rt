@@ -9,8 +9,9 @@ use crate::session::{Judgement, Session};
 use crate::words::CheckWords;
 use ebpf_base::Text;
 use ebpf_report::kernel_types::read_kernel;
+use ebpf_report::object_file::read_object;
 use ebpf_report::refusal::{READING, Refusal};
-use ebpf_report::refuse::{check_names, read_given, refuse_parsing, tell};
+use ebpf_report::refuse::{check_names, refuse_parsing, tell};
 use ebpf_report::stop::Stop;
 use std::alloc::{AllocError, Global};
 use std::io::{self, BufWriter, Stdout, Write};
@@ -19,7 +20,7 @@ use std::io::{self, BufWriter, Stdout, Write};
 fn load_file(rt: &HostRuntime, words: &CheckWords) -> Result<Loaded, Stop> {
     let alloc = rt.alloc();
     let path = words.file.as_str();
-    let file = read_given(rt, words.json, path)?;
+    let file = read_object(rt, words.json, path, words.object)?;
     match load(alloc, &file, words.all) {
         Ok(loaded) => Ok(loaded),
         Err(error) => {

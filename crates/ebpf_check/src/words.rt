@@ -7,6 +7,8 @@ use ebpf_base::{Items, Text};
 pub struct CheckWords {
     /// The object's file.
     pub file: Text,
+    /// Which of the objects in the file, where it holds several.
+    pub object: Option<usize>,
     /// The kernels: files and folders.
     pub kernels: Items<Text>,
     /// The programs that count, where they are named.

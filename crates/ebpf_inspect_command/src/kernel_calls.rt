@@ -1,6 +1,6 @@
 //! The functions of the kernel that functions call.
 
-use ebpf_base::{ByKey, Text};
+use ebpf_base::{ByKey, Items, Text};
 use ebpf_model::Function;
 use ebpf_object::Object;
 use ebpf_parts::Relocation;
@@ -55,15 +55,24 @@ fn calls_of<'a>(
     Ok(names)
 }
 
+/// Copies of names.
+fn copied(alloc: Global, names: &BTreeSet<&str>) -> Result<Items<Text>, AllocError> {
+    let mut texts = Items::new(alloc);
+    for name in names.iter() {
+        texts.push(Text::from_str(alloc, name)?)?;
+    }
+    Ok(texts)
+}
+
 /// The names of the functions of the kernel that each function calls, by the functions' keys.
-pub fn kernel_calls(alloc: Global, object: &Object) -> Result<ByKey<BTreeSet<&str>>, AllocError> {
+pub fn kernel_calls(alloc: Global, object: &Object) -> Result<ByKey<Items<Text>>, AllocError> {
     let mut all = ByKey::new(alloc);
     for (key, function) in object.functions.iter() {
         let names = calls_of(alloc, object, function)?;
         if names.is_empty() {
             continue;
         }
-        all.insert(*key, names)?;
+        all.insert(*key, copied(alloc, &names)?)?;
     }
     Ok(all)
 }

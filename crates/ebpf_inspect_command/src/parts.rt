@@ -36,7 +36,7 @@ fn slots_of(map: &LinkMap) -> usize {
 /// What a program is made of.
 fn parts_of<'a>(
     alloc: Global,
-    uses: &'a FunctionUses<'_>,
+    uses: &'a FunctionUses,
     program: &'a ObjectProgram,
     map: &'a LinkMap,
 ) -> Result<ProgramParts<'a>, AllocError> {
@@ -56,7 +56,7 @@ fn parts_of<'a>(
 /// What programs are made of, in their order; `maps` has what each is linked of.
 pub fn all_parts<'a>(
     alloc: Global,
-    uses: &'a FunctionUses<'_>,
+    uses: &'a FunctionUses,
     programs: &'a [ObjectProgram],
     maps: &'a [LinkMap],
 ) -> Result<Vec<ProgramParts<'a>>, AllocError> {

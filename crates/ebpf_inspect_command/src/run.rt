@@ -13,7 +13,7 @@ fn tell_parts(
     rt: &HostRuntime,
     words: &PrepareWords,
     prepared: &Prepared,
-    uses: &FunctionUses<'_>,
+    uses: &FunctionUses,
 ) -> Result<(), Stop> {
     let alloc = rt.alloc();
     let maps = prepared.link_maps.as_slice();

@@ -1,7 +1,7 @@
 //! What linked programs use: maps, helper functions, functions of the kernel.
 
 use crate::kernel_calls::kernel_calls;
-use ebpf_base::{ByKey, Items};
+use ebpf_base::{ByKey, Items, Text};
 use ebpf_object::Object;
 use ebpf_object::relocation::CodeCopy;
 use ebpf_report::helper_calls::helpers_by_function;
@@ -11,10 +11,10 @@ use std::collections::BTreeSet;
 
 /// What the functions of an object use, by their keys.
 #[derive(Drop)]
-pub struct FunctionUses<'a> {
+pub struct FunctionUses {
     maps: ByKey<Items<MapUse>>,
     helpers: ByKey<BTreeSet<u32>>,
-    kernel_functions: ByKey<BTreeSet<&'a str>>,
+    kernel_functions: ByKey<Items<Text>>,
 }
 
 /// What a program uses.
@@ -59,20 +59,20 @@ fn add_numbers(
 /// Adds names.
 fn add_names<'a>(
     names: &mut BTreeSet<&'a str>,
-    added: Option<&BTreeSet<&'a str>>,
+    added: Option<&'a Items<Text>>,
 ) -> Result<(), AllocError> {
     let Some(added) = added else {
         return Ok(());
     };
     for name in added.iter() {
-        names.insert(*name)?;
+        names.insert(name.as_str())?;
     }
     Ok(())
 }
 
-impl<'a> FunctionUses<'a> {
+impl FunctionUses {
     /// What the functions of an object use, as it was parsed.
-    pub fn of(alloc: Global, parsed: &'a Object) -> Result<FunctionUses<'a>, AllocError> {
+    pub fn of(alloc: Global, parsed: &Object) -> Result<FunctionUses, AllocError> {
         let maps = map_uses(alloc, parsed)?;
         let helpers = helpers_by_function(alloc, parsed)?;
         let kernel_functions = kernel_calls(alloc, parsed)?;
@@ -84,18 +84,18 @@ impl<'a> FunctionUses<'a> {
     }
 
     /// Adds what the function of a key uses.
-    fn add<'b>(&'b self, uses: &mut ProgramUses<'b>, key: (usize, u64)) -> Result<(), AllocError> {
+    fn add<'a>(&'a self, uses: &mut ProgramUses<'a>, key: (usize, u64)) -> Result<(), AllocError> {
         add_maps(&mut uses.maps, self.maps.get(key))?;
         add_numbers(&mut uses.helpers, self.helpers.get(key))?;
         add_names(&mut uses.kernel_functions, self.kernel_functions.get(key))
     }
 
     /// What a program of these copies uses.
-    pub fn of_program(
-        &self,
+    pub fn of_program<'a>(
+        &'a self,
         alloc: Global,
         copies: &[CodeCopy],
-    ) -> Result<ProgramUses<'_>, AllocError> {
+    ) -> Result<ProgramUses<'a>, AllocError> {
         let mut uses = ProgramUses {
             maps: BTreeSet::new(alloc),
             helpers: BTreeSet::new(alloc),

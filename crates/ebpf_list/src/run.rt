@@ -8,7 +8,8 @@ use crate::words::ListWords;
 use ebpf_base::Items;
 use ebpf_object::Object;
 use ebpf_parts::Reading;
-use ebpf_report::refuse::{read_given, refuse_parsing};
+use ebpf_report::object_file::read_object;
+use ebpf_report::refuse::refuse_parsing;
 use ebpf_report::stop::Stop;
 use std::io::{BufWriter, Write};
 
@@ -63,7 +64,7 @@ fn list_bytes(rt: &HostRuntime, words: &ListWords, file: &[u8]) -> Result<(), St
 
 /// Does what `ebpf list` is asked, and gives the status.
 pub fn list(rt: &HostRuntime, words: &ListWords) -> Result<u8, Stop> {
-    let file = read_given(rt, words.json, words.file.as_str())?;
+    let file = read_object(rt, words.json, words.file.as_str(), words.object)?;
     list_bytes(rt, words, &file)?;
     Ok(0)
 }

@@ -23,11 +23,11 @@ fn numbered(alloc: Global, object: &Object) -> Result<Vec<(&str, i32)>, AllocErr
 }
 
 /// Whether the passes up to that of the maps can be made, with descriptors of all maps.
-fn check_maps(
+fn check_maps<'a>(
     alloc: Global,
     object: &Object,
-    types: Option<&Btf>,
-    descriptors: &[(&str, i32)],
+    types: Option<&'a Btf>,
+    descriptors: &'a [(&'a str, i32)],
 ) -> Result<(), PrepareError> {
     let steps = Steps {
         target_btf: types,
@@ -44,8 +44,25 @@ fn check_maps(
     }
 }
 
-/// An object after all passes but the last: types where the kernel's are known, descriptors of its maps where these are
-/// numbered, externs.
+/// An object after all passes but the last: types where the kernel's are known, descriptors of maps where these are given,
+/// externs.
+fn written<'a>(
+    alloc: Global,
+    object: &Object,
+    types: Option<&'a Btf>,
+    map_fds: Option<&'a [(&'a str, i32)]>,
+    symbols: &[u8],
+) -> Result<Object, PrepareError> {
+    let steps = Steps {
+        target_btf: types,
+        map_fds,
+        externs: Some(types),
+        calls: false,
+    };
+    prepare_copy(alloc, object, &steps, SymbolText(symbols))
+}
+
+/// An object after all passes but the last; with descriptors of its maps where these are numbered.
 fn write_all(
     alloc: Global,
     object: &Object,
@@ -54,20 +71,13 @@ fn write_all(
 ) -> Result<Object, PrepareError> {
     let types = kernel.types.as_ref();
     let descriptors = numbered(alloc, object)?;
-    let map_fds = match map_slots {
-        MapSlots::Numbered => Some(descriptors.as_slice()),
+    match map_slots {
+        MapSlots::Numbered => written(alloc, object, types, Some(&descriptors), &kernel.symbols),
         MapSlots::Left => {
             check_maps(alloc, object, types, &descriptors)?;
-            None
+            written(alloc, object, types, None, &kernel.symbols)
         }
-    };
-    let steps = Steps {
-        target_btf: types,
-        map_fds,
-        externs: Some(types),
-        calls: false,
-    };
-    prepare_copy(alloc, object, &steps, SymbolText(&kernel.symbols))
+    }
 }
 
 /// What a program is made of once it is linked.

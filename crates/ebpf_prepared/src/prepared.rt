@@ -10,8 +10,9 @@ use ebpf_btf::Btf;
 use ebpf_object::Object;
 use ebpf_object::relocation::LinkMap;
 use ebpf_parts::Reading;
+use ebpf_report::object_file::read_object;
 use ebpf_report::programs::{ObjectProgram, object_programs};
-use ebpf_report::refuse::{check_names, read_given, refuse_parsing};
+use ebpf_report::refuse::{check_names, refuse_parsing};
 use ebpf_report::stop::Stop;
 use std::alloc::{AllocError, Global};
 
@@ -129,20 +130,27 @@ fn made_of(
 
 /// An object with what was made of it.
 fn with_parsed(file: Vec<u8>, parsed: Object, made: Result<Made, Stop>) -> Result<Prepared, Stop> {
-    match made {
-        Ok(made) => Ok(Prepared {
-            file,
-            parsed,
-            object: made.passed.object,
-            programs: made.programs,
-            link_maps: made.passed.link_maps,
-            types: made.types,
-        }),
+    let made = match made {
+        Ok(made) => made,
         Err(stop) => {
             drop(parsed);
-            Err(stop)
+            return Err(stop);
         }
-    }
+    };
+    let Made {
+        programs,
+        passed,
+        types,
+    } = made;
+    let Passed { object, link_maps } = passed;
+    Ok(Prepared {
+        file,
+        parsed,
+        object,
+        programs,
+        link_maps,
+        types,
+    })
 }
 
 /// Reads the object's file, broadly, then the kernel's types and symbols that words give, and makes all passes over the
@@ -153,7 +161,7 @@ pub fn prepare_file(
     words: &PrepareWords,
     map_slots: MapSlots,
 ) -> Result<Prepared, Stop> {
-    let file = read_given(rt, words.json, words.file.as_str())?;
+    let file = read_object(rt, words.json, words.file.as_str(), words.object)?;
     let parsed = parsed(rt, words, &file)?;
     let made = made_of(rt, words, &file, &parsed, map_slots);
     with_parsed(file, parsed, made)

@@ -7,6 +7,8 @@ use ebpf_base::{Items, Text};
 pub struct PrepareWords {
     /// The object's file.
     pub file: Text,
+    /// Which of the objects in the file, where it holds several.
+    pub object: Option<usize>,
     /// The file with the kernel's types: raw ones, or an ELF file with a section `.BTF`.
     pub btf: Option<Text>,
     /// The file with the kernel's symbols, as /proc/kallsyms.

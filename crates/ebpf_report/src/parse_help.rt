@@ -4,22 +4,6 @@ use ebpf_btf::BtfError;
 use ebpf_elf::ElfReadError;
 use ebpf_parts::ParseError;
 
-/// The machine of eBPF code in an ELF file's header.
-const EBPF: u16 = 247;
-
-/// Whether an ELF file is for another machine. One of none counts as eBPF.
-fn is_of_other_machine(file: &[u8]) -> bool {
-    let (Some(order), Some(low), Some(high)) = (file.get(5), file.get(18), file.get(19)) else {
-        return false;
-    };
-    let machine = if *order == 2 {
-        u16::from_be_bytes([*low, *high])
-    } else {
-        u16::from_le_bytes([*low, *high])
-    };
-    machine != 0 && machine != EBPF
-}
-
 /// What one can do about a file whose tables can't be read.
 fn elf_help(error: &ElfReadError) -> &'static str {
     match error {
@@ -69,7 +53,7 @@ pub fn types_help(error: &BtfError) -> Option<&'static str> {
 }
 
 /// What one can do about a file that can't be parsed, by the error alone.
-fn error_help(error: &ParseError) -> Option<&'static str> {
+pub fn parse_help(error: &ParseError) -> Option<&'static str> {
     match error {
         ParseError::ElfError(error) | ParseError::SectionError { error, .. } => {
             Some(elf_help(error))
@@ -106,12 +90,4 @@ fn error_help(error: &ParseError) -> Option<&'static str> {
         | ParseError::MapSymbolNameNotFound { .. }
         | ParseError::OutOfMemory => None,
     }
-}
-
-/// What one can do about a file that can't be parsed.
-pub fn parse_help(file: &[u8], error: &ParseError) -> Option<&'static str> {
-    if !matches!(error, ParseError::ElfError(_)) && is_of_other_machine(file) {
-        return Some("the file is for another machine than eBPF: compile with `-target bpf`");
-    }
-    error_help(error)
 }

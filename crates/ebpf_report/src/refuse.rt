@@ -88,7 +88,7 @@ fn unparsed(alloc: Global, file: &[u8], error: &ParseError) -> Result<Refusal, A
         stage: "parse",
         variant: variant_of_parsing(error),
         text: format!(in alloc; "{explained}")?,
-        help: help_of(alloc, parse_help(file, error))?,
+        help: help_of(alloc, parse_help(error))?,
     })
 }
 

@@ -6,7 +6,7 @@ pub const USAGE: &str =
 
 /// The usage line of `ebpf check`.
 pub const CHECK_USAGE: &str =
-    "usage: ebpf check FILE [KERNEL ..] [--program NAME ..] [--all] [--json]";
+    "usage: ebpf check FILE [KERNEL ..] [--object N] [--program NAME ..] [--all] [--json]";
 
 /// What `ebpf --help` prints.
 pub const HELP: &str = "usage: ebpf COMMAND ..
@@ -24,7 +24,8 @@ pub const CHECK_HELP: &str = "
 Tells on which kernels the programs of an eBPF object file break, and why: which
 fields, types and enumerators they need that a kernel lacks.
 
-  FILE            an object file, as clang makes it
+  FILE            an object file, as clang makes it, or a program that holds one
+  --object N      of the objects that FILE holds, this one
   KERNEL          a kernel's types: raw BTF, an ELF file with a section .BTF, or a
                   folder of such files; /sys/kernel/btf/vmlinux where none is named
   --program NAME  looks at this program; may be repeated
@@ -37,7 +38,7 @@ Status: 0 each program runs on each kernel; 1 one breaks, or FILE is refused;
 2 for other words, and where a file or a kernel's types can't be read.";
 
 /// The usage line of `ebpf list`.
-pub const LIST_USAGE: &str = "usage: ebpf list FILE [--json]";
+pub const LIST_USAGE: &str = "usage: ebpf list FILE [--object N] [--json]";
 
 /// What `ebpf list --help` prints behind the usage line.
 pub const LIST_HELP: &str = "
@@ -46,7 +47,8 @@ linking, its maps, the helper functions that its programs call, its externs, the
 values that it wants of the kernel's configuration, its CO-RE records, and the
 functions that no program reaches.
 
-  FILE            an object file, as clang makes it
+  FILE            an object file, as clang makes it, or a program that holds one
+  --object N      of the objects that FILE holds, this one
   -j, --json      prints JSON
   -h, --help      prints this
   -V, --version   prints the version
@@ -55,7 +57,7 @@ Status: 0; 1 where FILE is refused; 2 for other words, and where it can't be rea
 
 /// The usage line of `ebpf inspect`.
 pub const INSPECT_USAGE: &str =
-    "usage: ebpf inspect FILE [--btf FILE] [--kallsyms FILE] [--program NAME ..] [--json]";
+    "usage: ebpf inspect FILE [--object N] [--btf FILE] [--kallsyms FILE] [--program NAME ..] [--json]";
 
 /// What `ebpf inspect --help` prints behind the usage line.
 pub const INSPECT_HELP: &str = "
@@ -64,7 +66,8 @@ the functions that they reach: the copies of functions, the references between t
 the maps, helper functions and kernel functions that they use, and how far they are
 from the kernel's limits.
 
-  FILE             an object file, as clang makes it
+  FILE             an object file, as clang makes it, or a program that holds one
+  --object N       of the objects that FILE holds, this one
   --btf FILE       the kernel's types: raw BTF, or an ELF file with a section .BTF
   --kallsyms FILE  the kernel's symbols, as /proc/kallsyms
   --program NAME   tells of this program; may be repeated
@@ -77,7 +80,7 @@ and where a file can't be read.";
 
 /// The usage line of `ebpf link`.
 pub const LINK_USAGE: &str =
-    "usage: ebpf link FILE [--btf FILE] [--kallsyms FILE] [--program NAME ..] [--bytes] [--lines]";
+    "usage: ebpf link FILE [--object N] [--btf FILE] [--kallsyms FILE] [--program NAME ..] [--bytes] [--lines]";
 
 /// What `ebpf link --help` prints behind the usage line.
 pub const LINK_HELP: &str = "
@@ -85,7 +88,8 @@ Prints the finished programs of an eBPF object file as instructions: each linked
 the functions that it reaches, with the types, maps and externs of a kernel written,
 calls and loads by name, and what CO-RE records wrote.
 
-  FILE             an object file, as clang makes it
+  FILE             an object file, as clang makes it, or a program that holds one
+  --object N       of the objects that FILE holds, this one
   --btf FILE       the kernel's types: raw BTF, or an ELF file with a section .BTF
   --kallsyms FILE  the kernel's symbols, as /proc/kallsyms
   --program NAME   prints this program; may be repeated

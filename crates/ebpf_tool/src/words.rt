@@ -54,6 +54,9 @@ pub enum WordsError<'a> {
     /// An option that is given once has a second value.
     #[error("{0} is given twice")]
     SecondValue(&'a str),
+    /// An option has a value that is no number.
+    #[error("{name} takes a number, and not {value}")]
+    NoNumber { name: &'a str, value: &'a str },
     /// No file is named.
     #[error("no FILE")]
     NoFile,
@@ -97,6 +100,7 @@ impl Verb {
 #[derive(Clone, Copy)]
 enum Choice {
     Program,
+    Object,
     Btf,
     Kallsyms,
     All,
@@ -111,6 +115,7 @@ enum Choice {
 fn choice_of(verb: Verb, name: &str) -> Option<Choice> {
     match name {
         "--program" if verb != Verb::List => Some(Choice::Program),
+        "--object" => Some(Choice::Object),
         "--btf" if verb.links() => Some(Choice::Btf),
         "--kallsyms" if verb.links() => Some(Choice::Kallsyms),
         "--all" if verb == Verb::Check => Some(Choice::All),
@@ -144,6 +149,7 @@ fn parted(word: &str) -> (&str, Option<&str>) {
 struct Options<'a> {
     files: Vec<&'a str>,
     programs: Vec<&'a str>,
+    object: Option<usize>,
     btf: Option<&'a str>,
     kallsyms: Option<&'a str>,
     all: bool,
@@ -171,9 +177,20 @@ fn copy(alloc: Global, word: Option<&str>) -> Result<Option<Text>, AllocError> {
     }
 }
 
+/// The number that is an option's value.
+fn number_of<'a>(name: &'a str, value: &'a str) -> Result<usize, WordsError<'a>> {
+    match value.parse() {
+        Ok(number) => Ok(number),
+        Err(_) => Err(WordsError::NoNumber { name, value }),
+    }
+}
+
 /// Whether an option has a value.
 fn has_value(choice: Choice) -> bool {
-    matches!(choice, Choice::Program | Choice::Btf | Choice::Kallsyms)
+    matches!(
+        choice,
+        Choice::Program | Choice::Object | Choice::Btf | Choice::Kallsyms
+    )
 }
 
 impl<'a> Options<'a> {
@@ -181,6 +198,7 @@ impl<'a> Options<'a> {
         Options {
             files: Vec::new(alloc),
             programs: Vec::new(alloc),
+            object: None,
             btf: None,
             kallsyms: None,
             all: false,
@@ -201,7 +219,7 @@ impl<'a> Options<'a> {
             Choice::Json => self.json = true,
             Choice::Help => self.help = true,
             Choice::Version => self.version = true,
-            Choice::Program | Choice::Btf | Choice::Kallsyms => {}
+            Choice::Program | Choice::Object | Choice::Btf | Choice::Kallsyms => {}
         }
     }
 
@@ -214,6 +232,7 @@ impl<'a> Options<'a> {
     ) -> Result<(), WordsError<'a>> {
         match choice {
             Choice::Program => self.programs.push(value)?,
+            Choice::Object if self.object.is_none() => self.object = Some(number_of(name, value)?),
             Choice::Btf if self.btf.is_none() => self.btf = Some(value),
             Choice::Kallsyms if self.kallsyms.is_none() => self.kallsyms = Some(value),
             _ => return Err(WordsError::SecondValue(name)),
@@ -239,6 +258,7 @@ impl<'a> Options<'a> {
         };
         Ok(Command::Check(CheckWords {
             file: Text::from_str(alloc, file)?,
+            object: self.object,
             kernels: copies(alloc, kernels)?,
             programs: copies(alloc, &self.programs)?,
             all: self.all,
@@ -251,6 +271,7 @@ impl<'a> Options<'a> {
         let file = self.one_file()?;
         Ok(Command::List(ListWords {
             file: Text::from_str(alloc, file)?,
+            object: self.object,
             json: self.json,
         }))
     }
@@ -260,6 +281,7 @@ impl<'a> Options<'a> {
         let file = self.one_file()?;
         Ok(PrepareWords {
             file: Text::from_str(alloc, file)?,
+            object: self.object,
             btf: copy(alloc, self.btf)?,
             kallsyms: copy(alloc, self.kallsyms)?,
             programs: copies(alloc, &self.programs)?,
