@@ -48,7 +48,7 @@ fn add_records(
     all: bool,
 ) -> Result<(), AllocError> {
     for relocation in relocations {
-        let own = own_value(alloc, local, relocation, all);
+        let own = own_value(alloc, local, relocation, all)?;
         records.push(Record {
             relocation: *relocation,
             own,

@@ -3,9 +3,9 @@
 use ebpf_btf::{Btf, BtfKind};
 use ebpf_core::{NamedPath, local_path};
 use ebpf_ext::{Relocation, RelocationKind};
-use ebpf_origins::answers::own_value_of;
+use ebpf_origins::answers::{no_answer, own_value_of};
 use ebpf_places::{Place, PlaceEnd};
-use std::alloc::Global;
+use std::alloc::{AllocError, Global};
 
 /// The id of the type of the member with a number.
 fn member_type(local: &Btf, parent: u32, index: usize) -> Option<u32> {
@@ -62,10 +62,20 @@ fn is_told(local: &Btf, relocation: &Relocation, path: &NamedPath, all: bool) ->
 }
 
 /// The value that the object's own types give a record, where another one is told. None where they give none.
-pub fn own_value(alloc: Global, local: &Btf, relocation: &Relocation, all: bool) -> Option<u64> {
-    let path = local_path(alloc, local, relocation).ok()?;
-    if !is_told(local, relocation, &path.path, all) {
-        return None;
+pub fn own_value(
+    alloc: Global,
+    local: &Btf,
+    relocation: &Relocation,
+    all: bool,
+) -> Result<Option<u64>, AllocError> {
+    match local_path(alloc, local, relocation) {
+        Ok(path) if is_told(local, relocation, &path.path, all) => {
+            own_value_of(alloc, local, relocation, &path)
+        }
+        Ok(_) => Ok(None),
+        Err(error) => {
+            no_answer(error)?;
+            Ok(None)
+        }
     }
-    own_value_of(alloc, local, relocation, &path)
 }

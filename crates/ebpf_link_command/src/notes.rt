@@ -38,7 +38,7 @@ fn written_words(
 ) -> Result<String, AllocError> {
     let is_signed = has_sign(local, relocation);
     let written = value_words(alloc, is_signed, value)?;
-    let Some(own) = own_value(alloc, local, relocation) else {
+    let Some(own) = own_value(alloc, local, relocation)? else {
         return Ok(written);
     };
     let own = value_words(alloc, is_signed, own)?;

@@ -1,10 +1,10 @@
 //! What types answer to records.
 
 use ebpf_btf::{Btf, BtfKind};
-use ebpf_core::{LocalPath, local_path, outcome_among};
+use ebpf_core::{LocalPath, RelocationError, local_path, outcome_among};
 use ebpf_core_relo::Absence;
 use ebpf_ext::{Relocation, RelocationKind};
-use std::alloc::Global;
+use std::alloc::{AllocError, Global};
 
 /// Why a record has no value, in words.
 pub fn absence_words(absence: Absence) -> &'static str {
@@ -30,20 +30,41 @@ pub fn has_sign(local: &Btf, relocation: &Relocation) -> bool {
     ty.is_signed() || ty.kind() != BtfKind::Enum64
 }
 
+/// A refusal that leaves no answer. Want of memory is none of these.
+pub fn no_answer(error: RelocationError) -> Result<(), AllocError> {
+    let is_memory = matches!(error, RelocationError::OutOfMemory);
+    drop(error);
+    if is_memory { Err(AllocError) } else { Ok(()) }
+}
+
 /// The value that the object's own types give a record with a path. None where they give none.
 pub fn own_value_of(
     alloc: Global,
     local: &Btf,
     relocation: &Relocation,
     path: &LocalPath,
-) -> Option<u64> {
+) -> Result<Option<u64>, AllocError> {
     let itself = [relocation.type_id];
-    let outcome = outcome_among(alloc, local, local, relocation, path, &itself).ok()?;
-    outcome.value
+    match outcome_among(alloc, local, local, relocation, path, &itself) {
+        Ok(outcome) => Ok(outcome.value),
+        Err(error) => {
+            no_answer(error)?;
+            Ok(None)
+        }
+    }
 }
 
 /// The value that the object's own types give a record. None where they give none.
-pub fn own_value(alloc: Global, local: &Btf, relocation: &Relocation) -> Option<u64> {
-    let path = local_path(alloc, local, relocation).ok()?;
-    own_value_of(alloc, local, relocation, &path)
+pub fn own_value(
+    alloc: Global,
+    local: &Btf,
+    relocation: &Relocation,
+) -> Result<Option<u64>, AllocError> {
+    match local_path(alloc, local, relocation) {
+        Ok(path) => own_value_of(alloc, local, relocation, &path),
+        Err(error) => {
+            no_answer(error)?;
+            Ok(None)
+        }
+    }
 }

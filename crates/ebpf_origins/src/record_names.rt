@@ -1,5 +1,6 @@
 //! What records are about, as libbpf's log names it.
 
+use crate::answers::no_answer;
 use ebpf_btf::Btf;
 use ebpf_core::{NamedPath, local_path};
 use ebpf_ext::Relocation;
@@ -36,6 +37,18 @@ fn add_access(name: &mut String, local: &Btf, relocation: &Relocation) -> Result
     name.push_str(access.as_str())
 }
 
+/// Adds what a record asks of its type: the field or the enumerator.
+fn add_path(alloc: Global, name: &mut String, path: &NamedPath) -> Result<(), AllocError> {
+    match path {
+        NamedPath::WholeType => Ok(()),
+        NamedPath::Variant { name: variant } => {
+            name.push_str(".")?;
+            name.push_str(variant.as_str())
+        }
+        NamedPath::Field { steps, .. } => add_steps(alloc, name, steps.as_slice()),
+    }
+}
+
 /// What a record is about: its local type, and the field or enumerator in it, as `struct task_struct.se.cfs_rq`.
 pub fn record_name(
     alloc: Global,
@@ -44,17 +57,12 @@ pub fn record_name(
 ) -> Result<String, AllocError> {
     let mut name = String::new(alloc);
     add_type(&mut name, local, relocation.type_id)?;
-    let Ok(path) = local_path(alloc, local, relocation) else {
-        add_access(&mut name, local, relocation)?;
-        return Ok(name);
-    };
-    match &path.path {
-        NamedPath::WholeType => {}
-        NamedPath::Variant { name: variant } => {
-            name.push_str(".")?;
-            name.push_str(variant.as_str())?;
+    match local_path(alloc, local, relocation) {
+        Ok(path) => add_path(alloc, &mut name, &path.path)?,
+        Err(error) => {
+            no_answer(error)?;
+            add_access(&mut name, local, relocation)?;
         }
-        NamedPath::Field { steps, .. } => add_steps(alloc, &mut name, steps.as_slice())?,
     }
     Ok(name)
 }

@@ -12,6 +12,7 @@ use ebpf_list::list;
 use ebpf_report::files::gather_words;
 use ebpf_report::names::Shown;
 use ebpf_report::stop::{Stop, stopped};
+use std::io::ErrorKind;
 use std::process::ExitCode;
 
 /// The usage line of the command that words begin with.
@@ -67,6 +68,14 @@ fn obey(rt: &HostRuntime, command: &Command) -> Result<u8, Stop> {
     }
 }
 
+/// Why the work ends: an output without memory for what is written is want of memory too.
+fn of_memory(stop: Stop) -> Stop {
+    match stop {
+        Stop::Output(error) if matches!(error.kind(), ErrorKind::OutOfMemory) => Stop::Memory,
+        other => other,
+    }
+}
+
 /// Runs `ebpf`: reads the words of its command line, does what they ask and gives the status.
 pub fn start(rt: &HostRuntime) -> ExitCode {
     let words = match gather_words(rt) {
@@ -78,10 +87,11 @@ pub fn start(rt: &HostRuntime) -> ExitCode {
     };
     let done = match read_words(rt.alloc(), &words) {
         Ok(command) => obey(rt, &command),
+        Err(WordsError::OutOfMemory) => Err(Stop::Memory),
         Err(error) => usage(rt, &words, &error),
     };
     match done {
         Ok(status) => ExitCode::from(status),
-        Err(stop) => ExitCode::from(stopped(rt, stop)),
+        Err(stop) => ExitCode::from(stopped(rt, of_memory(stop))),
     }
 }
