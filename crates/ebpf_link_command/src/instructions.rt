@@ -38,7 +38,7 @@ fn write_instruction<'a, W: Write>(
     out: &mut W,
     origins: &Origins<'a>,
     linked: &Linked<'a>,
-    spot: Spot<'a>,
+    spot: Spot<'_>,
     operation: &Operation,
 ) -> io::Result<()> {
     if let Some(named) = origins.named(linked, spot) {
@@ -62,7 +62,7 @@ fn write_slot<'a, W: Write>(
     out: &mut W,
     origins: &Origins<'a>,
     linked: &Linked<'a>,
-    spot: Spot<'a>,
+    spot: Spot<'_>,
     operation: &Operation,
 ) -> io::Result<()> {
     let place = spot.place();
