@@ -1,1 +1,1 @@
-mod CoversFirst
+mod EnclosesFirst

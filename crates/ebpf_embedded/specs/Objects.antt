@@ -25,21 +25,21 @@ abbrev pub stated_end : SectionHeader → ℕ
 stated_end s = if s.sh_type == SHT_NOBITS then 0 else s.sh_offset + s.sh_size
 
 -- where a section ends whose header stands at an offset of the bytes, at most with them; 0 where the header isn't inside
-abbrev pub section_end : List ℕ → ℕ → ℕ
-section_end bytes offset =
+abbrev pub section_data_end : List ℕ → ℕ → ℕ
+section_data_end bytes offset =
     if nat_le (offset + 64) (length bytes) then within (stated_end (header_at (ei_data bytes) bytes offset)) (length bytes) else 0
 
 -- nothing that belongs to the object which the bytes begin with ends behind this place: its header, its section headers, its
 -- sections
-pub record Covers (bytes : List ℕ) (end : ℕ) : Type 0 where
+pub record Encloses (bytes : List ℕ) (end : ℕ) : Type 0 where
   pub header : 64 ≤ end
   pub section_headers : within (e_shoff bytes + 64 * e_shnum bytes) (length bytes) ≤ end
-  pub sections : (i : ℕ) → i < e_shnum bytes → section_end bytes (e_shoff bytes + 64 * i) ≤ end
+  pub sections : (i : ℕ) → i < e_shnum bytes → section_data_end bytes (e_shoff bytes + 64 * i) ≤ end
 
 -- the least such place
 pub record IsEnd (bytes : List ℕ) (end : ℕ) : Type 0 where
-  pub covers : Covers bytes end
-  pub least : (other : ℕ) → Covers bytes other → end ≤ other
+  pub covers : Encloses bytes end
+  pub least : (other : ℕ) → Encloses bytes other → end ≤ other
 
 -- no object begins at a place of the file or behind it
 abbrev pub HasNone : List ℕ → ℕ → Type 0

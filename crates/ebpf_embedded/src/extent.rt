@@ -2,7 +2,7 @@
 
 ghost use Rattle.std.specs.Prelude.{◌≡◌, ◌+◌, ◌*◌, ◌<◌, ◌≤◌, length};
 ghost use Rattle.ebpf_elf.specs.File.{ei_data, e_shoff, e_shnum};
-ghost use Rattle.ebpf_embedded.specs.Objects.{IsEnd, section_end, within};
+ghost use Rattle.ebpf_embedded.specs.Objects.{IsEnd, section_data_end, within};
 
 use crate::header::{HEADER_SIZE, order_of};
 use ebpf_base::Endianness;
@@ -24,7 +24,7 @@ fn sum_within(first: usize, second: usize, limit: usize) -> usize
 #[tactic(auto, unfolding(ebpf_elf::specs::File::ei_data, ebpf_elf::specs::Headers::header_at))]
 fn section_end_at(order: Endianness, bytes: &[u8], offset: usize) -> usize
     requires order { order ≡ ei_data bytes.now }
-    ensures end { result ≡ section_end bytes.now offset }
+    ensures end { result ≡ section_data_end bytes.now offset }
     ensures inside { result ≤ length bytes.now }
 {
     if offset > bytes.len() || bytes.len() - offset < HEADER_SIZE {

@@ -1,13 +1,13 @@
 use Rattle.std.proofs.Common.{rules, ◌≡◌, ◌+◌, ◌*◌, ◌<◌, arith}
 use borrow.Author.Count.{below_more}
 use Rattle.ebpf_elf.specs.File.{e_shoff, e_shnum}
-use Rattle.ebpf_embedded.specs.Objects.{section_end}
+use Rattle.ebpf_embedded.specs.Objects.{section_data_end}
 use Rattle.ebpf_embedded.proofs.extent.object_length.Goals as goal
 
 pub loop-index-preserved : goal.loop-index-preserved
 unfolding e_shoff e_shnum
 loop-index-preserved c =
-    let this : c.section_end_at.result ≡ section_end c.args.bytes.now (e_shoff c.args.bytes.now + 64 * c.loop-index.index) = search rules in
+    let this : c.section_end_at.result ≡ section_data_end c.args.bytes.now (e_shoff c.args.bytes.now + 64 * c.loop-index.index) = search rules in
     record {
       inside = omega arith;
       covers = record {
