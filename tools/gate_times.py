@@ -4,9 +4,9 @@ by phase, and the processor seconds of each part of the command. It looks at the
 what it tells is what the gate itself does, to some tenths of a second for each process.
 
 The phases: reading libraries (a check of an empty crate over the same libraries, run behind the command, which is part of
-each other column), the proof, the tests (their proof, and compiling them), the second proof that the edits begin from, the
-other edits and the check behind them, the program as LLVM and as Rattle's own compiler build it.
-usage: gate_times.py [--edits] [--out FILE] [COMMAND ..]     --edits: also a line for each edit
+each other column), the proof, the tests (their proof, and compiling them), the edits (the functions that they turn and
+what these call), the library for C, the program as LLVM and as Rattle's own compiler build it.
+usage: gate_times.py [--out FILE] [COMMAND ..]
 """
 import argparse
 import os
@@ -25,7 +25,7 @@ CRATES = TOP / "crates"
 TICKS = os.sysconf("SC_CLK_TCK")
 PAGE = os.sysconf("SC_PAGE_SIZE")
 PAUSE = 0.15
-PHASES = ("reading", "proof", "tests", "second proof", "edits", "LLVM", "Rattle")
+PHASES = ("reading", "proof", "tests", "edits", "library for C", "LLVM", "Rattle")
 
 
 @dataclass
@@ -86,38 +86,32 @@ def look(seen, parts, command):
 
 
 def phase_of(it):
-    """The phase that a process of the prover belongs to; the edits are told apart later."""
-    if "/rt-edit-" in it.folder:
+    """The phase that a process of the prover belongs to."""
+    if f"/{it.after('--crate-name')}-edits-" in it.folder:
         return "edits"
     if "--test" in it.words:
         return "tests"
+    if it.after("--crate-type") == "staticlib" and it.after("-o") and not it.words[-1].endswith(".rlib"):
+        return "library for C"
     if it.words[1] == "build" and "--crate-checked" in it.words:
         return "Rattle" if it.after("--backend") == "rattle" else "LLVM"
     return "proof"
 
 
 def by_crate(seen):
-    """Seconds and most memory by crate and phase, when its proof began and ended, and the edits' own seconds."""
-    seconds, most, spans, edits = defaultdict(lambda: defaultdict(float)), defaultdict(lambda: defaultdict(int)), {}, {}
-    tried = defaultdict(list)
+    """Seconds and most memory by crate and phase, and when its proof began and ended."""
+    seconds, most, spans = defaultdict(lambda: defaultdict(float)), defaultdict(lambda: defaultdict(int)), {}
     for it in sorted(seen.values(), key=lambda it: it.began):
         # The quick tests have the sources of libraries read, and prove nothing.
         if "--lib" in it.words:
             continue
         name, phase = it.after("--crate-name"), phase_of(it)
         most[name][phase] = max(most[name][phase], it.most)
-        if phase == "edits":
-            tried[name].append(it.seconds)
-            continue
         seconds[name][phase] += it.seconds
         if phase == "proof":
             began, ended = spans.get(name, (it.began, it.ended))
             spans[name] = (min(began, it.began), max(ended, it.ended))
-    for name, each in tried.items():
-        seconds[name]["second proof"], seconds[name]["edits"] = each[0], sum(each[1:])
-        labels = sorted(edit.stem for edit in (CRATES / name / "must-fail").glob("*.edit")) + ["(none: still proved)"]
-        edits[name] = list(zip(labels, each))
-    return seconds, most, spans, edits
+    return seconds, most, spans
 
 
 def libraries_of():
@@ -185,16 +179,16 @@ def table(seconds, reading):
 
 def memory_table(most):
     """The lines of the table of memory."""
-    phases = [phase for phase in PHASES if phase not in ("reading", "second proof")]
+    phases = [phase for phase in PHASES if phase != "reading"]
     yield "| crate, MB | " + " | ".join(phases) + " |"
     yield "|---" * (len(phases) + 1) + "|"
     for name in sorted(most, key=lambda it: -max(most[it].values())):
         yield f"| `{name}` | " + " | ".join(f"{most[name][phase] // 1_000_000}" if most[name][phase] else "" for phase in phases) + " |"
 
 
-def report(seen, parts, whole, shows_edits):
+def report(seen, parts, whole):
     """The lines of the report: crates, parts, the longest chain. The whole is the command's line of the table of parts."""
-    seconds, most, spans, edits = by_crate(seen)
+    seconds, most, spans = by_crate(seen)
     yield from table(seconds, reading_seconds(seen))
     yield ""
     yield from memory_table(most)
@@ -208,15 +202,10 @@ def report(seen, parts, whole, shows_edits):
     took, crates = chain(spans, libraries_of())
     yield ""
     yield f"The longest chain of proofs: {took / 60:.1f} minutes: " + ", ".join(f"{name} {each:.0f}" for name, each in crates) + " (seconds by the clock)."
-    if shows_edits:
-        yield ""
-        for name, tried in edits.items():
-            yield from (f"{name}/{edit}: {each:.1f}" for edit, each in tried)
 
 
 def main():
     words = argparse.ArgumentParser(usage=__doc__.rpartition("usage: ")[2])
-    words.add_argument("--edits", action="store_true")
     words.add_argument("--out")
     words.add_argument("command", nargs=argparse.REMAINDER)
     given = words.parse_args()
@@ -227,7 +216,7 @@ def main():
         time.sleep(PAUSE)
     used, status = resource.getrusage(resource.RUSAGE_CHILDREN), running.returncode
     whole = f"| all, status {status} | {(used.ru_utime + used.ru_stime) / 60:.1f} | {(time.time() - began) / 60:.1f} |"
-    text = "\n".join(report(seen, parts, whole, given.edits)) + "\n"
+    text = "\n".join(report(seen, parts, whole)) + "\n"
     if given.out:
         Path(given.out).write_text(text)
     print(text, end="")

@@ -1,24 +1,33 @@
 #!/usr/bin/env python3
-"""Tries the edits of crates/NAME/more-edits: the prover must refuse each. They are edits as those of crates/NAME/must-fail,
-which the gate tries; it leaves these out for the time that they take. Where all of a crate are refused, and nothing of it
-is uncommitted, docs/more-edits.tsv keeps the commit. Ends with 'N passed, M failed'.
+"""Tries edits of crates/NAME/more-edits, or with --gate of crates/NAME/gate-edits, which `.ci/run` tries: the prover must
+refuse each. Where all of a crate's more-edits are refused, and nothing of it is uncommitted, docs/more-edits.tsv keeps the
+commit. Ends with 'N passed, M failed'.
 
-Edits of different functions are tried together, in one check of the crate: a function is proved from its own body and the
-contracts of what it calls, so that it is refused for its own edit alone, and the check names each function that isn't
-proved and why. What isn't told apart so (an edit outside functions, one that shows in another function) is tried by itself.
-While an edit is tried it stands in the crate's own files, which are put back at the end, however it ends.
+An edit is a file with a line 'file: src/lib.rt' (or another of src/, specs/ or proofs/) and then pairs of lines 'old: TEXT'
+and 'new: TEXT'; each TEXT of 'old:' stands in that file exactly once.
+
+Edits of different functions are tried together, in one check of these functions and what they call: a function is proved
+from its own body and the contracts of what it calls, so that it is refused for its own edit alone, and the check names each
+function that isn't proved and why. What isn't told apart so (an edit outside functions, one that shows in another function)
+is tried by itself, in a check of the whole crate. An edit stands in a copy of the crate, over the libraries below it as they
+are built; where one isn't, `rt check` builds it.
 """
 import argparse
 import re
-import signal
+import shutil
 import subprocess
 import sys
+import tempfile
 import time
+from concurrent.futures import ThreadPoolExecutor
 from dataclasses import dataclass
 from pathlib import Path
 
+import over_libraries
+
 TOP = Path(__file__).parents[1]
 KEPT = TOP / "docs/more-edits.tsv"
+KINDS = ("gate-edits", "more-edits")
 HEAD = re.compile(r"(?m)^( *)(?:pub(?:\([^)]*\))? )?(?:const )?(?:unsafe )?(?:extern \"C\" )?fn (\w+)")
 
 
@@ -33,11 +42,17 @@ class Pair:
 
 @dataclass(frozen=True)
 class Body:
-    """The function around a place of a file: its module's path, the type whose method it is, and its name."""
+    """The function around a place of a file: its module's path; of a method the type, and the trait where it is one's; its
+    name."""
 
     module: str
     owner: str
+    of_trait: str
     name: str
+
+    def path(self, crate):
+        """The name by which a check tells of it."""
+        return "::".join(it for it in (crate, self.module, self.owner + self.of_trait, self.name) if it)
 
 
 def pairs_of(edit):
@@ -54,17 +69,24 @@ def pairs_of(edit):
     return pairs
 
 
-def owner_of(text, at):
-    """The type that the `impl` around a place is for, as its name alone."""
-    heads = re.findall(r"(?m)^impl\b(.*)", text[:at])
-    bare = heads[-1] if heads else ""
-    while "<" in bare:
-        shorter = re.sub(r"<[^<>]*>", "", bare.replace("->", ""))
-        if shorter == bare:
+def bare(text):
+    """A type without its parameters."""
+    while "<" in text:
+        shorter = re.sub(r"<[^<>]*>", "", text.replace("->", ""))
+        if shorter == text:
             break
-        bare = shorter
-    words = re.findall(r"\w+", bare.split(" where ")[0])
-    return words[-1] if words else ""
+        text = shorter
+    return text
+
+
+def owner_of(text, at):
+    """The type that the `impl` around a place is for, and the trait, each as its name alone; a trait's parameters follow it."""
+    heads = re.findall(r"(?m)^impl\b(.*)", text[:at])
+    if not heads:
+        return "", ""
+    of_trait, _, owner = re.sub(r"^<[^<>]*(?:<[^<>]*>[^<>]*)*>", "", heads[-1]).split(" where ")[0].rpartition(" for ")
+    owners = re.findall(r"\w+", bare(owner))
+    return owners[-1] if owners else "", "".join(re.findall(r"\w+", of_trait))
 
 
 def body_around(file, text, at):
@@ -79,7 +101,8 @@ def body_around(file, text, at):
     if not end or end.start() < at:
         return None
     module = file.removeprefix("src/").removesuffix(".rt").removesuffix("/mod").replace("/", "::")
-    return Body("" if module in ("lib", "main") else module, owner_of(text, head.start()) if head[1] else "", head[2])
+    owner = owner_of(text, head.start()) if head[1] else ("", "")
+    return Body("" if module in ("lib", "main") else module, *owner, head[2])
 
 
 def apply(crate, pairs, texts):
@@ -96,16 +119,45 @@ def apply(crate, pairs, texts):
     return texts, bodies if is_inside else set()
 
 
-def check(crate, texts, flags):
-    """What a check says of the crate with these texts, which stand in it meanwhile."""
-    before = {file: (crate / file).read_text() for file in texts}
-    try:
-        for file, text in texts.items():
-            (crate / file).write_text(text)
-        return subprocess.run(["rt", "check", *flags], cwd=crate, stdin=subprocess.DEVNULL, capture_output=True, text=True, errors="replace").stdout
-    finally:
-        for file, text in before.items():
-            (crate / file).write_text(text)
+class Copy:
+    """A copy of a crate, in which edits stand while they are tried. Its checks begin with what the last one kept."""
+
+    def __init__(self, name, jobs):
+        self.name, self.jobs = name, jobs
+        self.crate = TOP / "crates" / name
+        self.named = over_libraries.libraries()
+        self.work = over_libraries.work(name)
+        self.folder = Path(tempfile.mkdtemp(prefix=f"{name}-edits-"))
+
+    def __enter__(self):
+        if not all(over_libraries.built(it).is_dir() for it in over_libraries.below(self.name, self.named)):
+            subprocess.run(["rt", "check", "--only", ""], cwd=self.crate, stdin=subprocess.DEVNULL, capture_output=True)
+        for part in ("src", "specs", "proofs"):
+            if (self.crate / part).is_dir():
+                shutil.copytree(self.crate / part, self.folder / part)
+        if not over_libraries.kept(self.name, self.named):
+            shutil.rmtree(self.work, ignore_errors=True)
+            self.work.mkdir(parents=True)
+        return self
+
+    def __exit__(self, *_):
+        shutil.rmtree(self.folder, ignore_errors=True)
+
+    def check(self, texts, bodies=()):
+        """What a check says of the crate with these texts: of these functions and what they call, or of all."""
+        before = {file: (self.folder / file).read_text() for file in texts}
+        only = [word for body in sorted(body.path(self.name) for body in bodies) for word in ("--only", body)]
+        flags = ["--jobs", str(self.jobs), "--incremental", str(self.work), *only]
+        try:
+            for file, text in texts.items():
+                (self.folder / file).write_text(text)
+            command = [over_libraries.RATTLE, "check", *over_libraries.words(self.name, self.named), *flags]
+            ran = subprocess.run(command, cwd=self.folder, stdin=subprocess.DEVNULL, capture_output=True, text=True, errors="replace")
+        finally:
+            for file, text in before.items():
+                (self.folder / file).write_text(text)
+        said = ran.stdout + ran.stderr
+        return self.check(texts) if only and "has no function" in said else said
 
 
 def refused(said):
@@ -117,38 +169,41 @@ def refused(said):
 def is_refused(crate, bodies, names):
     """Whether one of the bodies is among the functions that weren't proved."""
     for body in bodies:
-        path = "::".join(part for part in (crate.name, body.module) if part)
+        path = "::".join(part for part in (crate, body.module) if part)
         if any(re.match(rf"{path}::(?:\S*::)?{body.owner}\w*::(?:\S*::)?{body.name}\b|{path}::(?:fn::)?{body.name}\b", name) for name in names):
             return True
     return False
 
 
-def try_together(crate, edits, flags):
-    """Tries edits of different functions in one check. Gives those that it refuses, and those that are left."""
-    texts, taken, tried, left = {}, set(), [], []
+def try_together(copy, edits):
+    """Tries edits of different functions in one check. Gives those that it refuses, those that another check may, and those
+    that are to be tried by themselves."""
+    texts, taken, tried, later, alone = {}, set(), [], [], []
     for edit in edits:
         try:
-            changed, bodies = apply(crate, pairs_of(edit), texts)
+            changed, bodies = apply(copy.crate, pairs_of(edit), texts)
         except ValueError:
-            left.append(edit)
+            later.append(edit)
             continue
-        if not bodies or bodies & taken:
-            left.append(edit)
-            continue
-        texts, taken = changed, taken | bodies
-        tried.append((edit, bodies))
-    names = refused(check(crate, texts, flags)) if tried else []
-    well = [edit for edit, bodies in tried if is_refused(crate, bodies, names)]
-    return well, left + [edit for edit, _ in tried if edit not in well]
+        if not bodies:
+            alone.append(edit)
+        elif bodies & taken:
+            later.append(edit)
+        else:
+            texts, taken = changed, taken | bodies
+            tried.append((edit, bodies))
+    names = refused(copy.check(texts, taken)) if tried else []
+    well = [edit for edit, bodies in tried if is_refused(copy.name, bodies, names)]
+    return well, later, alone + [edit for edit, _ in tried if edit not in well]
 
 
-def try_alone(crate, edit, flags):
+def try_alone(copy, edit):
     """Whether the prover refuses the crate with this edit alone, and why not else."""
     try:
-        texts, _ = apply(crate, pairs_of(edit), {})
+        texts, _ = apply(copy.crate, pairs_of(edit), {})
     except ValueError as error:
         return f"BAD EDIT: {error}"
-    said = check(crate, texts, flags)
+    said = copy.check(texts)
     if re.search(r"(?m)^logic=not-proved", said):
         return None
     return "NOT REFUSED: the crate is still proved" if re.search(r"(?m)^logic=proved", said) else f"BAD EDIT: {said[:400]}"
@@ -156,7 +211,7 @@ def try_alone(crate, edit, flags):
 
 def misfits():
     """How many edits of all crates there are, of both kinds, and those that can't be applied to the files as they stand."""
-    edits = sorted(it for kind in ("must-fail", "more-edits") for it in TOP.glob(f"crates/*/{kind}/*.edit"))
+    edits = sorted(it for kind in KINDS for it in TOP.glob(f"crates/*/{kind}/*.edit"))
     failures = []
     for edit in edits:
         try:
@@ -166,18 +221,20 @@ def misfits():
     return len(edits), failures
 
 
-def try_edits(crate, edits, flags):
-    """Tries the edits of a crate. Gives how many were refused, and why the others weren't."""
-    left, failures, is_worth = list(edits), [], True
-    while is_worth and len(left) > 1:
-        well, left = try_together(crate, left, flags)
-        is_worth = len(well) > 1
-        print(f"{crate.name}: {len(well)} refused together, {len(left)} left", flush=True)
-    for edit in left:
-        why = try_alone(crate, edit, flags)
-        print(f"{crate.name}/{edit.stem}: {why or 'refused'}", flush=True)
-        if why:
-            failures.append(f"{crate.name}/{edit.stem}: {why}")
+def try_edits(name, edits, jobs):
+    """Tries edits of a crate. Gives how many were refused, and why the others weren't."""
+    left, alone, failures = list(edits), [], []
+    with Copy(name, jobs) as copy:
+        while left:
+            well, later, single = try_together(copy, left)
+            print(f"{name}: {len(well)} refused together, {len(later) + len(single)} left", flush=True)
+            alone += single if well or single else later
+            left = later if well or single else []
+        for edit in alone:
+            why = try_alone(copy, edit)
+            print(f"{name}/{edit.stem}: {why or 'refused'}", flush=True)
+            if why:
+                failures.append(f"{name}/{edit.stem}: {why}")
     return len(edits) - len(failures), failures
 
 
@@ -196,25 +253,28 @@ def is_committed(name):
     return not ran.stdout.strip()
 
 
+def size_of(name):
+    """How long a crate's text is, which tells how long its checks take."""
+    return sum(it.stat().st_size for part in ("src", "specs", "proofs") for it in (TOP / "crates" / name / part).rglob("*.*"))
+
+
 def main():
-    signal.signal(signal.SIGTERM, lambda *_: sys.exit(1))
-    words = argparse.ArgumentParser(description="Tries the edits of crates/NAME/more-edits: the prover must refuse each.")
-    words.add_argument("--gate", action="store_true", help="those of must-fail in their place, and nothing is kept")
-    words.add_argument("--jobs", help="processes of a check; without it the check chooses")
+    words = argparse.ArgumentParser(description="Tries edits of crates: the prover must refuse each.")
+    words.add_argument("--gate", action="store_true", help="those of gate-edits in place of more-edits, and nothing is kept")
+    words.add_argument("--jobs", type=int, default=1, help="processes of a check (1)")
+    words.add_argument("--crates", type=int, default=1, help="crates that are tried beside each other (1)")
     words.add_argument("names", metavar="NAME", nargs="*", help="a crate; none: each that has such edits")
     given = words.parse_args()
-    kind = "must-fail" if given.gate else "more-edits"
-    names = given.names or sorted(it.parent.name for it in TOP.glob(f"crates/*/{kind}"))
-    flags = ["--jobs", given.jobs] if given.jobs else []
+    kind = KINDS[0] if given.gate else KINDS[1]
+    names = given.names or sorted((it.parent.name for it in TOP.glob(f"crates/*/{kind}")), key=size_of, reverse=True)
+    edits = {name: sorted((TOP / "crates" / name / kind).glob("*.edit")) for name in names}
+    were_committed = {name: is_committed(name) for name in names}
     passed, failures = 0, []
-    for name in names:
-        crate = TOP / "crates" / name
-        edits = sorted((crate / kind).glob("*.edit"))
-        was_committed = is_committed(name)
-        well, why = try_edits(crate, edits, flags)
-        passed, failures = passed + well, failures + why
-        if not why and was_committed and not given.gate:
-            keep(name, len(edits))
+    with ThreadPoolExecutor(given.crates) as pool:
+        for name, (well, why) in zip(names, pool.map(lambda it: try_edits(it, edits[it], given.jobs), names)):
+            passed, failures = passed + well, failures + why
+            if not why and were_committed[name] and not given.gate:
+                keep(name, len(edits[name]))
     for failure in failures:
         print(failure)
     print(f"{passed} passed, {len(failures)} failed")
