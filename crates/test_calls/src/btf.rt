@@ -1,3 +1,4 @@
+use super::same::{same, same_bytes, same_number};
 use ebpf_base::Items;
 use ebpf_btf::{
     Btf, BtfError, BtfMember, BtfType, Endianness, Enum64Fallback, Enum64VariantFallback, Rows,
@@ -82,48 +83,84 @@ fn member(name_offset: u32, offset: u32) -> BtfMember {
     }
 }
 
-/// Adds the STRUCT of the files above.
-fn add_struct(btf: &mut Btf) -> Result<u32, BtfError> {
+/// Whether these types are these lines.
+fn are_shown(alloc: Global, btf: &Btf, want: &str) -> Result<(), Fail> {
+    let text = shown(alloc, btf)?;
+    same(text.as_str(), want)
+}
+
+/// Whether these types are written as these bytes.
+fn are_written(alloc: Global, btf: &Btf, want: &[u8]) -> Result<(), Fail> {
+    let bytes = btf.to_bytes(alloc)?;
+    same_bytes(bytes.as_slice(), want)
+}
+
+/// Adds the STRUCT of the files above, which gets an id.
+fn adds_struct(btf: &mut Btf, want: u64) -> Result<(), Fail> {
     let members = [member(1, 0x300_0000), member(5, 0x700_0102)];
-    btf.add_type(&BtfType::Struct {
+    let id = btf.add_type(&BtfType::Struct {
         name_offset: 5,
         size: 8,
         kind_flag: true,
         members: Rows::of(&members),
-    })
+    })?;
+    same_number(u64::from(id), want)
 }
 
-fn add_union(btf: &mut Btf, fallback: Option<&Enum64Fallback>) -> Result<u32, BtfError> {
+/// Adds a UNION, which gets an id.
+fn adds_union(btf: &mut Btf, fallback: Option<&Enum64Fallback>, want: u64) -> Result<(), Fail> {
     let members = [member(0, 0)];
-    btf.add_type(&BtfType::Union {
+    let id = btf.add_type(&BtfType::Union {
         name_offset: 0,
         size: 8,
         kind_flag: false,
         members: Rows::of(&members),
         enum64_fallback: UnionFallback::new(fallback),
-    })
+    })?;
+    same_number(u64::from(id), want)
+}
+
+/// Adds the name of the STRUCT, which stands at the fifth byte of the strings.
+fn adds_name(btf: &mut Btf) -> Result<(), Fail> {
+    let offset = btf.add_string("s")?;
+    same_number(u64::from(offset), 5)
+}
+
+/// Whether these types are the same when they are written and read again.
+fn are_read_again(alloc: Global, btf: &Btf, order: Endianness, want: &str) -> Result<(), Fail> {
+    let again = Btf::from_vec(btf.to_bytes(alloc)?, order)?;
+    are_shown(alloc, &again, want)?;
+    same_bytes(again.strings(), btf.strings())
 }
 
 #[test]
 fn writes_what_was_added_in_big_endian_words(rt: HostRuntime) -> Result<(), Fail> {
     let alloc = rt.alloc();
     let mut btf = Btf::parse(alloc, &BIG_INT, Endianness::Big)?;
-    assert_eq!(rt; shown(alloc, &btf)?.as_str(), INT_TEXT);
-    assert_eq!(rt; btf.to_bytes(alloc)?.as_slice(), BIG_INT.as_slice());
-    assert_eq!(rt; btf.add_string("s")?, 5);
-    assert_eq!(rt; add_struct(&mut btf)?, 2);
-    let bytes = btf.to_bytes(alloc)?;
-    assert_eq!(rt; bytes.as_slice(), BIG_STRUCT.as_slice());
-    let again = Btf::from_vec(bytes, Endianness::Big)?;
-    assert_eq!(rt; shown(alloc, &again)?.as_str(), STRUCT_TEXT);
-    assert_eq!(rt; again.strings(), btf.strings());
-    Ok(())
+    are_shown(alloc, &btf, INT_TEXT)?;
+    are_written(alloc, &btf, BIG_INT.as_slice())?;
+    adds_name(&mut btf)?;
+    adds_struct(&mut btf, 2)?;
+    are_written(alloc, &btf, BIG_STRUCT.as_slice())?;
+    are_read_again(alloc, &btf, Endianness::Big, STRUCT_TEXT)
+}
+
+/// Whether a file whose types have a length is read so, cut to a length, whether it is copied or taken over.
+fn is_read(alloc: Global, types_length: u8, length: usize, want: &str) -> Result<(), Fail> {
+    let mut file = LITTLE_STRUCT.as_slice().to_vec(alloc)?;
+    file.truncate(length);
+    if let Some(byte) = file.get_mut(12) {
+        *byte = types_length;
+    }
+    let parsed = outcome(alloc, Btf::parse(alloc, &file, Endianness::Little))?;
+    same(parsed.as_str(), want)?;
+    let taken = outcome(alloc, Btf::from_vec(file, Endianness::Little))?;
+    same(taken.as_str(), want)
 }
 
 #[test]
 fn reads_types_up_to_the_last_byte(rt: HostRuntime) -> Result<(), Fail> {
     let alloc = rt.alloc();
-    let whole = LITTLE_STRUCT.as_slice();
     for (types_length, length, want) in [
         (52, 88, STRUCT_TEXT),
         (53, 88, "InvalidHeader"),
@@ -133,68 +170,93 @@ fn reads_types_up_to_the_last_byte(rt: HostRuntime) -> Result<(), Fail> {
         (16, 88, INT_TEXT),
         (0, 36, "Unknown\n"),
     ] {
-        let mut file = whole.to_vec(alloc)?;
-        file.truncate(length);
-        if let Some(byte) = file.get_mut(12) {
-            *byte = types_length;
-        }
-        let parsed = outcome(alloc, Btf::parse(alloc, &file, Endianness::Little))?;
-        assert_eq!(rt; parsed.as_str(), want, "{types_length} of {length}");
-        let taken = outcome(alloc, Btf::from_vec(file, Endianness::Little))?;
-        assert_eq!(rt; taken.as_str(), want, "{types_length} of {length}");
+        is_read(alloc, types_length, length, want)?;
     }
     Ok(())
+}
+
+/// Takes the last types and strings away.
+fn shorten(btf: &mut Btf, types: usize, strings: usize)
+    requires some { 0 < types }
+{
+    btf.truncate(types, strings);
+}
+
+/// Whether both have the same types, and are written alike.
+fn are_alike(alloc: Global, one: &Btf, other: &Btf) -> Result<(), Fail> {
+    let text = shown(alloc, one)?;
+    are_shown(alloc, other, text.as_str())?;
+    let bytes = one.to_bytes(alloc)?;
+    are_written(alloc, other, bytes.as_slice())
 }
 
 #[test]
 fn takes_a_file_over_as_it_copies_one(rt: HostRuntime) -> Result<(), Fail> {
     let alloc = rt.alloc();
-    let file = LITTLE_STRUCT.as_slice().to_vec(alloc)?;
-    let mut parsed = Btf::parse(alloc, &file, Endianness::Little)?;
-    let mut taken = Btf::from_vec(file, Endianness::Little)?;
-    assert_eq!(rt; taken.strings(), b"\0int\0s\0".as_slice());
-    assert_eq!(rt; add_struct(&mut parsed)?, 3);
-    assert_eq!(rt; add_struct(&mut taken)?, 3);
-    assert_eq!(rt;
-        shown(alloc, &taken)?.as_str(),
-        shown(alloc, &parsed)?.as_str()
-    );
-    assert_eq!(rt;
-        taken.to_bytes(alloc)?.as_slice(),
-        parsed.to_bytes(alloc)?.as_slice()
-    );
-    taken.truncate(2, 5);
-    assert_eq!(rt; shown(alloc, &taken)?.as_str(), INT_TEXT);
-    assert_eq!(rt; taken.add_string("s")?, 5);
-    assert_eq!(rt; add_struct(&mut taken)?, 2);
-    assert_eq!(rt; shown(alloc, &taken)?.as_str(), STRUCT_TEXT);
-    Ok(())
+    let mut parsed = Btf::parse(alloc, &LITTLE_STRUCT, Endianness::Little)?;
+    let mut taken = Btf::from_vec(LITTLE_STRUCT.as_slice().to_vec(alloc)?, Endianness::Little)?;
+    same_bytes(taken.strings(), b"\0int\0s\0".as_slice())?;
+    adds_struct(&mut parsed, 3)?;
+    adds_struct(&mut taken, 3)?;
+    are_alike(alloc, &parsed, &taken)?;
+    shorten(&mut taken, 2, 5);
+    are_shown(alloc, &taken, INT_TEXT)?;
+    adds_name(&mut taken)?;
+    adds_struct(&mut taken, 2)?;
+    are_shown(alloc, &taken, STRUCT_TEXT)
 }
 
-#[test]
-fn holds_what_a_union_was_beside_its_bytes(rt: HostRuntime) -> Result<(), Fail> {
-    let alloc = rt.alloc();
+/// What a UNION was: an enumeration of 64 bits with one variant.
+fn fallback(alloc: Global) -> Result<Enum64Fallback, AllocError> {
     let mut variants = Vec::new(alloc);
     variants.push(Enum64VariantFallback {
         name_offset: 0,
         value: 0x1_0000_0002,
     })?;
-    let fallback = Enum64Fallback {
+    Ok(Enum64Fallback {
         signed: true,
         variants: Items::from_vec(variants),
-    };
+    })
+}
+
+/// Whether a copy of these types is these lines.
+fn is_copied(alloc: Global, btf: &Btf, want: &str) -> Result<(), Fail> {
+    let copy = btf.clone()?;
+    are_shown(alloc, &copy, want)
+}
+
+/// Whether these types can't be written.
+fn are_too_large(alloc: Global, btf: &Btf) -> Result<(), Fail> {
+    match btf.to_bytes(alloc) {
+        Err(BtfError::TooLarge) => Ok(()),
+        _ => Err(Fail::new("no refusal")),
+    }
+}
+
+/// Adds a UNION that was an enumeration and one that wasn't, takes the second away, and looks at what is left.
+fn keeps_a_fallback(alloc: Global, btf: &mut Btf) -> Result<(), Fail> {
+    let fallback = fallback(alloc)?;
+    adds_union(btf, Some(&fallback), 1)?;
+    adds_union(btf, None, 2)?;
+    shorten(btf, 2, 1);
+    are_shown(alloc, btf, FALLBACK_TEXT)?;
+    is_copied(alloc, btf, FALLBACK_TEXT)?;
+    are_too_large(alloc, btf)
+}
+
+/// Takes that UNION away too, and adds the other again.
+fn forgets_a_fallback(alloc: Global, btf: &mut Btf) -> Result<(), Fail> {
+    shorten(btf, 1, 1);
+    are_written(alloc, btf, LITTLE_VOID.as_slice())?;
+    adds_union(btf, None, 1)?;
+    are_shown(alloc, btf, PLAIN_TEXT)?;
+    are_read_again(alloc, btf, Endianness::Little, PLAIN_TEXT)
+}
+
+#[test]
+fn holds_what_a_union_was_beside_its_bytes(rt: HostRuntime) -> Result<(), Fail> {
+    let alloc = rt.alloc();
     let mut btf = Btf::new(alloc)?;
-    assert_eq!(rt; add_union(&mut btf, Some(&fallback))?, 1);
-    assert_eq!(rt; add_union(&mut btf, None)?, 2);
-    btf.truncate(2, 1);
-    assert_eq!(rt; shown(alloc, &btf)?.as_str(), FALLBACK_TEXT);
-    assert_eq!(rt; shown(alloc, &btf.clone()?)?.as_str(), FALLBACK_TEXT);
-    assert!(rt; matches!(btf.to_bytes(alloc), Err(BtfError::TooLarge)));
-    btf.truncate(1, 1);
-    assert_eq!(rt; btf.to_bytes(alloc)?.as_slice(), LITTLE_VOID.as_slice());
-    assert_eq!(rt; add_union(&mut btf, None)?, 1);
-    assert_eq!(rt; shown(alloc, &btf)?.as_str(), PLAIN_TEXT);
-    let again = Btf::from_vec(btf.to_bytes(alloc)?, Endianness::Little)?;
-    assert_eq!(rt; shown(alloc, &again)?.as_str(), PLAIN_TEXT);
-    Ok(())
+    keeps_a_fallback(alloc, &mut btf)?;
+    forgets_a_fallback(alloc, &mut btf)
 }

@@ -22,3 +22,5 @@ mod loading;
 mod places;
 #[cfg(test)]
 mod reach;
+#[cfg(test)]
+mod same;
