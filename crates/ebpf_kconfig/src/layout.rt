@@ -68,8 +68,8 @@ fn extern_groups(
     Ok(groups)
 }
 
-/// Adds the externs of a group, in the order of their names.
-fn add_group<'a>(
+/// Adds the externs of some names.
+fn add_names<'a>(
     alloc: Global,
     all: Vec<&'a KconfigExtern>,
     group: &'a ByName<KconfigExtern>,
@@ -87,6 +87,18 @@ fn add_group<'a>(
     Ok(all)
 }
 
+/// Adds the externs of a group, in the order of their names.
+fn add_group<'a>(
+    alloc: Global,
+    all: Vec<&'a KconfigExtern>,
+    group: &'a ByName<KconfigExtern>,
+) -> Result<Vec<&'a KconfigExtern>, AllocError>
+    ensures { IfOk result (λ more. lent_externs more.items ≡ lent_externs all.entry.items ++ group_externs group.now) }
+{
+    let names = group.names(alloc)?;
+    add_names(alloc, all, group, names.as_slice())
+}
+
 /// The externs of groups in order.
 fn in_order<'a>(
     alloc: Global,
@@ -96,8 +108,7 @@ fn in_order<'a>(
 {
     let mut all = Vec::new(alloc);
     for (_, group) in groups.iter() {
-        let names = group.names(alloc)?;
-        all = add_group(alloc, all, group, names.as_slice())?;
+        all = add_group(alloc, all, group)?;
     }
     Ok(all)
 }
