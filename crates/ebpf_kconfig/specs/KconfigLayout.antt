@@ -63,7 +63,15 @@ extern_offsets end (e ∷ es) = (e.name, extern_offset end e) ∷ extern_offsets
 abbrev pub kconfig_offsets : List KconfigExtern → FinMap text_cmp ℕ
 kconfig_offsets externs = put_all empty (extern_offsets 0 (laid_out externs))
 
--- a size past 32 bits
+-- where the last one ends
+abbrev pub layout_end : ℕ → List KconfigExtern → ℕ
+layout_end end [] = end
+layout_end end (e ∷ es) = layout_end (extern_end end e) es
+
+abbrev pub kconfig_value_size : List KconfigExtern → ℕ
+kconfig_value_size externs = layout_end 0 (laid_out externs)
+
+-- an end past 32 bits
 abbrev pub size_fault_from : ℕ → List KconfigExtern → Option KconfigError
 size_fault_from end [] = None
 size_fault_from end (e ∷ es) = if nat_lt (extern_end end e) (2 ^ 32) then size_fault_from (extern_end end e) es else Some TooLarge

@@ -1,5 +1,5 @@
 -- The map `.kconfig`, and the symbols that stand in it (libbpf 1.5, libbpf.c: bpf_object__init_kconfig_map).
-use Rattle.std.specs.Prelude.{ℕ, true, List, [], ◌∷◌, length, Option, Some, None, if◌then◌else◌}
+use Rattle.std.specs.Prelude.{ℕ, true, List, ◌==◌, length, Option, Some, None, if◌then◌else◌}
 use Rattle.std.specs.FinMap.{FinMap, get, insert}
 use Rattle.std.specs.Option.{option_and_then}
 use Rattle.std.specs.Ordering.{nat_cmp}
@@ -8,7 +8,7 @@ use Rattle.ebpf_base.specs.Keys.{text_cmp}
 use Rattle.ebpf_base.specs.Mapped.{map_values}
 use Rattle.ebpf_btf.specs.TypeInfo.{TypeInfo}
 use Rattle.ebpf_kconfig.specs.KconfigExterns.{kconfig_section, kconfig_externs, kconfig_externs_fault}
-use Rattle.ebpf_kconfig.specs.KconfigLayout.{KconfigValues, kconfig_bytes, kconfig_offsets, values_fault}
+use Rattle.ebpf_kconfig.specs.KconfigLayout.{KconfigValues, kconfig_bytes, kconfig_offsets, kconfig_value_size, values_fault}
 use Rattle.ebpf_kconfig.specs.declared.error.KconfigError.{KconfigError}
 use Rattle.ebpf_kconfig.specs.declared.externs.KconfigExtern.{KconfigExtern}
 use Rattle.ebpf_model.specs.Symbols.{is_extern}
@@ -21,12 +21,12 @@ use Rattle.ebpf_parts.specs.declared.section_kind.EbpfSectionKind.TheVariants.{R
 -- ---- the map
 
 -- an array of one value that programs only read (BPF_MAP_TYPE_ARRAY, BPF_F_RDONLY_PROG), in no section
-unfoldable pub kconfig_map : List ℕ → Map
-kconfig_map bytes = Legacy (record {
+unfoldable pub kconfig_map : ℕ → List ℕ → Map
+kconfig_map size bytes = Legacy (record {
   def = record {
     map_type = 2;
     key_size = 4;
-    value_size = length bytes;
+    value_size = size;
     max_entries = 1;
     map_flags = 128;
     id = 0;
@@ -39,10 +39,13 @@ kconfig_map bytes = Legacy (record {
   bytes = bytes;
 })
 
--- no map where there are no externs
-unfoldable pub with_kconfig_map : KconfigValues → List KconfigExtern → FinMap text_cmp Map → FinMap text_cmp Map
-with_kconfig_map values [] maps = maps
-with_kconfig_map values (e ∷ es) maps = insert maps kconfig_section (kconfig_map (kconfig_bytes values (e ∷ es)))
+-- the map of some externs
+abbrev pub externs_map : KconfigValues → List KconfigExtern → Map
+externs_map values externs = kconfig_map (kconfig_value_size externs) (kconfig_bytes values externs)
+
+-- where there are none there is no map
+abbrev pub with_kconfig_map : KconfigValues → List KconfigExtern → FinMap text_cmp Map → FinMap text_cmp Map
+with_kconfig_map values externs maps = if length externs == 0 then maps else insert maps kconfig_section (externs_map values externs)
 
 -- ---- symbols
 

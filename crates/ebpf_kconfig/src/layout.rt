@@ -7,7 +7,7 @@ ghost use Rattle.std.specs.Option.{option_to_list};
 ghost use Rattle.ebpf_base.specs.Faults.{fault_of};
 ghost use Rattle.ebpf_base.specs.Keyed.{put_all};
 ghost use Rattle.ebpf_base.specs.Keys.{lent_bytes};
-ghost use Rattle.ebpf_kconfig.specs.KconfigLayout.{extern_end, extern_groups, extern_offset, extern_offsets, group_externs, laid_out, layout_key, size_fault_from};
+ghost use Rattle.ebpf_kconfig.specs.KconfigLayout.{extern_end, extern_groups, extern_offset, extern_offsets, group_externs, laid_out, layout_end, layout_key, size_fault_from};
 ghost use Rattle.ebpf_kconfig.specs.PrivateContracts.{lent_externs, with_extern_in};
 
 use crate::error::KconfigError;
@@ -55,7 +55,7 @@ fn add_extern(
 }
 
 /// Externs in groups of one alignment and size.
-fn extern_groups(
+pub fn extern_groups(
     alloc: Global,
     externs: Vec<KconfigExtern>,
 ) -> Result<ByKey<ByName<KconfigExtern>>, AllocError>
@@ -100,7 +100,7 @@ fn add_group<'a>(
 }
 
 /// The externs of groups in order.
-fn in_order<'a>(
+pub fn in_order<'a>(
     alloc: Global,
     groups: &'a ByKey<ByName<KconfigExtern>>,
 ) -> Result<Vec<&'a KconfigExtern>, AllocError>
@@ -133,9 +133,10 @@ pub fn extern_end(end: u64, wanted: &KconfigExtern) -> u64
     extern_offset(end, wanted) + u64::from(wanted.kind.size())
 }
 
-/// Whether externs in a row end within 32 bits.
-pub fn check_size(externs: &[&KconfigExtern]) -> Result<(), KconfigError>
-    ensures { fault_of result ≡ size_fault_from 0 (lent_externs externs.now) }
+/// Where the last of externs in a row ends.
+pub fn layout_end(externs: &[&KconfigExtern]) -> Result<u32, KconfigError>
+    ensures end { IfOk result (λ end. end ≡ layout_end 0 (lent_externs externs.now)) }
+    ensures fault { fault_of result ≡ size_fault_from 0 (lent_externs externs.now) }
 {
     let mut end = 0;
     for wanted in externs {
@@ -144,7 +145,7 @@ pub fn check_size(externs: &[&KconfigExtern]) -> Result<(), KconfigError>
             return Err(KconfigError::TooLarge);
         }
     }
-    Ok(())
+    Ok(end as u32)
 }
 
 /// The offsets of externs in a row, by name.

@@ -5,6 +5,7 @@ mod error;
 mod externs;
 mod kconfig_type;
 mod layout;
+mod plan;
 mod rows;
 mod symbols;
 mod values;

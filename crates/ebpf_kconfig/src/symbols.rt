@@ -1,11 +1,13 @@
 //! Symbols by their names, and those that stand in the map.
 
-ghost use Rattle.std.specs.Prelude.{◌≡◌, ℕ, IfOk, fold, map};
+ghost use Rattle.std.specs.Prelude.{◌≡◌, IfOk, fold};
 ghost use Rattle.std.specs.FinMap as finite;
 ghost use Rattle.std.specs.List.{flat_map};
+ghost use Rattle.std.specs.Map.{keys_of};
 ghost use Rattle.ebpf_base.specs.Keyed.{put_all};
+ghost use Rattle.ebpf_base.specs.Mapped.{map_values};
 ghost use Rattle.ebpf_kconfig.specs.KconfigExterns.{weak_entry_at, weak_symbols};
-ghost use Rattle.ebpf_kconfig.specs.KconfigMaps.{defined_at, defined_symbol};
+ghost use Rattle.ebpf_kconfig.specs.KconfigMaps.{defined_symbol};
 ghost use Rattle.ebpf_kconfig.specs.PrivateContracts.{with_defined};
 ghost use Rattle.std.specs.Option.{option_and_then};
 
@@ -79,10 +81,19 @@ fn define_at(offsets: &ByName<u64>, symbols: &mut ByIndex<Symbol>, index: usize)
 }
 
 /// Makes the externs' symbols among some stand in the map.
-pub fn define_all(offsets: &ByName<u64>, symbols: &mut ByIndex<Symbol>, indices: &[usize])
+fn define_all(offsets: &ByName<u64>, symbols: &mut ByIndex<Symbol>, indices: &[usize])
     ensures { symbols.new ≡ fold (with_defined offsets.now) symbols.old indices.now }
 {
     for index in indices {
         define_at(offsets, symbols, *index);
     }
+}
+
+/// Makes the externs' symbols stand in the map; the indices are those of all symbols.
+#[tactic(auto, using(crate::proofs::DefinedSymbols::all_defined))]
+pub fn define_symbols(offsets: &ByName<u64>, symbols: &mut ByIndex<Symbol>, indices: &[usize])
+    requires { indices.now ≡ keys_of (finite.entries symbols.old) }
+    ensures { symbols.new ≡ map_values (defined_symbol offsets.now) symbols.old }
+{
+    define_all(offsets, symbols, indices);
 }
