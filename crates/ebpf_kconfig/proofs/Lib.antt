@@ -1,1 +1,2 @@
+pub mod ConfigLines
 pub mod DefinedSymbols

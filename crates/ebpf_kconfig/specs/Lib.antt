@@ -2,5 +2,6 @@ pub mod KconfigTypes
 pub mod KconfigExterns
 pub mod KconfigLayout
 pub mod KconfigMaps
+pub mod ConfiguredValues
 pub mod KconfigMemory
 pub mod PrivateContracts

@@ -49,6 +49,16 @@ pub enum KconfigError {
     /// The values together pass 32 bits.
     #[error("the externs of .kconfig are too large together: a map's value has 32 bits of size")]
     TooLarge,
+    /// What the configuration says is no value of an extern of its type, or no value at all.
+    #[error("what the configuration says of {:?} does not suit its type in .kconfig", .name.as_str())]
+    UnsuitedValue {
+        name: Text,
+    },
+    /// A number of the configuration is out of the range of its extern, or of 64 bits.
+    #[error("the number that the configuration gives {:?} is out of range", .name.as_str())]
+    ValueOutOfRange {
+        name: Text,
+    },
     /// No memory was found.
     #[error("out of memory")]
     OutOfMemory,

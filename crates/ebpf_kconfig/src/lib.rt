@@ -1,15 +1,19 @@
 //! The externs that the kernel's configuration gives: what an object wants of it, and their values.
 #![tactic(auto)]
 
+mod config;
 mod error;
 mod externs;
 mod kconfig_type;
 mod layout;
+mod numbers;
 mod plan;
 mod rows;
+mod settings;
 mod symbols;
 mod values;
 
+pub use config::kconfig_value;
 pub use error::KconfigError;
 pub use externs::KconfigExtern;
 pub use kconfig_type::KconfigType;
