@@ -2,6 +2,7 @@
 #![tactic(auto)]
 
 mod config;
+mod define;
 mod error;
 mod externs;
 mod kconfig_type;
@@ -14,6 +15,7 @@ mod symbols;
 mod values;
 
 pub use config::kconfig_value;
+pub use define::{define_kconfig, kconfig};
 pub use error::KconfigError;
 pub use externs::KconfigExtern;
 pub use kconfig_type::KconfigType;
