@@ -79,6 +79,11 @@ integer_value order (kconfig_types.Char signed) n = ranged_value order 1 signed 
 integer_value order (kconfig_types.Integer size signed) n = ranged_value order size signed n
 integer_value order kind n = Err Unsuited
 
+-- the value that a number is to an integer or a bool, as for what a loader knows
+unfoldable pub loader_value : Endianness → KconfigType → ℕ → Result (List ℕ) ValueFault
+loader_value order kconfig_types.Bool n = if nat_lt n 2 then Ok (n ∷ []) else Err OutOfRange
+loader_value order kind n = integer_value order kind n
+
 -- ---- letters and strings
 
 -- `n`, `y` and `m`

@@ -4,13 +4,13 @@ ghost use Rattle.std.specs.Prelude.{◌≡◌, ◌<◌, ◌≤◌, ◌==◌, dro
 ghost use Rattle.std.specs.List.{position};
 ghost use Rattle.std.specs.Option.{option_copied};
 ghost use Rattle.ebpf_base.specs.Faults.{Gives, or_else};
-ghost use Rattle.ebpf_kconfig.specs.ConfiguredValues.{behind, configured_value, given_in_line, setting, text_value, with_name};
+ghost use Rattle.ebpf_kconfig.specs.ConfiguredValues.{behind, configured_value, given_in_line, loader_value, setting, text_value, with_name};
 ghost use Rattle.ebpf_kconfig.specs.KconfigMemory.{is_kconfig_memory};
 
 use crate::error::KconfigError;
 use crate::externs::KconfigExtern;
 use crate::numbers::ValueFault;
-use crate::settings::text_value;
+use crate::settings::{loader_value, text_value};
 use ebpf_base::{Endianness, Items, Text};
 use std::alloc::Global;
 
@@ -143,5 +143,28 @@ pub fn kconfig_value(
             Err(error) => Err(error),
         },
         None => Ok(None),
+    }
+}
+
+/// The value of an extern that is a number: what a loader knows, as `LINUX_KERNEL_VERSION` (of the version a.b.c
+/// `a << 16 | b << 8 | c`), `LINUX_HAS_BPF_COOKIE` and `LINUX_HAS_SYSCALL_WRAPPER` (1 where the kernel has them), in the byte
+/// order `order`. A char and an integer take a number in their range, those of 8 bytes each; a bool takes 0 and 1 (libbpf
+/// 1.5, `set_kcfg_value_num`).
+///
+/// # Errors
+///
+/// `UnsuitedValue` for an extern of another type; `ValueOutOfRange` where the number is out of its range. `OutOfMemory` only
+/// where memory was refused.
+pub fn kconfig_number(
+    alloc: Global,
+    number: u64,
+    wanted: &KconfigExtern,
+    order: Endianness,
+) -> Result<Items<u8>, KconfigError>
+    ensures { Gives is_kconfig_memory result (with_name wanted.now.name (loader_value order wanted.now.kind number)) }
+{
+    match loader_value(alloc, order, wanted.kind, number) {
+        Ok(value) => Ok(value),
+        Err(fault) => named_fault(&wanted.name, fault),
     }
 }

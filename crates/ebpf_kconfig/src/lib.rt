@@ -14,7 +14,7 @@ mod settings;
 mod symbols;
 mod values;
 
-pub use config::kconfig_value;
+pub use config::{kconfig_number, kconfig_value};
 pub use define::{define_kconfig, kconfig};
 pub use error::KconfigError;
 pub use externs::KconfigExtern;

@@ -2,7 +2,7 @@
 
 ghost use Rattle.std.specs.Prelude.{◌≡◌, ◌∷◌, [], IfOk};
 ghost use Rattle.ebpf_base.specs.Faults.{Gives};
-ghost use Rattle.ebpf_kconfig.specs.ConfiguredValues.{cut_string, integer_value, is_letter, is_quoted, letter_value, ranged_value, string_value, text_value, tristate_number, unquoted};
+ghost use Rattle.ebpf_kconfig.specs.ConfiguredValues.{cut_string, integer_value, is_letter, is_quoted, letter_value, loader_value, ranged_value, string_value, text_value, tristate_number, unquoted};
 ghost use Rattle.ebpf_kconfig.specs.KconfigMemory.{is_value_memory};
 
 use crate::kconfig_type::KconfigType;
@@ -28,7 +28,7 @@ fn ranged_value(
 
 /// The value that a number is to an integer.
 #[tactic(auto, unfolding(crate::specs::ConfiguredValues::integer_value))]
-pub fn integer_value(
+fn integer_value(
     alloc: Global,
     order: Endianness,
     kind: KconfigType,
@@ -41,6 +41,25 @@ pub fn integer_value(
         KconfigType::Integer { size, signed } => ranged_value(alloc, order, size, signed, number),
         _ => Err(ValueFault::Unsuited),
     }
+}
+
+/// The value that a number is to an integer or a bool.
+#[tactic(auto, unfolding(crate::specs::ConfiguredValues::loader_value))]
+pub fn loader_value(
+    alloc: Global,
+    order: Endianness,
+    kind: KconfigType,
+    number: u64,
+) -> Result<Items<u8>, ValueFault>
+    ensures { Gives is_value_memory result (loader_value order kind number) }
+{
+    if !matches!(kind, KconfigType::Bool) {
+        return integer_value(alloc, order, kind, number);
+    }
+    if number > 1 {
+        return Err(ValueFault::OutOfRange);
+    }
+    Ok(one_byte(alloc, number as u8)?)
 }
 
 /// Whether a byte is one of the letters that stand for values.
