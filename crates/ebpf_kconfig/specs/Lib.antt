@@ -1,5 +1,6 @@
 pub mod KconfigTypes
 pub mod KconfigExterns
+pub mod KconfigLaws
 pub mod KconfigLayout
 pub mod KconfigMaps
 pub mod ConfiguredValues

@@ -6,6 +6,7 @@ mod define;
 mod error;
 mod externs;
 mod kconfig_type;
+pub mod laws;
 mod layout;
 mod numbers;
 mod plan;
