@@ -1,6 +1,6 @@
 -- The data of the map is as long as its value: each value is as long as its extern, also in the order of the layout.
-use Rattle.std.proofs.Common.{◌≡◌, ℕ, ◌+◌, ◌-◌, ◌*◌, ◌/◌, ◌<◌, ◌≤◌, Bool, true, false, cond, List, [], ◌∷◌, ◌++◌, length, Option, Some, None, refl, sym, ap, subst, ◌∙◌, arith, length-append}
-use Rattle.std.specs.Prelude.{fold, replicate, unwrap_or, max, min, ◌==◌, if◌then◌else◌}
+use Rattle.std.proofs.Common.{◌≡◌, ℕ, ◌+◌, ◌-◌, ◌<◌, ◌≤◌, Bool, true, false, cond, List, [], ◌∷◌, ◌++◌, length, Option, Some, None, refl, sym, subst, ◌∙◌, arith, length-append}
+use Rattle.std.specs.Prelude.{fold, replicate, unwrap_or, ◌==◌}
 use Rattle.std.specs.declared.cmp.Ordering.{Ordering}
 use Rattle.std.specs.declared.cmp.Ordering.TheVariants.{Less, Equal, Greater}
 use Rattle.std.specs.Cmp.{IsTotalOrder}
@@ -12,13 +12,13 @@ use Rattle.std.specs.Option.{option_to_list}
 use Rattle.std.specs.Ordering.{eq_by_cmp}
 use Rattle.std.proofs.lemmas.Bool.{eqb-true}
 use Rattle.std.proofs.lemmas.List.{length-replicate}
-use Rattle.ebpf_base.specs.Faults.{first_some, or_else}
+use Rattle.ebpf_base.specs.Faults.{first_some}
 use Rattle.ebpf_base.specs.Keys.{key_cmp, key_total, text_cmp, text_total}
 use Rattle.ebpf_base.proofs.Faults.{both_None}
 use Rattle.ebpf_base.proofs.Maps.{entries-empty}
 use Rattle.ebpf_kconfig.specs.KconfigLaws.{DataIsValueSized}
-use Rattle.ebpf_kconfig.specs.KconfigLayout.{ExternsByName, KconfigValues, alignment_of, bytes_from, extern_end, extern_groups, extern_offset, extern_size, given_fault, group_externs, kconfig_bytes, kconfig_value_size, laid_out, layout_end, layout_key, rounded_up, value_fault, value_or_zeros, values_fault, with_extern}
-use Rattle.ebpf_kconfig.specs.KconfigTypes.{kconfig_alignment, kconfig_size}
+use Rattle.ebpf_kconfig.specs.KconfigLayout.{ExternsByName, KconfigValues, alignment_of, bytes_from, extern_end, extern_groups, extern_offset, extern_size, given_fault, group_externs, laid_out, layout_end, layout_key, rounded_up, value_fault, value_or_zeros, values_fault, with_extern}
+use Rattle.ebpf_kconfig.specs.KconfigTypes.{kconfig_alignment}
 use Rattle.ebpf_kconfig.specs.declared.externs.KconfigExtern.{KconfigExtern}
 use Rattle.ebpf_kconfig.specs.declared.kconfig_type.KconfigType.{KconfigType}
 use Rattle.ebpf_kconfig.specs.declared.kconfig_type.KconfigType.TheVariants as kconfig_types

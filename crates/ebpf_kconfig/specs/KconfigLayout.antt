@@ -1,6 +1,6 @@
 -- Where the externs that the kernel's configuration gives stand in the value of the map `.kconfig` (libbpf 1.5, libbpf.c:
 -- cmp_externs, bpf_object__collect_externs).
-use Rattle.std.specs.Prelude.{ℕ, ◌+◌, ◌-◌, ◌*◌, ◌/◌, ◌^◌, nat_lt, ◌==◌, Bool, List, [], ◌∷◌, ◌++◌, length, fold, replicate, Option, Some, None, unwrap_or, if◌then◌else◌}
+use Rattle.std.specs.Prelude.{ℕ, ◌+◌, ◌-◌, ◌*◌, ◌/◌, ◌^◌, nat_lt, ◌==◌, List, [], ◌∷◌, ◌++◌, length, fold, replicate, Option, Some, None, unwrap_or, if◌then◌else◌}
 use Rattle.std.specs.FinMap.{FinMap, get, insert, entries, empty}
 use Rattle.std.specs.List.{flat_map}
 use Rattle.std.specs.Map.{keys_of}

@@ -1,5 +1,5 @@
 -- The types of externs that the kernel's configuration gives (libbpf 1.5, libbpf.c: find_kcfg_type; btf.c: btf__align_of).
-use Rattle.std.specs.Prelude.{ℕ, min, max, ◌/◌, ◌%◌, ◌^◌, Bool, true, false, ◌==◌, ◌&&◌, ◌||◌, List, [], codes, Option, Some, None, if◌then◌else◌}
+use Rattle.std.specs.Prelude.{ℕ, min, max, ◌/◌, ◌%◌, ◌^◌, Bool, ◌==◌, ◌||◌, codes, Option, Some, None, if◌then◌else◌}
 use Rattle.std.specs.Option.{option_and_then}
 use Rattle.std.specs.Result.{result_ok}
 use Rattle.ebpf_btf.specs.Steps.{resolved_type}

@@ -1,12 +1,10 @@
 //! The externs of an object that the kernel's configuration gives, and their definition.
 
-ghost use Rattle.std.specs.Prelude.{◌≡◌, IfOk, OnOk, OnErr, if◌then◌else◌, ◌==◌, length};
+ghost use Rattle.std.specs.Prelude.{◌≡◌, IfOk, OnOk, OnErr, if◌then◌else◌};
 ghost use Rattle.std.specs.FinMap as finite;
 ghost use Rattle.ebpf_base.specs.Faults.{Refuses};
-ghost use Rattle.ebpf_base.specs.Mapped.{map_values};
 ghost use Rattle.ebpf_kconfig.specs.KconfigExterns.{kconfig_externs, kconfig_externs_fault, kconfig_section};
-ghost use Rattle.ebpf_kconfig.specs.KconfigLayout.{kconfig_offsets};
-ghost use Rattle.ebpf_kconfig.specs.KconfigMaps.{defined_symbol, externs_map, kconfig_fault, symbols_defined, with_kconfig_map};
+ghost use Rattle.ebpf_kconfig.specs.KconfigMaps.{kconfig_fault, symbols_defined, with_kconfig_map};
 ghost use Rattle.ebpf_kconfig.specs.KconfigMemory.{is_kconfig_memory};
 
 use crate::error::KconfigError;
@@ -14,8 +12,7 @@ use crate::externs::{KconfigExtern, kconfig_externs};
 use crate::plan::plan_with;
 use crate::rows::KCONFIG;
 use crate::symbols::define_symbols;
-use ebpf_base::{ByIndex, ByName, Items};
-use ebpf_model::Symbol;
+use ebpf_base::{ByName, Items};
 use ebpf_object::Object;
 use ebpf_parts::maps::Map;
 use std::alloc::{AllocError, Global};

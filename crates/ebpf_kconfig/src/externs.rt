@@ -1,6 +1,6 @@
 //! The externs that the kernel's configuration gives.
 
-ghost use Rattle.std.specs.Prelude.{◌≡◌, ◌++◌, codes, nat_eq, IfOk, IfErr, MatchBool, true, ⊤, Ok, Err, unwrap_or, false};
+ghost use Rattle.std.specs.Prelude.{◌≡◌, ◌++◌, IfOk, Ok, Err, unwrap_or, false};
 ghost use Rattle.std.specs.FinMap as finite;
 ghost use Rattle.std.specs.List.{starts_with};
 ghost use Rattle.ebpf_base.specs.Faults.{Refuses, Gives, fault_of};

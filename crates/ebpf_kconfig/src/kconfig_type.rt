@@ -2,7 +2,6 @@
 
 ghost use Rattle.std.specs.Prelude.{◌≡◌, ◌<◌, ◌≤◌};
 ghost use Rattle.std.specs.Option.{option_and_then};
-ghost use Rattle.ebpf_btf.specs.Strings.{is_text, text_at};
 ghost use Rattle.ebpf_kconfig.specs.KconfigTypes.{array_of_char, followed_type, int_of, integer_of, is_bool_int, is_enum64_size, kconfig_alignment, kconfig_size, kconfig_type, scalar_type, tristate_of, value_type};
 
 use ebpf_btf::strings::is_text_at;

@@ -2,7 +2,7 @@
 
 ghost use Rattle.std.specs.Prelude.{◌≡◌, ◌≤◌, ◌∷◌, [], IfOk};
 ghost use Rattle.std.specs.Char.{digit_value};
-ghost use Rattle.ebpf_kconfig.specs.ConfiguredValues.{digits_number, has_hexadecimal_prefix, is_in_range, negative_bits, number_bytes, number_count, read_digits, text_number, unsigned_number};
+ghost use Rattle.ebpf_kconfig.specs.ConfiguredValues.{digits_number, is_in_range, negative_bits, number_bytes, number_count, read_digits, text_number, unsigned_number};
 ghost use Rattle.ebpf_kconfig.specs.declared.numbers.ValueFault.TheVariants.{OutOfMemory};
 
 use ebpf_base::{Endianness, Items};

@@ -1,7 +1,6 @@
 //! The values of externs, and the map's data.
 
-ghost use Rattle.std.specs.Prelude.{◌≡◌, ◌<◌, ◌^◌, ◌++◌, ◌∷◌, [], IfOk, None, OnOk, replicate, length};
-ghost use Rattle.std.specs.FinMap as finite;
+ghost use Rattle.std.specs.Prelude.{◌≡◌, ◌<◌, ◌++◌, IfOk, None, OnOk, replicate, length};
 ghost use Rattle.ebpf_base.specs.Faults.{Refuses, first_some};
 ghost use Rattle.ebpf_kconfig.specs.KconfigLayout.{bytes_from, given_fault, size_fault_from, value_fault, value_or_zeros};
 ghost use Rattle.ebpf_kconfig.specs.KconfigMemory.{is_kconfig_memory};
