@@ -44,6 +44,7 @@ TYPES = {
     ),
     "relocation::RelocationError": ("ebpf_model/src/error.rt", "Why slots can't be written or linked."),
     "extern_types::KsymsError": ("ebpf_ksyms/src/error.rt", "What `resolve_externs` gives (stage `ksyms`)."),
+    "ebpf_kconfig::KconfigError": ("ebpf_kconfig/src/error.rt", "What `kconfig`, `define_kconfig`, `kconfig_value` and `kconfig_number` give."),
 }
 
 DAMAGED = "the file is cut or damaged: make it again, and look at it with `readelf -S`"
@@ -130,6 +131,15 @@ ADVICE = {
     "extern_types::KsymsError::AmbiguousResolution": "the name is that of two things in this kernel: take another",
     "extern_types::KsymsError::KallsymsAccessError": "see that the file can be read, and is UTF-8",
     "extern_types::KsymsError::KallsymsParseError": "give the lines of `/proc/kallsyms`: address, letter, name",
+    "ebpf_kconfig::KconfigError::NotAVariable": "declare it as a variable with `__kconfig`, not as a function",
+    "ebpf_kconfig::KconfigError::UnreadableName": "the object's types are damaged",
+    "ebpf_kconfig::KconfigError::UnknownName": "name it as the kernel's configuration does, or as a value that loaders know",
+    "ebpf_kconfig::KconfigError::UnsupportedType": "declare it as `bool`, `enum libbpf_tristate`, `char`, an integer or `char NAME[N]`",
+    "ebpf_kconfig::KconfigError::NoValue": "the kernel's configuration doesn't say it: declare it `__weak`, or give a value",
+    "ebpf_kconfig::KconfigError::WrongSize": "give a value of the extern's size",
+    "ebpf_kconfig::KconfigError::TooLarge": "declare shorter arrays of char",
+    "ebpf_kconfig::KconfigError::UnsuitedValue": "declare it with the type that the configuration's value has: what may be `m` is a tristate",
+    "ebpf_kconfig::KconfigError::ValueOutOfRange": "declare it with a larger integer, or a signed one",
     "prepare::Explained::Maps": "give a descriptor for the map of this name; where no map stands, the object has nothing that the instruction could refer to",
 }
 

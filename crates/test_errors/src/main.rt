@@ -9,6 +9,7 @@ mod object;
 mod prepare;
 mod records;
 mod sample;
+mod settings;
 mod slots;
 mod small_object;
 mod types;
@@ -24,7 +25,8 @@ fn show_all(rt: &HostRuntime, file: &[u8]) -> io::Result<()> {
     object::show_all(rt)?;
     records::show_all(rt)?;
     slots::show_all(rt)?;
-    externs::show_all(rt)
+    externs::show_all(rt)?;
+    settings::show_all(rt)
 }
 
 fn main(rt: HostRuntime) -> io::Result<()> {

@@ -1,0 +1,3 @@
+pub mod ConfigLines
+pub mod DataSizes
+pub mod DefinedSymbols

@@ -1,0 +1,110 @@
+-- The externs that the kernel's configuration gives: the variables of the first DATASEC `.kconfig` (libbpf 1.5, libbpf.c:
+-- bpf_object__collect_externs).
+use Rattle.std.specs.Prelude.{ℕ, Bool, false, ◌||◌, nat_eq, List, [], ◌∷◌, codes, Option, Some, None, unwrap_or, Result, Ok, Err, slice_get, if◌then◌else◌}
+use Rattle.std.specs.FinMap.{FinMap, get, entries, empty}
+use Rattle.std.specs.List.{flat_map, starts_with}
+use Rattle.std.specs.Map.{keys_of}
+use Rattle.std.specs.Option.{option_and_then, option_map_or}
+use Rattle.std.specs.Ordering.{nat_cmp}
+use Rattle.ebpf_base.specs.Faults.{fault_of, first_some}
+use Rattle.ebpf_base.specs.Keyed.{put_all}
+use Rattle.ebpf_base.specs.Keys.{text_cmp}
+use Rattle.ebpf_base.specs.Results.{if_ok}
+use Rattle.ebpf_btf.specs.Strings.{id_of_name, text_at}
+use Rattle.ebpf_btf.specs.TypeInfo.{TypeInfo}
+use Rattle.ebpf_btf.specs.declared.error.BtfError.{BtfError}
+use Rattle.ebpf_btf.specs.declared.kind.BtfKind.TheVariants as kinds
+use Rattle.ebpf_btf.specs.declared.members.DataSecEntry.{DataSecEntry}
+use Rattle.ebpf_btf.specs.declared.types.BtfType.{BtfType}
+use Rattle.ebpf_btf.specs.declared.types.BtfType.TheVariants.{DataSec, Var}
+use Rattle.ebpf_kconfig.specs.KconfigTypes.{kconfig_type}
+use Rattle.ebpf_kconfig.specs.declared.error.KconfigError.{KconfigError}
+use Rattle.ebpf_kconfig.specs.declared.error.KconfigError.TheVariants.{NotAVariable, UnreadableName, UnknownName, UnsupportedType}
+use Rattle.ebpf_kconfig.specs.declared.externs.KconfigExtern.{KconfigExtern}
+use Rattle.ebpf_kconfig.specs.declared.kconfig_type.KconfigType.{KconfigType}
+use Rattle.ebpf_model.specs.declared.symbol.Symbol.{Symbol}
+
+-- ---- entries
+
+abbrev pub kconfig_section : List ℕ
+kconfig_section = codes ".kconfig"
+
+-- the entries of a DATASEC
+unfoldable pub section_rows : BtfType → List DataSecEntry
+section_rows (DataSec name size rows) = rows
+section_rows t = []
+
+-- those of the first DATASEC `.kconfig`
+abbrev pub kconfig_entries : TypeInfo → List DataSecEntry
+kconfig_entries types = option_map_or section_rows (option_and_then (slice_get types.types) (id_of_name types kconfig_section kinds.DataSec)) []
+
+-- ---- weak names
+
+abbrev pub weak_by_name : Symbol → Option (List ℕ) → List (List ℕ × Bool)
+weak_by_name s None = []
+weak_by_name s (Some name) = (name, s.is_weak) ∷ []
+
+abbrev pub weak_entry_at : Option Symbol → List (List ℕ × Bool)
+weak_entry_at None = []
+weak_entry_at (Some s) = weak_by_name s s.name
+
+-- whether the symbol of a name is weak: of equal names that with the greatest index
+abbrev pub weak_symbols : FinMap nat_cmp Symbol → FinMap text_cmp Bool
+weak_symbols symbols = put_all empty (flat_map (λ index. weak_entry_at (get symbols index)) (keys_of (entries symbols)))
+
+-- ---- one extern
+
+-- the offset of a variable's name, and the id of its type
+abbrev pub variable_or_fault : ℕ → Option BtfType → Result (ℕ × ℕ) KconfigError
+variable_or_fault id (Some (Var name type linkage)) = Ok (name, type)
+variable_or_fault id _ = Err (NotAVariable id)
+
+unfoldable pub kconfig_variable : TypeInfo → ℕ → Result (ℕ × ℕ) KconfigError
+kconfig_variable types id = variable_or_fault id (slice_get types.types id)
+
+abbrev pub readable_or_fault : ℕ → Result (List ℕ) BtfError → Result (List ℕ) KconfigError
+readable_or_fault offset (Ok name) = Ok name
+readable_or_fault offset (Err e) = Err (UnreadableName offset)
+
+-- `CONFIG_` for what the configuration says, `LINUX_` for what a loader knows
+abbrev pub is_kconfig_name : List ℕ → Bool
+is_kconfig_name name = starts_with nat_eq name (codes "CONFIG_") || starts_with nat_eq name (codes "LINUX_")
+
+abbrev pub name_or_fault : List ℕ → Result (List ℕ) KconfigError
+name_or_fault name = if is_kconfig_name name then Ok name else Err (UnknownName name)
+
+abbrev pub extern_name : TypeInfo → ℕ → Result (List ℕ) KconfigError
+extern_name types offset = if_ok (readable_or_fault offset (text_at types.strings offset)) name_or_fault
+
+abbrev pub typed_or_fault : List ℕ → Bool → Option KconfigType → Result KconfigExtern KconfigError
+typed_or_fault name weak (Some kind) = Ok (record { name = name; kind = kind; is_weak = weak })
+typed_or_fault name weak None = Err (UnsupportedType name)
+
+-- the extern of an entry whose type has this id
+unfoldable pub extern_at : TypeInfo → FinMap text_cmp Bool → ℕ → Result KconfigExtern KconfigError
+extern_at types weak id =
+    if_ok (kconfig_variable types id) (λ variable.
+    if_ok (extern_name types variable.0) (λ name.
+    typed_or_fault name (unwrap_or (get weak name) false) (kconfig_type types variable.1)))
+
+-- ---- all
+
+abbrev pub externs_or_none : Result KconfigExtern KconfigError → List KconfigExtern
+externs_or_none (Ok e) = e ∷ []
+externs_or_none (Err e) = []
+
+abbrev pub externs_in : TypeInfo → FinMap text_cmp Bool → List DataSecEntry → List KconfigExtern
+externs_in types weak rows = flat_map (λ row. externs_or_none (extern_at types weak row.btf_type)) rows
+
+abbrev pub externs_fault_in : TypeInfo → FinMap text_cmp Bool → List DataSecEntry → Option KconfigError
+externs_fault_in types weak rows = first_some (λ row. fault_of (extern_at types weak row.btf_type)) rows
+
+-- the externs of an object with these types and symbols, in the order of the entries
+unfoldable pub kconfig_externs : Option TypeInfo → FinMap nat_cmp Symbol → List KconfigExtern
+kconfig_externs None symbols = []
+kconfig_externs (Some types) symbols = externs_in types (weak_symbols symbols) (kconfig_entries types)
+
+-- the fault of the first entry that has one
+unfoldable pub kconfig_externs_fault : Option TypeInfo → FinMap nat_cmp Symbol → Option KconfigError
+kconfig_externs_fault None symbols = None
+kconfig_externs_fault (Some types) symbols = externs_fault_in types (weak_symbols symbols) (kconfig_entries types)

@@ -1,0 +1,101 @@
+//! The externs of an object that the kernel's configuration gives, and their definition.
+
+ghost use Rattle.std.specs.Prelude.{◌≡◌, IfOk, OnOk, OnErr, if◌then◌else◌};
+ghost use Rattle.std.specs.FinMap as finite;
+ghost use Rattle.ebpf_base.specs.Faults.{Refuses};
+ghost use Rattle.ebpf_kconfig.specs.KconfigExterns.{kconfig_externs, kconfig_externs_fault, kconfig_section};
+ghost use Rattle.ebpf_kconfig.specs.KconfigMaps.{kconfig_fault, symbols_defined, with_kconfig_map};
+ghost use Rattle.ebpf_kconfig.specs.KconfigMemory.{is_kconfig_memory};
+
+use crate::error::KconfigError;
+use crate::externs::{KconfigExtern, kconfig_externs};
+use crate::plan::plan_with;
+use crate::rows::KCONFIG;
+use crate::symbols::define_symbols;
+use ebpf_base::{ByName, Items};
+use ebpf_object::Object;
+use ebpf_parts::maps::Map;
+use std::alloc::{AllocError, Global};
+
+/// The externs of an object that the kernel's configuration gives: the variables of the first DATASEC `.kconfig`, in the
+/// order of its entries. There are none where the object has no type information or no such DATASEC. An extern is weak
+/// where its symbol is: of equal names the one with the greatest index counts, and without a symbol it isn't.
+///
+/// As libbpf 1.5 does (`bpf_object__collect_externs`), but by the entries of the DATASEC, whose order this keeps, and not
+/// by the symbols; and an ENUM64 that is no enumeration of 1, 2, 4 or 8 bytes is refused.
+///
+/// # Errors
+///
+/// The first fault of the first entry that has one, also where the extern is weak: `NotAVariable` where its type is no
+/// VAR; `UnreadableName` where the variable's name can't be read; `UnknownName` where that begins neither with `CONFIG_`
+/// nor with `LINUX_`; `UnsupportedType` where the variable, TYPEDEFs, CONST, VOLATILE, RESTRICT and TYPE_TAGs aside, is none
+/// of these: an INT that is a bool, of 1 byte; another INT of 1, 2, 4 or 8 bytes; `enum libbpf_tristate`, an ENUM of 4
+/// bytes or an ENUM64; an ARRAY that has elements, of INTs of 1 byte that are no bools. `OutOfMemory` only where memory was
+/// refused.
+pub fn kconfig(object: &Object) -> Result<Items<KconfigExtern>, KconfigError>
+    ensures externs { IfOk result (λ externs. externs ≡ kconfig_externs object.now.btf object.now.symbol_table) }
+    ensures fault { Refuses is_kconfig_memory result (kconfig_externs_fault object.now.btf object.now.symbol_table) }
+{
+    let alloc = *object.license.as_vec().allocator();
+    kconfig_externs(alloc, &object.btf, &object.symbol_table)
+}
+
+/// Puts the map of some externs, where there are any.
+fn put_map(
+    alloc: Global,
+    maps: &mut ByName<Map>,
+    has_externs: bool,
+    map: Map,
+) -> Result<(), AllocError>
+    ensures put { OnOk result (maps.new ≡ (if has_externs then finite.insert maps.old kconfig_section map else maps.old)) }
+    ensures unchanged { OnErr result (maps.new ≡ maps.old) }
+{
+    if !has_externs {
+        return Ok(());
+    }
+    maps.insert(String::from_str(alloc, KCONFIG)?, map)?;
+    Ok(())
+}
+
+/// Defines the externs of an object that the kernel's configuration gives. `values` has their values by name, each the
+/// bytes of an extern's size as they are to stand in memory (`kconfig_value` reads them from a kernel's configuration); a
+/// weak extern without a value is zeros, and a value of another name is passed over. Where the object has such externs,
+///
+/// - the map `.kconfig` is put to its maps: an array of one entry that programs only read (flags 128), whose data are the
+///   values, by descending alignment, then ascending size, then name, each at the next offset that its alignment divides,
+///   zeros between them. It stands in section 0, no section's index, and has no symbol. Its value's type is the DATASEC
+///   (`ebpf_loading::map_types`, where the DATASEC states this size or 0);
+/// - each extern symbol that has the name of one is a definition in section 0 at the extern's offset, so that
+///   `Object::relocate_maps` with the map among those handed in writes what refers to it.
+///
+/// All else stays, the types too: unlike libbpf 1.5 (`bpf_object__collect_externs`), which writes the offsets and the size
+/// into the DATASEC and makes its variables global. A second call puts the map with other values.
+///
+/// # Errors
+///
+/// Those of `kconfig`; then, in the order of the externs, `NoValue` where one that isn't weak has no value and `WrongSize`
+/// where a value has another size than its extern; then `TooLarge` where the data would end past 32 bits. `OutOfMemory`
+/// only where memory was refused. After a refusal the object is as it was.
+#[tactic(auto, unfolding(crate::specs::KconfigMaps::kconfig_fault, crate::specs::KconfigMaps::symbols_defined))]
+pub fn define_kconfig(object: &mut Object, values: &ByName<Items<u8>>) -> Result<(), KconfigError>
+    ensures maps { OnOk result (object.new.maps ≡ with_kconfig_map values.now (kconfig_externs object.old.btf object.old.symbol_table) object.old.maps) }
+    ensures symbols { OnOk result (object.new.symbol_table ≡ symbols_defined (kconfig_externs object.old.btf object.old.symbol_table) object.old.symbol_table) }
+    ensures fault { Refuses is_kconfig_memory result (kconfig_fault object.old.btf object.old.symbol_table values.now) }
+    ensures others_stay { object.new ≡ record object.old { maps = object.new.maps; symbol_table = object.new.symbol_table } }
+    ensures unchanged { OnErr result (object.new ≡ object.old) }
+{
+    let alloc = *object.license.as_vec().allocator();
+    let externs = match kconfig(object) {
+        Ok(externs) => externs,
+        Err(error) => return Err(error),
+    };
+    let has_externs = !externs.is_empty();
+    let plan = match plan_with(alloc, values, externs) {
+        Ok(plan) => plan,
+        Err(error) => return Err(error),
+    };
+    let indices = object.symbol_table.indices(alloc)?;
+    put_map(alloc, &mut object.maps, has_externs, plan.map)?;
+    define_symbols(&plan.offsets, &mut object.symbol_table, indices.as_slice());
+    Ok(())
+}

@@ -1,0 +1,191 @@
+//! The types of externs that the kernel's configuration gives.
+
+ghost use Rattle.std.specs.Prelude.{◌≡◌, ◌<◌, ◌≤◌};
+ghost use Rattle.std.specs.Option.{option_and_then};
+ghost use Rattle.ebpf_kconfig.specs.KconfigTypes.{array_of_char, followed_type, int_of, integer_of, is_bool_int, is_enum64_size, kconfig_alignment, kconfig_size, kconfig_type, scalar_type, tristate_of, value_type};
+
+use ebpf_btf::strings::is_text_at;
+use ebpf_btf::{Btf, BtfType};
+
+/// What an extern of the kernel's configuration holds.
+#[derive(Clone, Copy, Debug, PartialEq, Eq)]
+pub enum KconfigType {
+    /// A `bool` of 1 byte: 1 for `y`, 0 for `n`.
+    Bool,
+    /// `enum libbpf_tristate`: 0 for `n`, 1 for `y`, 2 for `m`.
+    Tristate {
+        /// Its size in bytes: 4, of an ENUM64 1, 2, 4 or 8.
+        size: u32,
+    },
+    /// An integer of 1 byte: a number, or the character `y`, `n` or `m`.
+    Char {
+        /// Whether its numbers are signed.
+        signed: bool,
+    },
+    /// An integer of more bytes.
+    Integer {
+        /// Its size in bytes: 2, 4 or 8.
+        size: u32,
+        /// Whether its numbers are signed.
+        signed: bool,
+    },
+    /// An array of integers of 1 byte: a string and a zero byte.
+    CharArray {
+        /// How many there are, at least 1.
+        len: u32,
+    },
+}
+
+impl KconfigType {
+    /// The size in bytes.
+    pub fn size(self) -> u32
+        ensures { result ≡ kconfig_size self }
+    {
+        match self {
+            KconfigType::Bool | KconfigType::Char { .. } => 1,
+            KconfigType::Tristate { size } | KconfigType::Integer { size, .. } => size,
+            KconfigType::CharArray { len } => len,
+        }
+    }
+
+    /// The alignment in bytes: of an array 1, of other types the size, from 1 to 8.
+    pub fn alignment(self) -> u32
+        ensures value { result ≡ kconfig_alignment self }
+        ensures positive { 0 < result }
+        ensures few { result ≤ 8 }
+    {
+        match self {
+            KconfigType::CharArray { .. } => 1,
+            _ => self.size().min(8).max(1),
+        }
+    }
+}
+
+/// Whether an INT is a bool.
+fn is_bool_int(int_data: u32) -> bool
+    ensures { result ≡ is_bool_int int_data }
+{
+    (int_data >> 26) & 1 == 1
+}
+
+/// An INT that is no bool.
+fn integer_of(size: u32, signed: bool) -> Option<KconfigType>
+    ensures { result ≡ integer_of size signed }
+{
+    match size {
+        1 => Some(KconfigType::Char { signed }),
+        2 | 4 | 8 => Some(KconfigType::Integer { size, signed }),
+        _ => None,
+    }
+}
+
+/// An INT.
+fn int_of(size: u32, is_bool: bool, signed: bool) -> Option<KconfigType>
+    ensures { result ≡ int_of size is_bool signed }
+{
+    if !is_bool {
+        return integer_of(size, signed);
+    }
+    if size == 1 {
+        return Some(KconfigType::Bool);
+    }
+    None
+}
+
+/// An enumeration, where it has the name of the one of three values.
+fn tristate_of(types: &Btf, name_offset: u32, size: u32) -> Option<KconfigType>
+    ensures { result ≡ tristate_of types.now name_offset size }
+{
+    if is_text_at(types.strings(), name_offset, "libbpf_tristate") {
+        return Some(KconfigType::Tristate { size });
+    }
+    None
+}
+
+/// Whether an ENUM64 may have a size.
+fn is_enum64_size(size: u32) -> bool
+    ensures { result ≡ is_enum64_size size }
+{
+    size == 1 || size == 2 || size == 4 || size == 8
+}
+
+/// What a type that is no array holds.
+#[tactic(auto, unfolding(crate::specs::KconfigTypes::scalar_type))]
+fn scalar_type(types: &Btf, ty: &BtfType<'_>) -> Option<KconfigType>
+    ensures { result ≡ scalar_type types.now ty.now }
+{
+    match ty {
+        BtfType::Int { size, int_data, .. } => {
+            int_of(*size, is_bool_int(*int_data), ty.is_signed())
+        }
+        BtfType::Enum {
+            name_offset,
+            size,
+            ..
+        } => {
+            if *size != 4 {
+                return None;
+            }
+            tristate_of(types, *name_offset, *size)
+        }
+        BtfType::Enum64 {
+            name_offset,
+            size,
+            ..
+        } => {
+            if !is_enum64_size(*size) {
+                return None;
+            }
+            tristate_of(types, *name_offset, *size)
+        }
+        _ => None,
+    }
+}
+
+/// The type that an id leads to, where it can be followed.
+fn followed_type(types: &Btf, type_id: u32) -> Option<BtfType<'_>>
+    ensures { result ≡ followed_type types.now type_id }
+{
+    types.resolved_type(type_id).ok()
+}
+
+/// An array of elements.
+fn array_of_char(len: u32, element: Option<KconfigType>) -> Option<KconfigType>
+    ensures { result ≡ array_of_char len element }
+{
+    match element {
+        Some(KconfigType::Char { .. }) if len != 0 => Some(KconfigType::CharArray { len }),
+        _ => None,
+    }
+}
+
+/// What an element holds.
+fn element_type(types: &Btf, type_id: u32) -> Option<KconfigType>
+    ensures { result ≡ option_and_then (scalar_type types.now) (followed_type types.now type_id) }
+{
+    let element = followed_type(types, type_id)?;
+    scalar_type(types, &element)
+}
+
+/// What a type holds.
+#[tactic(auto, unfolding(crate::specs::KconfigTypes::value_type))]
+fn value_type(types: &Btf, ty: &BtfType<'_>) -> Option<KconfigType>
+    ensures { result ≡ value_type types.now ty.now }
+{
+    match ty {
+        BtfType::Array {
+            element_type: element,
+            len,
+            ..
+        } => { array_of_char(*len, element_type(types, *element)) }
+        _ => scalar_type(types, ty),
+    }
+}
+
+/// What the values of a variable hold whose type has an id. `None` where that is none of these, or can't be followed.
+pub fn kconfig_type(types: &Btf, type_id: u32) -> Option<KconfigType>
+    ensures { result ≡ kconfig_type types.now type_id }
+{
+    let ty = followed_type(types, type_id)?;
+    value_type(types, &ty)
+}

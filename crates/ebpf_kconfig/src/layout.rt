@@ -1,0 +1,164 @@
+//! The order of externs in the value of the map, and their offsets.
+
+ghost use Rattle.std.specs.Prelude.{◌≡◌, ◌<◌, ◌≤◌, ◌+◌, ◌^◌, ◌++◌, IfOk, OnOk, None};
+ghost use Rattle.std.specs.FinMap as finite;
+ghost use Rattle.std.specs.List.{flat_map};
+ghost use Rattle.std.specs.Option.{option_to_list};
+ghost use Rattle.ebpf_base.specs.Faults.{fault_of};
+ghost use Rattle.ebpf_base.specs.Keyed.{put_all};
+ghost use Rattle.ebpf_base.specs.Keys.{lent_bytes};
+ghost use Rattle.ebpf_kconfig.specs.KconfigLayout.{extern_end, extern_groups, extern_offset, extern_offsets, group_externs, layout_end, layout_key, size_fault_from};
+ghost use Rattle.ebpf_kconfig.specs.PrivateContracts.{lent_externs, with_extern_in};
+
+use crate::error::KconfigError;
+use crate::externs::KconfigExtern;
+use ebpf_base::{ByKey, ByName};
+use std::alloc::{AllocError, Global};
+
+/// What externs are ordered by before their names: descending alignment, then ascending size.
+fn layout_key(wanted: &KconfigExtern) -> (usize, u64)
+    ensures { result ≡ layout_key wanted.now }
+{
+    let kind = wanted.kind;
+    (8 - kind.alignment() as usize, u64::from(kind.size()))
+}
+
+/// A group of one extern.
+fn group_of(alloc: Global, wanted: KconfigExtern) -> Result<ByName<KconfigExtern>, AllocError>
+    ensures { IfOk result (λ group. group ≡ finite.insert finite.empty wanted.name wanted) }
+{
+    let mut group = ByName::new(alloc);
+    let name = String::from_str(alloc, wanted.name.as_str())?;
+    group.insert(name, wanted)?;
+    Ok(group)
+}
+
+/// Adds an extern to its group.
+fn add_extern(
+    alloc: Global,
+    groups: &mut ByKey<ByName<KconfigExtern>>,
+    wanted: KconfigExtern,
+) -> Result<(), AllocError>
+    ensures { OnOk result (groups.new ≡ with_extern_in groups.old wanted (finite.get groups.old (layout_key wanted))) }
+{
+    let key = layout_key(&wanted);
+    match groups.get_mut(key) {
+        Some(group) => {
+            let name = String::from_str(alloc, wanted.name.as_str())?;
+            group.insert(name, wanted)?;
+        }
+        None => {
+            groups.insert(key, group_of(alloc, wanted)?)?;
+        }
+    }
+    Ok(())
+}
+
+/// Externs in groups of one alignment and size.
+pub fn extern_groups(
+    alloc: Global,
+    externs: Vec<KconfigExtern>,
+) -> Result<ByKey<ByName<KconfigExtern>>, AllocError>
+    ensures { IfOk result (λ groups. groups ≡ extern_groups externs.items) }
+{
+    let mut groups = ByKey::new(alloc);
+    for wanted in externs {
+        add_extern(alloc, &mut groups, wanted)?;
+    }
+    Ok(groups)
+}
+
+/// Adds the externs of some names.
+fn add_names<'a>(
+    alloc: Global,
+    all: Vec<&'a KconfigExtern>,
+    group: &'a ByName<KconfigExtern>,
+    names: &[&str],
+) -> Result<Vec<&'a KconfigExtern>, AllocError>
+    ensures { IfOk result (λ more. lent_externs more.items ≡ lent_externs all.entry.items ++ flat_map (λ name. option_to_list (finite.get group.now name)) (lent_bytes names.now)) }
+{
+    let mut all = all;
+    for name in names {
+        let Some(wanted) = group.get(*name) else {
+            continue;
+        };
+        all.push(wanted)?;
+    }
+    Ok(all)
+}
+
+/// Adds the externs of a group, in the order of their names.
+fn add_group<'a>(
+    alloc: Global,
+    all: Vec<&'a KconfigExtern>,
+    group: &'a ByName<KconfigExtern>,
+) -> Result<Vec<&'a KconfigExtern>, AllocError>
+    ensures { IfOk result (λ more. lent_externs more.items ≡ lent_externs all.entry.items ++ group_externs group.now) }
+{
+    let names = group.names(alloc)?;
+    add_names(alloc, all, group, names.as_slice())
+}
+
+/// The externs of groups in order.
+pub fn in_order<'a>(
+    alloc: Global,
+    groups: &'a ByKey<ByName<KconfigExtern>>,
+) -> Result<Vec<&'a KconfigExtern>, AllocError>
+    ensures { IfOk result (λ all. lent_externs all.items ≡ flat_map (λ group. group_externs group.1) (finite.entries groups.now)) }
+{
+    let mut all = Vec::new(alloc);
+    for (_, group) in groups.iter() {
+        all = add_group(alloc, all, group)?;
+    }
+    Ok(all)
+}
+
+/// Where an extern stands behind what ends at an offset.
+pub fn extern_offset(end: u64, wanted: &KconfigExtern) -> u64
+    requires { end < 2 ^ 32 }
+    ensures value { result ≡ extern_offset end wanted.now }
+    ensures near { result < end + 8 }
+    ensures behind { end ≤ result }
+{
+    let alignment = u64::from(wanted.kind.alignment());
+    (end + (alignment - 1)) / alignment * alignment
+}
+
+/// Where an extern ends behind what ends at an offset.
+pub fn extern_end(end: u64, wanted: &KconfigExtern) -> u64
+    requires { end < 2 ^ 32 }
+    ensures value { result ≡ extern_end end wanted.now }
+    ensures fits { result < 2 ^ 64 }
+{
+    extern_offset(end, wanted) + u64::from(wanted.kind.size())
+}
+
+/// Where the last of externs in a row ends.
+pub fn layout_end(externs: &[&KconfigExtern]) -> Result<u32, KconfigError>
+    ensures end { IfOk result (λ end. end ≡ layout_end 0 (lent_externs externs.now)) }
+    ensures fault { fault_of result ≡ size_fault_from 0 (lent_externs externs.now) }
+{
+    let mut end = 0;
+    for wanted in externs {
+        end = extern_end(end, *wanted);
+        if end > u64::from(u32::MAX) {
+            return Err(KconfigError::TooLarge);
+        }
+    }
+    Ok(end as u32)
+}
+
+/// The offsets of externs in a row, by name.
+pub fn extern_offsets(alloc: Global, externs: &[&KconfigExtern]) -> Result<ByName<u64>, AllocError>
+    requires { size_fault_from 0 (lent_externs externs.now) ≡ None }
+    ensures { IfOk result (λ offsets. offsets ≡ put_all finite.empty (extern_offsets 0 (lent_externs externs.now))) }
+{
+    let mut offsets = ByName::new(alloc);
+    let mut end = 0;
+    for wanted in externs {
+        let offset = extern_offset(end, *wanted);
+        offsets.insert(String::from_str(alloc, wanted.name.as_str())?, offset)?;
+        end = extern_end(end, *wanted);
+    }
+    Ok(offsets)
+}

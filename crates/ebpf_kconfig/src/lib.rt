@@ -1,0 +1,22 @@
+//! The externs that the kernel's configuration gives: what an object wants of it, and their values.
+#![tactic(auto)]
+
+mod config;
+mod define;
+mod error;
+mod externs;
+mod kconfig_type;
+pub mod laws;
+mod layout;
+mod numbers;
+mod plan;
+mod rows;
+mod settings;
+mod symbols;
+mod values;
+
+pub use config::{kconfig_number, kconfig_value};
+pub use define::{define_kconfig, kconfig};
+pub use error::KconfigError;
+pub use externs::KconfigExtern;
+pub use kconfig_type::KconfigType;

@@ -1,0 +1,6 @@
+//! Externs that the kernel's configuration gives, in small objects.
+
+mod configured;
+mod defined;
+mod listed;
+mod objects;
