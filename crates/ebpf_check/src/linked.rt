@@ -79,17 +79,37 @@ fn explained(
     sentence
 }
 
-/// Writes descriptors of an object's own maps and what is known of its externs.
-fn write_passes(
-    alloc: Global,
-    object: &mut Object,
-    descriptors: &[(&str, i32)],
-) -> Result<(), PrepareError> {
-    relocate_own_maps(alloc, object, descriptors)?;
+/// Writes descriptors of an object's own maps, which are those of another one.
+fn write_maps(alloc: Global, object: &mut Object, own: &Object) -> Result<(), PrepareError> {
+    let descriptors = own_descriptors(alloc, own)?;
+    relocate_own_maps(alloc, object, &descriptors)
+}
+
+/// Writes what is known of an object's externs.
+fn write_externs(object: &mut Object) -> Result<(), PrepareError> {
     match object.relocate_externs() {
         Ok(()) => Ok(()),
         Err(error) => Err(PrepareError::Externs(error)),
     }
+}
+
+/// Writes descriptors of an object's own maps, which are those of another one, and what is known of its externs.
+fn write_passes(alloc: Global, object: &mut Object, own: &Object) -> Result<(), PrepareError> {
+    write_maps(alloc, object, own)?;
+    write_externs(object)
+}
+
+/// An object with other externs and the slots that records write. Nothing is stated of it, so that what calls this isn't
+/// proved over all that is stated of copies.
+fn copy_with(
+    object: &Object,
+    written: ByKey<Items<bpf_insn>>,
+    externs: ByName<ExternDesc>,
+) -> Result<Object, AllocError> {
+    let mut copy = object.clone()?;
+    copy.externs = externs;
+    put_slots(&mut copy.functions, written);
+    Ok(copy)
 }
 
 /// An object as it is over a kernel before its programs are linked: with the slots that records write, descriptors of its
@@ -104,11 +124,8 @@ pub fn written_object(
     written: ByKey<Items<bpf_insn>>,
     externs: ByName<ExternDesc>,
 ) -> Result<Result<Object, RefusalText>, AllocError> {
-    let descriptors = own_descriptors(alloc, &loaded.object)?;
-    let mut object = loaded.object.clone()?;
-    object.externs = externs;
-    put_slots(&mut object.functions, written);
-    match write_passes(alloc, &mut object, &descriptors) {
+    let mut object = copy_with(&loaded.object, written, externs)?;
+    match write_passes(alloc, &mut object, &loaded.object) {
         Ok(()) => Ok(Ok(object)),
         Err(error) => {
             let sentence = explained(alloc, &object, error);

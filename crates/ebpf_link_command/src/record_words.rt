@@ -4,7 +4,7 @@ use crate::notes::{Note, Written};
 use ebpf_btf::Btf;
 use ebpf_ext::{Relocation, RelocationKind};
 use ebpf_origins::answers::{absence_words, has_sign};
-use ebpf_origins::record_names::asked;
+use ebpf_origins::record_names::Asked;
 use ebpf_report::kinds::Kind;
 use ebpf_report::names::Shown;
 use ebpf_report::stop::Stop;
@@ -61,7 +61,7 @@ fn write_value<W: Write>(out: &mut W, is_signed: bool, value: u64) -> io::Result
 impl RecordWords {
     /// The words of a record.
     fn of(alloc: Global, local: &Btf, relocation: &Relocation) -> Result<RecordWords, AllocError> {
-        let asked = asked(alloc, local, relocation)?;
+        let asked = Asked::of(alloc, local, relocation)?;
         let name = Shown(asked.name.as_str());
         Ok(RecordWords {
             question: Question::of(relocation),

@@ -76,20 +76,22 @@ pub struct Asked {
     pub own: Option<u64>,
 }
 
-/// What a record asks, and what the object's own types answer: its access string is read once for both.
-pub fn asked(alloc: Global, local: &Btf, relocation: &Relocation) -> Result<Asked, AllocError> {
-    let mut name = String::new(alloc);
-    add_type(&mut name, local, relocation.type_id)?;
-    let own = match local_path(alloc, local, relocation) {
-        Ok(path) => {
-            add_path(alloc, &mut name, &path.path)?;
-            own_value_of(alloc, local, relocation, &path)?
-        }
-        Err(error) => {
-            no_answer(error)?;
-            add_access(&mut name, local, relocation)?;
-            None
-        }
-    };
-    Ok(Asked { name, own })
+impl Asked {
+    /// What a record asks, and what the object's own types answer: its access string is read once for both.
+    pub fn of(alloc: Global, local: &Btf, relocation: &Relocation) -> Result<Asked, AllocError> {
+        let mut name = String::new(alloc);
+        add_type(&mut name, local, relocation.type_id)?;
+        let own = match local_path(alloc, local, relocation) {
+            Ok(path) => {
+                add_path(alloc, &mut name, &path.path)?;
+                own_value_of(alloc, local, relocation, &path)?
+            }
+            Err(error) => {
+                no_answer(error)?;
+                add_access(&mut name, local, relocation)?;
+                None
+            }
+        };
+        Ok(Asked { name, own })
+    }
 }
