@@ -177,6 +177,27 @@ fn link(
     }
 }
 
+/// The slots of a function that are reached. Nothing is stated of it, so that what calls this isn't proved over all that is
+/// stated of walks.
+fn reached_of(alloc: Global, function: &Function) -> Result<Items<bool>, AllocError> {
+    reached_slots(alloc, function.instructions.as_slice())
+}
+
+/// A linked program of these slots and copies.
+fn linked_of(
+    alloc: Global,
+    function: Function,
+    copies: Result<Items<CodeCopy>, AllocError>,
+) -> Result<Linked, AllocError> {
+    let copies = copies?;
+    let reached = reached_of(alloc, &function)?;
+    Ok(Linked {
+        function,
+        copies,
+        reached,
+    })
+}
+
 /// Programs, linked together or, where one of them is refused, each alone.
 #[derive(Drop)]
 pub struct Linker<'a> {
@@ -251,17 +272,13 @@ impl<'a> Linker<'a> {
         alloc: Global,
         program: &ObjectProgram,
     ) -> Result<Result<Option<Linked>, RefusalText>, AllocError> {
-        let function = match self.function(alloc, program)? {
-            Ok(Some(function)) => function,
-            Ok(None) => return Ok(Ok(None)),
-            Err(sentence) => return Ok(Err(sentence)),
-        };
-        let copies = self.copies(alloc, program)?;
-        let reached = reached_slots(alloc, function.instructions.as_slice())?;
-        Ok(Ok(Some(Linked {
-            function,
-            copies,
-            reached,
-        })))
+        match self.function(alloc, program)? {
+            Ok(Some(function)) => {
+                let copies = self.copies(alloc, program);
+                Ok(Ok(Some(linked_of(alloc, function, copies)?)))
+            }
+            Ok(None) => Ok(Ok(None)),
+            Err(sentence) => Ok(Err(sentence)),
+        }
     }
 }
