@@ -41,6 +41,14 @@ fn width_of(text: &str) -> usize {
     text.chars().count()
 }
 
+/// The width of what stands in a text from an offset on.
+fn width_from(text: &str, start: usize) -> usize {
+    match text.get(start..) {
+        Some(cell) => width_of(cell),
+        None => 0,
+    }
+}
+
 /// Writes spaces.
 fn write_spaces<W: Write>(out: &mut W, count: usize) -> io::Result<()> {
     for _ in 0..count {
@@ -87,7 +95,7 @@ impl<'a> Table<'a> {
 
     /// Ends the next cell of a row, or the first of the next row, whose text stands from an offset on.
     fn end(&mut self, start: usize) -> Result<(), AllocError> {
-        let width = width_of(self.text.get(start..).unwrap_or(""));
+        let width = width_from(self.text.as_str(), start);
         let number = self.ends.len().checked_rem(self.columns.len());
         if let Some(widest) = self.widths.get_mut(number.unwrap_or(0)) {
             *widest = width.max(*widest);
