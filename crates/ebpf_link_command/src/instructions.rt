@@ -55,7 +55,7 @@ fn write_instruction<'a, W: Write>(
 fn write_notes<W: Write>(
     out: &mut W,
     teller: &mut RecordTeller<'_>,
-    notes: &[Note<'_>],
+    notes: &[Note],
 ) -> Result<(), Stop> {
     let mut between: &[u8] = b"  ; ";
     for note in notes {

@@ -22,18 +22,18 @@ pub enum Written {
 
 /// That a record wrote a slot.
 #[derive(Clone, Copy)]
-pub struct Note<'a> {
+pub struct Note {
     slot: SlotKey,
     /// The record.
-    pub relocation: &'a Relocation,
+    pub relocation: Relocation,
     /// What it came to.
     pub written: Written,
 }
 
 /// What an object's records wrote, by slots; of a slot in the order of the records.
 #[derive(Drop)]
-pub struct RecordNotes<'a> {
-    notes: Vec<Note<'a>>,
+pub struct RecordNotes {
+    notes: Vec<Note>,
 }
 
 /// The key of a slot.
@@ -54,18 +54,18 @@ fn written_by(outcome: &RecordResult) -> Option<Written> {
 }
 
 /// What a record wrote, where it wrote a slot.
-fn note_of<'a>(relocation: &'a Relocation, outcome: &RecordOutcome) -> Option<Note<'a>> {
+fn note_of(relocation: &Relocation, outcome: &RecordOutcome) -> Option<Note> {
     Some(Note {
         slot: key_of(outcome.slot?),
-        relocation,
+        relocation: *relocation,
         written: written_by(&outcome.result)?,
     })
 }
 
 /// Adds what the records of a section wrote, of which the first came to the first of these outcomes.
-fn add_section<'a>(
-    notes: &mut Vec<Note<'a>>,
-    relocations: &'a [Relocation],
+fn add_section(
+    notes: &mut Vec<Note>,
+    relocations: &[Relocation],
     outcomes: &[RecordOutcome],
 ) -> Result<(), AllocError> {
     for (relocation, outcome) in relocations.iter().zip(outcomes.iter()) {
@@ -78,11 +78,11 @@ fn add_section<'a>(
 }
 
 /// What the records of an object wrote, which came to this, section by section and in order.
-fn all_notes<'a>(
+fn all_notes(
     alloc: Global,
-    parsed: &'a Object,
+    parsed: &Object,
     outcomes: &[RecordOutcome],
-) -> Result<Vec<Note<'a>>, AllocError> {
+) -> Result<Vec<Note>, AllocError> {
     let mut notes = Vec::new(alloc);
     let Some(said) = &parsed.btf_ext else {
         return Ok(notes);
@@ -97,22 +97,18 @@ fn all_notes<'a>(
 }
 
 /// What the records of an object wrote, for a kernel's types.
-fn notes_over<'a>(
-    alloc: Global,
-    parsed: &'a Object,
-    types: &Btf,
-) -> Result<Vec<Note<'a>>, AllocError> {
+fn notes_over(alloc: Global, parsed: &Object, types: &Btf) -> Result<Vec<Note>, AllocError> {
     let outcomes = parsed.record_outcomes(types)?;
     all_notes(alloc, parsed, outcomes.records.as_slice())
 }
 
-impl<'a> RecordNotes<'a> {
+impl RecordNotes {
     /// What the records of an object wrote, which was parsed, for a kernel whose types are known.
     pub fn of(
         alloc: Global,
-        parsed: &'a Object,
+        parsed: &Object,
         types: Option<&Btf>,
-    ) -> Result<RecordNotes<'a>, AllocError> {
+    ) -> Result<RecordNotes, AllocError> {
         let mut notes = match types {
             Some(types) => notes_over(alloc, parsed, types)?,
             None => Vec::new(alloc),
@@ -122,7 +118,7 @@ impl<'a> RecordNotes<'a> {
     }
 
     /// What records wrote into the slot of a number in the function of a key.
-    pub fn at(&self, function: (usize, u64), slot: usize) -> &[Note<'a>] {
+    pub fn at(&self, function: (usize, u64), slot: usize) -> &[Note] {
         let key = (function.0, function.1, slot);
         let start = self.notes.partition_point(|note| note.slot < key);
         let Some(rest) = self.notes.get(start..) else {

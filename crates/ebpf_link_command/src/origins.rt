@@ -22,7 +22,7 @@ pub struct Origins<'a> {
     /// The names of its maps, in byte order: the descriptor of each is its place among them, from 1 on.
     map_names: Vec<&'a str>,
     /// What CO-RE records wrote into slots.
-    notes: &'a RecordNotes<'a>,
+    notes: &'a RecordNotes,
 }
 
 impl<'a> Origins<'a> {
@@ -31,7 +31,7 @@ impl<'a> Origins<'a> {
         alloc: Global,
         object: &'a Object,
         parsed: &'a Object,
-        notes: &'a RecordNotes<'a>,
+        notes: &'a RecordNotes,
     ) -> Result<Origins<'a>, AllocError> {
         Ok(Origins {
             object,
@@ -42,7 +42,7 @@ impl<'a> Origins<'a> {
     }
 
     /// What records wrote into a slot.
-    pub fn notes(&self, spot: Spot<'_>) -> &'a [Note<'a>] {
+    pub fn notes(&self, spot: Spot<'_>) -> &'a [Note] {
         self.notes.at(spot.copy.key, spot.slot)
     }
 

@@ -122,8 +122,8 @@ impl<'a> RecordTeller<'a> {
     }
 
     /// Writes what a record asked and what it came to.
-    pub fn write<W: Write>(&mut self, out: &mut W, note: &Note<'_>) -> Result<(), Stop> {
-        self.read(note.relocation)?;
+    pub fn write<W: Write>(&mut self, out: &mut W, note: &Note) -> Result<(), Stop> {
+        self.read(&note.relocation)?;
         match &self.last {
             Some(words) => Ok(words.write(out, note.written)?),
             None => Ok(()),

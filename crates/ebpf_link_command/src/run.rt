@@ -105,7 +105,7 @@ fn write_all<'a>(
 fn write_noted<'a>(
     rt: &HostRuntime,
     prepared: &'a Prepared,
-    notes: &'a RecordNotes<'a>,
+    notes: &'a RecordNotes,
     manner: Manner,
 ) -> Result<(), Stop> {
     let origins = Origins::new(rt.alloc(), &prepared.object, &prepared.parsed, notes)?;
