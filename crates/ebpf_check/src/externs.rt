@@ -3,7 +3,7 @@
 use crate::kernel_symbols::{KernelSymbols, Sort};
 use crate::loaded::Loaded;
 use ebpf_base::{ByName, Text};
-use ebpf_btf::{Btf, BtfError, BtfType};
+use ebpf_btf::{Btf, BtfError, BtfKind};
 use ebpf_candidates::types_are_compatible;
 use ebpf_model::ExternDesc;
 use ebpf_report::unknown_externs::{add_settings, add_unknown, unknown};
@@ -98,6 +98,17 @@ fn answer_for(
     }
 }
 
+/// Whether the type of an extern's id is a function or a variable, and the type that it holds. None where it is neither.
+fn held_by(local: &Btf, id: u32) -> Result<Option<(Sort, u32)>, BtfError> {
+    let ty = local.type_by_id(id)?;
+    let sort = match ty.kind() {
+        BtfKind::Func => Sort::Function,
+        BtfKind::Var => Sort::Variable,
+        _ => return Ok(None),
+    };
+    Ok(Some((sort, ty.btf_type().unwrap_or(0))))
+}
+
 /// What a kernel has for an extern of a name and an id.
 fn answer_of(
     local: &Btf,
@@ -106,14 +117,9 @@ fn answer_of(
     name: &str,
     known: &ExternDesc,
 ) -> ExternAnswer {
-    match local.type_by_id(known.btf_id) {
-        Ok(BtfType::Func { btf_type, .. }) => {
-            answer_for(local, kernel, symbols, name, Sort::Function, btf_type)
-        }
-        Ok(BtfType::Var { btf_type, .. }) => {
-            answer_for(local, kernel, symbols, name, Sort::Variable, btf_type)
-        }
-        Ok(_) => ExternAnswer::Unreadable(BtfError::InvalidDatasec),
+    match held_by(local, known.btf_id) {
+        Ok(Some((sort, held))) => answer_for(local, kernel, symbols, name, sort, held),
+        Ok(None) => ExternAnswer::Unreadable(BtfError::InvalidDatasec),
         Err(error) => ExternAnswer::Unreadable(error),
     }
 }
@@ -137,6 +143,35 @@ fn lack(
     Ok(unknown(known))
 }
 
+/// How an extern is written over a kernel that has this for it; one that it lacks is noted.
+fn written_as(
+    alloc: Global,
+    lacking: &mut Vec<Lacking>,
+    name: &str,
+    known: ExternDesc,
+    answer: &ExternAnswer,
+) -> Result<ExternDesc, AllocError> {
+    match answer {
+        ExternAnswer::Found(id) => Ok(resolved(known, *id)),
+        ExternAnswer::Unreadable(BtfError::OutOfMemory) => Err(AllocError),
+        _ => lack(alloc, lacking, name, known, answer),
+    }
+}
+
+/// Notes how an extern is written.
+fn add_written(
+    alloc: Global,
+    externs: &mut KernelExterns,
+    name: &str,
+    known: ExternDesc,
+    answer: ExternAnswer,
+) -> Result<(), AllocError> {
+    let written = written_as(alloc, &mut externs.lacking, name, known, &answer)?;
+    let name = String::from_str(alloc, name)?;
+    externs.written.insert(name, written)?;
+    Ok(())
+}
+
 /// Notes what a kernel has for each extern with a type.
 fn add_typed(
     alloc: Global,
@@ -148,14 +183,8 @@ fn add_typed(
     let symbols = KernelSymbols::read(alloc, kernel, typed)?;
     for (name, known) in typed.iter() {
         let name = name.as_str();
-        let written = match answer_of(local, kernel, &symbols, name, known) {
-            ExternAnswer::Found(id) => resolved(*known, id),
-            ExternAnswer::Unreadable(BtfError::OutOfMemory) => return Err(AllocError),
-            answer => lack(alloc, &mut externs.lacking, name, *known, &answer)?,
-        };
-        externs
-            .written
-            .insert(String::from_str(alloc, name)?, written)?;
+        let answer = answer_of(local, kernel, &symbols, name, known);
+        add_written(alloc, externs, name, *known, answer)?;
     }
     Ok(())
 }

@@ -79,17 +79,37 @@ fn explained(
     sentence
 }
 
-/// Writes descriptors of an object's own maps and what is known of its externs.
-fn write_passes(
-    alloc: Global,
-    object: &mut Object,
-    descriptors: &[(&str, i32)],
-) -> Result<(), PrepareError> {
-    relocate_own_maps(alloc, object, descriptors)?;
+/// Writes descriptors of an object's own maps, which are those of another one.
+fn write_maps(alloc: Global, object: &mut Object, own: &Object) -> Result<(), PrepareError> {
+    let descriptors = own_descriptors(alloc, own)?;
+    relocate_own_maps(alloc, object, &descriptors)
+}
+
+/// Writes what is known of an object's externs.
+fn write_externs(object: &mut Object) -> Result<(), PrepareError> {
     match object.relocate_externs() {
         Ok(()) => Ok(()),
         Err(error) => Err(PrepareError::Externs(error)),
     }
+}
+
+/// Writes descriptors of an object's own maps, which are those of another one, and what is known of its externs.
+fn write_passes(alloc: Global, object: &mut Object, own: &Object) -> Result<(), PrepareError> {
+    write_maps(alloc, object, own)?;
+    write_externs(object)
+}
+
+/// An object with other externs and the slots that records write. Nothing is stated of it, so that what calls this isn't
+/// proved over all that is stated of copies.
+fn copy_with(
+    object: &Object,
+    written: ByKey<Items<bpf_insn>>,
+    externs: ByName<ExternDesc>,
+) -> Result<Object, AllocError> {
+    let mut copy = object.clone()?;
+    copy.externs = externs;
+    put_slots(&mut copy.functions, written);
+    Ok(copy)
 }
 
 /// An object as it is over a kernel before its programs are linked: with the slots that records write, descriptors of its
@@ -104,11 +124,8 @@ pub fn written_object(
     written: ByKey<Items<bpf_insn>>,
     externs: ByName<ExternDesc>,
 ) -> Result<Result<Object, RefusalText>, AllocError> {
-    let descriptors = own_descriptors(alloc, &loaded.object)?;
-    let mut object = loaded.object.clone()?;
-    object.externs = externs;
-    put_slots(&mut object.functions, written);
-    match write_passes(alloc, &mut object, &descriptors) {
+    let mut object = copy_with(&loaded.object, written, externs)?;
+    match write_passes(alloc, &mut object, &loaded.object) {
         Ok(()) => Ok(Ok(object)),
         Err(error) => {
             let sentence = explained(alloc, &object, error);
@@ -158,6 +175,27 @@ fn link(
         Err(error) if is_memory(&error) => Err(AllocError),
         Err(error) => Ok(Err(error)),
     }
+}
+
+/// The slots of a function that are reached. Nothing is stated of it, so that what calls this isn't proved over all that is
+/// stated of walks.
+fn reached_of(alloc: Global, function: &Function) -> Result<Items<bool>, AllocError> {
+    reached_slots(alloc, function.instructions.as_slice())
+}
+
+/// A linked program of these slots and copies.
+fn linked_of(
+    alloc: Global,
+    function: Function,
+    copies: Result<Items<CodeCopy>, AllocError>,
+) -> Result<Linked, AllocError> {
+    let copies = copies?;
+    let reached = reached_of(alloc, &function)?;
+    Ok(Linked {
+        function,
+        copies,
+        reached,
+    })
 }
 
 /// Programs, linked together or, where one of them is refused, each alone.
@@ -234,17 +272,13 @@ impl<'a> Linker<'a> {
         alloc: Global,
         program: &ObjectProgram,
     ) -> Result<Result<Option<Linked>, RefusalText>, AllocError> {
-        let function = match self.function(alloc, program)? {
-            Ok(Some(function)) => function,
-            Ok(None) => return Ok(Ok(None)),
-            Err(sentence) => return Ok(Err(sentence)),
-        };
-        let copies = self.copies(alloc, program)?;
-        let reached = reached_slots(alloc, function.instructions.as_slice())?;
-        Ok(Ok(Some(Linked {
-            function,
-            copies,
-            reached,
-        })))
+        match self.function(alloc, program)? {
+            Ok(Some(function)) => {
+                let copies = self.copies(alloc, program);
+                Ok(Ok(Some(linked_of(alloc, function, copies)?)))
+            }
+            Ok(None) => Ok(Ok(None)),
+            Err(sentence) => Ok(Err(sentence)),
+        }
     }
 }

@@ -6,10 +6,8 @@ use ebpf_btf::Btf;
 use ebpf_ext::Relocation;
 use ebpf_model::ExternDesc;
 use ebpf_object::Object;
-use ebpf_object::obj::ParseError;
-use ebpf_parts::Reading;
 use ebpf_report::map_uses::{MapUse, map_uses};
-use ebpf_report::programs::{ObjectProgram, object_programs};
+use ebpf_report::programs::ObjectProgram;
 use ebpf_report::settings::object_settings;
 use std::alloc::{AllocError, Global};
 
@@ -83,7 +81,7 @@ fn typed_externs(alloc: Global, object: &Object) -> Result<ByName<ExternDesc>, A
 
 /// What is asked of an object.
 #[derive(Drop)]
-struct Needs {
+pub struct Needs {
     programs: Vec<ObjectProgram>,
     records: Vec<Record>,
     map_uses: ByKey<Items<MapUse>>,
@@ -91,36 +89,39 @@ struct Needs {
     settings: Items<Text>,
 }
 
-/// What is asked of an object, which it borrows: each way out of a function is proved to let go of what it holds.
-fn needs_of(alloc: Global, file: &[u8], object: &Object, all: bool) -> Result<Needs, AllocError> {
-    let records = records_of(alloc, object, all)?;
-    let programs = object_programs(alloc, file, object)?;
-    let map_uses = map_uses(alloc, object)?;
-    let typed = typed_externs(alloc, object)?;
-    let settings = object_settings(alloc, object)?;
-    Ok(Needs {
-        programs,
-        records,
-        map_uses,
-        typed,
-        settings,
-    })
+impl Needs {
+    /// What is asked of an object, of which these programs count; `all` says whether each value that a kernel may change
+    /// is told. It borrows the object: each way out of a function is proved to let go of what it holds.
+    pub fn of(
+        alloc: Global,
+        object: &Object,
+        programs: Vec<ObjectProgram>,
+        all: bool,
+    ) -> Result<Needs, AllocError> {
+        let records = records_of(alloc, object, all)?;
+        let map_uses = map_uses(alloc, object)?;
+        let typed = typed_externs(alloc, object)?;
+        let settings = object_settings(alloc, object)?;
+        Ok(Needs {
+            programs,
+            records,
+            map_uses,
+            typed,
+            settings,
+        })
+    }
 }
 
-/// Reads an object's file, with all its programs; `all` says whether each value that a kernel may change is told.
-///
-/// # Errors
-///
-/// The reader's own; `OutOfMemory` where memory is refused.
-pub fn load(alloc: Global, file: &[u8], all: bool) -> Result<Loaded, ParseError> {
-    let object = Object::parse_as(alloc, file, Reading::Broad)?;
-    let needs = needs_of(alloc, file, &object, all)?;
-    Ok(Loaded {
-        object,
-        programs: needs.programs,
-        records: needs.records,
-        map_uses: needs.map_uses,
-        typed: needs.typed,
-        settings: needs.settings,
-    })
+impl Loaded {
+    /// An object with what is asked of it.
+    pub fn new(object: Object, needs: Needs) -> Loaded {
+        Loaded {
+            object,
+            programs: needs.programs,
+            records: needs.records,
+            map_uses: needs.map_uses,
+            typed: needs.typed,
+            settings: needs.settings,
+        }
+    }
 }

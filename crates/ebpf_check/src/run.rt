@@ -2,43 +2,66 @@
 
 use crate::json::write_json;
 use crate::kernel_files::{KernelFile, kernel_files};
-use crate::loaded::{Loaded, load};
+use crate::loaded::{Loaded, Needs};
 use crate::printing::{Manner, write_findings, write_kernel};
 use crate::programs::counting;
 use crate::session::{Judgement, Session};
 use crate::words::CheckWords;
 use ebpf_base::Text;
+use ebpf_object::Object;
 use ebpf_report::kernel_types::read_kernel;
 use ebpf_report::object_file::read_object;
+use ebpf_report::parsed::parsed_object;
+use ebpf_report::programs::{ObjectProgram, object_programs};
 use ebpf_report::refusal::{READING, Refusal};
-use ebpf_report::refuse::{check_names, refuse_parsing, tell};
+use ebpf_report::refuse::{check_names, tell};
 use ebpf_report::stop::Stop;
 use std::alloc::{AllocError, Global};
 use std::io::{self, BufWriter, Stdout, Write};
 
-/// Reads the object's file.
-fn load_file(rt: &HostRuntime, words: &CheckWords) -> Result<Loaded, Stop> {
+/// The programs of an object that count; a name that no program has is told.
+fn chosen_programs(
+    rt: &HostRuntime,
+    words: &CheckWords,
+    file: &[u8],
+    object: &Object,
+) -> Result<Vec<ObjectProgram>, Stop> {
     let alloc = rt.alloc();
-    let path = words.file.as_str();
-    let file = read_object(rt, words.json, path, words.object)?;
-    match load(alloc, &file, words.all) {
-        Ok(loaded) => Ok(loaded),
-        Err(error) => {
-            let stop = refuse_parsing(rt, words.json, path, &file, &error);
-            drop(error);
+    let names = words.programs.as_slice();
+    let programs = object_programs(alloc, file, object)?;
+    check_names(rt, words.json, words.file.as_str(), &programs, names)?;
+    Ok(counting(alloc, programs, names)?)
+}
+
+/// What is asked of the object of a file's bytes, with the programs that count.
+fn needs_of(
+    rt: &HostRuntime,
+    words: &CheckWords,
+    file: &[u8],
+    object: &Object,
+) -> Result<Needs, Stop> {
+    let programs = chosen_programs(rt, words, file, object)?;
+    Ok(Needs::of(rt.alloc(), object, programs, words.all)?)
+}
+
+/// An object with what is asked of it.
+fn with_needs(object: Object, needs: Result<Needs, Stop>) -> Result<Loaded, Stop> {
+    match needs {
+        Ok(needs) => Ok(Loaded::new(object, needs)),
+        Err(stop) => {
+            drop(object);
             Err(stop)
         }
     }
 }
 
-/// Reads the object's file, and keeps the programs that count.
-fn load_chosen(rt: &HostRuntime, words: &CheckWords) -> Result<Loaded, Stop> {
-    let loaded = load_file(rt, words)?;
-    let names = words.programs.as_slice();
+/// Reads the object's file, with the programs that count.
+fn load(rt: &HostRuntime, words: &CheckWords) -> Result<Loaded, Stop> {
     let path = words.file.as_str();
-    check_names(rt, words.json, path, &loaded.programs, names)?;
-    let programs = counting(rt.alloc(), loaded.programs, names)?;
-    Ok(Loaded { programs, ..loaded })
+    let file = read_object(rt, words.json, path, words.object)?;
+    let object = parsed_object(rt, words.json, path, &file)?;
+    let needs = needs_of(rt, words, &file, &object);
+    with_needs(object, needs)
 }
 
 /// Judges the programs over the kernel of a file.
@@ -150,7 +173,7 @@ fn check_kernels(rt: &HostRuntime, words: &CheckWords, session: &mut Session) ->
 /// function is proved to let go of what it holds.
 pub fn check(rt: &HostRuntime, words: &CheckWords) -> Result<u8, Stop> {
     let name = words.file.clone()?;
-    let loaded = load_chosen(rt, words)?;
+    let loaded = load(rt, words)?;
     let mut session = Session::new(rt.alloc(), name, loaded);
     check_kernels(rt, words, &mut session)
 }

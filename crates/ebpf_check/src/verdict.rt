@@ -1,14 +1,16 @@
 //! What a kernel means for each program.
 
-use crate::externs::{Lacking, kernel_externs};
+use crate::externs::{KernelExterns, Lacking, kernel_externs};
 use crate::findings::{Findings, Rank, Topic};
-use crate::linked::{Linked, Linker, written_object};
+use crate::linked::{Linked, Linker, RefusalText, written_object};
 use crate::loaded::Loaded;
 use crate::sites::{Site, judge_copy};
-use ebpf_base::{ByKey, Items};
+use ebpf_base::{ByKey, ByName, Items};
 use ebpf_btf::Btf;
-use ebpf_core_relo::RecordOutcome;
+use ebpf_core_relo::{RecordOutcome, RecordOutcomes};
 use ebpf_loading::{AttachTarget, KernelNumbers, attach_target};
+use ebpf_model::ExternDesc;
+use ebpf_object::Object;
 use ebpf_report::kinds::Kind;
 use std::alloc::{AllocError, Global};
 
@@ -20,9 +22,9 @@ pub struct Answers<'a> {
     /// The kernel's number.
     pub kernel: usize,
     /// What each record comes to.
-    pub outcomes: Items<RecordOutcome>,
+    pub outcomes: &'a [RecordOutcome],
     /// The numbers of the records of functions, by the functions' keys.
-    pub by_function: ByKey<Items<usize>>,
+    pub by_function: &'a ByKey<Items<usize>>,
     /// The numbers that the kernel knows.
     pub numbers: KernelNumbers<'a>,
 }
@@ -206,6 +208,98 @@ fn judge_programs(
     Ok(all)
 }
 
+/// Judges each program of an object that is written for a kernel; whether each breaks.
+fn judge_object(
+    alloc: Global,
+    findings: &mut Findings,
+    answers: &Answers<'_>,
+    object: &Object,
+    kernel: &Btf,
+    lacks: bool,
+) -> Result<Vec<bool>, AllocError> {
+    let sections = object.text_sections(alloc)?;
+    let linker = Linker::new(alloc, object, &sections, &answers.loaded.programs)?;
+    judge_programs(alloc, findings, answers, &linker, kernel, lacks)
+}
+
+/// Notes that no program can be linked.
+fn note_unwritten(
+    alloc: Global,
+    findings: &mut Findings,
+    answers: &Answers<'_>,
+    sentence: RefusalText,
+) -> Result<Vec<bool>, AllocError> {
+    let name = String::from_str(alloc, "all programs")?;
+    let topic = topic_of(alloc, name, Kind::Linking, sentence);
+    findings.add(topic, answers.kernel, None)?;
+    all_alike(alloc, answers.loaded.programs.len(), true)
+}
+
+/// Judges each program of an object that is written for a kernel, or notes why it isn't; whether each breaks.
+fn judge_written(
+    alloc: Global,
+    findings: &mut Findings,
+    answers: &Answers<'_>,
+    written: Result<Object, RefusalText>,
+    kernel: &Btf,
+    lacks: bool,
+) -> Result<Vec<bool>, AllocError> {
+    match written {
+        Ok(object) => {
+            let judged = judge_object(alloc, findings, answers, &object, kernel, lacks);
+            drop(object);
+            judged
+        }
+        Err(sentence) => note_unwritten(alloc, findings, answers, sentence),
+    }
+}
+
+/// Judges each program over what records come to; whether each breaks.
+fn judge_outcomes(
+    alloc: Global,
+    findings: &mut Findings,
+    loaded: &Loaded,
+    kernel: &Btf,
+    number: usize,
+    outcomes: &[RecordOutcome],
+    written: Result<Object, RefusalText>,
+    lacks: bool,
+) -> Result<Vec<bool>, AllocError> {
+    let by_function = by_function(alloc, outcomes)?;
+    let answers = Answers {
+        loaded,
+        kernel: number,
+        outcomes,
+        by_function: &by_function,
+        numbers: KernelNumbers::of(kernel),
+    };
+    judge_written(alloc, findings, &answers, written, kernel, lacks)
+}
+
+/// What the records of an object come to over a kernel's types. Nothing is stated of it, so that what calls this isn't
+/// proved over all that is stated of records.
+fn outcomes_over(object: &Object, kernel: &Btf) -> Result<RecordOutcomes, AllocError> {
+    object.record_outcomes(kernel)
+}
+
+/// Judges each program over a kernel whose externs are known; whether each breaks.
+fn judge_over(
+    alloc: Global,
+    findings: &mut Findings,
+    loaded: &Loaded,
+    kernel: &Btf,
+    number: usize,
+    externs: ByName<ExternDesc>,
+    lacks: bool,
+) -> Result<Vec<bool>, AllocError> {
+    let RecordOutcomes { records, written } = outcomes_over(&loaded.object, kernel)?;
+    let written = written_object(alloc, loaded, written, externs)?;
+    let outcomes = records.as_slice();
+    judge_outcomes(
+        alloc, findings, loaded, kernel, number, outcomes, written, lacks,
+    )
+}
+
 /// Notes what a kernel of a number means for the programs that count; whether each breaks.
 pub fn judge_kernel(
     alloc: Global,
@@ -214,28 +308,8 @@ pub fn judge_kernel(
     kernel: &Btf,
     number: usize,
 ) -> Result<Vec<bool>, AllocError> {
-    let outcomes = loaded.object.record_outcomes(kernel)?;
-    let externs = kernel_externs(alloc, loaded, kernel)?;
-    let lacks = !externs.lacking.is_empty();
-    note_lacking(alloc, findings, number, externs.lacking)?;
-    let answers = Answers {
-        loaded,
-        kernel: number,
-        by_function: by_function(alloc, outcomes.records.as_slice())?,
-        outcomes: outcomes.records,
-        numbers: KernelNumbers::of(kernel),
-    };
-    match written_object(alloc, loaded, outcomes.written, externs.written)? {
-        Ok(object) => {
-            let sections = object.text_sections(alloc)?;
-            let linker = Linker::new(alloc, &object, &sections, &loaded.programs)?;
-            judge_programs(alloc, findings, &answers, &linker, kernel, lacks)
-        }
-        Err(sentence) => {
-            let name = String::from_str(alloc, "all programs")?;
-            let topic = topic_of(alloc, name, Kind::Linking, sentence);
-            findings.add(topic, number, None)?;
-            all_alike(alloc, loaded.programs.len(), true)
-        }
-    }
+    let KernelExterns { written, lacking } = kernel_externs(alloc, loaded, kernel)?;
+    let lacks = !lacking.is_empty();
+    note_lacking(alloc, findings, number, lacking)?;
+    judge_over(alloc, findings, loaded, kernel, number, written, lacks)
 }

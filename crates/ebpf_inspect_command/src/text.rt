@@ -5,30 +5,13 @@ use crate::limits::{CHAIN, FUNCTIONS, MAPS, SLOTS};
 use crate::parts::ProgramParts;
 use ebpf_object::Object;
 use ebpf_object::relocation::{CodeCopy, Reference};
-use ebpf_report::helper_names::helper_name;
 use ebpf_report::names::Shown;
 use ebpf_report::stop::Stop;
 use ebpf_report::table::{Column, Table};
-use ebpf_report::type_names::{map_type_name, program_type_name};
+use ebpf_report::type_names::program_type_name;
 use std::alloc::{AllocError, Global};
 use std::collections::BTreeSet;
 use std::io::{self, Write};
-
-/// A text as a cell.
-fn cell(alloc: Global, text: &str) -> Result<String, AllocError> {
-    let shown = Shown(text);
-    format!(in alloc; "{shown}")
-}
-
-/// A number as a cell.
-fn count(alloc: Global, number: usize) -> Result<String, AllocError> {
-    format!(in alloc; "{number}")
-}
-
-/// A number beside the one that is the most, as a cell.
-fn share(alloc: Global, number: usize, most: usize) -> Result<String, AllocError> {
-    format!(in alloc; "{number}/{most}")
-}
 
 /// Writes a table under its name and the number of its rows; nothing where it has none.
 fn write_table<W: Write>(
@@ -55,28 +38,24 @@ const PROGRAM_COLUMNS: [Column; 7] = [
     Column::Word("NAME"),
 ];
 
-/// The functions of the deepest chain of calls, as a cell.
-fn chain_cell(alloc: Global, chain: Option<usize>) -> Result<String, AllocError> {
+/// The functions of the deepest chain of calls.
+fn push_chain(table: &mut Table<'_>, chain: Option<usize>) -> Result<(), AllocError> {
     match chain {
-        Some(chain) => share(alloc, chain, CHAIN),
-        None => String::from_str(alloc, "recursive"),
+        Some(chain) => table.push_share(chain, CHAIN),
+        None => table.push_text("recursive"),
     }
 }
 
 /// The row of a program.
-fn push_program(
-    alloc: Global,
-    table: &mut Table<'_>,
-    parts: &ProgramParts<'_>,
-) -> Result<(), AllocError> {
+fn push_program(table: &mut Table<'_>, parts: &ProgramParts<'_>) -> Result<(), AllocError> {
     let section = parts.program.section.as_str();
-    table.push(share(alloc, parts.slots, SLOTS)?)?;
-    table.push(share(alloc, parts.map.copies.len(), FUNCTIONS)?)?;
-    table.push(chain_cell(alloc, parts.chain)?)?;
-    table.push(share(alloc, parts.uses.maps.len(), MAPS)?)?;
-    table.push(cell(alloc, program_type_name(section).unwrap_or("-"))?)?;
-    table.push(cell(alloc, section)?)?;
-    table.push(cell(alloc, parts.program.name.as_str())?)
+    table.push_share(parts.slots, SLOTS)?;
+    table.push_share(parts.map.copies.len(), FUNCTIONS)?;
+    push_chain(table, parts.chain)?;
+    table.push_share(parts.uses.maps.len(), MAPS)?;
+    table.push_text(program_type_name(section).unwrap_or("-"))?;
+    table.push_text(section)?;
+    table.push_text(parts.program.name.as_str())
 }
 
 /// Writes the programs beside the kernel's limits.
@@ -87,7 +66,7 @@ fn write_programs<W: Write>(
 ) -> Result<(), Stop> {
     let mut table = Table::new(alloc, &PROGRAM_COLUMNS)?;
     for parts in programs {
-        push_program(alloc, &mut table, parts)?;
+        push_program(&mut table, parts)?;
     }
     if programs.is_empty() {
         writeln!(out, "PROGRAMS 0")?;
@@ -106,21 +85,21 @@ const COPY_COLUMNS: [Column; 6] = [
 ];
 
 /// The row of a copy.
-fn push_copy(alloc: Global, table: &mut Table<'_>, copy: &CodeCopy) -> Result<(), AllocError> {
+fn push_copy(table: &mut Table<'_>, copy: &CodeCopy) -> Result<(), AllocError> {
     let (section, address) = copy.key;
-    table.push(count(alloc, copy.base)?)?;
-    table.push(count(alloc, copy.slots)?)?;
-    table.push(count(alloc, copy.slots.saturating_mul(8))?)?;
-    table.push(count(alloc, section)?)?;
-    table.push(format!(in alloc; "{address:#x}")?)?;
-    table.push(cell(alloc, copy.name.as_str())?)
+    table.push_number(copy.base)?;
+    table.push_number(copy.slots)?;
+    table.push_number(copy.slots.saturating_mul(8))?;
+    table.push_number(section)?;
+    table.push_hex(address)?;
+    table.push_text(copy.name.as_str())
 }
 
 /// Writes the copies that a program is made of.
 fn write_copies<W: Write>(alloc: Global, out: &mut W, copies: &[CodeCopy]) -> Result<(), Stop> {
     let mut table = Table::new(alloc, &COPY_COLUMNS)?;
     for copy in copies {
-        push_copy(alloc, &mut table, copy)?;
+        push_copy(&mut table, copy)?;
     }
     Ok(write_table(out, "COPIES", copies.len(), &table)?)
 }
@@ -149,17 +128,16 @@ fn copy_name(copies: &[CodeCopy], number: usize) -> &str {
 
 /// The row of a reference.
 fn push_reference(
-    alloc: Global,
     table: &mut Table<'_>,
     copies: &[CodeCopy],
     reference: &Reference,
     edge: Edge,
 ) -> Result<(), AllocError> {
-    table.push(count(alloc, reference.place)?)?;
-    table.push(count(alloc, reference.base)?)?;
-    table.push(cell(alloc, reference_word(reference.is_call))?)?;
-    table.push(cell(alloc, copy_name(copies, edge.from))?)?;
-    table.push(cell(alloc, copy_name(copies, edge.to))?)
+    table.push_number(reference.place)?;
+    table.push_number(reference.base)?;
+    table.push_text(reference_word(reference.is_call))?;
+    table.push_text(copy_name(copies, edge.from))?;
+    table.push_text(copy_name(copies, edge.to))
 }
 
 /// Writes the references between the copies of a program.
@@ -172,7 +150,7 @@ fn write_references<W: Write>(
     let copies = parts.map.copies.as_slice();
     let references = &parts.map.references;
     for (reference, edge) in references.iter().zip(parts.edges.iter()) {
-        push_reference(alloc, &mut table, copies, reference, *edge)?;
+        push_reference(&mut table, copies, reference, *edge)?;
     }
     Ok(write_table(out, "REFERENCES", references.len(), &table)?)
 }
@@ -180,16 +158,13 @@ fn write_references<W: Write>(
 /// The columns of maps.
 const MAP_COLUMNS: [Column; 2] = [Column::Word("TYPE"), Column::Word("NAME")];
 
-/// The name of the type of the map of a name, or its number.
-fn map_type_cell(alloc: Global, object: &Object, name: &str) -> Result<String, AllocError> {
-    let Some(map) = object.maps.get(name) else {
-        return String::from_str(alloc, "-");
-    };
-    let number = map.map_type();
-    match map_type_name(number) {
-        Some(name) => String::from_str(alloc, name),
-        None => format!(in alloc; "{number}"),
+/// The row of the map of a name.
+fn push_map(table: &mut Table<'_>, object: &Object, name: &str) -> Result<(), AllocError> {
+    match object.maps.get(name) {
+        Some(map) => table.push_map_type(map.map_type())?,
+        None => table.push_text("-")?,
     }
+    table.push_text(name)
 }
 
 /// Writes the maps that a program uses.
@@ -201,22 +176,13 @@ fn write_maps<W: Write>(
 ) -> Result<(), Stop> {
     let mut table = Table::new(alloc, &MAP_COLUMNS)?;
     for name in names.iter() {
-        table.push(map_type_cell(alloc, object, name)?)?;
-        table.push(cell(alloc, name)?)?;
+        push_map(&mut table, object, name)?;
     }
     Ok(write_table(out, "MAPS", names.len(), &table)?)
 }
 
 /// The columns of helper functions.
 const HELPER_COLUMNS: [Column; 2] = [Column::Number("NUMBER"), Column::Word("NAME")];
-
-/// The name of a helper function.
-fn helper_cell(alloc: Global, helper: u32) -> Result<String, AllocError> {
-    match helper_name(helper) {
-        Some(name) => format!(in alloc; "bpf_{name}"),
-        None => String::from_str(alloc, "-"),
-    }
-}
 
 /// Writes the helper functions that a program calls.
 fn write_helpers<W: Write>(
@@ -226,8 +192,8 @@ fn write_helpers<W: Write>(
 ) -> Result<(), Stop> {
     let mut table = Table::new(alloc, &HELPER_COLUMNS)?;
     for helper in helpers.iter() {
-        table.push(format!(in alloc; "{helper}")?)?;
-        table.push(helper_cell(alloc, *helper)?)?;
+        table.push_number(*helper as usize)?;
+        table.push_helper(*helper)?;
     }
     Ok(write_table(out, "HELPERS", helpers.len(), &table)?)
 }
@@ -243,7 +209,7 @@ fn write_kernel_functions<W: Write>(
 ) -> Result<(), Stop> {
     let mut table = Table::new(alloc, &KERNEL_COLUMNS)?;
     for name in names.iter() {
-        table.push(cell(alloc, name)?)?;
+        table.push_text(name)?;
     }
     Ok(write_table(out, "KERNEL FUNCTIONS", names.len(), &table)?)
 }

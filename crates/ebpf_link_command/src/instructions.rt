@@ -1,12 +1,15 @@
 //! Slots as instructions.
 
 use crate::linked::{Linked, Spot};
+use crate::notes::Note;
 use crate::origins::Origins;
+use crate::record_words::RecordTeller;
 use ebpf_btf::Btf;
 use ebpf_disassembly::{Operation, decode};
 use ebpf_origins::lines::LineNumber;
 use ebpf_reloc::CodeCopy;
 use ebpf_report::names::{Shown, last_part};
+use ebpf_report::stop::Stop;
 use std::io::{self, Write};
 
 /// The slot of its function to which a jump leads, where it is one of the function's.
@@ -48,27 +51,35 @@ fn write_instruction<'a, W: Write>(
     write_target(out, spot, operation)
 }
 
-/// Writes what CO-RE records wrote, and ends the line.
-fn write_note<W: Write>(out: &mut W, note: Option<&str>) -> io::Result<()> {
-    let Some(note) = note else {
-        return writeln!(out, "");
-    };
-    let note = Shown(note);
-    writeln!(out, "  ; {note}")
+/// Writes what CO-RE records wrote into a slot.
+fn write_notes<W: Write>(
+    out: &mut W,
+    teller: &mut RecordTeller<'_>,
+    notes: &[Note],
+) -> Result<(), Stop> {
+    let mut between: &[u8] = b"  ; ";
+    for note in notes {
+        out.write_all(between)?;
+        teller.write(out, note)?;
+        between = b"; ";
+    }
+    Ok(())
 }
 
 /// Writes the line of an instruction.
 fn write_slot<'a, W: Write>(
     out: &mut W,
+    teller: &mut RecordTeller<'_>,
     origins: &Origins<'a>,
     linked: &Linked<'a>,
     spot: Spot<'_>,
     operation: &Operation,
-) -> io::Result<()> {
+) -> Result<(), Stop> {
     let place = spot.place();
     write!(out, "{place:>8}:  ")?;
     write_instruction(out, origins, linked, spot, operation)?;
-    write_note(out, origins.note(spot))
+    write_notes(out, teller, origins.notes(spot))?;
+    Ok(writeln!(out, "")?)
 }
 
 /// Writes a source line.
@@ -137,10 +148,11 @@ fn write_line<W: Write>(
 /// Writes the instructions of a copy under its function's name.
 fn write_copy<'a, W: Write>(
     out: &mut W,
+    teller: &mut RecordTeller<'_>,
     origins: &Origins<'a>,
     linked: &Linked<'a>,
     copy: &'a CodeCopy,
-) -> io::Result<()> {
+) -> Result<(), Stop> {
     let name = Shown(copy.name.as_str());
     writeln!(out, "<{name}>:")?;
     let mut last = None;
@@ -155,7 +167,7 @@ fn write_copy<'a, W: Write>(
         };
         let operation = decode(spot.instruction, spot.second);
         last = write_line(out, origins, linked, spot.place(), last)?;
-        write_slot(out, origins, linked, spot, &operation)?;
+        write_slot(out, teller, origins, linked, spot, &operation)?;
         is_second = operation.takes_two();
     }
     Ok(())
@@ -164,11 +176,12 @@ fn write_copy<'a, W: Write>(
 /// Writes the instructions of a program, copy by copy.
 pub fn write_instructions<'a, W: Write>(
     out: &mut W,
+    teller: &mut RecordTeller<'_>,
     origins: &Origins<'a>,
     linked: &Linked<'a>,
-) -> io::Result<()> {
+) -> Result<(), Stop> {
     for copy in linked.copies {
-        write_copy(out, origins, linked, copy)?;
+        write_copy(out, teller, origins, linked, copy)?;
     }
     Ok(())
 }

@@ -7,6 +7,7 @@ mod linked;
 mod names;
 mod notes;
 mod origins;
+mod record_words;
 mod run;
 mod words;
 

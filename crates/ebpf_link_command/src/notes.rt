@@ -1,158 +1,130 @@
-//! What CO-RE records wrote, in words.
+//! What CO-RE records wrote into slots.
 
-use ebpf_base::Items;
 use ebpf_btf::Btf;
-use ebpf_core_relo::{RecordOutcome, RecordResult, RecordSlot};
+use ebpf_core_relo::{Absence, RecordOutcome, RecordResult, RecordSlot};
 use ebpf_ext::Relocation;
 use ebpf_object::Object;
-use ebpf_origins::answers::{absence_words, has_sign, own_value};
-use ebpf_origins::record_names::record_name;
-use ebpf_report::kinds::Kind;
 use std::alloc::{AllocError, Global};
-use std::collections::BTreeMap;
 
 /// A slot of a function: the section and the address of the function, and the slot's number in it.
 type SlotKey = (usize, u64, usize);
 
-/// Words on the slots that records wrote.
+/// What a record came to.
+#[derive(Clone, Copy)]
+pub enum Written {
+    /// Its slot has that value.
+    Value(u64),
+    /// What it asks has no value, and its slot fails.
+    NoValue,
+    /// The kernel's types lack that, and its slot fails.
+    Absent(Absence),
+}
+
+/// That a record wrote a slot.
+#[derive(Clone, Copy)]
+pub struct Note {
+    slot: SlotKey,
+    /// The record.
+    pub relocation: Relocation,
+    /// What it came to.
+    pub written: Written,
+}
+
+/// What an object's records wrote, by slots; of a slot in the order of the records.
 #[derive(Drop)]
 pub struct RecordNotes {
-    by_slot: BTreeMap<SlotKey, String>,
+    notes: Vec<Note>,
 }
 
-/// A value as it is shown.
-fn value_words(alloc: Global, is_signed: bool, value: u64) -> Result<String, AllocError> {
-    if is_signed {
-        let value = value.cast_signed();
-        return format!(in alloc; "{value}");
-    }
-    format!(in alloc; "{value}")
+/// The key of a slot.
+fn key_of(slot: RecordSlot) -> SlotKey {
+    (slot.function.0, slot.function.1, slot.slot)
 }
 
-/// A value behind that of the object's own types, where they give one.
-fn written_words(
-    alloc: Global,
-    local: &Btf,
-    relocation: &Relocation,
-    value: u64,
-) -> Result<String, AllocError> {
-    let is_signed = has_sign(local, relocation);
-    let written = value_words(alloc, is_signed, value)?;
-    let Some(own) = own_value(alloc, local, relocation)? else {
-        return Ok(written);
-    };
-    let own = value_words(alloc, is_signed, own)?;
-    format!(in alloc; "{own} -> {written}")
-}
-
-/// What a record came to.
-fn result_words(
-    alloc: Global,
-    local: &Btf,
-    relocation: &Relocation,
-    outcome: &RecordResult,
-) -> Result<String, AllocError> {
+/// What a record wrote; nothing where it is refused.
+fn written_by(outcome: &RecordResult) -> Option<Written> {
     match outcome {
         RecordResult::Value(outcome) => match outcome.value {
-            Some(value) => written_words(alloc, local, relocation, value),
-            None => String::from_str(alloc, "no value"),
+            Some(value) => Some(Written::Value(value)),
+            None => Some(Written::NoValue),
         },
-        RecordResult::Absent(absence) => String::from_str(alloc, absence_words(*absence)),
-        RecordResult::Refused(error) => format!(in alloc; "{error}"),
+        RecordResult::Absent(absence) => Some(Written::Absent(*absence)),
+        RecordResult::Refused(_) => None,
     }
 }
 
-/// What a record asked and what it came to.
-fn record_words(
-    alloc: Global,
-    local: &Btf,
-    relocation: &Relocation,
-    outcome: &RecordResult,
-) -> Result<String, AllocError> {
-    let kind = Kind::of(relocation.kind).word();
-    let name = record_name(alloc, local, relocation)?;
-    let came = result_words(alloc, local, relocation, outcome)?;
-    format!(in alloc; "CO-RE <{kind}> {name}: {came}")
+/// What a record wrote, where it wrote a slot.
+fn note_of(relocation: &Relocation, outcome: &RecordOutcome) -> Option<Note> {
+    Some(Note {
+        slot: key_of(outcome.slot?),
+        relocation: *relocation,
+        written: written_by(&outcome.result)?,
+    })
 }
 
-/// The records of an object, section by section and in order.
-fn records_of(alloc: Global, object: &Object) -> Result<Vec<Relocation>, AllocError> {
-    let mut records = Vec::new(alloc);
-    let Some(said) = &object.btf_ext else {
-        return Ok(records);
-    };
-    for section in said.relocations() {
-        records.extend_from_slice(section.1.as_slice())?;
+/// Adds what the records of a section wrote, of which the first came to the first of these outcomes.
+fn add_section(
+    notes: &mut Vec<Note>,
+    relocations: &[Relocation],
+    outcomes: &[RecordOutcome],
+) -> Result<(), AllocError> {
+    for (relocation, outcome) in relocations.iter().zip(outcomes.iter()) {
+        let Some(note) = note_of(relocation, outcome) else {
+            continue;
+        };
+        notes.push(note)?;
     }
-    Ok(records)
+    Ok(())
 }
 
-/// Words on the slots of an object's records, which came to this.
-fn notes_of(
+/// What the records of an object wrote, which came to this, section by section and in order.
+fn all_notes(
     alloc: Global,
     parsed: &Object,
-    local: &Btf,
-    outcomes: &Items<RecordOutcome>,
-) -> Result<RecordNotes, AllocError> {
-    let records = records_of(alloc, parsed)?;
-    let mut notes = RecordNotes::new(alloc);
-    notes.add_all(alloc, local, &records, outcomes)?;
+    outcomes: &[RecordOutcome],
+) -> Result<Vec<Note>, AllocError> {
+    let mut notes = Vec::new(alloc);
+    let Some(said) = &parsed.btf_ext else {
+        return Ok(notes);
+    };
+    let mut rest = outcomes;
+    for section in said.relocations() {
+        let relocations = section.1.as_slice();
+        add_section(&mut notes, relocations, rest)?;
+        rest = rest.get(relocations.len()..).unwrap_or(&[]);
+    }
     Ok(notes)
 }
 
+/// What the records of an object wrote, for a kernel's types.
+fn notes_over(alloc: Global, parsed: &Object, types: &Btf) -> Result<Vec<Note>, AllocError> {
+    let outcomes = parsed.record_outcomes(types)?;
+    all_notes(alloc, parsed, outcomes.records.as_slice())
+}
+
 impl RecordNotes {
-    /// No words.
-    fn new(alloc: Global) -> RecordNotes {
-        RecordNotes {
-            by_slot: BTreeMap::new(alloc),
-        }
-    }
-
-    /// Adds words on a slot, behind those that it has.
-    fn add(&mut self, slot: RecordSlot, words: String) -> Result<(), AllocError> {
-        let key = (slot.function.0, slot.function.1, slot.slot);
-        if let Some(known) = self.by_slot.get_mut(&key) {
-            known.push_str("; ")?;
-            return known.push_str(words.as_str());
-        }
-        self.by_slot.insert(key, words)?;
-        Ok(())
-    }
-
-    /// Adds words on the slots of records.
-    fn add_all(
-        &mut self,
-        alloc: Global,
-        local: &Btf,
-        records: &[Relocation],
-        outcomes: &Items<RecordOutcome>,
-    ) -> Result<(), AllocError> {
-        for (relocation, outcome) in records.iter().zip(outcomes.iter()) {
-            let Some(slot) = outcome.slot else {
-                continue;
-            };
-            let words = record_words(alloc, local, relocation, &outcome.result)?;
-            self.add(slot, words)?;
-        }
-        Ok(())
-    }
-
-    /// Words on the slots that the records of an object wrote, which was parsed, for a kernel whose types are known.
+    /// What the records of an object wrote, which was parsed, for a kernel whose types are known.
     pub fn of(
         alloc: Global,
         parsed: &Object,
         types: Option<&Btf>,
     ) -> Result<RecordNotes, AllocError> {
-        let (Some(local), Some(types)) = (&parsed.btf, types) else {
-            return Ok(RecordNotes::new(alloc));
+        let mut notes = match types {
+            Some(types) => notes_over(alloc, parsed, types)?,
+            None => Vec::new(alloc),
         };
-        let outcomes = parsed.record_outcomes(types)?;
-        notes_of(alloc, parsed, local, &outcomes.records)
+        notes.sort_by_key(|note| note.slot)?;
+        Ok(RecordNotes { notes })
     }
 
-    /// Words on the slot of a number in the function of a key.
-    pub fn at(&self, function: (usize, u64), slot: usize) -> Option<&str> {
-        let words = self.by_slot.get(&(function.0, function.1, slot))?;
-        Some(words.as_str())
+    /// What records wrote into the slot of a number in the function of a key.
+    pub fn at(&self, function: (usize, u64), slot: usize) -> &[Note] {
+        let key = (function.0, function.1, slot);
+        let start = self.notes.partition_point(|note| note.slot < key);
+        let Some(rest) = self.notes.get(start..) else {
+            return &[];
+        };
+        let length = rest.partition_point(|note| note.slot <= key);
+        rest.get(..length).unwrap_or(&[])
     }
 }

@@ -2,7 +2,7 @@
 
 use crate::linked::{Linked, Spot};
 use crate::names::{Named, Subject};
-use crate::notes::RecordNotes;
+use crate::notes::{Note, RecordNotes};
 use ebpf_model::Symbol;
 use ebpf_object::Object;
 use ebpf_parts::Relocation;
@@ -21,7 +21,7 @@ pub struct Origins<'a> {
     parsed: &'a Object,
     /// The names of its maps, in byte order: the descriptor of each is its place among them, from 1 on.
     map_names: Vec<&'a str>,
-    /// Words on the slots that CO-RE records wrote.
+    /// What CO-RE records wrote into slots.
     notes: &'a RecordNotes,
 }
 
@@ -41,8 +41,8 @@ impl<'a> Origins<'a> {
         })
     }
 
-    /// Words on a slot that records wrote.
-    pub fn note(&self, spot: Spot<'_>) -> Option<&str> {
+    /// What records wrote into a slot.
+    pub fn notes(&self, spot: Spot<'_>) -> &'a [Note] {
         self.notes.at(spot.copy.key, spot.slot)
     }
 

@@ -5,6 +5,7 @@ use crate::instructions::write_instructions;
 use crate::linked::Linked;
 use crate::notes::RecordNotes;
 use crate::origins::Origins;
+use crate::record_words::RecordTeller;
 use crate::words::LinkWords;
 use ebpf_model::Function;
 use ebpf_prepared::{MapSlots, Prepared, prepare_file};
@@ -25,19 +26,21 @@ struct Manner {
 fn write_linked<'a, W: Write>(
     alloc: Global,
     out: &mut W,
+    teller: &mut RecordTeller<'_>,
     origins: &Origins<'a>,
     function: &'a Function,
     map: &'a LinkMap,
     lines: bool,
 ) -> Result<(), Stop> {
     let linked = Linked::new(alloc, function, map, lines)?;
-    Ok(write_instructions(out, origins, &linked)?)
+    write_instructions(out, teller, origins, &linked)
 }
 
 /// Writes the slots of a program.
 fn write_program<'a, W: Write>(
     alloc: Global,
     out: &mut W,
+    teller: &mut RecordTeller<'_>,
     origins: &Origins<'a>,
     function: &'a Function,
     map: &'a LinkMap,
@@ -46,7 +49,7 @@ fn write_program<'a, W: Write>(
     if manner.bytes {
         return Ok(write_slots(out, function.instructions.as_slice())?);
     }
-    write_linked(alloc, out, origins, function, map, manner.lines)
+    write_linked(alloc, out, teller, origins, function, map, manner.lines)
 }
 
 /// Writes the line of a program: behind an empty one where instructions of another one stand before it.
@@ -71,13 +74,14 @@ fn write_programs<'a, W: Write>(
     manner: Manner,
 ) -> Result<(), Stop> {
     let maps = prepared.link_maps.iter();
+    let mut teller = RecordTeller::new(alloc, prepared.parsed.btf.as_ref());
     let mut stands_alone = true;
     for (program, map) in prepared.programs.iter().zip(maps) {
         let Some(function) = prepared.object.functions.get(program.key) else {
             continue;
         };
         write_name(out, program, function, stands_alone)?;
-        write_program(alloc, out, origins, function, map, manner)?;
+        write_program(alloc, out, &mut teller, origins, function, map, manner)?;
         stands_alone = manner.bytes;
     }
     Ok(())
@@ -97,7 +101,7 @@ fn write_all<'a>(
     Ok(())
 }
 
-/// Writes the programs of an object; `notes` has words on the slots that records wrote.
+/// Writes the programs of an object; `notes` has what records wrote into slots.
 fn write_noted<'a>(
     rt: &HostRuntime,
     prepared: &'a Prepared,

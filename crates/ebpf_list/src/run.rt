@@ -7,9 +7,8 @@ use crate::text::write_listing;
 use crate::words::ListWords;
 use ebpf_base::Items;
 use ebpf_object::Object;
-use ebpf_parts::Reading;
 use ebpf_report::object_file::read_object;
-use ebpf_report::refuse::refuse_parsing;
+use ebpf_report::parsed::parsed_object;
 use ebpf_report::stop::Stop;
 use std::io::{BufWriter, Write};
 
@@ -48,18 +47,10 @@ fn list_object(
 
 /// Tells what the object of a file's bytes has.
 fn list_bytes(rt: &HostRuntime, words: &ListWords, file: &[u8]) -> Result<(), Stop> {
-    match Object::parse_as(rt.alloc(), file, Reading::Broad) {
-        Ok(mut object) => {
-            let done = list_object(rt, words, file, &mut object);
-            drop(object);
-            done
-        }
-        Err(error) => {
-            let stop = refuse_parsing(rt, words.json, words.file.as_str(), file, &error);
-            drop(error);
-            Err(stop)
-        }
-    }
+    let mut object = parsed_object(rt, words.json, words.file.as_str(), file)?;
+    let done = list_object(rt, words, file, &mut object);
+    drop(object);
+    done
 }
 
 /// Does what `ebpf list` is asked, and gives the status.

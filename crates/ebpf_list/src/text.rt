@@ -5,30 +5,13 @@ use crate::license::ShownBytes;
 use crate::listing::{Extern, Listing};
 use ebpf_base::Endianness;
 use ebpf_parts::maps::{Map, PinningType};
-use ebpf_report::helper_names::helper_name;
 use ebpf_report::names::Shown;
 use ebpf_report::programs::ObjectProgram;
 use ebpf_report::stop::Stop;
 use ebpf_report::table::{Column, Table};
-use ebpf_report::type_names::{map_type_name, program_type_name};
+use ebpf_report::type_names::program_type_name;
 use std::alloc::{AllocError, Global};
 use std::io::{self, Write};
-
-/// A text as a cell.
-fn cell(alloc: Global, text: &str) -> Result<String, AllocError> {
-    let shown = Shown(text);
-    format!(in alloc; "{shown}")
-}
-
-/// A number as a cell.
-fn count(alloc: Global, number: usize) -> Result<String, AllocError> {
-    format!(in alloc; "{number}")
-}
-
-/// A size as a cell.
-fn size(alloc: Global, number: u32) -> Result<String, AllocError> {
-    format!(in alloc; "{number}")
-}
 
 /// Writes a table under its name and the number of its rows; nothing where it has none.
 fn write_table<W: Write>(
@@ -101,34 +84,33 @@ const PROGRAMS: [Column; 6] = [
     Column::Word("NAME"),
 ];
 
-/// The slots of a linked program, and how many functions it reaches, as cells.
-fn push_layout(alloc: Global, table: &mut Table<'_>, layout: &Layout) -> Result<(), AllocError> {
+/// The slots of a linked program, and how many functions it reaches.
+fn push_layout(table: &mut Table<'_>, layout: &Layout) -> Result<(), AllocError> {
     match layout.slots {
         Some(slots) => {
-            table.push(count(alloc, slots)?)?;
-            table.push(count(alloc, layout.functions.len())?)
+            table.push_number(slots)?;
+            table.push_number(layout.functions.len())
         }
         None => {
-            table.push(cell(alloc, "-")?)?;
-            table.push(cell(alloc, "-")?)
+            table.push_text("-")?;
+            table.push_text("-")
         }
     }
 }
 
 /// The row of a program.
 fn push_program(
-    alloc: Global,
     table: &mut Table<'_>,
     own: usize,
     program: &ObjectProgram,
     layout: &Layout,
 ) -> Result<(), AllocError> {
     let section = program.section.as_str();
-    table.push(count(alloc, own)?)?;
-    push_layout(alloc, table, layout)?;
-    table.push(cell(alloc, program_type_name(section).unwrap_or("-"))?)?;
-    table.push(cell(alloc, section)?)?;
-    table.push(cell(alloc, program.name.as_str())?)
+    table.push_number(own)?;
+    push_layout(table, layout)?;
+    table.push_text(program_type_name(section).unwrap_or("-"))?;
+    table.push_text(section)?;
+    table.push_text(program.name.as_str())
 }
 
 /// Writes the programs.
@@ -137,7 +119,7 @@ fn write_programs<W: Write>(alloc: Global, out: &mut W, listing: &Listing<'_>) -
     let programs = &listing.wanted.programs;
     for (program, layout) in programs.iter().zip(listing.layouts.iter()) {
         let own = listing.slots_of(program.key);
-        push_program(alloc, &mut table, own, program, layout)?;
+        push_program(&mut table, own, program, layout)?;
     }
     Ok(write_table(out, "PROGRAMS", programs.len(), &table)?)
 }
@@ -190,19 +172,11 @@ fn map_heads(alloc: Global, columns: MapColumns) -> Result<Vec<Column>, AllocErr
     Ok(heads)
 }
 
-/// The name of a map's type, or its number.
-fn map_type_cell(alloc: Global, map: &Map) -> Result<String, AllocError> {
-    match map_type_name(map.map_type()) {
-        Some(name) => String::from_str(alloc, name),
-        None => size(alloc, map.map_type()),
-    }
-}
-
 /// The type of the map that a map holds.
-fn inner_cell(alloc: Global, map: &Map) -> Result<String, AllocError> {
+fn push_inner(table: &mut Table<'_>, map: &Map) -> Result<(), AllocError> {
     match map.inner()? {
-        Some(inner) => map_type_cell(alloc, &inner),
-        None => String::from_str(alloc, "-"),
+        Some(inner) => table.push_map_type(inner.map_type()),
+        None => table.push_text("-"),
     }
 }
 
@@ -215,33 +189,26 @@ pub fn pinning_word(pinning: PinningType) -> &'static str {
 }
 
 /// The sizes and flags of a map.
-fn push_sizes(alloc: Global, table: &mut Table<'_>, map: &Map) -> Result<(), AllocError> {
-    let flags = map.map_flags();
-    table.push(size(alloc, map.key_size())?)?;
-    table.push(size(alloc, map.value_size())?)?;
-    table.push(size(alloc, map.max_entries())?)?;
-    table.push(format!(in alloc; "{flags:#x}")?)
+fn push_sizes(table: &mut Table<'_>, map: &Map) -> Result<(), AllocError> {
+    table.push_number(map.key_size() as usize)?;
+    table.push_number(map.value_size() as usize)?;
+    table.push_number(map.max_entries() as usize)?;
+    table.push_hex(u64::from(map.map_flags()))
 }
 
 /// How a map is pinned and what it holds, where there are columns of these.
-fn push_manner(
-    alloc: Global,
-    table: &mut Table<'_>,
-    columns: MapColumns,
-    map: &Map,
-) -> Result<(), AllocError> {
+fn push_manner(table: &mut Table<'_>, columns: MapColumns, map: &Map) -> Result<(), AllocError> {
     if columns.has_pinned {
-        table.push(cell(alloc, pinning_word(map.pinning()))?)?;
+        table.push_text(pinning_word(map.pinning()))?;
     }
     if columns.has_inner {
-        table.push(inner_cell(alloc, map)?)?;
+        push_inner(table, map)?;
     }
     Ok(())
 }
 
 /// The row of a map.
 fn push_map<'a>(
-    alloc: Global,
     table: &mut Table<'_>,
     listing: &Listing<'a>,
     columns: MapColumns,
@@ -249,12 +216,11 @@ fn push_map<'a>(
     map: &Map,
 ) -> Result<(), AllocError> {
     let users = listing.users_of_map(name).len();
-    let programs = listing.wanted.programs.len();
-    table.push(map_type_cell(alloc, map)?)?;
-    push_sizes(alloc, table, map)?;
-    push_manner(alloc, table, columns, map)?;
-    table.push(format!(in alloc; "{users}/{programs}")?)?;
-    table.push(cell(alloc, name)?)
+    table.push_map_type(map.map_type())?;
+    push_sizes(table, map)?;
+    push_manner(table, columns, map)?;
+    table.push_share(users, listing.wanted.programs.len())?;
+    table.push_text(name)
 }
 
 /// Writes the maps.
@@ -263,7 +229,7 @@ fn write_maps<W: Write>(alloc: Global, out: &mut W, listing: &Listing<'_>) -> Re
     let heads = map_heads(alloc, columns)?;
     let mut table = Table::new(alloc, &heads)?;
     for (name, map) in listing.object.maps.iter() {
-        push_map(alloc, &mut table, listing, columns, name.as_str(), map)?;
+        push_map(&mut table, listing, columns, name.as_str(), map)?;
     }
     Ok(write_table(out, "MAPS", listing.object.maps.len(), &table)?)
 }
@@ -276,23 +242,34 @@ fn add_name(names: &mut String, name: &str) -> Result<(), AllocError> {
     names.push_str(name)
 }
 
-/// The names of programs, or that it is all of them.
-fn names_cell(
+/// The names of programs, one behind the other.
+fn program_names(
     alloc: Global,
-    listing: &Listing<'_>,
+    programs: &[ObjectProgram],
     numbers: &[usize],
 ) -> Result<String, AllocError> {
-    let programs = &listing.wanted.programs;
-    if numbers.len() == programs.len() {
-        return String::from_str(alloc, "all");
-    }
     let mut names = String::new(alloc);
     for number in numbers {
         if let Some(program) = programs.get(*number) {
             add_name(&mut names, program.name.as_str())?;
         }
     }
-    cell(alloc, names.as_str())
+    Ok(names)
+}
+
+/// The names of programs, or that it is all of them.
+fn push_names(
+    alloc: Global,
+    table: &mut Table<'_>,
+    listing: &Listing<'_>,
+    numbers: &[usize],
+) -> Result<(), AllocError> {
+    let programs = &listing.wanted.programs;
+    if numbers.len() == programs.len() {
+        return table.push_text("all");
+    }
+    let names = program_names(alloc, programs, numbers)?;
+    table.push_text(names.as_str())
 }
 
 /// The columns of helper functions.
@@ -302,21 +279,13 @@ const HELPERS: [Column; 3] = [
     Column::Word("PROGRAMS"),
 ];
 
-/// The name of a helper function.
-fn helper_cell(alloc: Global, helper: u32) -> Result<String, AllocError> {
-    match helper_name(helper) {
-        Some(name) => format!(in alloc; "bpf_{name}"),
-        None => String::from_str(alloc, "-"),
-    }
-}
-
 /// Writes the helper functions.
 fn write_helpers<W: Write>(alloc: Global, out: &mut W, listing: &Listing<'_>) -> Result<(), Stop> {
     let mut table = Table::new(alloc, &HELPERS)?;
     for (helper, programs) in listing.helper_users.iter() {
-        table.push(size(alloc, *helper)?)?;
-        table.push(helper_cell(alloc, *helper)?)?;
-        table.push(names_cell(alloc, listing, programs)?)?;
+        table.push_number(*helper as usize)?;
+        table.push_helper(*helper)?;
+        push_names(alloc, &mut table, listing, programs)?;
     }
     Ok(write_table(out, "HELPERS", listing.helper_users.len(), &table)?)
 }
@@ -340,18 +309,18 @@ pub fn extern_word(is_function: bool) -> &'static str {
 }
 
 /// The row of an extern.
-fn push_extern(alloc: Global, table: &mut Table<'_>, known: &Extern) -> Result<(), AllocError> {
-    table.push(cell(alloc, extern_word(known.is_function))?)?;
-    table.push(cell(alloc, yes_or_no(known.is_typed))?)?;
-    table.push(cell(alloc, yes_or_no(known.is_weak))?)?;
-    table.push(cell(alloc, known.name.as_str())?)
+fn push_extern(table: &mut Table<'_>, known: &Extern) -> Result<(), AllocError> {
+    table.push_text(extern_word(known.is_function))?;
+    table.push_text(yes_or_no(known.is_typed))?;
+    table.push_text(yes_or_no(known.is_weak))?;
+    table.push_text(known.name.as_str())
 }
 
 /// Writes the externs.
 fn write_externs<W: Write>(alloc: Global, out: &mut W, listing: &Listing<'_>) -> Result<(), Stop> {
     let mut table = Table::new(alloc, &EXTERNS)?;
     for known in listing.wanted.externs.iter() {
-        push_extern(alloc, &mut table, known)?;
+        push_extern(&mut table, known)?;
     }
     let rows = listing.wanted.externs.len();
     Ok(write_table(out, "EXTERNS", rows, &table)?)
@@ -364,7 +333,7 @@ const SETTINGS: [Column; 1] = [Column::Word("NAME")];
 fn write_settings<W: Write>(alloc: Global, out: &mut W, listing: &Listing<'_>) -> Result<(), Stop> {
     let mut table = Table::new(alloc, &SETTINGS)?;
     for name in listing.wanted.settings.iter() {
-        table.push(cell(alloc, name.as_str())?)?;
+        table.push_text(name.as_str())?;
     }
     let rows = listing.wanted.settings.len();
     Ok(write_table(out, "KCONFIG VALUES", rows, &table)?)
@@ -381,9 +350,9 @@ const RECORDS: [Column; 3] = [
 fn write_records<W: Write>(alloc: Global, out: &mut W, listing: &Listing<'_>) -> Result<(), Stop> {
     let mut table = Table::new(alloc, &RECORDS)?;
     for (asked, records) in listing.records.iter() {
-        table.push(count(alloc, *records)?)?;
-        table.push(cell(alloc, asked.kind.word())?)?;
-        table.push(cell(alloc, asked.name.as_str())?)?;
+        table.push_number(*records)?;
+        table.push_text(asked.kind.word())?;
+        table.push_text(asked.name.as_str())?;
     }
     let rows = listing.record_count();
     Ok(write_table(out, "CO-RE RECORDS", rows, &table)?)
@@ -403,8 +372,8 @@ fn write_unreached<W: Write>(
         let Some(function) = listing.object.functions.get(*key) else {
             continue;
         };
-        table.push(count(alloc, function.instructions.len())?)?;
-        table.push(cell(alloc, function.name.as_str())?)?;
+        table.push_number(function.instructions.len())?;
+        table.push_text(function.name.as_str())?;
     }
     let rows = listing.unreached.len();
     Ok(write_table(out, "FUNCTIONS THAT NO PROGRAM REACHES", rows, &table)?)

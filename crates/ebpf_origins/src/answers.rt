@@ -1,7 +1,7 @@
 //! What types answer to records.
 
 use ebpf_btf::{Btf, BtfKind};
-use ebpf_core::{LocalPath, RelocationError, local_path, outcome_among};
+use ebpf_core::{LocalPath, RelocationError, outcome_among};
 use ebpf_core_relo::Absence;
 use ebpf_ext::{Relocation, RelocationKind};
 use std::alloc::{AllocError, Global};
@@ -47,21 +47,6 @@ pub fn own_value_of(
     let itself = [relocation.type_id];
     match outcome_among(alloc, local, local, relocation, path, &itself) {
         Ok(outcome) => Ok(outcome.value),
-        Err(error) => {
-            no_answer(error)?;
-            Ok(None)
-        }
-    }
-}
-
-/// The value that the object's own types give a record. None where they give none.
-pub fn own_value(
-    alloc: Global,
-    local: &Btf,
-    relocation: &Relocation,
-) -> Result<Option<u64>, AllocError> {
-    match local_path(alloc, local, relocation) {
-        Ok(path) => own_value_of(alloc, local, relocation, &path),
         Err(error) => {
             no_answer(error)?;
             Ok(None)

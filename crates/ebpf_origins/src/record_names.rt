@@ -1,6 +1,6 @@
 //! What records are about, as libbpf's log names it.
 
-use crate::answers::no_answer;
+use crate::answers::{no_answer, own_value_of};
 use ebpf_btf::Btf;
 use ebpf_core::{NamedPath, local_path};
 use ebpf_ext::Relocation;
@@ -65,4 +65,33 @@ pub fn record_name(
         }
     }
     Ok(name)
+}
+
+/// What a record asks, and what the object's own types answer.
+#[derive(Drop)]
+pub struct Asked {
+    /// What the record is about.
+    pub name: String,
+    /// The value that the object's own types give it. None where they give none.
+    pub own: Option<u64>,
+}
+
+impl Asked {
+    /// What a record asks, and what the object's own types answer: its access string is read once for both.
+    pub fn of(alloc: Global, local: &Btf, relocation: &Relocation) -> Result<Asked, AllocError> {
+        let mut name = String::new(alloc);
+        add_type(&mut name, local, relocation.type_id)?;
+        let own = match local_path(alloc, local, relocation) {
+            Ok(path) => {
+                add_path(alloc, &mut name, &path.path)?;
+                own_value_of(alloc, local, relocation, &path)?
+            }
+            Err(error) => {
+                no_answer(error)?;
+                add_access(&mut name, local, relocation)?;
+                None
+            }
+        };
+        Ok(Asked { name, own })
+    }
 }

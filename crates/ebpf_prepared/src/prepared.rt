@@ -9,10 +9,10 @@ use ebpf_base::{Items, Text};
 use ebpf_btf::Btf;
 use ebpf_object::Object;
 use ebpf_object::relocation::LinkMap;
-use ebpf_parts::Reading;
 use ebpf_report::object_file::read_object;
+use ebpf_report::parsed::parsed_object;
 use ebpf_report::programs::{ObjectProgram, object_programs};
-use ebpf_report::refuse::{check_names, refuse_parsing};
+use ebpf_report::refuse::check_names;
 use ebpf_report::stop::Stop;
 use std::alloc::{AllocError, Global};
 
@@ -90,18 +90,6 @@ fn passed(
     }
 }
 
-/// The object of a file's bytes, read broadly; one that can't be parsed is told.
-fn parsed(rt: &HostRuntime, words: &PrepareWords, file: &[u8]) -> Result<Object, Stop> {
-    match Object::parse_as(rt.alloc(), file, Reading::Broad) {
-        Ok(object) => Ok(object),
-        Err(error) => {
-            let stop = refuse_parsing(rt, words.json, words.file.as_str(), file, &error);
-            drop(error);
-            Err(stop)
-        }
-    }
-}
-
 /// What is made of an object that was parsed.
 #[derive(Drop)]
 struct Made {
@@ -162,7 +150,7 @@ pub fn prepare_file(
     map_slots: MapSlots,
 ) -> Result<Prepared, Stop> {
     let file = read_object(rt, words.json, words.file.as_str(), words.object)?;
-    let parsed = parsed(rt, words, &file)?;
+    let parsed = parsed_object(rt, words.json, words.file.as_str(), &file)?;
     let made = made_of(rt, words, &file, &parsed, map_slots);
     with_parsed(file, parsed, made)
 }

@@ -14,6 +14,7 @@ pub mod map_uses;
 pub mod names;
 pub mod object_file;
 mod parse_help;
+pub mod parsed;
 pub mod programs;
 pub mod refusal;
 pub mod refuse;

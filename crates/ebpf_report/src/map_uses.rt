@@ -25,19 +25,35 @@ struct MapNames<'a> {
     by_section: ByIndex<&'a str>,
 }
 
-/// The names of an object's maps.
-fn map_names(alloc: Global, object: &Object) -> Result<MapNames<'_>, AllocError> {
-    let mut names = MapNames {
-        by_symbol: ByIndex::new(alloc),
-        by_section: ByIndex::new(alloc),
-    };
+/// The names of an object's maps by the index of their symbol.
+fn by_symbol(alloc: Global, object: &Object) -> Result<ByIndex<&str>, AllocError> {
+    let mut names = ByIndex::new(alloc);
     for (name, map) in object.maps.iter() {
-        if let Some(symbol) = map.symbol_index() {
-            names.by_symbol.insert(symbol, name.as_str())?;
-        }
-        names.by_section.insert(map.section_index(), name.as_str())?;
+        let Some(symbol) = map.symbol_index() else {
+            continue;
+        };
+        names.insert(symbol, name.as_str())?;
     }
     Ok(names)
+}
+
+/// The names of an object's maps by the index of their section.
+fn by_section(alloc: Global, object: &Object) -> Result<ByIndex<&str>, AllocError> {
+    let mut names = ByIndex::new(alloc);
+    for (name, map) in object.maps.iter() {
+        names.insert(map.section_index(), name.as_str())?;
+    }
+    Ok(names)
+}
+
+/// The names of an object's maps.
+fn map_names(alloc: Global, object: &Object) -> Result<MapNames<'_>, AllocError> {
+    let by_symbol = by_symbol(alloc, object)?;
+    let by_section = by_section(alloc, object)?;
+    Ok(MapNames {
+        by_symbol,
+        by_section,
+    })
 }
 
 /// The name of the map that a relocation refers to: the one of its symbol, else the last one of the symbol's section.
@@ -83,6 +99,39 @@ fn first_slots<'a>(
     Ok(slots)
 }
 
+/// The use of the map of a name, first at a slot; none of a name that no map has.
+fn use_of(
+    alloc: Global,
+    object: &Object,
+    name: &str,
+    slot: usize,
+) -> Result<Option<MapUse>, AllocError> {
+    let Some(map) = object.maps.get(name) else {
+        return Ok(None);
+    };
+    Ok(Some(MapUse {
+        name: Text::from_str(alloc, name)?,
+        map_type: map.map_type(),
+        slot,
+    }))
+}
+
+/// The uses of maps of these names, each first at a slot.
+fn uses_at(
+    alloc: Global,
+    object: &Object,
+    slots: &BTreeMap<&str, usize>,
+) -> Result<Items<MapUse>, AllocError> {
+    let mut uses = Items::new(alloc);
+    for (name, slot) in slots.iter() {
+        let Some(used) = use_of(alloc, object, name, *slot)? else {
+            continue;
+        };
+        uses.push(used)?;
+    }
+    Ok(uses)
+}
+
 /// The maps that a function uses, by their names.
 fn uses_of(
     alloc: Global,
@@ -90,19 +139,21 @@ fn uses_of(
     names: &MapNames<'_>,
     function: &Function,
 ) -> Result<Items<MapUse>, AllocError> {
-    let mut uses = Items::new(alloc);
     let slots = first_slots(alloc, object, names, function)?;
-    for (name, slot) in slots.iter() {
-        let Some(map) = object.maps.get(name) else {
-            continue;
-        };
-        uses.push(MapUse {
-            name: Text::from_str(alloc, name)?,
-            map_type: map.map_type(),
-            slot: *slot,
-        })?;
+    uses_at(alloc, object, &slots)
+}
+
+/// Adds the maps that the function of a key uses, where it uses some.
+fn add_uses(
+    all: &mut ByKey<Items<MapUse>>,
+    key: (usize, u64),
+    uses: Items<MapUse>,
+) -> Result<(), AllocError> {
+    if uses.is_empty() {
+        return Ok(());
     }
-    Ok(uses)
+    all.insert(key, uses)?;
+    Ok(())
 }
 
 /// The maps that each function uses, by the functions' keys: those that the relocations of its slots refer to.
@@ -111,10 +162,7 @@ pub fn map_uses(alloc: Global, object: &Object) -> Result<ByKey<Items<MapUse>>, 
     let mut all = ByKey::new(alloc);
     for (key, function) in object.functions.iter() {
         let uses = uses_of(alloc, object, &names, function)?;
-        if uses.is_empty() {
-            continue;
-        }
-        all.insert(*key, uses)?;
+        add_uses(&mut all, *key, uses)?;
     }
     Ok(all)
 }

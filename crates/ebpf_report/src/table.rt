@@ -1,6 +1,10 @@
 //! Tables of text.
 
+use crate::helper_names::helper_name;
+use crate::names::Shown;
+use crate::type_names::map_type_name;
 use std::alloc::{AllocError, Global};
+use std::fmt::Write as _;
 use std::io::{self, Write};
 
 /// A column of a table, by its head.
@@ -26,12 +30,23 @@ impl Column {
 pub struct Table<'a> {
     columns: &'a [Column],
     widths: Vec<usize>,
-    cells: Vec<String>,
+    /// The cells' texts, one behind the other.
+    text: String,
+    /// Where each of them ends.
+    ends: Vec<usize>,
 }
 
 /// The width of a text, in characters.
 fn width_of(text: &str) -> usize {
     text.chars().count()
+}
+
+/// The width of what stands in a text from an offset on.
+fn width_from(text: &str, start: usize) -> usize {
+    match text.get(start..) {
+        Some(cell) => width_of(cell),
+        None => 0,
+    }
 }
 
 /// Writes spaces.
@@ -73,18 +88,67 @@ impl<'a> Table<'a> {
         Ok(Table {
             columns,
             widths,
-            cells: Vec::new(alloc),
+            text: String::new(alloc),
+            ends: Vec::new(alloc),
         })
     }
 
-    /// Adds the next cell of a row, or the first of the next row.
-    pub fn push(&mut self, cell: String) -> Result<(), AllocError> {
-        let number = self.cells.len().checked_rem(self.columns.len());
-        if let Some(width) = self.widths.get_mut(number.unwrap_or(0)) {
-            *width = width_of(cell.as_str()).max(*width);
+    /// Ends the next cell of a row, or the first of the next row, whose text stands from an offset on.
+    fn end(&mut self, start: usize) -> Result<(), AllocError> {
+        let width = width_from(self.text.as_str(), start);
+        let number = self.ends.len().checked_rem(self.columns.len());
+        if let Some(widest) = self.widths.get_mut(number.unwrap_or(0)) {
+            *widest = width.max(*widest);
         }
-        self.cells.push(cell)?;
+        self.ends.push(self.text.len())?;
         Ok(())
+    }
+
+    /// Adds a cell of a text, as text shows names.
+    pub fn push_text(&mut self, text: &str) -> Result<(), AllocError> {
+        let start = self.text.len();
+        let text = Shown(text);
+        write!(self.text, "{text}")?;
+        self.end(start)
+    }
+
+    /// Adds a cell of a number.
+    pub fn push_number(&mut self, number: usize) -> Result<(), AllocError> {
+        let start = self.text.len();
+        write!(self.text, "{number}")?;
+        self.end(start)
+    }
+
+    /// Adds a cell of a number in base 16.
+    pub fn push_hex(&mut self, number: u64) -> Result<(), AllocError> {
+        let start = self.text.len();
+        write!(self.text, "{number:#x}")?;
+        self.end(start)
+    }
+
+    /// Adds a cell of a number beside the one that is the most.
+    pub fn push_share(&mut self, number: usize, most: usize) -> Result<(), AllocError> {
+        let start = self.text.len();
+        write!(self.text, "{number}/{most}")?;
+        self.end(start)
+    }
+
+    /// Adds a cell of the name of a helper function.
+    pub fn push_helper(&mut self, number: u32) -> Result<(), AllocError> {
+        let Some(name) = helper_name(number) else {
+            return self.push_text("-");
+        };
+        let start = self.text.len();
+        write!(self.text, "bpf_{name}")?;
+        self.end(start)
+    }
+
+    /// Adds a cell of the name of a type of maps, or of its number.
+    pub fn push_map_type(&mut self, number: u32) -> Result<(), AllocError> {
+        match map_type_name(number) {
+            Some(name) => self.push_text(name),
+            None => self.push_number(number as usize),
+        }
     }
 
     /// Writes a cell of a column, by the column's number.
@@ -104,10 +168,13 @@ impl<'a> Table<'a> {
         writeln!(out, "")
     }
 
-    /// Writes a row.
-    fn write_row<W: Write>(&self, out: &mut W, row: &[String]) -> io::Result<()> {
-        for (number, cell) in row.iter().enumerate() {
-            self.write_at(out, number, cell.as_str())?;
+    /// Writes a row, whose cells begin at an offset, and end at these.
+    fn write_row<W: Write>(&self, out: &mut W, start: usize, ends: &[usize]) -> io::Result<()> {
+        let mut start = start;
+        for (number, end) in ends.iter().enumerate() {
+            let cell = self.text.get(start..*end).unwrap_or("");
+            self.write_at(out, number, cell)?;
+            start = *end;
         }
         writeln!(out, "")
     }
@@ -115,8 +182,10 @@ impl<'a> Table<'a> {
     /// Writes the heads of the columns and the rows below them.
     pub fn write<W: Write>(&self, out: &mut W) -> io::Result<()> {
         self.write_heads(out)?;
-        for row in self.cells.chunks(self.columns.len().max(1)) {
-            self.write_row(out, row)?;
+        let mut start = 0;
+        for row in self.ends.chunks(self.columns.len().max(1)) {
+            self.write_row(out, start, row)?;
+            start = row.last().copied().unwrap_or(start);
         }
         Ok(())
     }

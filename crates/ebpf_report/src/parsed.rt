@@ -1,0 +1,30 @@
+//! An object, parsed.
+
+use crate::refuse::refuse_parsing;
+use crate::stop::Stop;
+use ebpf_object::Object;
+use ebpf_parts::{ParseError, Reading};
+use std::alloc::Global;
+
+/// The object of a file's bytes, read broadly. Nothing is stated of it, so that what calls this isn't proved over all that
+/// is stated of parsing.
+fn parsed(alloc: Global, file: &[u8]) -> Result<Object, ParseError> {
+    Object::parse_as(alloc, file, Reading::Broad)
+}
+
+/// The object of a file's bytes, read broadly; one that can't be parsed is told.
+pub fn parsed_object(
+    rt: &HostRuntime,
+    json: bool,
+    path: &str,
+    file: &[u8],
+) -> Result<Object, Stop> {
+    match parsed(rt.alloc(), file) {
+        Ok(object) => Ok(object),
+        Err(error) => {
+            let stop = refuse_parsing(rt, json, path, file, &error);
+            drop(error);
+            Err(stop)
+        }
+    }
+}
