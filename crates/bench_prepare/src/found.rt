@@ -1,7 +1,7 @@
 //! What type information answers.
 
 use crate::error::BenchError;
-use ebpf_btf::{Btf, BtfError, BtfType};
+use ebpf_btf::{Btf, BtfError, BtfKind, BtfType};
 use ebpf_candidates::TypeIndex;
 use std::alloc::{AllocError, Global};
 
@@ -42,12 +42,57 @@ pub fn print_counts(rt: &HostRuntime, btf: &Btf, index: &TypeIndex) -> Result<()
     Ok(())
 }
 
-/// A number, or why there is none.
-fn number(alloc: Global, answer: Result<u32, BtfError>) -> Result<String, AllocError> {
+/// Adds a number, or why there is none.
+fn put_number(text: &mut String, answer: Result<u32, BtfError>) -> Result<(), AllocError> {
     match answer {
-        Ok(number) => format!(in alloc; "{number}"),
-        Err(error) => format!(in alloc; "{error:?}"),
+        Ok(number) => write!(text, "{number}"),
+        Err(error) => write!(text, "{error:?}"),
     }
+}
+
+/// Adds a type's size, the id that it stands for, and the lowest id of its kind and name.
+fn put_numbers(
+    text: &mut String,
+    btf: &Btf,
+    id: u32,
+    kind: BtfKind,
+    name: &str,
+) -> Result<(), AllocError> {
+    write!(text, "size ")?;
+    put_number(text, btf.type_size(id))?;
+    write!(text, ", stands for ")?;
+    put_number(text, btf.resolve_type(id))?;
+    write!(text, ", first ")?;
+    put_number(text, btf.id_by_type_name_kind(name, kind))
+}
+
+/// Adds how many candidates there are, and whether they are in order.
+fn put_candidates(
+    text: &mut String,
+    index: &TypeIndex,
+    kind: BtfKind,
+    name: &str,
+) -> Result<(), BtfError> {
+    let candidates = index.candidates(kind, name)?;
+    let (count, sorted) = (candidates.len(), candidates.is_sorted());
+    write!(text, ", candidates {count} in order {sorted}, ")?;
+    Ok(())
+}
+
+/// Adds what there is to tell of a type with a name.
+fn put_named(
+    text: &mut String,
+    btf: &Btf,
+    index: &TypeIndex,
+    id: u32,
+    ty: &BtfType<'_>,
+    name: &str,
+) -> Result<(), BtfError> {
+    write!(text, "{id} {name}: ")?;
+    put_numbers(text, btf, id, ty.kind(), name)?;
+    put_candidates(text, index, ty.kind(), name)?;
+    write!(text, "{ty:?}")?;
+    Ok(())
 }
 
 /// A line on a type: its id, its name, the size, the id that it stands for, the lowest id of its kind and name, how
@@ -60,15 +105,8 @@ fn type_line(
     ty: &BtfType<'_>,
 ) -> Result<String, BtfError> {
     let name = btf.type_name(ty)?;
-    let name = name.as_str();
-    let size = number(alloc, btf.type_size(id))?;
-    let resolved = number(alloc, btf.resolve_type(id))?;
-    let first = number(alloc, btf.id_by_type_name_kind(name, ty.kind()))?;
-    let candidates = index.candidates(ty.kind(), name)?;
-    let (count, sorted) = (candidates.len(), candidates.is_sorted());
-    let text = format!(in alloc;
-        "{id} {name}: size {size}, stands for {resolved}, first {first}, candidates {count} in order {sorted}, {ty:?}"
-    )?;
+    let mut text = String::new(alloc);
+    put_named(&mut text, btf, index, id, ty, name.as_str())?;
     Ok(text)
 }
 

@@ -43,24 +43,30 @@ pub fn symbols(rt: &HostRuntime, sources: &Sources<'_>) -> Result<BufReader<File
     Ok(BufReader::new(rt.alloc(), fs::open(rt, path)?)?)
 }
 
-/// Prepares an object as `ebpf-link` does.
+/// Both of two values, or why the first is missing that is. It knows none of their types, so that its proof doesn't let go
+/// of each part of an object.
+fn both<A: Drop, B: Drop, E: Drop>(first: Result<A, E>, second: Result<B, E>) -> Result<(A, B), E> {
+    let first = first?;
+    let second = second?;
+    Ok((first, second))
+}
+
+/// Prepares an object as `ebpf-link` does, with a kernel's types and symbols.
 fn finish(
     rt: &HostRuntime,
     object: Object,
-    types: Option<&Btf>,
-    symbols: BufReader<File>,
+    given: (Option<Btf>, BufReader<File>),
 ) -> Result<Object, BenchError> {
-    allowed(prepare_all(rt.alloc(), object, types, symbols))
+    let (types, symbols) = given;
+    allowed(prepare_all(rt.alloc(), object, types.as_ref(), symbols))
 }
 
 /// The prepared object.
 fn prepare(rt: &HostRuntime, sources: &Sources<'_>) -> Result<Object, BenchError> {
-    let symbols = symbols(rt, sources)?;
     let object = read_object(rt, sources.file)?;
-    match types_for(rt, sources, &object) {
-        Ok(types) => finish(rt, object, types.as_ref(), symbols),
-        Err(error) => Err(error),
-    }
+    let given = both(types_for(rt, sources, &object), symbols(rt, sources));
+    let (object, given) = both(Ok(object), given)?;
+    finish(rt, object, given)
 }
 
 /// The time of each run, in microseconds.

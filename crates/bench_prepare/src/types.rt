@@ -56,37 +56,89 @@ fn run(rt: &HostRuntime, word: &str, made: &[u8], clock: &mut Clock) -> Result<(
     clock.end(rt, "read");
     let types = Btf::from_vec(bytes, Endianness::Little)?;
     clock.end(rt, "types");
-    index(rt, &types, clock)?;
+    let indexed = index(rt, &types, clock);
     drop(types);
     clock.end(rt, "let go of the types");
+    indexed
+}
+
+/// All runs.
+fn run_each(
+    rt: &HostRuntime,
+    word: &str,
+    made: &[u8],
+    clock: &mut Clock,
+) -> Result<(), BenchError> {
+    for _run in 0..RUNS {
+        run(rt, word, made, clock)?;
+    }
+    Ok(())
+}
+
+/// Copies the types out of bytes as often.
+fn parse_each(rt: &HostRuntime, bytes: &[u8], clock: &mut Clock) -> Result<(), BenchError> {
+    for _run in 0..RUNS {
+        parse(rt, bytes, clock)?;
+    }
     Ok(())
 }
 
 /// Prints what an index of types answers.
-fn ask(rt: &HostRuntime, types: &Btf, clock: &mut Clock) -> Result<(), BenchError> {
-    let index = TypeIndex::new(rt.alloc(), types)?;
+fn ask(
+    rt: &HostRuntime,
+    types: &Btf,
+    index: &TypeIndex,
+    clock: &mut Clock,
+) -> Result<(), BenchError> {
     clock.begin(rt);
-    print_counts(rt, types, &index)?;
+    print_counts(rt, types, index)?;
     clock.end_inner(rt, "  candidates and sizes");
-    print_last(rt, types, &index)?;
+    print_last(rt, types, index)?;
     clock.end_inner(rt, "  ten ids by name");
     Ok(())
+}
+
+/// Prints what the index of types answers.
+fn ask_index(rt: &HostRuntime, types: &Btf, clock: &mut Clock) -> Result<(), BenchError> {
+    let index = TypeIndex::new(rt.alloc(), types)?;
+    ask(rt, types, &index, clock)
+}
+
+/// Prints what the types in bytes answer.
+fn ask_bytes(rt: &HostRuntime, bytes: Vec<u8>, clock: &mut Clock) -> Result<(), BenchError> {
+    let types = Btf::from_vec(bytes, Endianness::Little)?;
+    ask_index(rt, &types, clock)
+}
+
+/// Copies the types, and asks them.
+fn parse_and_ask(rt: &HostRuntime, bytes: Vec<u8>, clock: &mut Clock) -> Result<(), BenchError> {
+    parse_each(rt, &bytes, clock)?;
+    ask_bytes(rt, bytes, clock)
+}
+
+/// Takes the steps with a clock.
+fn measure(rt: &HostRuntime, word: &str, made: &[u8], clock: &mut Clock) -> Result<(), BenchError> {
+    run_each(rt, word, made, clock)?;
+    parse_and_ask(rt, bytes_of(rt, word, made)?, clock)
+}
+
+/// Prints what a clock tells.
+fn print_clock(rt: &HostRuntime, clock: &Clock) -> Result<(), BenchError> {
+    let text = clock.text()?;
+    eprint!(rt; "{text}")?;
+    Ok(())
+}
+
+/// Takes the steps, and prints how long each took.
+fn measure_made(rt: &HostRuntime, word: &str, made: &[u8]) -> Result<(), BenchError> {
+    let mut clock = Clock::start(rt)?;
+    measure(rt, word, made, &mut clock)?;
+    print_clock(rt, &clock)
 }
 
 /// Takes the steps on the `.BTF` of a file, or on bytes that are made. It prints what it found, and on the standard
 /// error how long each step took, in microseconds.
 pub fn measure_types(rt: &HostRuntime, word: &str) -> Result<(), BenchError> {
     let made = made_bytes(rt, word)?;
-    let mut clock = Clock::start(rt)?;
-    for _run in 0..RUNS {
-        run(rt, word, &made, &mut clock)?;
-    }
-    let bytes = bytes_of(rt, word, &made)?;
-    for _run in 0..RUNS {
-        parse(rt, &bytes, &mut clock)?;
-    }
-    ask(rt, &Btf::from_vec(bytes, Endianness::Little)?, &mut clock)?;
-    let text = clock.text()?;
-    eprint!(rt; "{text}")?;
-    Ok(())
+    measure_made(rt, word, &made)
 }

@@ -10,8 +10,9 @@ mod refusals;
 mod slots;
 
 use ebpf_object::Object;
-use ebpf_object::obj::Btf;
+use ebpf_object::obj::{Btf, ParseError};
 use ebpf_object::prepare::{PrepareError, Steps};
+use std::alloc::AllocError;
 use std::{env, fs, io};
 
 /// What is printed of an object, or of why there is none.
@@ -91,18 +92,26 @@ fn go_copied(
     go_with_fds(rt, object, kernel, &descriptors, symbols)
 }
 
-/// Prepares an object for a kernel, with names of maps that are written out, and links nothing; it is a copy here, since
-/// the object is prepared in other ways too.
-fn go_taken(rt: &HostRuntime, object: &Object, kernel: &Btf, symbols: &[u8]) -> io::Result<()> {
-    println!(rt; "the object itself, not linked")?;
+/// Prepares an object for a kernel, with names of maps that are written out, and links nothing.
+fn go_with_names(rt: &HostRuntime, object: Object, kernel: &Btf, symbols: &[u8]) -> io::Result<()> {
     let descriptors = [("counts", 3), (".bss", 4), (".rodata", 5)];
     let steps = Steps::none()
         .with_types(kernel)
         .with_descriptors(&descriptors)
         .with_externs(kernel);
-    let copy = object.clone()?;
-    let outcome = preparing::taken(rt.alloc(), copy, &steps, symbols);
+    let outcome = preparing::taken(rt.alloc(), object, &steps, symbols);
     show_outcome(rt, outcome)
+}
+
+/// A copy of the object.
+fn copy(object: &Object) -> Result<Object, AllocError> {
+    object.clone()
+}
+
+/// The same of a copy, since the object is prepared in other ways too.
+fn go_taken(rt: &HostRuntime, object: &Object, kernel: &Btf, symbols: &[u8]) -> io::Result<()> {
+    println!(rt; "the object itself, not linked")?;
+    go_with_names(rt, copy(object)?, kernel, symbols)
 }
 
 /// Prepares the object where it stands.
@@ -156,17 +165,19 @@ fn go_one_by_one(
     show_in_place(rt, object, answer)
 }
 
+/// Why a file can't be parsed, where it can't.
+fn why_unparsed(rt: &HostRuntime, file: &[u8]) -> Option<ParseError> {
+    preparing::parsed(rt.alloc(), file).err()
+}
+
 /// Parses a file that is cut, which is refused.
 fn go_cut(rt: &HostRuntime, file: &[u8]) -> io::Result<()> {
     println!(rt; "a file without its end")?;
     let cut = file.get(..file.len() / 2).unwrap_or(file);
-    let parsed = preparing::parsed(rt.alloc(), cut);
-    let shown = match &parsed {
-        Ok(object) => slots::print_programs(rt, object),
-        Err(error) => refusals::print_unparsed(rt, cut, error),
-    };
-    drop(parsed);
-    shown
+    match why_unparsed(rt, cut) {
+        Some(error) => refusals::print_unparsed(rt, cut, &error),
+        None => println!(rt; "  parsed"),
+    }
 }
 
 /// Prepares the object in each way for a kernel whose types are known.

@@ -3,13 +3,17 @@
 use crate::call::{Call, say};
 use crate::kept::on_kept;
 use crate::passes::pass;
-use crate::subject::{Shown, Subject, make_calls, tell_made};
+use crate::subject::{Shown, Subject, on_parsed, tell_made};
 use ebpf_object::Object;
 use std::fmt::Debug;
 use std::io;
 
-/// Says that a call has ended, and what object it answered.
-pub fn tell_object<E: Debug + Drop>(answer: Result<Object, E>, call: &Call<'_>) -> io::Result<()> {
+/// Says that a call has ended, and what object it answered. It doesn't know that this is an object, so that its proof
+/// doesn't let go of each part of one.
+pub fn tell_object<T: Shown, E: Debug + Drop>(
+    answer: Result<T, E>,
+    call: &Call<'_>,
+) -> io::Result<()> {
     match answer {
         Ok(object) => tell_made(object, call),
         Err(error) => call.tell(Err::<(), E>(error)),
@@ -57,8 +61,6 @@ impl Subject for Object {
 
 /// Makes the calls on the object that the bytes are.
 pub fn on_object<'a>(bytes: &[u8], front: &'a [String], last: &Call<'a>) -> io::Result<()> {
-    match Object::parse(last.rt.alloc(), bytes) {
-        Ok(object) => make_calls(object, front, last),
-        Err(error) => say(last.rt, "no object: ", error),
-    }
+    let parsed = Object::parse(last.rt.alloc(), bytes);
+    on_parsed(parsed, "no object: ", front, last)
 }

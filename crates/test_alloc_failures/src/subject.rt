@@ -1,6 +1,7 @@
 //! What calls are made on, one after the other.
 
-use crate::call::Call;
+use crate::call::{Call, say};
+use std::fmt::Debug;
 use std::io;
 
 /// What can be printed.
@@ -23,7 +24,7 @@ fn look_at<T: Subject>(subject: &mut T, call: &Call<'_>) -> io::Result<()> {
 }
 
 /// Makes the calls, and prints the subject before the last one and behind it.
-pub fn make_calls<'a, T: Subject>(
+fn make_calls<'a, T: Subject>(
     mut subject: T,
     front: &'a [String],
     last: &Call<'a>,
@@ -32,6 +33,20 @@ pub fn make_calls<'a, T: Subject>(
         subject.make(&last.before(text.as_str()))?;
     }
     look_at(&mut subject, last)
+}
+
+/// Makes the calls on what was parsed, or says why nothing was, behind a text. It knows neither type, so that its proof
+/// doesn't let go of each part of an object.
+pub fn on_parsed<'a, T: Subject, E: Debug + Drop>(
+    parsed: Result<T, E>,
+    text: &str,
+    front: &'a [String],
+    last: &Call<'a>,
+) -> io::Result<()> {
+    match parsed {
+        Ok(subject) => make_calls(subject, front, last),
+        Err(error) => say(last.rt, text, error),
+    }
 }
 
 /// Says that a call has ended, and what it made.

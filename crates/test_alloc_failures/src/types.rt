@@ -1,7 +1,7 @@
 //! Calls on types.
 
 use crate::call::{Call, say};
-use crate::subject::{Shown, Subject, make_calls};
+use crate::subject::{Shown, Subject, on_parsed};
 use crate::type_questions::ask;
 use ebpf_btf::{Btf, BtfType, Endianness};
 use std::io;
@@ -66,8 +66,6 @@ impl Subject for Btf {
 
 /// Makes the calls on the types that the bytes are.
 pub fn on_types<'a>(bytes: &[u8], front: &'a [String], last: &Call<'a>) -> io::Result<()> {
-    match Btf::parse(last.rt.alloc(), bytes, Endianness::Little) {
-        Ok(types) => make_calls(types, front, last),
-        Err(error) => say(last.rt, "no types: ", error),
-    }
+    let parsed = Btf::parse(last.rt.alloc(), bytes, Endianness::Little);
+    on_parsed(parsed, "no types: ", front, last)
 }

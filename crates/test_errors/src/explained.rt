@@ -2,7 +2,7 @@
 
 use crate::prepare::{in_p, without_map};
 use crate::sample::{Sample, show};
-use crate::small_object::object;
+use crate::small_object::{empty_object, put_names};
 use ebpf_elf::ElfReadError;
 use ebpf_ksyms::KsymsError;
 use ebpf_model::RelocationError;
@@ -27,9 +27,14 @@ impl Sample for ExplainedParse<'_> {
     }
 }
 
-/// Prints an error beside an object.
+/// Prints an error as an object explains it.
+fn show_explained(rt: &HostRuntime, object: &Object, error: &PrepareError) -> io::Result<()> {
+    show(rt, object.explain(error))
+}
+
+/// Prints an error beside an object, and lets go of it.
 fn show_beside(rt: &HostRuntime, object: &Object, error: PrepareError) -> io::Result<()> {
-    show(rt, object.explain(&error))
+    show_explained(rt, object, &error)
 }
 
 /// Prints the errors on maps.
@@ -88,16 +93,26 @@ fn show_parsing(rt: &HostRuntime, file: &[u8]) -> io::Result<()> {
     show_parse(rt, file, unknown)
 }
 
+/// Why a file is refused, where it is.
+fn refusal(rt: &HostRuntime, file: &[u8]) -> Option<ParseError> {
+    Object::parse(rt.alloc(), file).err()
+}
+
+/// Prints why a file is refused.
+fn show_refusal(rt: &HostRuntime, file: &[u8]) -> io::Result<()> {
+    match refusal(rt, file) {
+        Some(error) => show_parse(rt, file, error),
+        None => Ok(()),
+    }
+}
+
 /// Prints why a file is refused in which a byte is another.
 fn show_changed(rt: &HostRuntime, file: &[u8], place: usize, byte: u8) -> io::Result<()> {
     let mut changed = Vec::from_slice(rt.alloc(), file)?;
     if let Some(old) = changed.get_mut(place) {
         *old = byte;
     }
-    match Object::parse(rt.alloc(), changed.as_slice()) {
-        Ok(_) => Ok(()),
-        Err(error) => show_parse(rt, changed.as_slice(), error),
-    }
+    show_refusal(rt, changed.as_slice())
 }
 
 /// Prints the errors that tell no place: of call.o with a relocation of symbol 0, with a program of 12 bytes, with a
@@ -109,12 +124,23 @@ fn show_places(rt: &HostRuntime, file: &[u8]) -> io::Result<()> {
     show_changed(rt, file, 0x88, 0xff)
 }
 
+/// Prints the errors that the names of an object add to, once it has them.
+fn show_with_names(rt: &HostRuntime, object: &mut Object) -> io::Result<()> {
+    put_names(rt, object)?;
+    show_maps(rt, object)?;
+    show_externs(rt, object)?;
+    show_calls(rt, object)
+}
+
+/// Prints the errors that an object's names add to. It alone holds the object, and has one way out.
+fn show_object(rt: &HostRuntime) -> io::Result<()> {
+    let mut object = empty_object(rt);
+    show_with_names(rt, &mut object)
+}
+
 /// Prints the errors that names add to.
 pub fn show_all(rt: &HostRuntime, file: &[u8]) -> io::Result<()> {
-    let object = object(rt)?;
-    show_maps(rt, &object)?;
-    show_externs(rt, &object)?;
-    show_calls(rt, &object)?;
+    show_object(rt)?;
     show_parsing(rt, file)?;
     show_places(rt, file)
 }

@@ -3,25 +3,14 @@
 use crate::sample::{Sample, show, text};
 use ebpf_btf::BtfError;
 use ebpf_ksyms::KsymsError;
+use ebpf_variants::variant_of_resolving;
 use std::io::{self, ErrorKind};
 
 impl Sample for KsymsError {
     const TYPE: &'static str = "extern_types::KsymsError";
 
     fn variant(&self) -> &'static str {
-        match self {
-            KsymsError::TypedKsymRequiresKernelBtf => "TypedKsymRequiresKernelBtf",
-            KsymsError::VariableNotFound { .. } => "VariableNotFound",
-            KsymsError::IncompatibleFunctionSignature { .. } => "IncompatibleFunctionSignature",
-            KsymsError::IncompatibleVariableType { .. } => "IncompatibleVariableType",
-            KsymsError::InvalidExternType { .. } => "InvalidExternType",
-            KsymsError::BtfError(_) => "BtfError",
-            KsymsError::AmbiguousResolution { .. } => "AmbiguousResolution",
-            KsymsError::KallsymsAccessError(_) => "KallsymsAccessError",
-            KsymsError::KallsymsParseError(_) => "KallsymsParseError",
-            KsymsError::FunctionNotFound { .. } => "FunctionNotFound",
-            KsymsError::OutOfMemory => "OutOfMemory",
-        }
+        variant_of_resolving(self)
     }
 }
 

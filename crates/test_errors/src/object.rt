@@ -6,6 +6,7 @@ use ebpf_btf::BtfError;
 use ebpf_elf::ElfReadError;
 use ebpf_parts::ParseError;
 use ebpf_parts::maps::PinningError;
+use ebpf_variants::variant_of_parsing;
 use std::alloc::AllocError;
 use std::io;
 
@@ -13,29 +14,7 @@ impl Sample for ParseError {
     const TYPE: &'static str = "obj::ParseError";
 
     fn variant(&self) -> &'static str {
-        match self {
-            ParseError::ElfError(_) => "ElfError",
-            ParseError::BtfError(_) => "BtfError",
-            ParseError::MissingLicenseNullTerminator { .. } => "MissingLicenseNullTerminator",
-            ParseError::InvalidLicense { .. } => "InvalidLicense",
-            ParseError::InvalidKernelVersion { .. } => "InvalidKernelVersion",
-            ParseError::SectionError { .. } => "SectionError",
-            ParseError::UnsupportedRelocationTarget => "UnsupportedRelocationTarget",
-            ParseError::InvalidProgramSection { .. } => "InvalidProgramSection",
-            ParseError::InvalidProgramCode => "InvalidProgramCode",
-            ParseError::InvalidMapDefinition { .. } => "InvalidMapDefinition",
-            ParseError::SymbolTableConflict { .. } => "SymbolTableConflict",
-            ParseError::UnknownSymbol { .. } => "UnknownSymbol",
-            ParseError::InvalidSymbol { .. } => "InvalidSymbol",
-            ParseError::InvalidGlobalData { .. } => "InvalidGlobalData",
-            ParseError::SymbolNotFound { .. } => "SymbolNotFound",
-            ParseError::MapNotFound { .. } => "MapNotFound",
-            ParseError::MapSymbolNameNotFound { .. } => "MapSymbolNameNotFound",
-            ParseError::NoSymbolsForSection { .. } => "NoSymbolsForSection",
-            ParseError::NoBTF => "NoBTF",
-            ParseError::OutOfMemory => "OutOfMemory",
-            ParseError::BigEndianCode => "BigEndianCode",
-        }
+        variant_of_parsing(self)
     }
 }
 

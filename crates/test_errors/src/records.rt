@@ -6,6 +6,7 @@ use ebpf_btf::BtfError;
 use ebpf_core::RelocationError;
 use ebpf_core_relo::BtfRelocationError;
 use ebpf_ext::RelocationKind;
+use ebpf_variants::variant_of_type_relocation;
 use std::alloc::AllocError;
 use std::io;
 
@@ -13,20 +14,7 @@ impl Sample for RelocationError {
     const TYPE: &'static str = "core_relo::RelocationError";
 
     fn variant(&self) -> &'static str {
-        match self {
-            RelocationError::SectionNotFound => "SectionNotFound",
-            RelocationError::FunctionNotFound => "FunctionNotFound",
-            RelocationError::InvalidAccessString { .. } => "InvalidAccessString",
-            RelocationError::InvalidInstructionIndex { .. } => "InvalidInstructionIndex",
-            RelocationError::ConflictingCandidates { .. } => "ConflictingCandidates",
-            RelocationError::MaximumNestingLevelReached { .. } => "MaximumNestingLevelReached",
-            RelocationError::InvalidAccessIndex { .. } => "InvalidAccessIndex",
-            RelocationError::InvalidRelocationKindForType { .. } => "InvalidRelocationKindForType",
-            RelocationError::InvalidInstruction { .. } => "InvalidInstruction",
-            RelocationError::MissingTargetDefinition { .. } => "MissingTargetDefinition",
-            RelocationError::BtfError(_) => "BtfError",
-            RelocationError::OutOfMemory => "OutOfMemory",
-        }
+        variant_of_type_relocation(self)
     }
 }
 

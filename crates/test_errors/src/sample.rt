@@ -10,7 +10,7 @@ pub trait Sample: Display + Drop {
     /// The type's path.
     const TYPE: &'static str;
 
-    /// The name of the variant. It is asked of every variant, so that the compiler names one that is forgotten here.
+    /// The name of the variant, by a `match` of all of them.
     fn variant(&self) -> &'static str;
 }
 

@@ -2,27 +2,14 @@
 
 use crate::sample::{Sample, show, text};
 use ebpf_model::{EbpfRelocationError, RelocationError};
+use ebpf_variants::variant_of_relocation;
 use std::io;
 
 impl Sample for RelocationError {
     const TYPE: &'static str = "relocation::RelocationError";
 
     fn variant(&self) -> &'static str {
-        match self {
-            RelocationError::UnknownSymbol { .. } => "UnknownSymbol",
-            RelocationError::SectionNotFound { .. } => "SectionNotFound",
-            RelocationError::UnknownFunction { .. } => "UnknownFunction",
-            RelocationError::FunctionInfoMismatch { .. } => "FunctionInfoMismatch",
-            RelocationError::UnknownProgram { .. } => "UnknownProgram",
-            RelocationError::InvalidRelocationOffset { .. } => "InvalidRelocationOffset",
-            RelocationError::ExternNotFound { .. } => "ExternNotFound",
-            RelocationError::UnresolvableSymbol { .. } => "UnresolvableSymbol",
-            RelocationError::UnsupportedTextSymbol { .. } => "UnsupportedTextSymbol",
-            RelocationError::InvalidLineInfo { .. } => "InvalidLineInfo",
-            RelocationError::ProgramTooLong { .. } => "ProgramTooLong",
-            RelocationError::MapAddressOverflow { .. } => "MapAddressOverflow",
-            RelocationError::OutOfMemory => "OutOfMemory",
-        }
+        variant_of_relocation(self)
     }
 }
 

@@ -1,4 +1,4 @@
-//! An object with a map, sections, an extern, a symbol and a function.
+//! An object, and what it is given: a map, sections, an extern, a symbol and a function.
 
 use crate::sample::text;
 use ebpf_base::{ByIndex, ByKey, ByName, BySection, Items};
@@ -29,28 +29,25 @@ fn map_of_variables(rt: &HostRuntime) -> Map {
     })
 }
 
-/// The map by its name.
-fn maps(rt: &HostRuntime) -> Result<ByName<Map>, AllocError> {
-    let mut maps = ByName::new(rt.alloc());
+/// Adds the map by its name.
+fn put_map(rt: &HostRuntime, maps: &mut ByName<Map>) -> Result<(), AllocError> {
     let name = String::from_str(rt.alloc(), ".bss")?;
     maps.insert(name, map_of_variables(rt))?;
-    Ok(maps)
+    Ok(())
 }
 
-/// The numbers of three sections.
-fn sections(rt: &HostRuntime) -> Result<ByName<SectionIndex>, AllocError> {
-    let mut sections = ByName::new(rt.alloc());
+/// Adds the numbers of three sections.
+fn put_sections(rt: &HostRuntime, sections: &mut ByName<SectionIndex>) -> Result<(), AllocError> {
     let names = [".bss", ".debug_str", "kprobe/p"];
     for (number, name) in names.iter().enumerate() {
         let name = String::from_str(rt.alloc(), name)?;
         sections.insert(name, SectionIndex(5 + number))?;
     }
-    Ok(sections)
+    Ok(())
 }
 
-/// An extern whose type needs the kernel's.
-fn externs(rt: &HostRuntime) -> Result<ByName<ExternDesc>, AllocError> {
-    let mut externs = ByName::new(rt.alloc());
+/// Adds an extern whose type needs the kernel's.
+fn put_extern(rt: &HostRuntime, externs: &mut ByName<ExternDesc>) -> Result<(), AllocError> {
     let name = String::from_str(rt.alloc(), "bpf_task_acquire")?;
     let desc = ExternDesc {
         btf_id: 3,
@@ -61,12 +58,11 @@ fn externs(rt: &HostRuntime) -> Result<ByName<ExternDesc>, AllocError> {
         is_resolved: false,
     };
     externs.insert(name, desc)?;
-    Ok(externs)
+    Ok(())
 }
 
-/// The symbol of a variable of section 5.
-fn symbols(rt: &HostRuntime) -> Result<ByIndex<Symbol>, AllocError> {
-    let mut symbols = ByIndex::new(rt.alloc());
+/// Adds the symbol of a variable of section 5.
+fn put_symbol(rt: &HostRuntime, symbols: &mut ByIndex<Symbol>) -> Result<(), AllocError> {
     let symbol = Symbol {
         index: 12,
         section_index: Some(5),
@@ -78,7 +74,7 @@ fn symbols(rt: &HostRuntime) -> Result<ByIndex<Symbol>, AllocError> {
         is_weak: false,
     };
     symbols.insert(12, symbol)?;
-    Ok(symbols)
+    Ok(())
 }
 
 /// The function `p` of section 7.
@@ -105,33 +101,36 @@ fn function(rt: &HostRuntime) -> Result<Function, AllocError> {
     })
 }
 
-/// The function by its key.
-fn functions(rt: &HostRuntime) -> Result<ByKey<Function>, AllocError> {
-    let mut functions = ByKey::new(rt.alloc());
+/// Adds the function by its key.
+fn put_function(rt: &HostRuntime, functions: &mut ByKey<Function>) -> Result<(), AllocError> {
     functions.insert((7, 0), function(rt)?)?;
-    Ok(functions)
+    Ok(())
 }
 
-/// The object.
-pub fn object(rt: &HostRuntime) -> Result<Object, AllocError> {
+/// An object without anything.
+pub fn empty_object(rt: &HostRuntime) -> Object {
     let alloc = rt.alloc();
-    let maps = maps(rt)?;
-    let section_infos = sections(rt)?;
-    let externs = externs(rt)?;
-    let symbol_table = symbols(rt)?;
-    let functions = functions(rt)?;
-    Ok(Object {
+    Object {
         endianness: Endianness::Little,
         license: Items::new(alloc),
         kernel_version: None,
         btf: None,
         btf_ext: None,
-        externs,
-        maps,
+        externs: ByName::new(alloc),
+        maps: ByName::new(alloc),
         programs: ByName::new(alloc),
-        functions,
-        symbol_table,
+        functions: ByKey::new(alloc),
+        symbol_table: ByIndex::new(alloc),
         relocations: BySection::new(alloc),
-        section_infos,
-    })
+        section_infos: ByName::new(alloc),
+    }
+}
+
+/// Gives an object what has names.
+pub fn put_names(rt: &HostRuntime, object: &mut Object) -> Result<(), AllocError> {
+    put_map(rt, &mut object.maps)?;
+    put_sections(rt, &mut object.section_infos)?;
+    put_extern(rt, &mut object.externs)?;
+    put_symbol(rt, &mut object.symbol_table)?;
+    put_function(rt, &mut object.functions)
 }

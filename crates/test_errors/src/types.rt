@@ -2,30 +2,14 @@
 
 use crate::sample::{Sample, show, text};
 use ebpf_btf::BtfError;
+use ebpf_variants::variant_of_types;
 use std::io;
 
 impl Sample for BtfError {
     const TYPE: &'static str = "obj::BtfError";
 
     fn variant(&self) -> &'static str {
-        match self {
-            BtfError::InvalidHeader => "InvalidHeader",
-            BtfError::InvalidTypeInfo => "InvalidTypeInfo",
-            BtfError::InvalidInfo => "InvalidInfo",
-            BtfError::InvalidStringOffset { .. } => "InvalidStringOffset",
-            BtfError::InvalidRelocationKind { .. } => "InvalidRelocationKind",
-            BtfError::UnexpectedBtfType { .. } => "UnexpectedBtfType",
-            BtfError::UnknownBtfType { .. } => "UnknownBtfType",
-            BtfError::UnknownBtfTypeName { .. } => "UnknownBtfTypeName",
-            BtfError::MaximumTypeDepth { .. } => "MaximumTypeDepth",
-            BtfError::InvalidDatasec => "InvalidDatasec",
-            BtfError::InvalidSymbolName => "InvalidSymbolName",
-            BtfError::InnerMapCannotBePinned { .. } => "InnerMapCannotBePinned",
-            BtfError::MultiLevelMapInMapNotSupported { .. } => "MultiLevelMapInMapNotSupported",
-            BtfError::InvalidValuesSpec { .. } => "InvalidValuesSpec",
-            BtfError::TooLarge => "TooLarge",
-            BtfError::OutOfMemory => "OutOfMemory",
-        }
+        variant_of_types(self)
     }
 }
 

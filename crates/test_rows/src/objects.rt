@@ -12,6 +12,7 @@ use crate::types_relocated::types_relocated;
 use ebpf_object::Object;
 use ebpf_object::obj::Reading;
 use std::alloc::{AllocError, Global};
+use std::fmt::Debug;
 use test_cases::{Action, Files, no_action, shown};
 
 /// The tables that the words name, one after the other.
@@ -62,16 +63,49 @@ fn reading_of(action: &Action<'_>) -> Reading {
     Reading::Stated
 }
 
-/// What an action gives of the object that the bytes are, or the error. It alone holds an object, and does nothing
-/// else: each way out of a function is proved to let go of what the function holds.
+/// What actions are done with.
+trait Subject: Drop {
+    /// What an action gives, which may change the subject.
+    fn outcome(
+        &mut self,
+        alloc: Global,
+        files: &Files,
+        action: &Action<'_>,
+    ) -> Result<String, AllocError>;
+}
+
+impl Subject for Object {
+    fn outcome(
+        &mut self,
+        alloc: Global,
+        files: &Files,
+        action: &Action<'_>,
+    ) -> Result<String, AllocError> {
+        of_object(alloc, files, self, action)
+    }
+}
+
+/// What an action gives of what was parsed, or the error. It knows neither type, so that its proof doesn't let go of each
+/// part of an object.
+fn of_parsed<T: Subject, E: Debug + Drop>(
+    alloc: Global,
+    files: &Files,
+    parsed: Result<T, E>,
+    action: &Action<'_>,
+) -> Result<String, AllocError> {
+    match parsed {
+        Ok(mut subject) => subject.outcome(alloc, files, action),
+        Err(error) => shown(alloc, error),
+    }
+}
+
+/// What an action gives of the object that the bytes are, or the error.
 pub fn on_object(
     alloc: Global,
     files: &Files,
     bytes: &[u8],
     action: &Action<'_>,
 ) -> Result<String, AllocError> {
-    match Object::parse_as(alloc, bytes, reading_of(action)) {
-        Ok(mut object) => of_object(alloc, files, &mut object, action),
-        Err(error) => shown(alloc, error),
-    }
+    let parsed = Object::parse_as(alloc, bytes, reading_of(action));
+    of_parsed(alloc, files, parsed, action)
 }

@@ -3,8 +3,9 @@
 use crate::linked::put_slots;
 use ebpf_btf::{Btf, BtfError, Endianness};
 use ebpf_object::Object;
-use ebpf_object::prepare::{Steps, prepare};
+use ebpf_object::prepare::{PrepareError, Steps, prepare};
 use std::alloc::{AllocError, Global};
+use std::fmt::Debug;
 use test_cases::{Action, Files, shown, shown_line};
 
 /// The name of a map and its descriptor, as `NAME=DESCRIPTOR`.
@@ -57,6 +58,36 @@ fn programs(alloc: Global, object: &Object) -> Result<String, AllocError> {
     Ok(text)
 }
 
+/// What has programs.
+trait HasPrograms: Drop {
+    /// The slots of the programs, and how many maps there are.
+    fn programs(&self, alloc: Global) -> Result<String, AllocError>;
+}
+
+impl HasPrograms for Object {
+    fn programs(&self, alloc: Global) -> Result<String, AllocError> {
+        programs(alloc, self)
+    }
+}
+
+/// The programs of what was prepared, or why nothing was. It knows neither type, so that its proof doesn't let go of each
+/// part of an object.
+fn programs_of<T: HasPrograms, E: Debug + Drop>(
+    alloc: Global,
+    prepared: Result<T, E>,
+) -> Result<String, AllocError> {
+    match prepared {
+        Ok(object) => object.programs(alloc),
+        Err(error) => shown_line(alloc, error),
+    }
+}
+
+/// What preparing a file by these steps gives.
+fn prepared_by(alloc: Global, files: &Files, steps: &Steps<'_>) -> Result<String, AllocError> {
+    let (object, kallsyms) = (files.get("object"), files.get("kallsyms"));
+    programs_of(alloc, prepare(alloc, object, steps, kallsyms))
+}
+
 /// What preparing a file with these types gives.
 fn prepared_with(
     alloc: Global,
@@ -65,15 +96,11 @@ fn prepared_with(
     words: &[&str],
 ) -> Result<String, AllocError> {
     let given = descriptors(alloc, words)?;
-    let steps = steps(words, types, &given);
-    match prepare(alloc, files.get("object"), &steps, files.get("kallsyms")) {
-        Ok(object) => programs(alloc, &object),
-        Err(error) => shown_line(alloc, error),
-    }
+    prepared_by(alloc, files, &steps(words, types, &given))
 }
 
-/// Whether the programs of a file can be linked with the functions that they reach, or the error.
-pub fn linked_in_one_call(alloc: Global, bytes: &[u8]) -> Result<String, AllocError> {
+/// Why the programs of a file can't be linked with the functions that they reach, where they can't.
+fn why_unprepared(alloc: Global, bytes: &[u8]) -> Option<PrepareError> {
     let steps = Steps {
         target_btf: None,
         map_fds: None,
@@ -81,9 +108,14 @@ pub fn linked_in_one_call(alloc: Global, bytes: &[u8]) -> Result<String, AllocEr
         calls: true,
     };
     let none: &[u8] = &[];
-    match prepare(alloc, bytes, &steps, none) {
-        Ok(_) => String::from_str(alloc, "prepared"),
-        Err(error) => shown(alloc, error),
+    prepare(alloc, bytes, &steps, none).err()
+}
+
+/// Whether the programs of a file can be linked with the functions that they reach, or the error.
+pub fn linked_in_one_call(alloc: Global, bytes: &[u8]) -> Result<String, AllocError> {
+    match why_unprepared(alloc, bytes) {
+        Some(error) => shown(alloc, error),
+        None => String::from_str(alloc, "prepared"),
     }
 }
 

@@ -2,8 +2,9 @@
 
 use super::answers::{Question, found};
 use ebpf_object::Object;
-use ebpf_object::prepare::{PrepareError, Steps, SymbolText, prepare};
+use ebpf_object::prepare::{Steps, SymbolText, prepare};
 use std::alloc::{AllocError, Global};
+use std::fmt::Debug;
 use test_cases::{FailingReader, shown};
 
 /// The passes that find externs, write them, and link programs.
@@ -20,10 +21,26 @@ pub struct File<'a> {
     pub bytes: &'a [u8],
 }
 
-/// The externs of the prepared object, or why there is none.
-fn externs_of(alloc: Global, prepared: Result<Object, PrepareError>) -> Result<String, AllocError> {
+/// What has externs.
+trait HasExterns: Drop {
+    /// The answer that its externs are found.
+    fn externs(&self, alloc: Global) -> Result<String, AllocError>;
+}
+
+impl HasExterns for Object {
+    fn externs(&self, alloc: Global) -> Result<String, AllocError> {
+        found(alloc, &self.externs)
+    }
+}
+
+/// The externs of what was prepared, or why nothing was. It knows neither type, so that its proof doesn't let go of each
+/// part of an object.
+fn externs_of<T: HasExterns, E: Debug + Drop>(
+    alloc: Global,
+    prepared: Result<T, E>,
+) -> Result<String, AllocError> {
     match prepared {
-        Ok(object) => found(alloc, &object.externs),
+        Ok(object) => object.externs(alloc),
         Err(error) => shown(alloc, error),
     }
 }
