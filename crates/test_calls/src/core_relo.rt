@@ -221,12 +221,7 @@ fn shown(alloc: Global, outcomes: &RecordOutcomes) -> Result<String, AllocError>
 }
 
 /// Records of section `name`, read.
-fn ext_of(
-    alloc: Global,
-    local: &Btf,
-    name: u32,
-    records: &[[u32; 4]],
-) -> Result<BtfExt, BtfError> {
+fn ext_of(alloc: Global, local: &Btf, name: u32, records: &[[u32; 4]]) -> Result<BtfExt, BtfError> {
     let bytes = ext_bytes(alloc, name, records)?;
     BtfExt::parse(alloc, &bytes, Endianness::Little, local)
 }
@@ -244,12 +239,7 @@ fn told(
 }
 
 /// That as text.
-fn told_text(
-    alloc: Global,
-    local: &Btf,
-    ext: &BtfExt,
-    target: &Btf,
-) -> Result<String, AllocError> {
+fn told_text(alloc: Global, local: &Btf, ext: &BtfExt, target: &Btf) -> Result<String, AllocError> {
     let told = told(alloc, local, ext, target)?;
     shown(alloc, &told)
 }
@@ -339,12 +329,7 @@ fn reasons(at: Strings, of: Types) -> [[u32; 4]; 8] {
 }
 
 /// Fails where these records, of types that are added, don't come to this.
-fn reasons_come_to(
-    alloc: Global,
-    local: &mut Btf,
-    target: &Btf,
-    want: &str,
-) -> Result<(), Fail> {
+fn reasons_come_to(alloc: Global, local: &mut Btf, target: &Btf, want: &str) -> Result<(), Fail> {
     let at = add_strings(local)?;
     let of = add_types(alloc, local)?;
     let records = reasons(at, of);
@@ -367,19 +352,18 @@ fn tells_why_there_is_no_value(rt: HostRuntime) -> Result<(), Fail> {
 fn add_three_types(alloc: Global, btf: &mut Btf) -> Result<(), BtfError> {
     let other = add_fields_of(alloc, btf, "i", &[("x", POINTER)])?;
     let empty = add_fields_of(alloc, btf, "i", &[])?;
-    for (name, member, btf_type) in [("s", "j", INT), ("s___2", "i", other), ("s___3", "i", empty)] {
+    for (name, member, btf_type) in [
+        ("s", "j", INT),
+        ("s___2", "i", other),
+        ("s___3", "i", empty),
+    ] {
         add_fields_of(alloc, btf, name, &[(member, btf_type)])?;
     }
     Ok(())
 }
 
 /// Fails where a field, on the way to which the second of three types comes as far as the third, doesn't come to this.
-fn furthest_comes_to(
-    alloc: Global,
-    local: &mut Btf,
-    target: &Btf,
-    want: &str,
-) -> Result<(), Fail> {
+fn furthest_comes_to(alloc: Global, local: &mut Btf, target: &Btf, want: &str) -> Result<(), Fail> {
     let section = local.add_string("kprobe")?;
     let path = local.add_string("0:2:0")?;
     let fields = add_fields(alloc, local)?;

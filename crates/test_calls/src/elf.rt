@@ -319,7 +319,11 @@ fn symbol_fields(alloc: Global, symbol: &ElfSymbol<'_>) -> Result<String, AllocE
     let name = symbol.name();
     let section = symbol.section_index();
     let address = symbol.address();
-    format!(in alloc; "{} {name:?} {section:?} {address} {}", symbol.index(), symbol.size())
+    format!(in alloc;
+        "{} {name:?} {section:?} {address} {}",
+        symbol.index(),
+        symbol.size()
+    )
 }
 
 /// The kind of a symbol, whether it is a definition, and whether it is weak.
@@ -452,11 +456,7 @@ fn file_answer(
 }
 
 /// The answer on the file of these bytes, or why they are none.
-fn answer(
-    alloc: Global,
-    bytes: &[u8],
-    question: Question<'_>,
-) -> Result<String, AllocError> {
+fn answer(alloc: Global, bytes: &[u8], question: Question<'_>) -> Result<String, AllocError> {
     match ElfFile::parse(bytes) {
         Ok(file) => file_answer(alloc, &file, question),
         Err(error) => format!(in alloc; "{error:?}"),
@@ -491,14 +491,29 @@ fn answers_in_both(
 fn reads_a_file_without_sections(rt: HostRuntime) -> Result<(), Fail> {
     let alloc = rt.alloc();
     let changes = [(40, 8, 0), (60, 2, 0)];
-    answers(alloc, Endianness::Big, &changes, Question::Counts, "Big 0 0 0")?;
-    answers(alloc, Endianness::Big, &changes, Question::Fields(""), "no section")
+    answers(
+        alloc,
+        Endianness::Big,
+        &changes,
+        Question::Counts,
+        "Big 0 0 0",
+    )?;
+    answers(
+        alloc,
+        Endianness::Big,
+        &changes,
+        Question::Fields(""),
+        "no section",
+    )
 }
 
 /// Fails where the data of the section of the program isn't the first 16 bytes of the code.
 fn has_the_data(alloc: Global, order: Endianness, changes: &[Field]) -> Result<(), Fail> {
     let bytes = file_with(alloc, order, changes)?;
-    same_bytes(data_of(&bytes, "kprobe/p"), CODE.as_slice().get(..16).unwrap_or(&[]))
+    same_bytes(
+        data_of(&bytes, "kprobe/p"),
+        CODE.as_slice().get(..16).unwrap_or(&[]),
+    )
 }
 
 /// The data of a section of the file of these bytes; none where there is no such section.
@@ -516,9 +531,26 @@ fn data_of<'a>(bytes: &'a [u8], name: &str) -> &'a [u8] {
 fn reads_the_sections(rt: HostRuntime) -> Result<(), Fail> {
     let alloc = rt.alloc();
     let changes = [(312, 8, 0x1000)];
-    answers(alloc, Endianness::Little, &changes, Question::Counts, "Little 5 2 1")?;
-    answers(alloc, Endianness::Big, &changes, Question::Counts, "Big 5 2 1")?;
-    answers_in_both(alloc, &changes, Question::Fields("kprobe/p"), "1 1 6 4096 16")?;
+    answers(
+        alloc,
+        Endianness::Little,
+        &changes,
+        Question::Counts,
+        "Little 5 2 1",
+    )?;
+    answers(
+        alloc,
+        Endianness::Big,
+        &changes,
+        Question::Counts,
+        "Big 5 2 1",
+    )?;
+    answers_in_both(
+        alloc,
+        &changes,
+        Question::Fields("kprobe/p"),
+        "1 1 6 4096 16",
+    )?;
     has_the_data(alloc, Endianness::Little, &changes)?;
     has_the_data(alloc, Endianness::Big, &changes)
 }
@@ -526,7 +558,13 @@ fn reads_the_sections(rt: HostRuntime) -> Result<(), Fail> {
 #[test]
 fn finds_the_first_of_a_name(rt: HostRuntime) -> Result<(), Fail> {
     let question = Question::Fields(".text");
-    answers(rt.alloc(), Endianness::Little, &[(296, 4, 14)], question, "1 1 6 0 16")
+    answers(
+        rt.alloc(),
+        Endianness::Little,
+        &[(296, 4, 14)],
+        question,
+        "1 1 6 0 16",
+    )
 }
 
 #[test]
@@ -552,18 +590,44 @@ const KINDS: [(u64, &str); 9] = [
 fn reads_the_kinds_of_symbols(rt: HostRuntime) -> Result<(), Fail> {
     let alloc = rt.alloc();
     for (info, want) in KINDS.iter() {
-        answers(alloc, Endianness::Little, &[(140, 1, *info)], Question::Kind, want)?;
+        answers(
+            alloc,
+            Endianness::Little,
+            &[(140, 1, *info)],
+            Question::Kind,
+            want,
+        )?;
     }
     Ok(())
 }
 
 /// Changes of `f`, its fields with the section that it is in, and its kind and whether it is a definition.
 const SECTIONS: [([Field; 2], &str, &str); 5] = [
-    ([(142, 2, 0), (140, 1, 0x12)], "2 Ok(\"f\") None 0 8", "Text false false"),
-    ([(142, 2, 0xfeff), (140, 1, 0x12)], "2 Ok(\"f\") Some(65279) 0 8", "Text true false"),
-    ([(142, 2, 0xff00), (140, 1, 0x12)], "2 Ok(\"f\") None 0 8", "Text true false"),
-    ([(142, 2, 0xfff1), (140, 1, 0x10)], "2 Ok(\"f\") None 0 8", "Unknown true false"),
-    ([(152, 8, 0), (140, 1, 0x10)], "2 Ok(\"f\") Some(2) 0 0", "Unknown false false"),
+    (
+        [(142, 2, 0), (140, 1, 0x12)],
+        "2 Ok(\"f\") None 0 8",
+        "Text false false",
+    ),
+    (
+        [(142, 2, 0xfeff), (140, 1, 0x12)],
+        "2 Ok(\"f\") Some(65279) 0 8",
+        "Text true false",
+    ),
+    (
+        [(142, 2, 0xff00), (140, 1, 0x12)],
+        "2 Ok(\"f\") None 0 8",
+        "Text true false",
+    ),
+    (
+        [(142, 2, 0xfff1), (140, 1, 0x10)],
+        "2 Ok(\"f\") None 0 8",
+        "Unknown true false",
+    ),
+    (
+        [(152, 8, 0), (140, 1, 0x10)],
+        "2 Ok(\"f\") Some(2) 0 0",
+        "Unknown false false",
+    ),
 ];
 
 #[test]
@@ -588,8 +652,20 @@ fn passes_over_unreadable_names(rt: HostRuntime) -> Result<(), Fail> {
     let alloc = rt.alloc();
     for changes in UNREADABLE.iter() {
         let want = "Err(BadStringTable)";
-        answers(alloc, Endianness::Little, changes, Question::SecondName, want)?;
-        answers(alloc, Endianness::Little, changes, Question::Fields(".text"), "no section")?;
+        answers(
+            alloc,
+            Endianness::Little,
+            changes,
+            Question::SecondName,
+            want,
+        )?;
+        answers(
+            alloc,
+            Endianness::Little,
+            changes,
+            Question::Fields(".text"),
+            "no section",
+        )?;
     }
     Ok(())
 }
@@ -598,7 +674,13 @@ fn passes_over_unreadable_names(rt: HostRuntime) -> Result<(), Fail> {
 fn reads_names_without_a_table(rt: HostRuntime) -> Result<(), Fail> {
     let alloc = rt.alloc();
     let changes = [(62, 2, 0), (360, 4, 0), (136, 4, 0)];
-    answers(alloc, Endianness::Little, &changes, Question::Fields(""), "2 1 6 0 8")?;
+    answers(
+        alloc,
+        Endianness::Little,
+        &changes,
+        Question::Fields(""),
+        "2 1 6 0 8",
+    )?;
     let want = "2 Ok(\"\") Some(2) 0 8";
     answers(alloc, Endianness::Little, &changes, Question::Symbol, want)
 }
@@ -608,7 +690,10 @@ const DATA: [([Field; 2], &str); 5] = [
     ([(364, 4, 8), (384, 8, 0xffff_ffff_ffff_ffff)], "Ok(0)"),
     ([(384, 8, 608), (392, 8, 8)], "Ok(8)"),
     ([(384, 8, 609), (392, 8, 8)], "Err(BadSectionRange)"),
-    ([(384, 8, 8), (392, 8, 0xffff_ffff_ffff_ffff)], "Err(BadSectionRange)"),
+    (
+        [(384, 8, 8), (392, 8, 0xffff_ffff_ffff_ffff)],
+        "Err(BadSectionRange)",
+    ),
     ([(384, 8, 617), (392, 8, 0)], "Ok(0)"),
 ];
 
@@ -616,7 +701,13 @@ const DATA: [([Field; 2], &str); 5] = [
 fn reads_data(rt: HostRuntime) -> Result<(), Fail> {
     let alloc = rt.alloc();
     for (changes, want) in DATA.iter() {
-        answers(alloc, Endianness::Little, changes, Question::DataLength(".text"), want)?;
+        answers(
+            alloc,
+            Endianness::Little,
+            changes,
+            Question::DataLength(".text"),
+            want,
+        )?;
     }
     Ok(())
 }
@@ -624,10 +715,22 @@ fn reads_data(rt: HostRuntime) -> Result<(), Fail> {
 /// The kind and the size of a section with relocations, the info of its entry, and the entry, with the size of what is
 /// patched.
 const RELOCATIONS: [([Field; 3], &str); 4] = [
-    ([(556, 4, 9), (584, 8, 16), (168, 8, 0x2_0000_000a)], "0 32 2;"),
-    ([(556, 4, 9), (584, 8, 16), (168, 8, 0x2_0000_0001)], "0 64 2;"),
-    ([(556, 4, 9), (584, 8, 16), (168, 8, 0x2_0000_0002)], "0 0 2;"),
-    ([(556, 4, 4), (584, 8, 24), (168, 8, 0x2_0000_0001)], "0 64 2;"),
+    (
+        [(556, 4, 9), (584, 8, 16), (168, 8, 0x2_0000_000a)],
+        "0 32 2;",
+    ),
+    (
+        [(556, 4, 9), (584, 8, 16), (168, 8, 0x2_0000_0001)],
+        "0 64 2;",
+    ),
+    (
+        [(556, 4, 9), (584, 8, 16), (168, 8, 0x2_0000_0002)],
+        "0 0 2;",
+    ),
+    (
+        [(556, 4, 4), (584, 8, 24), (168, 8, 0x2_0000_0001)],
+        "0 64 2;",
+    ),
 ];
 
 #[test]

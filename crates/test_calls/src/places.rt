@@ -41,12 +41,7 @@ fn path_to_a(alloc: Global) -> Result<Vec<Step>, AllocError> {
 }
 
 /// What walking a path comes to.
-fn place_text(
-    alloc: Global,
-    btf: &Btf,
-    root: u32,
-    path: &[Step],
-) -> Result<String, AllocError> {
+fn place_text(alloc: Global, btf: &Btf, root: u32, path: &[Step]) -> Result<String, AllocError> {
     let outcome = place_in(btf, btf, root, path);
     format!(in alloc; "{outcome:?}")
 }

@@ -183,7 +183,13 @@ const SHIFTS_AND_BYTES: [Operation; 9] = [
     ("arsh", -16, (0xcf, 0x21, 0, 0), -2, true),
     ("neg", 5, (0x87, 1, 0, 0), -5, true),
     ("to big endian", 0x1234, (0xdc, 1, 0, 16), 0x3412, true),
-    ("to little endian", 0x0123_4567, (0xd4, 1, 0, 16), 0x4567, true),
+    (
+        "to little endian",
+        0x0123_4567,
+        (0xd4, 1, 0, 16),
+        0x4567,
+        true,
+    ),
     ("bswap", 0x1234_5678, (0xd7, 1, 0, 32), 0x7856_3412, true),
     ("mov", 0, (0xbf, 0x21, 0, 0), 3, true),
 ];

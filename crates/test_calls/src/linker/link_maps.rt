@@ -27,7 +27,11 @@ fn add_reference(
 ) -> Result<(), AllocError> {
     let kind = if reference.is_call { "call" } else { "load" };
     let imm = slots.get(reference.place).map(|slot| slot.imm);
-    write!(text, "{}>{} {kind} {imm:?} ", reference.place, reference.base)?;
+    write!(
+        text,
+        "{}>{} {kind} {imm:?} ",
+        reference.place, reference.base
+    )?;
     Ok(())
 }
 
@@ -43,11 +47,7 @@ fn add_references(
 }
 
 /// The copies and the references, and how many slots there are.
-fn printed(
-    alloc: Global,
-    slots: &[bpf_insn],
-    map: &NumberedLinkMap,
-) -> Result<String, AllocError> {
+fn printed(alloc: Global, slots: &[bpf_insn], map: &NumberedLinkMap) -> Result<String, AllocError> {
     let mut text = String::new(alloc);
     add_copies(&mut text, map.copies.as_slice())?;
     add_references(&mut text, slots, map.references.as_slice())?;
@@ -92,7 +92,12 @@ fn is_made_of(
 #[test]
 fn calls_itself(rt: HostRuntime) -> Result<(), Fail> {
     let references = [(0, 0, Target::Function(0))];
-    is_made_of(rt.alloc(), &[&CALLS], &references, "0@0+2 0@2+2 0>2 call Some(1) 2>2 call Some(-1) of 4")
+    is_made_of(
+        rt.alloc(),
+        &[&CALLS],
+        &references,
+        "0@0+2 0@2+2 0>2 call Some(1) 2>2 call Some(-1) of 4",
+    )
 }
 
 /// P calls g and f, f calls g: g has one copy, before f's.
@@ -103,14 +108,24 @@ fn two_callers_share_a_function(rt: HostRuntime) -> Result<(), Fail> {
         (0, 1, Target::Function(1)),
         (1, 0, Target::Function(2)),
     ];
-    is_made_of(rt.alloc(), &[&CALLS_TWICE, &CALLS, &ENDS], &references, "0@0+3 2@3+1 1@4+2 0>3 call Some(2) 1>4 call Some(2) 4>3 call Some(-2) of 6")
+    is_made_of(
+        rt.alloc(),
+        &[&CALLS_TWICE, &CALLS, &ENDS],
+        &references,
+        "0@0+3 2@3+1 1@4+2 0>3 call Some(2) 1>4 call Some(2) 4>3 call Some(-2) of 6",
+    )
 }
 
 /// A load of a function's address.
 #[test]
 fn callback(rt: HostRuntime) -> Result<(), Fail> {
     let references = [(0, 0, Target::Function(1))];
-    is_made_of(rt.alloc(), &[&[LOAD, NOTHING, EXIT], &ENDS], &references, "0@0+3 1@3+1 0>3 load Some(2) of 4")
+    is_made_of(
+        rt.alloc(),
+        &[&[LOAD, NOTHING, EXIT], &ENDS],
+        &references,
+        "0@0+3 1@3+1 0>3 load Some(2) of 4",
+    )
 }
 
 /// A fault of a function that is called.
@@ -124,5 +139,10 @@ fn fault(rt: HostRuntime) -> Result<(), Fail> {
             Target::Nowhere(Fault::UnsupportedTextSymbol { index: 5 }),
         ),
     ];
-    is_made_of(rt.alloc(), &[&CALLS, &CALLS], &references, "UnsupportedTextSymbol { index: 5 } UnsupportedTextSymbol { index: 5 }")
+    is_made_of(
+        rt.alloc(),
+        &[&CALLS, &CALLS],
+        &references,
+        "UnsupportedTextSymbol { index: 5 } UnsupportedTextSymbol { index: 5 }",
+    )
 }

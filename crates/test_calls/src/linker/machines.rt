@@ -355,7 +355,8 @@ fn calls_itself(rt: HostRuntime) -> Result<(), Fail> {
         references: &[(0, 0, Target::Function(0))],
         order: &[0, 0],
     };
-    let want = "0=0.0 2=0.0 2=0.0 2=0.0 2=0.0 2=0.0 2=0.0 2=0.0 2=0.0 2=0.0 2=0.0 2=0.0 2=0.0 2=0.0 2=0.0 \
+    let want =
+        "0=0.0 2=0.0 2=0.0 2=0.0 2=0.0 2=0.0 2=0.0 2=0.0 2=0.0 2=0.0 2=0.0 2=0.0 2=0.0 2=0.0 2=0.0 \
         2=0.0 2=0.0 2=0.0 2=0.0 2=0.0 Going, 31 lists agree";
     visits(rt.alloc(), functions, &[], want)
 }
@@ -442,7 +443,8 @@ fn loops(alloc: Global, decisions: &[bool], want: &str) -> Result<(), Fail> {
 
 #[test]
 fn loads_jumps_and_loops(rt: HostRuntime) -> Result<(), Fail> {
-    let twice = "0=0.0 2=0.2 7=1.0 8=1.1 6=2.0 9=1.2 7=1.0 10=1.3 3=0.3 5=0.5 4=0.4 Ended, 31 lists agree";
+    let twice =
+        "0=0.0 2=0.2 7=1.0 8=1.1 6=2.0 9=1.2 7=1.0 10=1.3 3=0.3 5=0.5 4=0.4 Ended, 31 lists agree";
     loops(rt.alloc(), &[false, true], twice)?;
     let waits = "0=0.0 2=0.2 7=1.0 Waiting, 31 lists agree";
     loops(rt.alloc(), &[], waits)

@@ -135,7 +135,12 @@ fn link_in_turn(
 #[test]
 fn calls_itself(rt: HostRuntime) -> Result<(), Fail> {
     let references = [(0, 0, Target::Function(0))];
-    links(rt.alloc(), &[&CALLS], &references, "1/1 0/0 -1/1 0/0 Some(0) None")
+    links(
+        rt.alloc(),
+        &[&CALLS],
+        &references,
+        "1/1 0/0 -1/1 0/0 Some(0) None",
+    )
 }
 
 /// P calls f and g, f calls g.
@@ -146,7 +151,12 @@ fn calls_in_turn(rt: HostRuntime) -> Result<(), Fail> {
         (0, 1, Target::Function(2)),
         (1, 0, Target::Function(2)),
     ];
-    links(rt.alloc(), &[&CALLS_TWICE, &CALLS, &ENDS], &references, "2/1 3/1 0/0 1/1 0/0 0/0 Some(0) None")
+    links(
+        rt.alloc(),
+        &[&CALLS_TWICE, &CALLS, &ENDS],
+        &references,
+        "2/1 3/1 0/0 1/1 0/0 0/0 Some(0) None",
+    )
 }
 
 /// P calls g and f, f calls g: g stands before f, though its number is higher.
@@ -157,7 +167,12 @@ fn stands_where_it_is_called_first(rt: HostRuntime) -> Result<(), Fail> {
         (0, 1, Target::Function(1)),
         (1, 0, Target::Function(2)),
     ];
-    links(rt.alloc(), &[&CALLS_TWICE, &CALLS, &ENDS], &references, "2/1 2/1 0/0 0/0 -2/1 0/0 Some(0) None")
+    links(
+        rt.alloc(),
+        &[&CALLS_TWICE, &CALLS, &ENDS],
+        &references,
+        "2/1 2/1 0/0 0/0 -2/1 0/0 Some(0) None",
+    )
 }
 
 /// P calls f and h, f calls g, h calls g: f, g, h.
@@ -169,19 +184,24 @@ fn depth_first(rt: HostRuntime) -> Result<(), Fail> {
         (1, 0, Target::Function(2)),
         (3, 0, Target::Function(2)),
     ];
-    links(rt.alloc(), &[
-        &CALLS_TWICE,
-        &CALLS,
-        &ENDS,
-        &CALLS,
-    ], &references, "2/1 4/1 0/0 1/1 0/0 0/0 -2/1 0/0 Some(0) None")
+    links(
+        rt.alloc(),
+        &[&CALLS_TWICE, &CALLS, &ENDS, &CALLS],
+        &references,
+        "2/1 4/1 0/0 1/1 0/0 0/0 -2/1 0/0 Some(0) None",
+    )
 }
 
 /// A load of a function's address.
 #[test]
 fn address_of_a_function(rt: HostRuntime) -> Result<(), Fail> {
     let references = [(0, 0, Target::Function(1))];
-    links(rt.alloc(), &[&[LOAD, NOTHING, EXIT], &ENDS], &references, "2/4 0/0 0/0 0/0 Some(0) None")
+    links(
+        rt.alloc(),
+        &[&[LOAD, NOTHING, EXIT], &ENDS],
+        &references,
+        "2/4 0/0 0/0 0/0 Some(0) None",
+    )
 }
 
 /// A fault in a function that is called before the slot with another.
@@ -203,7 +223,12 @@ fn first_fault_on_the_walk(rt: HostRuntime) -> Result<(), Fail> {
             }),
         ),
     ];
-    links(rt.alloc(), &[&CALLS_TWICE, &CALLS], &references, "UnknownFunction { address: 16, caller: 1 }")
+    links(
+        rt.alloc(),
+        &[&CALLS_TWICE, &CALLS],
+        &references,
+        "UnknownFunction { address: 16, caller: 1 }",
+    )
 }
 
 /// A fault in a function that nothing calls.
@@ -217,7 +242,12 @@ fn fault_that_nothing_reaches(rt: HostRuntime) -> Result<(), Fail> {
             Target::Nowhere(Fault::UnsupportedTextSymbol { index: 5 }),
         ),
     ];
-    links(rt.alloc(), &[&CALLS, &ENDS, &CALLS], &references, "1/1 0/0 0/0 Some(0) None")
+    links(
+        rt.alloc(),
+        &[&CALLS, &ENDS, &CALLS],
+        &references,
+        "1/1 0/0 0/0 Some(0) None",
+    )
 }
 
 /// A record on a function, or on a line, at a slot.

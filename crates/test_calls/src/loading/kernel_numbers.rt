@@ -25,11 +25,7 @@ fn variants_of(
 }
 
 /// An enumeration whose name is at an offset.
-fn add_variants(
-    types: &mut Btf,
-    name_offset: u32,
-    variants: &[BtfEnum],
-) -> Result<u32, BtfError> {
+fn add_variants(types: &mut Btf, name_offset: u32, variants: &[BtfEnum]) -> Result<u32, BtfError> {
     types.add_type(&BtfType::Enum {
         name_offset,
         size: 4,

@@ -108,13 +108,7 @@ fn is_created_with(types: &Btf, name: &str, map: &Map, key: u32, value: u32) -> 
 }
 
 /// Fails where a map of a type, whose definition states the types 5 and 6, isn't created with these.
-fn is_stated(
-    alloc: Global,
-    types: &Btf,
-    map_type: u32,
-    key: u32,
-    value: u32,
-) -> Result<(), Fail> {
+fn is_stated(alloc: Global, types: &Btf, map_type: u32, key: u32, value: u32) -> Result<(), Fail> {
     let map = stated_map(alloc, map_type);
     is_created_with(types, ".data", &map, key, value)
 }
