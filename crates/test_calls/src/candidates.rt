@@ -5,11 +5,16 @@ use ebpf_candidates::{KindsIndex, TypeIndex};
 use std::alloc::{AllocError, Global};
 use std::test::Fail;
 
+/// Adds a STRUCT of a name.
+fn add_named(btf: &mut Btf, name: &str) -> Result<u32, BtfError> {
+    let name_offset = btf.add_string(name)?;
+    add_struct(btf, name_offset, 8, &[])
+}
+
 /// Adds STRUCTs of these names.
 fn add_structs(btf: &mut Btf, names: &[&str]) -> Result<(), BtfError> {
     for name in names {
-        let name_offset = btf.add_string(name)?;
-        add_struct(btf, name_offset, 8, &[])?;
+        add_named(btf, name)?;
     }
     Ok(())
 }
