@@ -11,39 +11,45 @@ fn add_named(btf: &mut Btf, name: &str) -> Result<u32, BtfError> {
     add_struct(btf, name_offset, 8, &[])
 }
 
-/// Adds STRUCTs of these names.
-fn add_structs(btf: &mut Btf, names: &[&str]) -> Result<(), BtfError> {
-    for name in names {
-        add_named(btf, name)?;
+/// Adds a TYPEDEF, or a STRUCT, of a name.
+fn add(btf: &mut Btf, kind: BtfKind, name: &str) -> Result<u32, BtfError> {
+    match kind {
+        BtfKind::Typedef => add_typedef(btf, name, 1),
+        _ => add_named(btf, name),
+    }
+}
+
+fn add_all(btf: &mut Btf, rows: &[Row]) -> Result<(), BtfError> {
+    for (kind, name) in rows {
+        add(btf, *kind, name)?;
     }
     Ok(())
 }
 
-/// The types of a kernel: STRUCTs 1 `file`, 2 `dentry`, 3 `file___old`, 5 without a name, and a TYPEDEF 4 `file`.
-fn add_kernel(btf: &mut Btf) -> Result<(), BtfError> {
-    add_structs(btf, &["file", "dentry", "file___old"])?;
-    add_typedef(btf, "file", 1)?;
-    add_structs(btf, &[""])
-}
-
-fn kernel(alloc: Global) -> Result<Btf, BtfError> {
+fn types_of(alloc: Global, rows: &[Row]) -> Result<Btf, BtfError> {
     let mut btf = Btf::new(alloc)?;
-    add_kernel(&mut btf)?;
+    add_all(&mut btf, rows)?;
     Ok(btf)
 }
 
-/// Those of an object: STRUCTs `file___mine` and `inode`, and a TYPEDEF `dentry`.
-fn add_object(btf: &mut Btf) -> Result<(), BtfError> {
-    add_structs(btf, &["file___mine", "inode"])?;
-    add_typedef(btf, "dentry", 1)?;
-    Ok(())
-}
+/// A type's kind and name.
+type Row = (BtfKind, &'static str);
 
-fn object(alloc: Global) -> Result<Btf, BtfError> {
-    let mut btf = Btf::new(alloc)?;
-    add_object(&mut btf)?;
-    Ok(btf)
-}
+/// The types of a kernel, 1 to 5.
+const KERNEL: [Row; 5] = [
+    (BtfKind::Struct, "file"),
+    (BtfKind::Struct, "dentry"),
+    (BtfKind::Struct, "file___old"),
+    (BtfKind::Typedef, "file"),
+    (BtfKind::Struct, ""),
+];
+
+/// Those of an object.
+const OBJECT: [Row; 3] = [
+    (BtfKind::Struct, "file___mine"),
+    (BtfKind::Struct, "inode"),
+    (BtfKind::Typedef, "dentry"),
+];
 
 /// The index of all types.
 fn whole<'a>(alloc: Global, btf: &'a Btf) -> Result<TypeIndex<'a>, BtfError> {
@@ -122,7 +128,7 @@ fn both_agree(alloc: Global, kernel: &Btf) -> Result<(), Fail> {
 
 #[test]
 fn has_the_types_of_the_kinds_asked_for(rt: HostRuntime) -> Result<(), Fail> {
-    let kernel = kernel(rt.alloc())?;
+    let kernel = types_of(rt.alloc(), &KERNEL)?;
     both_agree(rt.alloc(), &kernel)
 }
 
@@ -147,7 +153,7 @@ fn has_names(alloc: Global, kernel: &Btf, object: &Btf) -> Result<(), Fail> {
 
 #[test]
 fn has_the_names_that_an_object_has(rt: HostRuntime) -> Result<(), Fail> {
-    let kernel = kernel(rt.alloc())?;
-    let object = object(rt.alloc())?;
+    let kernel = types_of(rt.alloc(), &KERNEL)?;
+    let object = types_of(rt.alloc(), &OBJECT)?;
     has_names(rt.alloc(), &kernel, &object)
 }

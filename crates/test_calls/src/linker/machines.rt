@@ -2,8 +2,8 @@
 
 use super::super::same::same;
 use super::functions::{
-    CALL, CALLS, CALLS_TWICE, ENDS, EXIT, LOAD, NOTHING, TestReference, TestSlots, linked, lists,
-    plain_bodies,
+    Answer, CALL, CALLS, CALLS_TWICE, ENDS, EXIT, LOAD, NOTHING, TestReference, TestSlots, linked,
+    lists, plain_bodies,
 };
 use ebpf_linker::{Body, Call, Target};
 use ebpf_parts::insn::{bpf_insn, opcodes};
@@ -298,6 +298,14 @@ fn agreeing(alloc: Global, row: &Row<'_>) -> Result<usize, AllocError> {
     Ok(count)
 }
 
+/// The slots of a linked program; none where there is a fault.
+fn slots_of(answer: &Answer) -> &[bpf_insn] {
+    match answer {
+        Some(Ok(program)) => program.slots.as_slice(),
+        _ => &[],
+    }
+}
+
 /// What a linked program visits under these decisions, and under how many lists it visits what the functions do.
 fn row_text(alloc: Global, row: &Row<'_>, decisions: &[bool]) -> Result<String, AllocError> {
     let visits = row.visits(alloc, decisions)?;
@@ -314,13 +322,10 @@ fn outcome(
     decisions: &[bool],
 ) -> Result<String, AllocError> {
     let answer = linked(alloc, bodies, calls)?;
-    let Some(Ok(program)) = &answer else {
-        return format!(in alloc; "not linked");
-    };
     let row = Row {
         bodies,
         calls,
-        slots: program.slots.as_slice(),
+        slots: slots_of(&answer),
         order,
     };
     row_text(alloc, &row, decisions)
