@@ -1,6 +1,8 @@
 //! The words of a command line, and what is said where a file can't be read or a writer fails.
 
-use ebpf_commands::{WordsError, cannot_read, read_words, run_link};
+use super::same::{holds, same, same_bytes, same_number};
+use ebpf_base::Text;
+use ebpf_commands::{Words, WordsError, cannot_read, read_words, run_link};
 use std::alloc::{AllocError, Global};
 use std::io::{self, ErrorKind, Write};
 use std::test::Fail;
@@ -14,21 +16,42 @@ fn words_in(alloc: Global, line: &str) -> Result<Vec<String>, AllocError> {
     Ok(words)
 }
 
-#[test]
-fn reads_words_in_any_order(rt: HostRuntime) -> Result<(), Fail> {
-    let line = "--program --x file.o --btf types --kallsyms --btf";
-    let words = read_words(rt.alloc(), &words_in(rt.alloc(), line)?)?;
-    assert_eq!(rt; words.file.as_str(), "file.o");
-    assert_eq!(rt; words.program(), Some("--x"));
-    assert!(rt; words.btf.is_some_and(|text| text.as_str() == "types"));
-    assert!(rt; words.kallsyms.is_some_and(|text| text.as_str() == "--btf"));
+/// The words of a line, read.
+fn read(alloc: Global, line: &str) -> Result<Words, WordsError> {
+    let words = words_in(alloc, line)?;
+    read_words(alloc, &words)
+}
+
+/// The file, the program and the two other files that words name.
+fn word_text(alloc: Global, words: &Words) -> Result<String, AllocError> {
+    let mut text = String::new(alloc);
+    write!(text, "{} {:?}", words.file.as_str(), words.program())?;
+    add_named(&mut text, &words.btf)?;
+    add_named(&mut text, &words.kallsyms)?;
+    Ok(text)
+}
+
+/// Adds a file's name.
+fn add_named(text: &mut String, file: &Option<Text>) -> Result<(), AllocError> {
+    match file {
+        Some(name) => write!(text, " {}", name.as_str())?,
+        None => write!(text, " none")?,
+    }
     Ok(())
 }
 
-/// Whether the words of a line give the usage line.
-fn is_refused(alloc: Global, line: &str) -> Result<bool, AllocError> {
-    let words = words_in(alloc, line)?;
-    Ok(matches!(read_words(alloc, &words), Err(WordsError::Usage)))
+#[test]
+fn reads_words_in_any_order(rt: HostRuntime) -> Result<(), Fail> {
+    let line = "--program --x file.o --btf types --kallsyms --btf";
+    let words = read(rt.alloc(), line)?;
+    let text = word_text(rt.alloc(), &words)?;
+    same(text.as_str(), "file.o Some(\"--x\") types --btf")
+}
+
+/// Fails where the words of a line don't give the usage line, or give it and shouldn't.
+fn is_refused(alloc: Global, line: &str, want: bool) -> Result<(), Fail> {
+    let got = matches!(read(alloc, line), Err(WordsError::Usage));
+    holds(got == want, line)
 }
 
 #[test]
@@ -42,10 +65,9 @@ fn refuses_other_words(rt: HostRuntime) -> Result<(), Fail> {
         "--program a --program b c",
         "--program a",
     ] {
-        assert!(rt; is_refused(rt.alloc(), line)?, "{line}");
+        is_refused(rt.alloc(), line, true)?;
     }
-    assert!(rt; !is_refused(rt.alloc(), "-")?);
-    Ok(())
+    is_refused(rt.alloc(), "-", false)
 }
 
 /// A writer that fails.
@@ -62,16 +84,18 @@ impl Write for Full {
     }
 }
 
+/// Says that a file can't be read, to a writer.
+fn say<W: Write>(err: &mut W) -> u8 {
+    cannot_read("ebpf-link", "no/such.o", err)
+}
+
 #[test]
 fn says_that_it_cannot_read(rt: HostRuntime) -> Result<(), Fail> {
     let mut err = Vec::new(rt.alloc());
-    assert_eq!(rt; cannot_read("ebpf-link", "no/such.o", &mut err), 1);
-    assert_eq!(rt;
-        err.as_slice(),
-        b"ebpf-link: cannot read no/such.o\n".as_slice()
-    );
-    assert_eq!(rt; cannot_read("ebpf-link", "no/such.o", &mut Full), 1);
-    Ok(())
+    same_number(u64::from(say(&mut err)), 1)?;
+    let want = b"ebpf-link: cannot read no/such.o\n".as_slice();
+    same_bytes(err.as_slice(), want)?;
+    same_number(u64::from(say(&mut Full)), 1)
 }
 
 /// The words of four bytes that are not 0, with their places, of an object of 98 words: the program `p` of one slot in the
@@ -110,6 +134,15 @@ const OBJECT: [(usize, u32); 28] = [
     (90, 0xa),
 ];
 
+/// Numbers as bytes, the low byte first.
+fn bytes_of(alloc: Global, words: &[u32]) -> Result<Vec<u8>, AllocError> {
+    let mut bytes = Vec::new(alloc);
+    for word in words {
+        bytes.extend_from_slice(&word.to_le_bytes())?;
+    }
+    Ok(bytes)
+}
+
 /// The object's bytes.
 fn object(alloc: Global) -> Result<Vec<u8>, AllocError> {
     let mut words = [0u32; 98];
@@ -118,28 +151,27 @@ fn object(alloc: Global) -> Result<Vec<u8>, AllocError> {
             *place = word;
         }
     }
-    let mut bytes = Vec::new(alloc);
-    for word in words {
-        bytes.extend_from_slice(&word.to_le_bytes())?;
-    }
-    Ok(bytes)
+    bytes_of(alloc, &words)
+}
+
+/// The status of linking a file's programs.
+fn link<O: Write>(alloc: Global, words: &Words, file: &[u8], out: &mut O, err: &mut Vec<u8>) -> u8 {
+    let none: &[u8] = &[];
+    run_link(alloc, words, file, None, none, out, err)
+}
+
+/// Fails where the object isn't linked, or is though the writer fails.
+fn links(alloc: Global, words: &Words, file: &[u8], err: &mut Vec<u8>) -> Result<(), Fail> {
+    let mut out = Vec::new(alloc);
+    same_number(u64::from(link(alloc, words, file, &mut out, err)), 0)?;
+    same_number(u64::from(link(alloc, words, file, &mut Full, err)), 1)
 }
 
 #[test]
 fn says_that_it_cannot_write(rt: HostRuntime) -> Result<(), Fail> {
-    let words = read_words(rt.alloc(), &words_in(rt.alloc(), "file.o")?)?;
+    let words = read(rt.alloc(), "file.o")?;
     let file = object(rt.alloc())?;
-    let none: &[u8] = &[];
-    let mut out = Vec::new(rt.alloc());
     let mut err = Vec::new(rt.alloc());
-    assert_eq!(rt;
-        run_link(rt.alloc(), &words, &file, None, none, &mut out, &mut err),
-        0
-    );
-    assert_eq!(rt;
-        run_link(rt.alloc(), &words, &file, None, none, &mut Full, &mut err),
-        1
-    );
-    assert_eq!(rt; err.as_slice(), b"ebpf-link: cannot write\n".as_slice());
-    Ok(())
+    links(rt.alloc(), &words, &file, &mut err)?;
+    same_bytes(err.as_slice(), b"ebpf-link: cannot write\n".as_slice())
 }

@@ -1,10 +1,8 @@
+use super::same::{same, same_bytes, same_number};
 use ebpf_base::Endianness;
-use ebpf_elf::{
-    ElfFile, ElfReadError, ElfRelocation, ElfRelocationSection, ElfSection, ElfSymbol,
-    SectionIndex, SymbolKind,
-};
+use ebpf_elf::{ElfFile, ElfReadError, ElfRelocation, ElfSection, ElfSymbol, SectionIndex};
 use std::alloc::{AllocError, Global};
-use std::test::*;
+use std::test::Fail;
 
 /// The code of a call.
 const CALL: u8 = 0x85;
@@ -79,8 +77,6 @@ const CODE: [u8; 24] = [
 
 const STRINGS: [u8; 49] = *b"\0p\0f\0kprobe/p\0.text\0.symtab\0.strtab\0.relkprobe/p\0";
 
-const ORDERS: [Endianness; 2] = [Endianness::Little, Endianness::Big];
-
 /// Writes a field.
 fn write(bytes: &mut [u8], order: Endianness, field: &Field) {
     let (offset, width, value) = *field;
@@ -99,37 +95,70 @@ fn write(bytes: &mut [u8], order: Endianness, field: &Field) {
     }
 }
 
-/// The file with some fields changed.
-fn file_with(alloc: Global, order: Endianness, changes: &[Field]) -> Result<Vec<u8>, AllocError> {
+/// Writes fields, one after the other.
+fn write_all(bytes: &mut [u8], order: Endianness, fields: &[Field]) {
+    for field in fields {
+        write(bytes, order, field);
+    }
+}
+
+/// The file's bytes without its fields.
+fn parts(alloc: Global) -> Result<Vec<u8>, AllocError> {
     let mut bytes = Vec::new(alloc);
     bytes.extend_from_slice(&[0; 64])?;
     bytes.extend_from_slice(&CODE)?;
     bytes.extend_from_slice(&[0; 88])?;
     bytes.extend_from_slice(&STRINGS)?;
     bytes.extend_from_slice(&[0; 391])?;
-    let data_order = match order {
-        Endianness::Little => 1,
-        Endianness::Big => 2,
-    };
-    write(&mut bytes, order, &(5, 1, data_order));
-    for field in FIELDS.iter() {
-        write(&mut bytes, order, field);
-    }
-    for field in changes {
-        write(&mut bytes, order, field);
-    }
     Ok(bytes)
 }
 
-/// Whether the file with some fields changed is refused with this error, in both byte orders.
-fn is_refused(alloc: Global, changes: &[Field], error: ElfReadError) -> Result<bool, AllocError> {
-    for order in ORDERS.iter() {
-        let bytes = file_with(alloc, *order, changes)?;
-        if ElfFile::parse(&bytes).err() != Some(error) {
-            return Ok(false);
-        }
+/// The number of a byte order in a file's header.
+fn order_number(order: Endianness) -> u64 {
+    match order {
+        Endianness::Little => 1,
+        Endianness::Big => 2,
     }
-    Ok(true)
+}
+
+/// The file with some fields changed.
+fn file_with(alloc: Global, order: Endianness, changes: &[Field]) -> Result<Vec<u8>, AllocError> {
+    let mut bytes = parts(alloc)?;
+    write(&mut bytes, order, &(5, 1, order_number(order)));
+    write_all(&mut bytes, order, &FIELDS);
+    write_all(&mut bytes, order, changes);
+    Ok(bytes)
+}
+
+/// Why bytes are no file.
+fn error_of(bytes: &[u8]) -> Option<ElfReadError> {
+    ElfFile::parse(bytes).err()
+}
+
+/// Fails where bytes aren't refused with this error; where there is none, if they aren't read.
+fn is_refused(bytes: &[u8], want: Option<ElfReadError>) -> Result<(), Fail> {
+    let got = error_of(bytes);
+    if got == want {
+        return Ok(());
+    }
+    Err(Fail::new(format_args!("{got:?} is not {want:?}")))
+}
+
+/// The same of the file with some fields changed, in one byte order.
+fn ends_in(
+    alloc: Global,
+    order: Endianness,
+    changes: &[Field],
+    want: Option<ElfReadError>,
+) -> Result<(), Fail> {
+    let bytes = file_with(alloc, order, changes)?;
+    is_refused(&bytes, want)
+}
+
+/// In both byte orders.
+fn ends(alloc: Global, changes: &[Field], want: Option<ElfReadError>) -> Result<(), Fail> {
+    ends_in(alloc, Endianness::Little, changes, want)?;
+    ends_in(alloc, Endianness::Big, changes, want)
 }
 
 /// Each fault of a file alone.
@@ -174,8 +203,9 @@ const FAULTS: [(Field, ElfReadError); 27] = [
 
 #[test]
 fn refuses_each_fault(rt: HostRuntime) -> Result<(), Fail> {
+    let alloc = rt.alloc();
     for (change, error) in FAULTS.iter() {
-        assert!(rt; is_refused(rt.alloc(), &[*change], *error)?, "{error}");
+        ends(alloc, &[*change], Some(*error))?;
     }
     Ok(())
 }
@@ -204,35 +234,29 @@ const PAIRS: [(Field, Field, ElfReadError); 10] = [
 
 #[test]
 fn refuses_the_earlier_fault(rt: HostRuntime) -> Result<(), Fail> {
+    let alloc = rt.alloc();
     for (first, second, error) in PAIRS.iter() {
-        assert!(rt;
-            is_refused(rt.alloc(), &[*first, *second], *error)?,
-            "{error}"
-        );
+        ends(alloc, &[*first, *second], Some(*error))?;
     }
     Ok(())
 }
 
-/// The error of the first bytes of the file.
-fn error_of_prefix(bytes: &[u8], len: usize) -> Option<ElfReadError> {
-    ElfFile::parse(bytes.get(..len)?).err()
+/// Fails where one of these lengths isn't refused with this error.
+fn are_refused(bytes: &[u8], from: usize, to: usize, want: ElfReadError) -> Result<(), Fail> {
+    for length in from..to {
+        let part = bytes.get(..length).unwrap_or(bytes);
+        is_refused(part, Some(want))?;
+    }
+    Ok(())
 }
 
 #[test]
 fn refuses_each_prefix(rt: HostRuntime) -> Result<(), Fail> {
     let bytes = file_with(rt.alloc(), Endianness::Little, &[])?;
-    assert_eq!(rt; bytes.len(), 616);
-    for len in 0..64 {
-        assert_eq!(rt; error_of_prefix(&bytes, len), Some(ElfReadError::TooShort));
-    }
-    for len in 64..616 {
-        assert_eq!(rt;
-            error_of_prefix(&bytes, len),
-            Some(ElfReadError::BadSectionTable)
-        );
-    }
-    assert_eq!(rt; error_of_prefix(&bytes, 616), None);
-    Ok(())
+    same_number(bytes.len() as u64, 616)?;
+    are_refused(&bytes, 0, 64, ElfReadError::TooShort)?;
+    are_refused(&bytes, 64, 616, ElfReadError::BadSectionTable)?;
+    is_refused(&bytes, None)
 }
 
 /// Changes that are no faults.
@@ -250,130 +274,368 @@ const SOUND: [Field; 9] = [
 
 #[test]
 fn passes_over_what_is_not_read(rt: HostRuntime) -> Result<(), Fail> {
+    let alloc = rt.alloc();
     for change in SOUND.iter() {
-        for order in ORDERS.iter() {
-            let bytes = file_with(rt.alloc(), *order, &[*change])?;
-            assert!(rt; ElfFile::parse(&bytes).is_ok());
+        ends(alloc, &[*change], None)?;
+    }
+    let without_target = [(596, 4, 0), (584, 8, 17)];
+    ends_in(alloc, Endianness::Little, &without_target, None)
+}
+
+/// A section that a file has by a name.
+fn section_named<'a>(file: &ElfFile<'a>, name: &str) -> Option<ElfSection<'a>> {
+    file.section_by_name(name)
+}
+
+/// The last symbol of a file.
+fn last_symbol<'a>(file: &ElfFile<'a>) -> Option<ElfSymbol<'a>> {
+    file.symbols().last()
+}
+
+/// How many sections a file has, how many symbols, and how many sections of relocations.
+fn counts(alloc: Global, file: &ElfFile<'_>) -> Result<String, AllocError> {
+    let sections = file.sections().count();
+    let symbols = file.symbols().count();
+    let tables = file.relocation_sections().count();
+    format!(in alloc; "{:?} {sections} {symbols} {tables}", file.endianness())
+}
+
+/// The index, kind, flags, address and size of a section.
+fn fields(alloc: Global, section: &ElfSection<'_>) -> Result<String, AllocError> {
+    let SectionIndex(index) = section.index();
+    let kind = section.kind_number();
+    let flags = section.flags();
+    let address = section.address();
+    format!(in alloc; "{index} {kind} {flags} {address} {}", section.size())
+}
+
+/// The length of a section's data, or why there is none.
+fn data_length(section: &ElfSection<'_>) -> Result<usize, ElfReadError> {
+    Ok(section.data()?.len())
+}
+
+/// The index, name, section, address and size of a symbol.
+fn symbol_fields(alloc: Global, symbol: &ElfSymbol<'_>) -> Result<String, AllocError> {
+    let name = symbol.name();
+    let section = symbol.section_index();
+    let address = symbol.address();
+    format!(in alloc;
+        "{} {name:?} {section:?} {address} {}",
+        symbol.index(),
+        symbol.size()
+    )
+}
+
+/// The kind of a symbol, whether it is a definition, and whether it is weak.
+fn symbol_kind(alloc: Global, symbol: &ElfSymbol<'_>) -> Result<String, AllocError> {
+    let is_definition = symbol.is_definition();
+    format!(in alloc; "{:?} {is_definition} {}", symbol.kind(), symbol.is_weak())
+}
+
+/// A relocation: its offset, its size and the index of its symbol.
+fn add_relocation(text: &mut String, relocation: ElfRelocation) -> Result<(), AllocError> {
+    let ElfRelocation {
+        offset,
+        size,
+        symbol_index,
+    } = relocation;
+    write!(text, "{offset} {size} {symbol_index};")
+}
+
+/// The relocations of a section.
+fn relocations(alloc: Global, section: &ElfSection<'_>) -> Result<String, AllocError> {
+    let mut text = String::new(alloc);
+    for relocation in section.relocations() {
+        add_relocation(&mut text, relocation)?;
+    }
+    Ok(text)
+}
+
+/// The indices of the sections that have relocations.
+fn targets(alloc: Global, file: &ElfFile<'_>) -> Result<String, AllocError> {
+    let mut text = String::new(alloc);
+    for section in file.relocation_sections() {
+        write!(text, "{} ", section.target())?;
+    }
+    Ok(text)
+}
+
+/// What is asked of a file: a text of it.
+#[derive(Clone, Copy)]
+enum Question<'a> {
+    /// How many sections and symbols it has.
+    Counts,
+    /// The indices of the sections that have relocations.
+    Targets,
+    /// The last symbol's fields.
+    Symbol,
+    /// The last symbol's kind.
+    Kind,
+    /// The fields of the first section of this name.
+    Fields(&'a str),
+    /// The length of its data.
+    DataLength(&'a str),
+    /// Its relocations.
+    Relocations(&'a str),
+    /// The name of the second section.
+    SecondName,
+}
+
+/// The answer on a symbol.
+fn symbol_answer(
+    alloc: Global,
+    symbol: &ElfSymbol<'_>,
+    question: Question<'_>,
+) -> Result<String, AllocError> {
+    match question {
+        Question::Symbol => symbol_fields(alloc, symbol),
+        _ => symbol_kind(alloc, symbol),
+    }
+}
+
+/// The answer on the last symbol.
+fn last_answer(
+    alloc: Global,
+    file: &ElfFile<'_>,
+    question: Question<'_>,
+) -> Result<String, AllocError> {
+    match last_symbol(file) {
+        Some(symbol) => symbol_answer(alloc, &symbol, question),
+        None => format!(in alloc; "no symbol"),
+    }
+}
+
+/// The answer on a section.
+fn section_answer(
+    alloc: Global,
+    section: &ElfSection<'_>,
+    question: Question<'_>,
+) -> Result<String, AllocError> {
+    match question {
+        Question::DataLength(_) => format!(in alloc; "{:?}", data_length(section)),
+        Question::Relocations(_) => relocations(alloc, section),
+        _ => fields(alloc, section),
+    }
+}
+
+/// The answer on the first section of a name.
+fn named_answer(
+    alloc: Global,
+    file: &ElfFile<'_>,
+    name: &str,
+    question: Question<'_>,
+) -> Result<String, AllocError> {
+    match section_named(file, name) {
+        Some(section) => section_answer(alloc, &section, question),
+        None => format!(in alloc; "no section"),
+    }
+}
+
+/// The name of the second section.
+fn second_name(alloc: Global, file: &ElfFile<'_>) -> Result<String, AllocError> {
+    match file.sections().nth(1) {
+        Some(section) => format!(in alloc; "{:?}", section.name()),
+        None => format!(in alloc; "no section"),
+    }
+}
+
+fn file_answer(
+    alloc: Global,
+    file: &ElfFile<'_>,
+    question: Question<'_>,
+) -> Result<String, AllocError> {
+    match question {
+        Question::Counts => counts(alloc, file),
+        Question::Targets => targets(alloc, file),
+        Question::SecondName => second_name(alloc, file),
+        Question::Symbol | Question::Kind => last_answer(alloc, file, question),
+        Question::Fields(name) | Question::DataLength(name) | Question::Relocations(name) => {
+            named_answer(alloc, file, name, question)
         }
     }
-    let without_target = file_with(rt.alloc(), Endianness::Little, &[(596, 4, 0), (584, 8, 17)])?;
-    assert!(rt; ElfFile::parse(&without_target).is_ok());
-    Ok(())
+}
+
+/// The answer on the file of these bytes, or why they are none.
+fn answer(alloc: Global, bytes: &[u8], question: Question<'_>) -> Result<String, AllocError> {
+    match ElfFile::parse(bytes) {
+        Ok(file) => file_answer(alloc, &file, question),
+        Err(error) => format!(in alloc; "{error:?}"),
+    }
+}
+
+/// Fails where the answer on the file with some fields changed isn't this.
+fn answers(
+    alloc: Global,
+    order: Endianness,
+    changes: &[Field],
+    question: Question<'_>,
+    want: &str,
+) -> Result<(), Fail> {
+    let bytes = file_with(alloc, order, changes)?;
+    let text = answer(alloc, &bytes, question)?;
+    same(text.as_str(), want)
+}
+
+/// In both byte orders.
+fn answers_in_both(
+    alloc: Global,
+    changes: &[Field],
+    question: Question<'_>,
+    want: &str,
+) -> Result<(), Fail> {
+    answers(alloc, Endianness::Little, changes, question, want)?;
+    answers(alloc, Endianness::Big, changes, question, want)
 }
 
 #[test]
 fn reads_a_file_without_sections(rt: HostRuntime) -> Result<(), Fail> {
-    let bytes = file_with(rt.alloc(), Endianness::Big, &[(40, 8, 0), (60, 2, 0)])?;
-    let file = ElfFile::parse(&bytes)?;
-    assert_eq!(rt; (file.sections().count(), file.symbols().count()), (0, 0));
-    assert_eq!(rt; file.relocation_sections().count(), 0);
-    assert!(rt; file.section_by_name("").is_none());
-    Ok(())
+    let alloc = rt.alloc();
+    let changes = [(40, 8, 0), (60, 2, 0)];
+    answers(
+        alloc,
+        Endianness::Big,
+        &changes,
+        Question::Counts,
+        "Big 0 0 0",
+    )?;
+    answers(
+        alloc,
+        Endianness::Big,
+        &changes,
+        Question::Fields(""),
+        "no section",
+    )
 }
 
-/// The index, kind, flags, address and size of a section.
-fn fields_of(section: &ElfSection<'_>) -> (SectionIndex, u32, u64, u64, u64) {
-    (
-        section.index(),
-        section.kind_number(),
-        section.flags(),
-        section.address(),
-        section.size(),
+/// Fails where the data of the section of the program isn't the first 16 bytes of the code.
+fn has_the_data(alloc: Global, order: Endianness, changes: &[Field]) -> Result<(), Fail> {
+    let bytes = file_with(alloc, order, changes)?;
+    same_bytes(
+        data_of(&bytes, "kprobe/p"),
+        CODE.as_slice().get(..16).unwrap_or(&[]),
     )
+}
+
+/// The data of a section of the file of these bytes; none where there is no such section.
+fn data_of<'a>(bytes: &'a [u8], name: &str) -> &'a [u8] {
+    let Ok(file) = ElfFile::parse(bytes) else {
+        return &[];
+    };
+    match section_named(&file, name) {
+        Some(section) => section.data().unwrap_or(&[]),
+        None => &[],
+    }
 }
 
 #[test]
 fn reads_the_sections(rt: HostRuntime) -> Result<(), Fail> {
-    for order in ORDERS.iter() {
-        let bytes = file_with(rt.alloc(), *order, &[(312, 8, 0x1000)])?;
-        let file = ElfFile::parse(&bytes)?;
-        assert_eq!(rt; (file.endianness(), file.sections().count()), (*order, 5));
-        let section = file.section_by_name("kprobe/p").ok_or("kprobe/p")?;
-        assert_eq!(rt; fields_of(&section), (SectionIndex(1), 1, 6, 0x1000, 16));
-        assert_eq!(rt; section.data()?, &CODE[..16]);
-    }
-    Ok(())
+    let alloc = rt.alloc();
+    let changes = [(312, 8, 0x1000)];
+    answers(
+        alloc,
+        Endianness::Little,
+        &changes,
+        Question::Counts,
+        "Little 5 2 1",
+    )?;
+    answers(
+        alloc,
+        Endianness::Big,
+        &changes,
+        Question::Counts,
+        "Big 5 2 1",
+    )?;
+    answers_in_both(
+        alloc,
+        &changes,
+        Question::Fields("kprobe/p"),
+        "1 1 6 4096 16",
+    )?;
+    has_the_data(alloc, Endianness::Little, &changes)?;
+    has_the_data(alloc, Endianness::Big, &changes)
 }
 
 #[test]
 fn finds_the_first_of_a_name(rt: HostRuntime) -> Result<(), Fail> {
-    let bytes = file_with(rt.alloc(), Endianness::Little, &[(296, 4, 14)])?;
-    let file = ElfFile::parse(&bytes)?;
-    let section = file.section_by_name(".text").ok_or(".text")?;
-    assert_eq!(rt; section.index(), SectionIndex(1));
-    Ok(())
-}
-
-/// The index, section, address and size of a symbol.
-fn symbol_fields(symbol: &ElfSymbol<'_>) -> (usize, Option<usize>, u64, u64) {
-    (
-        symbol.index(),
-        symbol.section_index(),
-        symbol.address(),
-        symbol.size(),
+    let question = Question::Fields(".text");
+    answers(
+        rt.alloc(),
+        Endianness::Little,
+        &[(296, 4, 14)],
+        question,
+        "1 1 6 0 16",
     )
-}
-
-/// The last symbol of a file.
-fn last_symbol<'a>(file: &ElfFile<'a>) -> Result<ElfSymbol<'a>, Fail> {
-    Ok(file.symbols().last().ok_or("a symbol")?)
 }
 
 #[test]
 fn reads_the_symbols(rt: HostRuntime) -> Result<(), Fail> {
-    for order in ORDERS.iter() {
-        let bytes = file_with(rt.alloc(), *order, &[(144, 8, 24)])?;
-        let file = ElfFile::parse(&bytes)?;
-        assert_eq!(rt; file.symbols().count(), 2);
-        let symbol = last_symbol(&file)?;
-        assert_eq!(rt; symbol.name()?, "f");
-        assert_eq!(rt; symbol_fields(&symbol), (2, Some(2), 24, 8));
-    }
-    Ok(())
+    let want = "2 Ok(\"f\") Some(2) 24 8";
+    answers_in_both(rt.alloc(), &[(144, 8, 24)], Question::Symbol, want)
 }
 
 /// The info of a symbol, its kind, whether it is a definition, and whether it is weak.
-const KINDS: [(u64, SymbolKind, bool, bool); 9] = [
-    (0x10, SymbolKind::Unknown, true, false),
-    (0x21, SymbolKind::Data, true, true),
-    (0x02, SymbolKind::Text, true, false),
-    (0x13, SymbolKind::Section, false, false),
-    (0x04, SymbolKind::File, false, false),
-    (0x15, SymbolKind::Data, false, false),
-    (0x26, SymbolKind::Tls, false, true),
-    (0x1a, SymbolKind::Text, false, false),
-    (0x17, SymbolKind::Unknown, false, false),
+const KINDS: [(u64, &str); 9] = [
+    (0x10, "Unknown true false"),
+    (0x21, "Data true true"),
+    (0x02, "Text true false"),
+    (0x13, "Section false false"),
+    (0x04, "File false false"),
+    (0x15, "Data false false"),
+    (0x26, "Tls false true"),
+    (0x1a, "Text false false"),
+    (0x17, "Unknown false false"),
 ];
 
 #[test]
 fn reads_the_kinds_of_symbols(rt: HostRuntime) -> Result<(), Fail> {
-    for (info, kind, is_definition, is_weak) in KINDS.iter() {
-        let bytes = file_with(rt.alloc(), Endianness::Little, &[(140, 1, *info)])?;
-        let file = ElfFile::parse(&bytes)?;
-        let symbol = last_symbol(&file)?;
-        let found = (symbol.kind(), symbol.is_definition(), symbol.is_weak());
-        assert_eq!(rt; found, (*kind, *is_definition, *is_weak));
+    let alloc = rt.alloc();
+    for (info, want) in KINDS.iter() {
+        answers(
+            alloc,
+            Endianness::Little,
+            &[(140, 1, *info)],
+            Question::Kind,
+            want,
+        )?;
     }
     Ok(())
 }
 
-/// Changes of `f`, the section that it is in, and whether it is a definition.
-const SECTIONS: [([Field; 2], Option<usize>, bool); 5] = [
-    ([(142, 2, 0), (140, 1, 0x12)], None, false),
-    ([(142, 2, 0xfeff), (140, 1, 0x12)], Some(0xfeff), true),
-    ([(142, 2, 0xff00), (140, 1, 0x12)], None, true),
-    ([(142, 2, 0xfff1), (140, 1, 0x10)], None, true),
-    ([(152, 8, 0), (140, 1, 0x10)], Some(2), false),
+/// Changes of `f`, its fields with the section that it is in, and its kind and whether it is a definition.
+const SECTIONS: [([Field; 2], &str, &str); 5] = [
+    (
+        [(142, 2, 0), (140, 1, 0x12)],
+        "2 Ok(\"f\") None 0 8",
+        "Text false false",
+    ),
+    (
+        [(142, 2, 0xfeff), (140, 1, 0x12)],
+        "2 Ok(\"f\") Some(65279) 0 8",
+        "Text true false",
+    ),
+    (
+        [(142, 2, 0xff00), (140, 1, 0x12)],
+        "2 Ok(\"f\") None 0 8",
+        "Text true false",
+    ),
+    (
+        [(142, 2, 0xfff1), (140, 1, 0x10)],
+        "2 Ok(\"f\") None 0 8",
+        "Unknown true false",
+    ),
+    (
+        [(152, 8, 0), (140, 1, 0x10)],
+        "2 Ok(\"f\") Some(2) 0 0",
+        "Unknown false false",
+    ),
 ];
 
 #[test]
 fn reads_the_sections_of_symbols(rt: HostRuntime) -> Result<(), Fail> {
-    for (changes, section, is_definition) in SECTIONS.iter() {
-        let bytes = file_with(rt.alloc(), Endianness::Big, changes)?;
-        let file = ElfFile::parse(&bytes)?;
-        let symbol = last_symbol(&file)?;
-        let found = (symbol.section_index(), symbol.is_definition());
-        assert_eq!(rt; found, (*section, *is_definition));
+    let alloc = rt.alloc();
+    for (changes, fields, kind) in SECTIONS.iter() {
+        answers(alloc, Endianness::Big, changes, Question::Symbol, fields)?;
+        answers(alloc, Endianness::Big, changes, Question::Kind, kind)?;
     }
     Ok(())
 }
@@ -387,80 +649,95 @@ const UNREADABLE: [[Field; 2]; 3] = [
 
 #[test]
 fn passes_over_unreadable_names(rt: HostRuntime) -> Result<(), Fail> {
+    let alloc = rt.alloc();
     for changes in UNREADABLE.iter() {
-        let bytes = file_with(rt.alloc(), Endianness::Little, changes)?;
-        let file = ElfFile::parse(&bytes)?;
-        let section = file.sections().nth(1).ok_or("section 2")?;
-        assert_eq!(rt; section.name(), Err(ElfReadError::BadStringTable));
-        assert!(rt; file.section_by_name(".text").is_none());
+        let want = "Err(BadStringTable)";
+        answers(
+            alloc,
+            Endianness::Little,
+            changes,
+            Question::SecondName,
+            want,
+        )?;
+        answers(
+            alloc,
+            Endianness::Little,
+            changes,
+            Question::Fields(".text"),
+            "no section",
+        )?;
     }
     Ok(())
 }
 
 #[test]
 fn reads_names_without_a_table(rt: HostRuntime) -> Result<(), Fail> {
-    let bytes = file_with(
-        rt.alloc(),
+    let alloc = rt.alloc();
+    let changes = [(62, 2, 0), (360, 4, 0), (136, 4, 0)];
+    answers(
+        alloc,
         Endianness::Little,
-        &[(62, 2, 0), (360, 4, 0), (136, 4, 0)],
+        &changes,
+        Question::Fields(""),
+        "2 1 6 0 8",
     )?;
-    let file = ElfFile::parse(&bytes)?;
-    let section = file.section_by_name("").ok_or("section 2")?;
-    assert_eq!(rt; section.index(), SectionIndex(2));
-    assert_eq!(rt; last_symbol(&file)?.name()?, "");
-    Ok(())
+    let want = "2 Ok(\"\") Some(2) 0 8";
+    answers(alloc, Endianness::Little, &changes, Question::Symbol, want)
 }
 
 /// Changes of `.text`, and the length of its data where it has any.
-const DATA: [([Field; 2], Result<usize, ElfReadError>); 5] = [
-    ([(364, 4, 8), (384, 8, 0xffff_ffff_ffff_ffff)], Ok(0)),
-    ([(384, 8, 608), (392, 8, 8)], Ok(8)),
-    (
-        [(384, 8, 609), (392, 8, 8)],
-        Err(ElfReadError::BadSectionRange),
-    ),
+const DATA: [([Field; 2], &str); 5] = [
+    ([(364, 4, 8), (384, 8, 0xffff_ffff_ffff_ffff)], "Ok(0)"),
+    ([(384, 8, 608), (392, 8, 8)], "Ok(8)"),
+    ([(384, 8, 609), (392, 8, 8)], "Err(BadSectionRange)"),
     (
         [(384, 8, 8), (392, 8, 0xffff_ffff_ffff_ffff)],
-        Err(ElfReadError::BadSectionRange),
+        "Err(BadSectionRange)",
     ),
-    ([(384, 8, 617), (392, 8, 0)], Ok(0)),
+    ([(384, 8, 617), (392, 8, 0)], "Ok(0)"),
 ];
 
 #[test]
 fn reads_data(rt: HostRuntime) -> Result<(), Fail> {
-    for (changes, len) in DATA.iter() {
-        let bytes = file_with(rt.alloc(), Endianness::Little, changes)?;
-        let file = ElfFile::parse(&bytes)?;
-        let section = file.section_by_name(".text").ok_or(".text")?;
-        assert_eq!(rt; section.data().map(|part| part.len()), *len);
+    let alloc = rt.alloc();
+    for (changes, want) in DATA.iter() {
+        answers(
+            alloc,
+            Endianness::Little,
+            changes,
+            Question::DataLength(".text"),
+            want,
+        )?;
     }
     Ok(())
 }
 
-/// The kind and the size of a section with relocations, the info of its entry, and the size of what is patched.
-const RELOCATIONS: [([Field; 3], u8); 4] = [
-    ([(556, 4, 9), (584, 8, 16), (168, 8, 0x2_0000_000a)], 32),
-    ([(556, 4, 9), (584, 8, 16), (168, 8, 0x2_0000_0001)], 64),
-    ([(556, 4, 9), (584, 8, 16), (168, 8, 0x2_0000_0002)], 0),
-    ([(556, 4, 4), (584, 8, 24), (168, 8, 0x2_0000_0001)], 64),
+/// The kind and the size of a section with relocations, the info of its entry, and the entry, with the size of what is
+/// patched.
+const RELOCATIONS: [([Field; 3], &str); 4] = [
+    (
+        [(556, 4, 9), (584, 8, 16), (168, 8, 0x2_0000_000a)],
+        "0 32 2;",
+    ),
+    (
+        [(556, 4, 9), (584, 8, 16), (168, 8, 0x2_0000_0001)],
+        "0 64 2;",
+    ),
+    (
+        [(556, 4, 9), (584, 8, 16), (168, 8, 0x2_0000_0002)],
+        "0 0 2;",
+    ),
+    (
+        [(556, 4, 4), (584, 8, 24), (168, 8, 0x2_0000_0001)],
+        "0 64 2;",
+    ),
 ];
 
 #[test]
 fn reads_relocations(rt: HostRuntime) -> Result<(), Fail> {
-    for (changes, size) in RELOCATIONS.iter() {
-        for order in ORDERS.iter() {
-            let bytes = file_with(rt.alloc(), *order, changes)?;
-            let file = ElfFile::parse(&bytes)?;
-            let section = file.section_by_name("kprobe/p").ok_or("kprobe/p")?;
-            let mut relocations = section.relocations();
-            let relocation = ElfRelocation {
-                offset: 0,
-                size: *size,
-                symbol_index: 2,
-            };
-            assert_eq!(rt; relocations.next(), Some(relocation));
-            assert_eq!(rt; relocations.next(), None);
-        }
+    let alloc = rt.alloc();
+    for (changes, want) in RELOCATIONS.iter() {
+        answers_in_both(alloc, changes, Question::Relocations("kprobe/p"), want)?;
     }
     Ok(())
 }
@@ -477,17 +754,13 @@ const SECOND_TABLE: [Field; 6] = [
 
 #[test]
 fn lists_sections_of_relocations(rt: HostRuntime) -> Result<(), Fail> {
-    let bytes = file_with(rt.alloc(), Endianness::Big, &SECOND_TABLE)?;
-    let file = ElfFile::parse(&bytes)?;
-    assert_eq!(rt; file.relocation_sections().count(), 2);
-    for section in file.relocation_sections() {
-        assert_eq!(rt; section.target(), 1);
+    let alloc = rt.alloc();
+    for (question, want) in [
+        (Question::Targets, "1 1 "),
+        (Question::Relocations("kprobe/p"), "8 32 2;8 32 2;"),
+        (Question::Relocations(".symtab"), ""),
+    ] {
+        answers(alloc, Endianness::Big, &SECOND_TABLE, question, want)?;
     }
-    let patched = file.section_by_name("kprobe/p").ok_or("kprobe/p")?;
-    let mut relocations = patched.relocations();
-    assert_eq!(rt; relocations.nth(1).map(|r| r.offset), Some(8));
-    assert!(rt; relocations.next().is_none());
-    let other = file.section_by_name(".symtab").ok_or(".symtab")?;
-    assert!(rt; other.relocations().next().is_none());
     Ok(())
 }

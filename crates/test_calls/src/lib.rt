@@ -26,3 +26,5 @@ mod places;
 mod reach;
 #[cfg(test)]
 mod same;
+#[cfg(test)]
+mod types;

@@ -25,3 +25,27 @@ pub fn same_number(got: u64, want: u64) -> Result<(), Fail> {
     }
     Err(Fail::new(format_args!("{got} is not {want}")))
 }
+
+/// Fails where what may be known isn't as wanted.
+pub fn same_answer(got: Option<bool>, want: Option<bool>) -> Result<(), Fail> {
+    if got == want {
+        return Ok(());
+    }
+    Err(Fail::new(format_args!("{got:?} is not {want:?}")))
+}
+
+/// Fails where a text that may be there isn't as wanted.
+pub fn same_text(got: Option<&str>, want: Option<&str>) -> Result<(), Fail> {
+    if got == want {
+        return Ok(());
+    }
+    Err(Fail::new(format_args!("{got:?} is not {want:?}")))
+}
+
+/// Fails where a fact doesn't hold.
+pub fn holds(fact: bool, name: &str) -> Result<(), Fail> {
+    if fact {
+        return Ok(());
+    }
+    Err(Fail::new(format_args!("not so: {name}")))
+}

@@ -42,6 +42,15 @@ pub const ENDS: [bpf_insn; 1] = [EXIT];
 /// A reference from a slot of a function to a function.
 pub type TestReference = (usize, usize, Target);
 
+/// The slots of a function.
+pub type TestSlots<'a> = &'a [bpf_insn];
+
+/// A linked program, or the fault; none where the references are not sound.
+pub type Answer = Option<Result<LinkedProgram, Fault>>;
+
+/// What a linked program is made of, or the fault; none where the references are not sound.
+pub type MapAnswer = Option<Result<NumberedLinkMap, Fault>>;
+
 /// A function without records.
 pub fn plain(slots: &[bpf_insn]) -> Body<'_> {
     Body {
@@ -51,7 +60,37 @@ pub fn plain(slots: &[bpf_insn]) -> Body<'_> {
     }
 }
 
-/// The references of so many functions, each list in the order in which they are given.
+/// Functions without records.
+pub fn plain_bodies<'a>(
+    alloc: Global,
+    slots: &[TestSlots<'a>],
+) -> Result<Vec<Body<'a>>, AllocError> {
+    let mut bodies = Vec::new(alloc);
+    for slots in slots {
+        bodies.push(plain(*slots))?;
+    }
+    Ok(bodies)
+}
+
+/// The references of a function, in the order in which they are given.
+fn list_of(
+    alloc: Global,
+    function: usize,
+    references: &[TestReference],
+) -> Result<Vec<Call>, AllocError> {
+    let mut list = Vec::new(alloc);
+    for (from, slot, target) in references {
+        if *from == function {
+            list.push(Call {
+                slot: *slot,
+                target: *target,
+            })?;
+        }
+    }
+    Ok(list)
+}
+
+/// The references of so many functions.
 pub fn lists(
     alloc: Global,
     count: usize,
@@ -59,29 +98,19 @@ pub fn lists(
 ) -> Result<Vec<Vec<Call>>, AllocError> {
     let mut lists = Vec::new(alloc);
     for function in 0..count {
-        let mut list = Vec::new(alloc);
-        for (from, slot, target) in references {
-            if *from != function {
-                continue;
-            }
-            list.push(Call {
-                slot: *slot,
-                target: *target,
-            })?;
-        }
-        lists.push(list)?;
+        lists.push(list_of(alloc, function, references)?)?;
     }
     Ok(lists)
 }
 
-/// The function with a number linked; none where the references are not sound.
+/// The function with a number linked.
 pub fn linked_at(
     alloc: Global,
     tables: &Tables,
     bodies: &[Body<'_>],
     calls: &[Vec<Call>],
     start: usize,
-) -> Result<Option<Result<LinkedProgram, Fault>>, AllocError> {
+) -> Result<Answer, AllocError> {
     if start >= bodies.len() || calls.len() != bodies.len() || !is_sound(calls, bodies.len()) {
         return Ok(None);
     }
@@ -93,16 +122,16 @@ pub fn linked(
     alloc: Global,
     bodies: &[Body<'_>],
     calls: &[Vec<Call>],
-) -> Result<Option<Result<LinkedProgram, Fault>>, AllocError> {
+) -> Result<Answer, AllocError> {
     linked_at(alloc, &Tables::new(), bodies, calls, 0)
 }
 
-/// What the first function is made of, linked; none where the references are not sound.
+/// What the first function is made of, linked.
 pub fn link_map_of(
     alloc: Global,
     bodies: &[Body<'_>],
     calls: &[Vec<Call>],
-) -> Result<Option<Result<NumberedLinkMap, Fault>>, AllocError> {
+) -> Result<MapAnswer, AllocError> {
     if bodies.is_empty() || calls.len() != bodies.len() || !is_sound(calls, bodies.len()) {
         return Ok(None);
     }

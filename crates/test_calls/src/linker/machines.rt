@@ -1,7 +1,9 @@
 //! The separate functions and the linked program, run beside each other.
 
+use super::super::same::same;
 use super::functions::{
-    CALL, CALLS, CALLS_TWICE, ENDS, EXIT, LOAD, NOTHING, TestReference, linked, lists, plain,
+    Answer, CALL, CALLS, CALLS_TWICE, ENDS, EXIT, LOAD, NOTHING, TestReference, TestSlots, linked,
+    lists, plain_bodies,
 };
 use ebpf_linker::{Body, Call, Target};
 use ebpf_parts::insn::{bpf_insn, opcodes};
@@ -233,8 +235,13 @@ impl Row<'_> {
         if separate.visited.len() != flat.visited.len() {
             return Ok(false);
         }
-        let mut pairs = separate.visited.iter().zip(flat.visited.iter());
-        Ok(pairs.all(|(place, flat)| self.name(*flat) == Some(*place)))
+        Ok(self.are_named(flat.visited.as_slice(), separate.visited.as_slice()))
+    }
+
+    /// Whether these places of the linked program are those of the functions.
+    fn are_named(&self, flat: &[SlotPosition], separate: &[SlotPosition]) -> bool {
+        let mut pairs = separate.iter().zip(flat.iter());
+        pairs.all(|(place, flat)| self.name(*flat) == Some(*place))
     }
 
     /// Each place that the linked program visits, with its function and slot, and why it stands.
@@ -242,14 +249,20 @@ impl Row<'_> {
         let mut text = String::new(alloc);
         let run = self.flat(alloc, decisions)?;
         for place in run.visited.iter() {
-            let flat = place.1;
-            match self.name(*place) {
-                Some((function, slot)) => write!(text, "{flat}={function}.{slot} ")?,
-                None => write!(text, "{flat}=? ")?,
-            }
+            self.add_place(&mut text, *place)?;
         }
         write!(text, "{:?}", run.stop)?;
         Ok(text)
+    }
+
+    /// A place of the linked program, with its function and slot.
+    fn add_place(&self, text: &mut String, place: SlotPosition) -> Result<(), AllocError> {
+        let flat = place.1;
+        match self.name(place) {
+            Some((function, slot)) => write!(text, "{flat}={function}.{slot} ")?,
+            None => write!(text, "{flat}=? ")?,
+        }
+        Ok(())
     }
 }
 
@@ -285,58 +298,88 @@ fn agreeing(alloc: Global, row: &Row<'_>) -> Result<usize, AllocError> {
     Ok(count)
 }
 
-/// What the first function visits once it is linked, under these decisions, and under how many lists it visits what
-/// the separate functions do. `order` has the functions in the order in which they are to stand.
+/// The slots of a linked program; none where there is a fault.
+fn slots_of(answer: &Answer) -> &[bpf_insn] {
+    match answer {
+        Some(Ok(program)) => program.slots.as_slice(),
+        _ => &[],
+    }
+}
+
+/// What a linked program visits under these decisions, and under how many lists it visits what the functions do.
+fn row_text(alloc: Global, row: &Row<'_>, decisions: &[bool]) -> Result<String, AllocError> {
+    let visits = row.visits(alloc, decisions)?;
+    let count = agreeing(alloc, row)?;
+    format!(in alloc; "{visits}, {count} lists agree")
+}
+
+/// That of the first function linked. `order` has the functions in the order in which they are to stand.
 fn outcome(
     alloc: Global,
     bodies: &[Body<'_>],
-    references: &[TestReference],
+    calls: &[Vec<Call>],
     order: &[usize],
     decisions: &[bool],
 ) -> Result<String, AllocError> {
-    let calls = lists(alloc, bodies.len(), references)?;
-    let Some(Ok(program)) = linked(alloc, bodies, &calls)? else {
-        return format!(in alloc; "not linked");
-    };
+    let answer = linked(alloc, bodies, calls)?;
     let row = Row {
         bodies,
-        calls: &calls,
-        slots: program.slots.as_slice(),
+        calls,
+        slots: slots_of(&answer),
         order,
     };
-    let visits = row.visits(alloc, decisions)?;
-    let count = agreeing(alloc, &row)?;
-    format!(in alloc; "{visits}, {count} lists agree")
+    row_text(alloc, &row, decisions)
+}
+
+/// Functions with their references, and the order in which they are to stand.
+#[derive(Clone, Copy)]
+struct Functions<'a> {
+    slots: &'a [TestSlots<'a>],
+    references: &'a [TestReference],
+    order: &'a [usize],
+}
+
+/// Fails where the first of these functions doesn't visit this under these decisions.
+fn visits(
+    alloc: Global,
+    functions: Functions<'_>,
+    decisions: &[bool],
+    want: &str,
+) -> Result<(), Fail> {
+    let bodies = plain_bodies(alloc, functions.slots)?;
+    let calls = lists(alloc, bodies.len(), functions.references)?;
+    let text = outcome(alloc, &bodies, &calls, functions.order, decisions)?;
+    same(text.as_str(), want)
 }
 
 /// A program that calls itself: the place 2 is the first slot of its copy.
 #[test]
 fn calls_itself(rt: HostRuntime) -> Result<(), Fail> {
-    let bodies = [plain(&CALLS)];
-    let references = [(0, 0, Target::Function(0))];
-    let text = outcome(rt.alloc(), &bodies, &references, &[0, 0], &[])?;
-    assert_eq!(rt;
-        text.as_str(),
-        "0=0.0 2=0.0 2=0.0 2=0.0 2=0.0 2=0.0 2=0.0 2=0.0 2=0.0 2=0.0 2=0.0 2=0.0 2=0.0 2=0.0 2=0.0 2=0.0 2=0.0 2=0.0 2=0.0 2=0.0 Going, 31 lists agree"
-    );
-    Ok(())
+    let functions = Functions {
+        slots: &[&CALLS],
+        references: &[(0, 0, Target::Function(0))],
+        order: &[0, 0],
+    };
+    let want =
+        "0=0.0 2=0.0 2=0.0 2=0.0 2=0.0 2=0.0 2=0.0 2=0.0 2=0.0 2=0.0 2=0.0 2=0.0 2=0.0 2=0.0 2=0.0 \
+        2=0.0 2=0.0 2=0.0 2=0.0 2=0.0 Going, 31 lists agree";
+    visits(rt.alloc(), functions, &[], want)
 }
 
 /// P calls f and g, f calls g.
 #[test]
 fn calls_in_turn(rt: HostRuntime) -> Result<(), Fail> {
-    let bodies = [plain(&CALLS_TWICE), plain(&CALLS), plain(&ENDS)];
-    let references = [
-        (0, 0, Target::Function(1)),
-        (0, 1, Target::Function(2)),
-        (1, 0, Target::Function(2)),
-    ];
-    let text = outcome(rt.alloc(), &bodies, &references, &[0, 1, 2], &[])?;
-    assert_eq!(rt;
-        text.as_str(),
-        "0=0.0 3=1.0 5=2.0 4=1.1 1=0.1 5=2.0 2=0.2 Ended, 31 lists agree"
-    );
-    Ok(())
+    let functions = Functions {
+        slots: &[&CALLS_TWICE, &CALLS, &ENDS],
+        references: &[
+            (0, 0, Target::Function(1)),
+            (0, 1, Target::Function(2)),
+            (1, 0, Target::Function(2)),
+        ],
+        order: &[0, 1, 2],
+    };
+    let want = "0=0.0 3=1.0 5=2.0 4=1.1 1=0.1 5=2.0 2=0.2 Ended, 31 lists agree";
+    visits(rt.alloc(), functions, &[], want)
 }
 
 /// A jump by so many slots, where a register is not 0.
@@ -349,25 +392,24 @@ const fn branch(off: i16) -> bpf_insn {
 }
 
 /// What a program visits that branches over a call of a function, under these decisions.
-fn branch_outcome(alloc: Global, decisions: &[bool]) -> Result<String, AllocError> {
+fn branches(alloc: Global, decisions: &[bool], want: &str) -> Result<(), Fail> {
     let program = [branch(1), CALL, EXIT];
-    let bodies = [plain(&program), plain(&ENDS)];
-    let references = [(0, 1, Target::Function(1))];
-    outcome(alloc, &bodies, &references, &[0, 1], decisions)
+    let functions = Functions {
+        slots: &[&program, &ENDS],
+        references: &[(0, 1, Target::Function(1))],
+        order: &[0, 1],
+    };
+    visits(alloc, functions, decisions, want)
 }
 
 #[test]
 fn branch_over_a_call(rt: HostRuntime) -> Result<(), Fail> {
-    let taken = branch_outcome(rt.alloc(), &[true])?;
-    assert_eq!(rt; taken.as_str(), "0=0.0 2=0.2 Ended, 31 lists agree");
-    let passed = branch_outcome(rt.alloc(), &[false])?;
-    assert_eq!(rt;
-        passed.as_str(),
-        "0=0.0 1=0.1 3=1.0 2=0.2 Ended, 31 lists agree"
-    );
-    let waits = branch_outcome(rt.alloc(), &[])?;
-    assert_eq!(rt; waits.as_str(), "0=0.0 Waiting, 31 lists agree");
-    Ok(())
+    let taken = "0=0.0 2=0.2 Ended, 31 lists agree";
+    branches(rt.alloc(), &[true], taken)?;
+    let passed = "0=0.0 1=0.1 3=1.0 2=0.2 Ended, 31 lists agree";
+    branches(rt.alloc(), &[false], passed)?;
+    let waits = "0=0.0 Waiting, 31 lists agree";
+    branches(rt.alloc(), &[], waits)
 }
 
 /// A jump by the offset.
@@ -389,26 +431,26 @@ const fn long_jump(imm: i32) -> bpf_insn {
 }
 
 /// P loads the address of g, calls f, jumps over its exit and back to it. f calls g until a branch leads out.
-fn loop_outcome(alloc: Global, decisions: &[bool]) -> Result<String, AllocError> {
+fn loops(alloc: Global, decisions: &[bool], want: &str) -> Result<(), Fail> {
     let program = [LOAD, NOTHING, CALL, long_jump(1), EXIT, jump(-2)];
     let function = [branch(2), CALL, jump(-3), EXIT];
-    let bodies = [plain(&program), plain(&function), plain(&ENDS)];
-    let references = [
-        (0, 0, Target::Function(2)),
-        (0, 2, Target::Function(1)),
-        (1, 1, Target::Function(2)),
-    ];
-    outcome(alloc, &bodies, &references, &[0, 2, 1], decisions)
+    let functions = Functions {
+        slots: &[&program, &function, &ENDS],
+        references: &[
+            (0, 0, Target::Function(2)),
+            (0, 2, Target::Function(1)),
+            (1, 1, Target::Function(2)),
+        ],
+        order: &[0, 2, 1],
+    };
+    visits(alloc, functions, decisions, want)
 }
 
 #[test]
 fn loads_jumps_and_loops(rt: HostRuntime) -> Result<(), Fail> {
-    let twice = loop_outcome(rt.alloc(), &[false, true])?;
-    assert_eq!(rt;
-        twice.as_str(),
-        "0=0.0 2=0.2 7=1.0 8=1.1 6=2.0 9=1.2 7=1.0 10=1.3 3=0.3 5=0.5 4=0.4 Ended, 31 lists agree"
-    );
-    let waits = loop_outcome(rt.alloc(), &[])?;
-    assert_eq!(rt; waits.as_str(), "0=0.0 2=0.2 7=1.0 Waiting, 31 lists agree");
-    Ok(())
+    let twice =
+        "0=0.0 2=0.2 7=1.0 8=1.1 6=2.0 9=1.2 7=1.0 10=1.3 3=0.3 5=0.5 4=0.4 Ended, 31 lists agree";
+    loops(rt.alloc(), &[false, true], twice)?;
+    let waits = "0=0.0 2=0.2 7=1.0 Waiting, 31 lists agree";
+    loops(rt.alloc(), &[], waits)
 }

@@ -1,51 +1,56 @@
 // Targets of sections, in small types of a kernel.
 
-use ebpf_btf::{Btf, BtfError, BtfType};
+use super::super::same::same;
+use super::super::types::{add_function, add_typedef, add_variable};
+use ebpf_btf::{Btf, BtfError};
 use ebpf_loading::attach_target;
 use std::alloc::{AllocError, Global};
-use std::process::Abort;
 use std::test::Fail;
 
-fn add_function(types: &mut Btf, name: &str) -> Result<u32, BtfError> {
-    let name_offset = types.add_string(name)?;
-    types.add_type(&BtfType::Func {
-        name_offset,
-        btf_type: 0,
-    })
+/// A kind of types.
+#[derive(Clone, Copy)]
+enum Kind {
+    Function,
+    Typedef,
+    Variable,
 }
 
-fn add_typedef(types: &mut Btf, name: &str) -> Result<u32, BtfError> {
+/// The types of a kernel from 2 on; the name of type 1 can't be read.
+const KERNEL: [(Kind, &str); 8] = [
+    (Kind::Variable, "do_exit"),
+    (Kind::Typedef, "do_exit"),
+    (Kind::Function, "do_exit"),
+    (Kind::Function, "do_exit"),
+    (Kind::Function, "btf_trace_sched_switch"),
+    (Kind::Typedef, "btf_trace_sched_switch"),
+    (Kind::Function, "bpf_lsm_file_open"),
+    (Kind::Function, "bpf_iter_task"),
+];
+
+fn add_named_function(types: &mut Btf, name: &str) -> Result<u32, BtfError> {
     let name_offset = types.add_string(name)?;
-    types.add_type(&BtfType::Typedef {
-        name_offset,
-        btf_type: 0,
-    })
+    add_function(types, name_offset)
 }
 
-fn add_variable(types: &mut Btf, name: &str) -> Result<u32, BtfError> {
-    let name_offset = types.add_string(name)?;
-    types.add_type(&BtfType::Var {
-        name_offset,
-        btf_type: 0,
-        linkage: 1,
-    })
+fn add(types: &mut Btf, kind: Kind, name: &str) -> Result<u32, BtfError> {
+    match kind {
+        Kind::Function => add_named_function(types, name),
+        Kind::Typedef => add_typedef(types, name, 0),
+        Kind::Variable => add_variable(types, name),
+    }
 }
 
-/// Types with the ids 1 to 9; the name of type 1 can't be read.
+fn add_kernel(types: &mut Btf) -> Result<(), BtfError> {
+    add_function(types, 9999)?;
+    for (kind, name) in KERNEL.iter() {
+        add(types, *kind, name)?;
+    }
+    Ok(())
+}
+
 fn kernel(alloc: Global) -> Result<Btf, BtfError> {
     let mut types = Btf::new(alloc)?;
-    types.add_type(&BtfType::Func {
-        name_offset: 9999,
-        btf_type: 0,
-    })?;
-    add_variable(&mut types, "do_exit")?;
-    add_typedef(&mut types, "do_exit")?;
-    add_function(&mut types, "do_exit")?;
-    add_function(&mut types, "do_exit")?;
-    add_function(&mut types, "btf_trace_sched_switch")?;
-    add_typedef(&mut types, "btf_trace_sched_switch")?;
-    add_function(&mut types, "bpf_lsm_file_open")?;
-    add_function(&mut types, "bpf_iter_task")?;
+    add_kernel(&mut types)?;
     Ok(types)
 }
 
@@ -100,57 +105,54 @@ const TOLD: [(&str, &str); 14] = [
     ("fentry/task", "NotFound { name: \"task\" }"),
 ];
 
-/// Sees what is told of the target of a section.
-fn expect(
-    rt: &impl Abort,
-    alloc: Global,
-    types: &Btf,
-    section: &str,
-    wanted: &str,
-) -> Result<(), AllocError> {
+/// What is told of the target of a section.
+fn target(alloc: Global, types: &Btf, section: &str) -> Result<String, AllocError> {
     let target = attach_target(alloc, section, types)?;
-    let told = format!(in alloc; "{target:?}")?;
-    assert_eq!(rt; told.as_str(), wanted, "of {section}");
-    Ok(())
+    format!(in alloc; "{target:?}")
 }
 
-/// Sees what is told of the targets of sections.
-fn expect_all(
-    rt: &impl Abort,
-    alloc: Global,
-    sections: &[&str],
-    wanted: &str,
-) -> Result<(), BtfError> {
-    let types = kernel(alloc)?;
+/// Fails where that isn't this.
+fn is_told(alloc: Global, types: &Btf, section: &str, want: &str) -> Result<(), Fail> {
+    let text = target(alloc, types, section)?;
+    same(text.as_str(), want)
+}
+
+/// Fails where it isn't of each of these sections.
+fn are_told(alloc: Global, types: &Btf, sections: &[&str], want: &str) -> Result<(), Fail> {
     for section in sections {
-        expect(rt, alloc, &types, section, wanted)?;
+        is_told(alloc, types, section, want)?;
     }
     Ok(())
 }
 
 #[test]
 fn functions(rt: HostRuntime) -> Result<(), Fail> {
-    expect_all(&rt, rt.alloc(), &FUNCTIONS, "Found { type_id: 4 }")?;
-    Ok(())
+    let types = kernel(rt.alloc())?;
+    are_told(rt.alloc(), &types, &FUNCTIONS, "Found { type_id: 4 }")
 }
 
 #[test]
 fn no_names(rt: HostRuntime) -> Result<(), Fail> {
-    expect_all(&rt, rt.alloc(), &UNNAMED, "Unnamed")?;
-    Ok(())
+    let types = kernel(rt.alloc())?;
+    are_told(rt.alloc(), &types, &UNNAMED, "Unnamed")
 }
 
 #[test]
 fn no_targets(rt: HostRuntime) -> Result<(), Fail> {
-    expect_all(&rt, rt.alloc(), &NOT_WANTED, "NotWanted")?;
+    let types = kernel(rt.alloc())?;
+    are_told(rt.alloc(), &types, &NOT_WANTED, "NotWanted")
+}
+
+/// Fails where each of these sections isn't told of as is said beside it.
+fn are_told_so(alloc: Global, types: &Btf, told: &[(&str, &str)]) -> Result<(), Fail> {
+    for (section, want) in told {
+        is_told(alloc, types, section, want)?;
+    }
     Ok(())
 }
 
 #[test]
 fn prefixes(rt: HostRuntime) -> Result<(), Fail> {
     let types = kernel(rt.alloc())?;
-    for (section, wanted) in &TOLD {
-        expect(&rt, rt.alloc(), &types, section, wanted)?;
-    }
-    Ok(())
+    are_told_so(rt.alloc(), &types, &TOLD)
 }

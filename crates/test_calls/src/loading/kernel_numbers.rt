@@ -1,17 +1,18 @@
 // Numbers that a kernel knows, by small enumerations.
 
+use super::super::same::{same_answer, same_text};
+use super::super::types::add_typedef;
 use ebpf_btf::{Btf, BtfEnum, BtfError, BtfType, Rows};
 use ebpf_loading::KernelNumbers;
 use std::alloc::Global;
 use std::test::Fail;
 
-fn add_enumeration(
+/// Enumerators of these names and numbers.
+fn variants_of(
     alloc: Global,
     types: &mut Btf,
-    name: &str,
     enumerators: &[(&str, u32)],
-) -> Result<u32, BtfError> {
-    let name_offset = types.add_string(name)?;
+) -> Result<Vec<BtfEnum>, BtfError> {
     let mut variants = Vec::new(alloc);
     for (name, value) in enumerators {
         let name_offset = types.add_string(name)?;
@@ -20,49 +21,60 @@ fn add_enumeration(
             value: *value,
         })?;
     }
+    Ok(variants)
+}
+
+/// An enumeration whose name is at an offset.
+fn add_variants(types: &mut Btf, name_offset: u32, variants: &[BtfEnum]) -> Result<u32, BtfError> {
     types.add_type(&BtfType::Enum {
         name_offset,
         size: 4,
         kind_flag: false,
-        variants: Rows::of(&variants),
+        variants: Rows::of(variants),
     })
 }
 
-/// A kernel with the helpers 0, 1 and 7 and the types of maps 0 and 2; the names of helpers 7 are odd.
+fn add_enumeration(
+    alloc: Global,
+    types: &mut Btf,
+    name: &str,
+    enumerators: &[(&str, u32)],
+) -> Result<u32, BtfError> {
+    let name_offset = types.add_string(name)?;
+    let variants = variants_of(alloc, types, enumerators)?;
+    add_variants(types, name_offset, &variants)
+}
+
+/// The enumerators of a kernel with the helpers 0, 1 and 7, of which the names of helpers 7 are odd.
+const HELPER_NAMES: [(&str, u32); 4] = [
+    ("BPF_FUNC_unspec", 0),
+    ("BPF_FUNC_map_lookup_elem", 1),
+    ("helper_7", 7),
+    ("__BPF_FUNC_MAX_ID", 8),
+];
+
+/// Those of another enumeration.
+const OTHER_NAMES: [(&str, u32); 1] = [("BPF_FUNC_of_another_enumeration", 5)];
+
+/// Those of the types of maps 0 and 2.
+const MAP_TYPE_NAMES: [(&str, u32); 3] = [
+    ("BPF_MAP_TYPE_UNSPEC", 0),
+    ("BPF_MAP_TYPE_ARRAY", 2),
+    ("__MAX_BPF_MAP_TYPE", 3),
+];
+
+fn add_kernel(alloc: Global, types: &mut Btf) -> Result<(), BtfError> {
+    add_typedef(types, "bpf_func_id", 2)?;
+    add_enumeration(alloc, types, "bpf_func_id", &HELPER_NAMES)?;
+    add_enumeration(alloc, types, "bpf_func_id", &OTHER_NAMES)?;
+    add_enumeration(alloc, types, "bpf_map_type", &MAP_TYPE_NAMES)?;
+    Ok(())
+}
+
+/// A kernel with these.
 fn kernel(alloc: Global) -> Result<Btf, BtfError> {
     let mut types = Btf::new(alloc)?;
-    let name_offset = types.add_string("bpf_func_id")?;
-    types.add_type(&BtfType::Typedef {
-        name_offset,
-        btf_type: 2,
-    })?;
-    add_enumeration(
-        alloc,
-        &mut types,
-        "bpf_func_id",
-        &[
-            ("BPF_FUNC_unspec", 0),
-            ("BPF_FUNC_map_lookup_elem", 1),
-            ("helper_7", 7),
-            ("__BPF_FUNC_MAX_ID", 8),
-        ],
-    )?;
-    add_enumeration(
-        alloc,
-        &mut types,
-        "bpf_func_id",
-        &[("BPF_FUNC_of_another_enumeration", 5)],
-    )?;
-    add_enumeration(
-        alloc,
-        &mut types,
-        "bpf_map_type",
-        &[
-            ("BPF_MAP_TYPE_UNSPEC", 0),
-            ("BPF_MAP_TYPE_ARRAY", 2),
-            ("__MAX_BPF_MAP_TYPE", 3),
-        ],
-    )?;
+    add_kernel(alloc, &mut types)?;
     Ok(types)
 }
 
@@ -88,12 +100,26 @@ const NAMES: [(u32, Option<&str>); 5] = [
 /// Numbers of types of maps, and whether the kernel knows them.
 const MAP_TYPES: [(u32, bool); 4] = [(0, true), (1, false), (2, true), (3, false)];
 
+/// Fails where a helper isn't known so.
+fn knows_helper(types: &Btf, number: u32, want: Option<bool>) -> Result<(), Fail> {
+    same_answer(KernelNumbers::of(types).knows_helper(number), want)
+}
+
+/// Fails where a type of maps isn't known so.
+fn knows_map_type(types: &Btf, number: u32, want: Option<bool>) -> Result<(), Fail> {
+    same_answer(KernelNumbers::of(types).knows_map_type(number), want)
+}
+
+/// Fails where a helper has another name.
+fn names_helper(types: &Btf, number: u32, want: Option<&str>) -> Result<(), Fail> {
+    same_text(KernelNumbers::of(types).helper_name(number), want)
+}
+
 #[test]
 fn helpers(rt: HostRuntime) -> Result<(), Fail> {
     let types = kernel(rt.alloc())?;
-    let numbers = KernelNumbers::of(&types);
-    for (number, known) in &HELPERS {
-        assert_eq!(rt; numbers.knows_helper(*number), Some(*known), "of {number}");
+    for (number, known) in HELPERS.iter() {
+        knows_helper(&types, *number, Some(*known))?;
     }
     Ok(())
 }
@@ -101,9 +127,8 @@ fn helpers(rt: HostRuntime) -> Result<(), Fail> {
 #[test]
 fn names(rt: HostRuntime) -> Result<(), Fail> {
     let types = kernel(rt.alloc())?;
-    let numbers = KernelNumbers::of(&types);
-    for (number, name) in &NAMES {
-        assert!(rt; numbers.helper_name(*number) == *name, "of {number}");
+    for (number, name) in NAMES.iter() {
+        names_helper(&types, *number, *name)?;
     }
     Ok(())
 }
@@ -111,13 +136,8 @@ fn names(rt: HostRuntime) -> Result<(), Fail> {
 #[test]
 fn map_types(rt: HostRuntime) -> Result<(), Fail> {
     let types = kernel(rt.alloc())?;
-    let numbers = KernelNumbers::of(&types);
-    for (number, known) in &MAP_TYPES {
-        assert_eq!(rt;
-            numbers.knows_map_type(*number),
-            Some(*known),
-            "of {number}"
-        );
+    for (number, known) in MAP_TYPES.iter() {
+        knows_map_type(&types, *number, Some(*known))?;
     }
     Ok(())
 }
@@ -126,9 +146,7 @@ fn map_types(rt: HostRuntime) -> Result<(), Fail> {
 #[test]
 fn nothing(rt: HostRuntime) -> Result<(), Fail> {
     let types = Btf::new(rt.alloc())?;
-    let numbers = KernelNumbers::of(&types);
-    assert_eq!(rt; numbers.knows_helper(1), None);
-    assert_eq!(rt; numbers.knows_map_type(1), None);
-    assert_eq!(rt; numbers.helper_name(1), None);
-    Ok(())
+    knows_helper(&types, 1, None)?;
+    knows_map_type(&types, 1, None)?;
+    names_helper(&types, 1, None)
 }

@@ -1,5 +1,6 @@
 // The types that maps are created with, by small types of an object.
 
+use super::super::types::add_variable;
 use ebpf_base::Items;
 use ebpf_btf::{Btf, BtfError, BtfType, Rows};
 use ebpf_loading::{MapTypeIds, map_types};
@@ -8,41 +9,50 @@ use ebpf_parts::maps::{
     BtfMap, BtfMapDef, LegacyMap, Map, PinningType, bpf_map_def, bpf_map_info, parse_map_info,
 };
 use std::alloc::{AllocError, Global};
-use std::process::Abort;
 use std::test::Fail;
 
+/// A section of data without entries.
+fn add_section(types: &mut Btf, name: &str, size: u32) -> Result<u32, BtfError> {
+    let name_offset = types.add_string(name)?;
+    types.add_type(&BtfType::DataSec {
+        name_offset,
+        size,
+        entries: Rows::of(&[]),
+    })
+}
+
 /// `.bss` of 8 bytes with size 0 in its DATASEC, `.data` of 8 with size 8, `.rodata` of 8 with size 4.
+fn add_object(types: &mut Btf) -> Result<(), BtfError> {
+    add_variable(types, ".bss")?;
+    for (name, size) in [(".bss", 0), (".data", 8), (".rodata", 4), (".bss", 8)] {
+        add_section(types, name, size)?;
+    }
+    Ok(())
+}
+
 fn object_types(alloc: Global) -> Result<Btf, BtfError> {
     let mut types = Btf::new(alloc)?;
-    let name_offset = types.add_string(".bss")?;
-    types.add_type(&BtfType::Var {
-        name_offset,
-        btf_type: 0,
-        linkage: 1,
-    })?;
-    for (name, size) in [(".bss", 0), (".data", 8), (".rodata", 4), (".bss", 8)] {
-        let name_offset = types.add_string(name)?;
-        types.add_type(&BtfType::DataSec {
-            name_offset,
-            size,
-            entries: Rows::of(&[]),
-        })?;
-    }
+    add_object(&mut types)?;
     Ok(types)
+}
+
+/// The definition of the map of a data section, whose value has a size.
+fn data_definition(value_size: u32) -> bpf_map_def {
+    bpf_map_def {
+        map_type: 2,
+        key_size: 4,
+        value_size,
+        max_entries: 1,
+        map_flags: 0,
+        id: 0,
+        pinning: PinningType::None,
+    }
 }
 
 /// The map of a data section of 8 bytes, whose value has a size.
 fn data_map(alloc: Global, kind: EbpfSectionKind, value_size: u32) -> Result<Map, AllocError> {
     Ok(Map::Legacy(LegacyMap {
-        def: bpf_map_def {
-            map_type: 2,
-            key_size: 4,
-            value_size,
-            max_entries: 1,
-            map_flags: 0,
-            id: 0,
-            pinning: PinningType::None,
-        },
+        def: data_definition(value_size),
         inner_def: None,
         section_index: 3,
         section_kind: kind,
@@ -75,8 +85,10 @@ const TYPED: [u32; 20] = [
     0, 1, 2, 3, 5, 6, 9, 10, 11, 19, 20, 21, 24, 27, 28, 29, 30, 31, 32, 34,
 ];
 
-/// Sections of data, the sizes of their maps' values, and the types of these.
-const DATA: [(&str, EbpfSectionKind, u32, u32); 7] = [
+/// A section of data, the size of its map's values, and the type of these.
+type DataRow = (&'static str, EbpfSectionKind, u32, u32);
+
+const DATA: [DataRow; 7] = [
     (".bss", EbpfSectionKind::Bss, 8, 2),
     (".bss", EbpfSectionKind::Bss, 16, 0),
     (".data", EbpfSectionKind::Data, 8, 3),
@@ -86,85 +98,99 @@ const DATA: [(&str, EbpfSectionKind, u32, u32); 7] = [
     (".data", EbpfSectionKind::Maps, 8, 0),
 ];
 
-/// Sees what maps of some types are created with, whose definitions state the types 5 and 6.
-fn expect_all(
-    rt: &impl Abort,
+/// Fails where a map isn't created with these types.
+fn is_created_with(types: &Btf, name: &str, map: &Map, key: u32, value: u32) -> Result<(), Fail> {
+    let got = map_types(name, map, types);
+    if got == (MapTypeIds { key, value }) {
+        return Ok(());
+    }
+    Err(Fail::new(format_args!("{got:?} is not {key}, {value}")))
+}
+
+/// Fails where a map of a type, whose definition states the types 5 and 6, isn't created with these.
+fn is_stated(alloc: Global, types: &Btf, map_type: u32, key: u32, value: u32) -> Result<(), Fail> {
+    let map = stated_map(alloc, map_type);
+    is_created_with(types, ".data", &map, key, value)
+}
+
+/// Fails where maps of some types aren't.
+fn are_stated(
     alloc: Global,
+    types: &Btf,
     numbers: &[u32],
-    wanted: MapTypeIds,
-) -> Result<(), BtfError> {
-    let types = object_types(alloc)?;
+    key: u32,
+    value: u32,
+) -> Result<(), Fail> {
     for map_type in numbers {
-        let map = stated_map(alloc, *map_type);
-        assert_eq!(rt; map_types(".data", &map, &types), wanted, "of {map_type}");
+        is_stated(alloc, types, *map_type, key, value)?;
     }
     Ok(())
 }
 
 #[test]
 fn by_type_of_map(rt: HostRuntime) -> Result<(), Fail> {
-    expect_all(&rt, rt.alloc(), &UNTYPED, MapTypeIds { key: 0, value: 0 })?;
-    expect_all(&rt, rt.alloc(), &TYPED, MapTypeIds { key: 5, value: 6 })?;
-    expect_all(&rt, rt.alloc(), &[26], MapTypeIds { key: 5, value: 0 })?;
-    Ok(())
+    let alloc = rt.alloc();
+    let types = object_types(alloc)?;
+    are_stated(alloc, &types, &UNTYPED, 0, 0)?;
+    are_stated(alloc, &types, &TYPED, 5, 6)?;
+    are_stated(alloc, &types, &[26], 5, 0)
+}
+
+/// Fails where the map of a section of data isn't created with this type of its value.
+fn is_of_data(alloc: Global, types: &Btf, row: &DataRow) -> Result<(), Fail> {
+    let (name, kind, value_size, value) = *row;
+    let map = data_map(alloc, kind, value_size)?;
+    is_created_with(types, name, &map, 0, value)
 }
 
 #[test]
 fn of_data_sections(rt: HostRuntime) -> Result<(), Fail> {
     let types = object_types(rt.alloc())?;
-    for (name, kind, value_size, value) in &DATA {
-        let map = data_map(rt.alloc(), *kind, *value_size)?;
-        let ids = map_types(name, &map, &types);
-        let value = *value;
-        assert_eq!(rt;
-            ids,
-            MapTypeIds { key: 0, value },
-            "of {name} with {value_size} bytes"
-        );
+    for row in DATA.iter() {
+        is_of_data(rt.alloc(), &types, row)?;
     }
     Ok(())
+}
+
+/// The definition of a map of a type that states these types.
+fn definition(map_type: u32, key: u32, value: u32) -> BtfMapDef {
+    BtfMapDef {
+        map_type,
+        key_size: 4,
+        value_size: 4,
+        max_entries: 1,
+        map_flags: 0,
+        map_extra: 0,
+        pinning: PinningType::None,
+        btf_key_type_id: key,
+        btf_value_type_id: value,
+    }
+}
+
+/// A map with an inner one.
+fn outer_map(alloc: Global) -> Map {
+    Map::Btf(BtfMap {
+        def: definition(12, 5, 6),
+        inner_def: Some(definition(1, 7, 8)),
+        section_index: 0,
+        symbol_index: 0,
+        bytes: Items::new(alloc),
+    })
+}
+
+/// Fails where the inner map isn't created with the types that it states.
+fn inner_is_stated(types: &Btf, map: &Map) -> Result<(), Fail> {
+    match map.inner()? {
+        Some(inner) => is_created_with(types, "m", &inner, 7, 8),
+        None => Err(Fail::new("no inner map")),
+    }
 }
 
 /// An inner map is asked as any other.
 #[test]
 fn of_inner_maps(rt: HostRuntime) -> Result<(), Fail> {
-    let alloc = rt.alloc();
-    let types = object_types(alloc)?;
-    let map = Map::Btf(BtfMap {
-        def: BtfMapDef {
-            map_type: 12,
-            key_size: 4,
-            value_size: 4,
-            max_entries: 1,
-            map_flags: 0,
-            map_extra: 0,
-            pinning: PinningType::None,
-            btf_key_type_id: 5,
-            btf_value_type_id: 6,
-        },
-        inner_def: Some(BtfMapDef {
-            map_type: 1,
-            key_size: 4,
-            value_size: 4,
-            max_entries: 1,
-            map_flags: 0,
-            map_extra: 0,
-            pinning: PinningType::None,
-            btf_key_type_id: 7,
-            btf_value_type_id: 8,
-        }),
-        section_index: 0,
-        symbol_index: 0,
-        bytes: Items::new(alloc),
-    });
-    assert_eq!(rt;
-        map_types("m", &map, &types),
-        MapTypeIds { key: 0, value: 0 }
-    );
-    let inner = map.inner()?.ok_or("no inner map")?;
-    assert_eq!(rt;
-        map_types("m", &inner, &types),
-        MapTypeIds { key: 7, value: 8 }
-    );
-    Ok(())
+    let types = object_types(rt.alloc())?;
+    let map = outer_map(rt.alloc());
+    is_created_with(&types, "m", &map, 0, 0)?;
+    inner_is_stated(&types, &map)
 }

@@ -1,0 +1,70 @@
+//! Types that tests are made of, each added by one call.
+
+use ebpf_btf::{Btf, BtfError, BtfMember, BtfType, Rows};
+
+/// An integer of four bytes.
+pub fn add_int(btf: &mut Btf) -> Result<u32, BtfError> {
+    btf.add_type(&BtfType::Int {
+        name_offset: 0,
+        size: 4,
+        int_data: 32,
+    })
+}
+
+/// A pointer to nothing.
+pub fn add_pointer(btf: &mut Btf) -> Result<u32, BtfError> {
+    btf.add_type(&BtfType::Ptr {
+        name_offset: 0,
+        btf_type: 0,
+    })
+}
+
+/// A struct whose name is at an offset.
+pub fn add_struct(
+    btf: &mut Btf,
+    name_offset: u32,
+    size: u32,
+    members: &[BtfMember],
+) -> Result<u32, BtfError> {
+    btf.add_type(&BtfType::Struct {
+        name_offset,
+        size,
+        kind_flag: false,
+        members: Rows::of(members),
+    })
+}
+
+pub fn member(name_offset: u32, btf_type: u32, offset: u32) -> BtfMember {
+    BtfMember {
+        name_offset,
+        btf_type,
+        offset,
+    }
+}
+
+/// A name for a type.
+pub fn add_typedef(btf: &mut Btf, name: &str, btf_type: u32) -> Result<u32, BtfError> {
+    let name_offset = btf.add_string(name)?;
+    btf.add_type(&BtfType::Typedef {
+        name_offset,
+        btf_type,
+    })
+}
+
+/// A function whose name is at an offset.
+pub fn add_function(btf: &mut Btf, name_offset: u32) -> Result<u32, BtfError> {
+    btf.add_type(&BtfType::Func {
+        name_offset,
+        btf_type: 0,
+    })
+}
+
+/// A variable.
+pub fn add_variable(btf: &mut Btf, name: &str) -> Result<u32, BtfError> {
+    let name_offset = btf.add_string(name)?;
+    btf.add_type(&BtfType::Var {
+        name_offset,
+        btf_type: 0,
+        linkage: 1,
+    })
+}
