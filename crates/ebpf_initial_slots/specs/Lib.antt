@@ -1,0 +1,4 @@
+pub mod MapVariables
+pub mod InitialSlots
+pub mod InitialSlotMemory
+pub mod PrivateContracts

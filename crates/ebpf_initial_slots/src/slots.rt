@@ -1,0 +1,113 @@
+//! The initial values of an object's maps.
+
+ghost use Rattle.std.specs.Prelude.{◌≡◌, ◌==◌, IfOk};
+ghost use Rattle.std.specs.List.{find};
+ghost use Rattle.ebpf_base.specs.Faults.{Refuses};
+ghost use Rattle.ebpf_elf.specs.Sections.{sections};
+ghost use Rattle.ebpf_initial_slots.specs.InitialSlotMemory.{is_initial_slot_memory};
+ghost use Rattle.ebpf_initial_slots.specs.InitialSlots.{initial_slots, initial_slots_fault, maps_section, relocations_at, slots_fault, slots_of_section};
+ghost use Rattle.ebpf_initial_slots.specs.MapVariables.{map_variables};
+
+use crate::error::InitialSlotError;
+use crate::gather::{gather, slots_in_order};
+use crate::slot::InitialSlot;
+use crate::variables::{MAPS, map_variables};
+use ebpf_base::Items;
+use ebpf_elf::{ElfFile, ElfSection, Sections};
+use ebpf_object::Object;
+use std::alloc::Global;
+
+/// The section with an index.
+fn section_at<'a>(sections: Sections<'a>, index: usize) -> Option<ElfSection<'a>>
+    ensures { result ≡ find (λ s. s.index == index) sections.entry }
+{
+    for section in sections {
+        if section.index().0 == index {
+            return Some(section);
+        }
+    }
+    None
+}
+
+/// The index of the section `.maps`.
+fn maps_section(object: &Object) -> Option<usize>
+    ensures { result ≡ maps_section object.now }
+{
+    match object.section_infos.get(MAPS) {
+        Some(index) => Some(index.0),
+        None => None,
+    }
+}
+
+/// What the relocations of the section with an index put into its maps.
+fn slots_of_section(
+    alloc: Global,
+    file: &ElfFile<'_>,
+    object: &Object,
+    index: usize,
+) -> Result<Items<InitialSlot>, InitialSlotError>
+    ensures slots { IfOk result (λ slots. slots ≡ slots_of_section file.now object.now index) }
+    ensures fault { Refuses is_initial_slot_memory result (slots_fault object.now index (map_variables object.now index) (relocations_at file.now index)) }
+{
+    let Some(section) = section_at(file.sections(), index) else {
+        return Ok(Items::new(alloc));
+    };
+    let variables = match map_variables(alloc, object, index) {
+        Ok(variables) => variables,
+        Err(error) => return Err(error),
+    };
+    let relocations = section.relocations();
+    match gather(alloc, object, index, variables.as_slice(), relocations) {
+        Ok(found) => Ok(slots_in_order(alloc, &found)?),
+        Err(error) => Err(error),
+    }
+}
+
+/// The initial values of the maps of an object that hold maps or programs: for each relocation of the section `.maps`, by
+/// map and index, the map or the program that stands there, in the order of the maps' names by their bytes, then of the
+/// indices. Of two relocations at one index of a map the later stands. An index is a key of the map, too.
+///
+/// `file` are the bytes of the file that the object was parsed from, as its symbols, maps and programs have been since; of
+/// other bytes the answer is that of their relocations over this object. An array of programs is read in
+/// `Reading::Broad` alone.
+///
+/// A relocation's map is that whose variable holds the 8 bytes from the relocation's offset on: the first in the order of
+/// the entries of the first DATASEC `.maps` that names a map of the section. It has the entry's offset and size, or, where
+/// the size of the DATASEC is 0, as compilers write it, the address of its symbol as offset. The index is
+/// (the relocation's offset - the variable's offset - the offset of `values`) / 8.
+///
+/// A loader puts the maps once all maps exist, and the programs once all are loaded.
+///
+/// As libbpf 1.5 does (`bpf_object__collect_map_relos`): of several sections `.maps` the last counts, and those of longer
+/// names, as `.maps.a`, have no initial values. Unlike it, relocations that lead to no variable for want of types or of
+/// the DATASEC are `OutsideMaps`, and a section without relocations is never refused.
+///
+/// # Errors
+///
+/// `ElfError` where the bytes are no file. Then the first fault of the first relocation that has one, by section of
+/// relocations and entry: `UnknownSymbol` where the object has no symbol of its index; `OutsideMaps` where no variable
+/// holds its place; of a map of maps (types 12 and 13) `NotInMaps` where the symbol stands in another section than
+/// `.maps` or in none, `UnsupportedKeySize` where a hash of maps has keys of other than 4 bytes, `UnknownMap` where no map
+/// has the symbol's name; of an array of programs (type 3) `UnknownProgram` where no program has the symbol's name,
+/// `NotAnEntryPoint` where that program has another section or address than the symbol; `UnsupportedMapType` of another
+/// map; `NoValues` where the variable's type, TYPEDEFs, CONST, VOLATILE, RESTRICT and TYPE_TAGs followed, is no STRUCT
+/// whose last member is `values`; `OutsideValues` where the place is before them; `Misaligned` where it is no multiple of
+/// 8 bytes behind their begin. `OutOfMemory` only where memory was refused.
+#[tactic(auto, unfolding(crate::specs::InitialSlots::initial_slots, crate::specs::InitialSlots::initial_slots_fault))]
+pub fn initial_slots(
+    alloc: Global,
+    file: &[u8],
+    object: &Object,
+) -> Result<Items<InitialSlot>, InitialSlotError>
+    ensures slots { IfOk result (λ slots. slots ≡ initial_slots file.now object.now) }
+    ensures fault { Refuses is_initial_slot_memory result (initial_slots_fault file.now object.now) }
+{
+    let file = match ElfFile::parse(file) {
+        Ok(file) => file,
+        Err(error) => return Err(InitialSlotError::ElfError(error)),
+    };
+    match maps_section(object) {
+        Some(index) => slots_of_section(alloc, &file, object, index),
+        None => Ok(Items::new(alloc)),
+    }
+}
