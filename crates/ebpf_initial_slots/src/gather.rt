@@ -1,6 +1,6 @@
 //! What relocations put into maps, by map and index.
 
-ghost use Rattle.std.specs.Prelude.{◌≡◌, ◌++◌, ◌∷◌, [], map, fold, IfOk, IsTrue, OnOk};
+ghost use Rattle.std.specs.Prelude.{◌≡◌, ◌<◌, ◌/◌, ◌++◌, ◌∷◌, [], map, fold, IfOk, IfSome, IsTrue, OnOk};
 ghost use Rattle.std.specs.FinMap as finite;
 ghost use Rattle.std.specs.List.{find};
 ghost use Rattle.std.specs.Option.{option_copied};
@@ -29,7 +29,8 @@ fn holds_slot(place: u64, variable: &MapVariable) -> bool
 
 /// The first variable that does.
 fn holder(place: u64, variables: &[MapVariable]) -> Option<&MapVariable>
-    ensures { option_copied result ≡ find (holds_slot place) variables.now }
+    ensures first { option_copied result ≡ find (holds_slot place) variables.now }
+    ensures holds { IfSome result (λ v. IsTrue (holds_slot place v.now)) }
 {
     for variable in variables {
         if holds_slot(place, variable) {
@@ -37,6 +38,14 @@ fn holder(place: u64, variables: &[MapVariable]) -> Option<&MapVariable>
         }
     }
     None
+}
+
+/// The index of the value that begins so many bytes behind the first one, in a variable of a size.
+fn value_index(behind: u64, size: u32) -> u32
+    requires { behind < size }
+    ensures { result ≡ behind / 8 }
+{
+    (behind / 8) as u32
 }
 
 /// The index of a place in `values` that begin at an offset in a variable.
@@ -54,7 +63,7 @@ fn index_from(variable: &MapVariable, place: u64, values: u32) -> Result<u32, In
         let map = variable.name.clone()?;
         return Err(InitialSlotError::Misaligned { map, place });
     }
-    Ok(((behind - values) / 8) as u32)
+    Ok(value_index(behind - values, variable.size))
 }
 
 /// The index of a place in the `values` of a variable.
