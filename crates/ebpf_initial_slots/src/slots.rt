@@ -1,11 +1,11 @@
 //! The initial values of an object's maps.
 
-ghost use Rattle.std.specs.Prelude.{◌≡◌, ◌==◌, IfOk};
+ghost use Rattle.std.specs.Prelude.{◌≡◌, ◌==◌, [], unwrap_or, IfOk};
 ghost use Rattle.std.specs.List.{find};
 ghost use Rattle.ebpf_base.specs.Faults.{Refuses};
 ghost use Rattle.ebpf_elf.specs.Sections.{sections};
 ghost use Rattle.ebpf_initial_slots.specs.InitialSlotMemory.{is_initial_slot_memory};
-ghost use Rattle.ebpf_initial_slots.specs.InitialSlots.{initial_slots, initial_slots_fault, maps_section, relocations_at, slots_fault, slots_of_section};
+ghost use Rattle.ebpf_initial_slots.specs.InitialSlots.{by_map_and_index, initial_slots, initial_slots_fault, maps_section, relocations_at, slots_fault, slots_in_order, slots_of_section, slots_put};
 ghost use Rattle.ebpf_initial_slots.specs.MapVariables.{map_variables};
 
 use crate::error::InitialSlotError;
@@ -13,7 +13,7 @@ use crate::gather::{gather, slots_in_order};
 use crate::slot::InitialSlot;
 use crate::variables::{MAPS, map_variables};
 use ebpf_base::Items;
-use ebpf_elf::{ElfFile, ElfSection, Sections};
+use ebpf_elf::{ElfFile, ElfSection, Relocations, Sections};
 use ebpf_object::Object;
 use std::alloc::Global;
 
@@ -39,7 +39,39 @@ fn maps_section(object: &Object) -> Option<usize>
     }
 }
 
+/// The relocations of the section with an index, where there is one.
+fn relocations_at<'a>(file: &ElfFile<'a>, index: usize) -> Option<Relocations<'a>>
+    ensures { relocations_at file.now index ≡ unwrap_or result [] }
+{
+    match section_at(file.sections(), index) {
+        Some(section) => Some(section.relocations()),
+        None => None,
+    }
+}
+
+/// What relocations put into the maps of the section with an index, in order.
+fn slots_put(
+    alloc: Global,
+    object: &Object,
+    section: usize,
+    relocations: Relocations<'_>,
+) -> Result<Items<InitialSlot>, InitialSlotError>
+    ensures slots { IfOk result (λ slots. slots ≡ slots_in_order (by_map_and_index (slots_put object.now section (map_variables object.now section) relocations.entry))) }
+    ensures fault { Refuses is_initial_slot_memory result (slots_fault object.now section (map_variables object.now section) relocations.entry) }
+{
+    let variables = match map_variables(alloc, object, section) {
+        Ok(variables) => variables,
+        Err(error) => return Err(error),
+    };
+    let found = match gather(alloc, object, section, variables.as_slice(), relocations) {
+        Ok(found) => found,
+        Err(error) => return Err(error),
+    };
+    Ok(slots_in_order(alloc, &found)?)
+}
+
 /// What the relocations of the section with an index put into its maps.
+#[tactic(auto, using(crate::proofs::NoSlots::none_in_order))]
 fn slots_of_section(
     alloc: Global,
     file: &ElfFile<'_>,
@@ -49,17 +81,9 @@ fn slots_of_section(
     ensures slots { IfOk result (λ slots. slots ≡ slots_of_section file.now object.now index) }
     ensures fault { Refuses is_initial_slot_memory result (slots_fault object.now index (map_variables object.now index) (relocations_at file.now index)) }
 {
-    let Some(section) = section_at(file.sections(), index) else {
-        return Ok(Items::new(alloc));
-    };
-    let variables = match map_variables(alloc, object, index) {
-        Ok(variables) => variables,
-        Err(error) => return Err(error),
-    };
-    let relocations = section.relocations();
-    match gather(alloc, object, index, variables.as_slice(), relocations) {
-        Ok(found) => Ok(slots_in_order(alloc, &found)?),
-        Err(error) => Err(error),
+    match relocations_at(file, index) {
+        Some(relocations) => slots_put(alloc, object, index, relocations),
+        None => Ok(Items::new(alloc)),
     }
 }
 
