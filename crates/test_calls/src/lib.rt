@@ -15,6 +15,8 @@ mod core_relo;
 #[cfg(test)]
 mod elf;
 #[cfg(test)]
+mod initial_slots;
+#[cfg(test)]
 mod linker;
 #[cfg(test)]
 mod loading;
