@@ -1,7 +1,7 @@
 use Rattle.std.proofs.Common.{◌≡◌, ◌++◌}
 use Rattle.std.specs.List.{flat_map}
 use Rattle.std.specs.Option.{option_to_list}
-use Rattle.ebpf_initial_slots.specs.MapVariables.{lacks_offsets, map_variable, variables_of}
+use Rattle.ebpf_initial_slots.specs.MapVariables.{map_variable, variables_of}
 use Rattle.ebpf_initial_slots.proofs.variables.variables_of.Given as goal
 
 -- with the variables of the entries that are left, all are there
