@@ -1,1 +1,2 @@
+pub mod LastSlots
 pub mod NoSlots

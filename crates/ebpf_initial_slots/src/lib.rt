@@ -4,6 +4,7 @@
 mod by_number;
 mod error;
 mod gather;
+pub mod laws;
 mod slot;
 mod slots;
 mod target;

@@ -91,9 +91,8 @@ fn slots_of_section(
 /// map and index, the map or the program that stands there, in the order of the maps' names by their bytes, then of the
 /// indices. Of two relocations at one index of a map the later stands. An index is a key of the map, too.
 ///
-/// `file` are the bytes of the file that the object was parsed from, as its symbols, maps and programs have been since; of
-/// other bytes the answer is that of their relocations over this object. An array of programs is read in
-/// `Reading::Broad` alone.
+/// `file` are the bytes of the file that the object was parsed from; of other bytes the answer is that of their relocations
+/// over this object. An object with an array of programs is read in `Reading::Broad` alone.
 ///
 /// A relocation's map is that whose variable holds the 8 bytes from the relocation's offset on: the first in the order of
 /// the entries of the first DATASEC `.maps` that names a map of the section. It has the entry's offset and size, or, where
