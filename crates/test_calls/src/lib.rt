@@ -15,8 +15,6 @@ mod core_relo;
 #[cfg(test)]
 mod elf;
 #[cfg(test)]
-mod kconfig;
-#[cfg(test)]
 mod linker;
 #[cfg(test)]
 mod loading;

@@ -1,0 +1,2 @@
+pub mod LastSlots
+pub mod NoSlots

@@ -1,0 +1,7 @@
+//! Tests of what a loader asks of an object beside its slots, each by what the call gives. Nothing is promised here.
+#![tactic(auto)]
+
+#[cfg(test)]
+mod initial_slots;
+#[cfg(test)]
+mod kconfig;
