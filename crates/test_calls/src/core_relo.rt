@@ -244,18 +244,16 @@ fn told_text(alloc: Global, local: &Btf, ext: &BtfExt, target: &Btf) -> Result<S
     shown(alloc, &told)
 }
 
-/// Fails where records of section `name` don't come to this, and then the slots.
-fn come_to(
+/// What records of section `name` come to, and then the slots.
+fn outcomes(
     alloc: Global,
     local: &Btf,
     target: &Btf,
     name: u32,
     records: &[[u32; 4]],
-    want: &str,
-) -> Result<(), Fail> {
+) -> Result<String, BtfError> {
     let ext = ext_of(alloc, local, name, records)?;
-    let text = told_text(alloc, local, &ext, target)?;
-    same(text.as_str(), want)
+    Ok(told_text(alloc, local, &ext, target)?)
 }
 
 /// Strings of a local side: a section and paths.
@@ -328,24 +326,27 @@ fn reasons(at: Strings, of: Types) -> [[u32; 4]; 8] {
     ]
 }
 
-/// Fails where these records, of types that are added, don't come to this.
-fn reasons_come_to(alloc: Global, local: &mut Btf, target: &Btf, want: &str) -> Result<(), Fail> {
+/// What these records come to, of types that are added.
+fn reasons_between(alloc: Global, local: &mut Btf, target: &Btf) -> Result<String, BtfError> {
     let at = add_strings(local)?;
     let of = add_types(alloc, local)?;
-    let records = reasons(at, of);
-    come_to(alloc, local, target, at.section, &records, want)
+    outcomes(alloc, local, target, at.section, &reasons(at, of))
+}
+
+fn told_reasons(alloc: Global) -> Result<String, BtfError> {
+    let mut local = start(alloc)?;
+    let mut target = start(alloc)?;
+    add_other_types(alloc, &mut target)?;
+    reasons_between(alloc, &mut local, &target)
 }
 
 #[test]
 fn tells_why_there_is_no_value(rt: HostRuntime) -> Result<(), Fail> {
-    let alloc = rt.alloc();
-    let mut local = start(alloc)?;
-    let mut target = start(alloc)?;
-    add_other_types(alloc, &mut target)?;
+    let told = told_reasons(rt.alloc())?;
     let want =
         "Some(16); Some(0); NoMember; MemberOfAnotherKind; NoType; TypeOfAnotherKind; NoEnumerator; NoValue; \
         b7:16 b7:0 85:195896080 b7:1 5:1 18:1 0:1 ";
-    reasons_come_to(alloc, &mut local, &target, want)
+    same(told.as_str(), want)
 }
 
 /// Types of a kernel: one named `s` without `i`, one whose `i` has an `x` that doesn't fit, and one whose `i` is empty.
@@ -362,23 +363,26 @@ fn add_three_types(alloc: Global, btf: &mut Btf) -> Result<(), BtfError> {
     Ok(())
 }
 
-/// Fails where a field, on the way to which the second of three types comes as far as the third, doesn't come to this.
-fn furthest_comes_to(alloc: Global, local: &mut Btf, target: &Btf, want: &str) -> Result<(), Fail> {
+/// What a field comes to, on the way to which the second of three types comes as far as the third.
+fn furthest_between(alloc: Global, local: &mut Btf, target: &Btf) -> Result<String, BtfError> {
     let section = local.add_string("kprobe")?;
     let path = local.add_string("0:2:0")?;
     let fields = add_fields(alloc, local)?;
-    let records = [[0, fields, path, OFFSET]];
-    come_to(alloc, local, target, section, &records, want)
+    outcomes(alloc, local, target, section, &[[0, fields, path, OFFSET]])
+}
+
+fn told_furthest(alloc: Global) -> Result<String, BtfError> {
+    let mut local = start(alloc)?;
+    let mut target = start(alloc)?;
+    add_three_types(alloc, &mut target)?;
+    furthest_between(alloc, &mut local, &target)
 }
 
 #[test]
 fn tells_of_the_furthest_type(rt: HostRuntime) -> Result<(), Fail> {
-    let alloc = rt.alloc();
-    let mut local = start(alloc)?;
-    let mut target = start(alloc)?;
-    add_three_types(alloc, &mut target)?;
+    let told = told_furthest(rt.alloc())?;
     let want = "MemberOfAnotherKind; 85:195896080 b7:1 b7:1 b7:1 5:1 18:1 0:1 ";
-    furthest_comes_to(alloc, &mut local, &target, want)
+    same(told.as_str(), want)
 }
 
 /// Records behind refusals: of a jump, of a path that is none, of no function.
@@ -392,48 +396,52 @@ fn behind_refusals(fields: u32, path: u32, wrong: u32) -> [[u32; 4]; 5] {
     ]
 }
 
-/// Fails where these records, of types that are added, don't come to this.
-fn behind_refusals_come_to(
-    alloc: Global,
-    local: &mut Btf,
-    target: &Btf,
-    want: &str,
-) -> Result<(), Fail> {
+/// What these records come to, of types that are added.
+fn behind_between(alloc: Global, local: &mut Btf, target: &Btf) -> Result<String, BtfError> {
     let at = add_strings(local)?;
     let wrong = local.add_string("0:x")?;
     let fields = add_fields(alloc, local)?;
     let records = behind_refusals(fields, at.second, wrong);
-    come_to(alloc, local, target, at.section, &records, want)
+    outcomes(alloc, local, target, at.section, &records)
+}
+
+fn told_behind(alloc: Global) -> Result<String, BtfError> {
+    let mut local = start(alloc)?;
+    let mut target = start(alloc)?;
+    add_fields_of(alloc, &mut target, "s", &[("b", INT)])?;
+    behind_between(alloc, &mut local, &target)
 }
 
 #[test]
 fn goes_on_behind_a_refusal(rt: HostRuntime) -> Result<(), Fail> {
-    let alloc = rt.alloc();
-    let mut local = start(alloc)?;
-    let mut target = start(alloc)?;
-    add_fields_of(alloc, &mut target, "s", &[("b", INT)])?;
+    let told = told_behind(rt.alloc())?;
     let want = "Some(0); \
         InvalidInstruction { relocation_number: 1, index: 4, error: \"code 0x05 can't carry 0\" }; \
         InvalidAccessString { access_str: \"0:x\" }; FunctionNotFound; Some(0); \
         b7:0 b7:1 b7:1 b7:1 5:1 18:0 0:0 ";
-    behind_refusals_come_to(alloc, &mut local, &target, want)
+    same(told.as_str(), want)
 }
 
-/// Fails where two records of a section don't come to this. Its name is at an offset, or `tc`, of which there is no
-/// section.
-fn of_section(alloc: Global, name: Option<u32>, want: &str) -> Result<(), Fail> {
+/// Two records of a section whose name is at an offset, or `tc`, of which there is no section.
+fn of_section(alloc: Global, name: Option<u32>) -> Result<String, BtfError> {
     let mut local = start(alloc)?;
     let path = local.add_string("0")?;
     let other = local.add_string("tc")?;
     let record = [0, INT, path, TYPE_SIZE];
     let name = name.unwrap_or(other);
-    come_to(alloc, &local, &local, name, &[record, record], want)
+    outcomes(alloc, &local, &local, name, &[record, record])
+}
+
+/// Fails where these don't come to this.
+fn section_gives(alloc: Global, name: Option<u32>, want: &str) -> Result<(), Fail> {
+    let told = of_section(alloc, name)?;
+    same(told.as_str(), want)
 }
 
 #[test]
 fn refuses_each_record_of_a_missing_section(rt: HostRuntime) -> Result<(), Fail> {
-    of_section(rt.alloc(), None, "SectionNotFound; SectionNotFound; ")?;
+    section_gives(rt.alloc(), None, "SectionNotFound; SectionNotFound; ")?;
     let want =
         "BtfError(InvalidStringOffset { offset: 4000 }); BtfError(InvalidStringOffset { offset: 4000 }); ";
-    of_section(rt.alloc(), Some(4000), want)
+    section_gives(rt.alloc(), Some(4000), want)
 }
