@@ -2,6 +2,7 @@
 
 use crate::kernel::Kernel;
 use ebpf_base::{ByName, Endianness, Items};
+use ebpf_btf::{BtfError, BtfKind};
 use ebpf_kconfig::{
     KconfigError, KconfigExtern, define_kconfig, kconfig, kconfig_number, kconfig_value,
 };
@@ -84,6 +85,17 @@ fn object_values(
     values_of(alloc, kernel, externs.as_slice(), object.endianness)
 }
 
+/// Whether an object may have such externs: so far as can be said without memory it has the DATASEC of them.
+fn may_have_settings(object: &Object) -> bool {
+    let Some(types) = &object.btf else {
+        return false;
+    };
+    match types.id_by_type_name_kind(".kconfig", BtfKind::DataSec) {
+        Ok(_) => true,
+        Err(error) => matches!(error, BtfError::OutOfMemory),
+    }
+}
+
 /// Defines the externs of an object that the kernel's configuration gives, where it has such.
 ///
 /// # Errors
@@ -94,6 +106,9 @@ pub fn define_settings(
     object: &mut Object,
     kernel: &Kernel,
 ) -> Result<(), KconfigError> {
+    if !may_have_settings(object) {
+        return Ok(());
+    }
     let values = object_values(alloc, object, kernel)?;
     define_kconfig(object, &values)
 }
