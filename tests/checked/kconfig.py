@@ -10,7 +10,8 @@ from rows.btf import CONST, ENUM, INT, array, btf, datasec, integer, prototype, 
 from rows.btf import function as function_type
 from rows.elf import EXIT
 
-OBJECTS = Path(__file__).parents[1] / "objects"
+TOP = Path(__file__).parents[2]
+OBJECTS = TOP / "tests" / "objects"
 VERSION = "LINUX_KERNEL_VERSION"
 LARGER = "declare it with a larger integer, or a signed one"
 CONFIG = b"CONFIG_HZ=250\n# CONFIG_HZ_1000 is not set\nCONFIG_HZ_250=y\n"
@@ -204,4 +205,13 @@ def configurations(rows):
         linked(rows, f"configuration {text}", data, one(), words=["--kconfig", "config"])
 
 
-ROWS = [placed, compiled, taken, lacking, undeclared, versions, configurations]
+def documented(rows):
+    """The example of docs/TOOL.md."""
+    page = (TOP / "docs" / "TOOL.md").read_text().split("$ ebpf link tests/objects/kernel_parts_19.o\n")[1]
+    said = "".join(line.removeprefix("    ") + "\n" for line in page.split("\n\n")[0].split("\n"))
+    name = rows.write("tests/objects/kernel_parts_19.o", (OBJECTS / "kernel_parts_19.o").read_bytes())
+    ran = rows.run("link", name)
+    rows.expect("docs/TOOL.md: a strong extern", (ran.returncode, ran.stdout, ran.stderr), (1, "", said))
+
+
+ROWS = [placed, compiled, taken, lacking, undeclared, versions, configurations, documented]
