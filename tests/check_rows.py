@@ -15,7 +15,7 @@ import tempfile
 from dataclasses import dataclass
 from pathlib import Path
 
-from checked import absences, embedded, functions, grouping, inspecting, lacking, linking, listing, refusing, sizes, telling, walks
+from checked import absences, embedded, functions, grouping, inspecting, kconfig, lacking, linking, listing, refusing, sizes, telling, walks
 
 TOP = Path(__file__).parents[1]
 EXAMPLE = TOP / "examples" / "check"
@@ -414,7 +414,7 @@ def main():
         shutil.copy(EXAMPLE / "memdrop.o", folder)
         shutil.copytree(EXAMPLE / "btf", Path(folder) / "btf")
         own = [example, as_json, kernels, unread, unlisted, files, lacks, names, words, closed_output]
-        below = [absences, walks, functions, lacking, telling, grouping, sizes, listing, inspecting, linking, refusing, embedded]
+        below = [absences, walks, functions, lacking, telling, grouping, sizes, listing, inspecting, linking, refusing, kconfig, embedded]
         for run in [*own, *(run for module in below for run in module.ROWS)]:
             try:
                 run(rows)

@@ -13,7 +13,7 @@ from rows.elf import CALL32, EXIT, FUNCTION, LOAD64, NOTHING, File, slot
 TOP = Path(__file__).parents[2]
 DATA = TOP / "crates" / "example_library" / "data"
 CHECK = TOP / "examples" / "check"
-USAGE = "usage: ebpf inspect FILE [--object N] [--btf FILE] [--kallsyms FILE] [--program NAME ..] [--json]"
+USAGE = "usage: ebpf inspect FILE [--object N] [--btf FILE] [--kallsyms FILE] [--kconfig FILE] [--kernel VERSION] [--program NAME ..] [--json]"
 KEYS = ["name", "section", "type", "slots", "call_chain", "copies", "references", "maps", "helpers", "kernel_functions"]
 
 # A load of the address of a function.

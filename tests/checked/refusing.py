@@ -265,8 +265,7 @@ def passes():
         ),
         "a setting": (
             object_of([program(EXIT, EXIT, address(1, "CONFIG_HZ"), EXIT)], SETTING, {"CONFIG_HZ": GLOBAL}), None, None,
-            'function "p", slot 2: no value for the extern "CONFIG_HZ" of the kernel\'s configuration', "externs", "ExternNotFound",
-            "loaders give these values, as libbpf does; here they are not written",
+            "no value for the strong extern CONFIG_HZ", "kconfig", "NoValue", "--kconfig /boot/config-6.12",
         ),
         "an extern on a lone slot": (
             weak_load.relocations(3, [(0, 1, LOAD64)]).bytes(), None, None,

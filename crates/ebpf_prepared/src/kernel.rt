@@ -13,6 +13,10 @@ pub struct Kernel {
     pub types: Option<Btf>,
     /// The text of its symbols; empty where none is given.
     pub symbols: Vec<u8>,
+    /// The text of its configuration; empty where none is given.
+    pub config: Vec<u8>,
+    /// The number of its version.
+    pub version: Option<u32>,
 }
 
 /// The kernel's types, where words give a file of them; it is told where they can't be read.
@@ -39,7 +43,15 @@ fn given_symbols(rt: &HostRuntime, words: &PrepareWords) -> Result<Vec<u8>, Stop
     }
 }
 
-/// What words give of a kernel: its types, in this byte order, and its symbols.
+/// The text of the kernel's configuration, where words give a file of it, else an empty one.
+fn given_config(rt: &HostRuntime, words: &PrepareWords) -> Result<Vec<u8>, Stop> {
+    match &words.kconfig {
+        Some(path) => read_given(rt, words.json, path.as_str()),
+        None => Ok(Vec::new(rt.alloc())),
+    }
+}
+
+/// What words give of a kernel: its types, in this byte order, its symbols, its configuration and its version.
 pub fn given_kernel(
     rt: &HostRuntime,
     words: &PrepareWords,
@@ -47,5 +59,11 @@ pub fn given_kernel(
 ) -> Result<Kernel, Stop> {
     let types = given_types(rt, words, order)?;
     let symbols = given_symbols(rt, words)?;
-    Ok(Kernel { types, symbols })
+    let config = given_config(rt, words)?;
+    Ok(Kernel {
+        types,
+        symbols,
+        config,
+        version: words.kernel,
+    })
 }

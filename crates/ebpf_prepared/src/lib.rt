@@ -8,9 +8,13 @@ mod passes;
 mod prepared;
 mod refusals;
 mod refused_slots;
+mod settings;
+mod settings_help;
+mod version;
 mod words;
 
 pub use map_slots::MapSlots;
 pub use prepared::{Prepared, prepare_file};
 pub use refusals::refuse_preparing;
+pub use version::version_number;
 pub use words::PrepareWords;

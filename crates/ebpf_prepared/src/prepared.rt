@@ -4,6 +4,8 @@ use crate::kernel::{Kernel, given_kernel};
 use crate::map_slots::MapSlots;
 use crate::passes::{Passed, pass_all};
 use crate::refusals::refuse_preparing;
+use crate::settings::define_settings;
+use crate::settings_help::refuse_settings;
 use crate::words::PrepareWords;
 use ebpf_base::{Items, Text};
 use ebpf_btf::Btf;
@@ -21,7 +23,7 @@ use std::alloc::{AllocError, Global};
 pub struct Prepared {
     /// The bytes of its file.
     pub file: Vec<u8>,
-    /// The object as it was parsed: no pass was made over it.
+    /// The object as it was parsed, with the externs defined that the kernel's configuration gives: no pass was made over it.
     pub parsed: Object,
     /// The object after all passes.
     pub object: Object,
@@ -90,6 +92,36 @@ fn passed(
     }
 }
 
+/// Defines the externs of an object that the kernel's configuration gives; where they can't be, it is told.
+fn define(
+    rt: &HostRuntime,
+    words: &PrepareWords,
+    parsed: &mut Object,
+    kernel: &Kernel,
+) -> Result<(), Stop> {
+    match define_settings(rt.alloc(), parsed, kernel) {
+        Ok(()) => Ok(()),
+        Err(error) => {
+            let stop = refuse_settings(rt, words, &error);
+            drop(error);
+            Err(stop)
+        }
+    }
+}
+
+/// An object after all passes, once the externs are defined that the kernel's configuration gives; what is refused is told.
+fn defined_and_passed(
+    rt: &HostRuntime,
+    words: &PrepareWords,
+    parsed: &mut Object,
+    programs: &[ObjectProgram],
+    map_slots: MapSlots,
+    kernel: &Kernel,
+) -> Result<Passed, Stop> {
+    define(rt, words, parsed, kernel)?;
+    passed(rt, words, parsed, programs, map_slots, kernel)
+}
+
 /// What is made of an object that was parsed.
 #[derive(Drop)]
 struct Made {
@@ -103,12 +135,12 @@ fn made_of(
     rt: &HostRuntime,
     words: &PrepareWords,
     file: &[u8],
-    parsed: &Object,
+    parsed: &mut Object,
     map_slots: MapSlots,
 ) -> Result<Made, Stop> {
     let programs = chosen_programs(rt, words, file, parsed)?;
     let kernel = given_kernel(rt, words, parsed.endianness)?;
-    let passed = passed(rt, words, parsed, &programs, map_slots, &kernel)?;
+    let passed = defined_and_passed(rt, words, parsed, &programs, map_slots, &kernel)?;
     Ok(Made {
         programs,
         passed,
@@ -141,8 +173,8 @@ fn with_parsed(file: Vec<u8>, parsed: Object, made: Result<Made, Stop>) -> Resul
     })
 }
 
-/// Reads the object's file, broadly, then the kernel's types and symbols that words give, and makes all passes over the
-/// object: types where they are given, maps, externs, calls. What is refused is told: with status 2 where a file can't be
+/// Reads the object's file, broadly, then the kernel's types, symbols and configuration that words give, defines the externs
+/// that the configuration gives, and makes all passes over the object: types where they are given, maps, externs, calls. What is refused is told: with status 2 where a file can't be
 /// read or a name is no program's, with status 1 where the object is refused.
 pub fn prepare_file(
     rt: &HostRuntime,
@@ -150,7 +182,7 @@ pub fn prepare_file(
     map_slots: MapSlots,
 ) -> Result<Prepared, Stop> {
     let file = read_object(rt, words.json, words.file.as_str(), words.object)?;
-    let parsed = parsed_object(rt, words.json, words.file.as_str(), &file)?;
-    let made = made_of(rt, words, &file, &parsed, map_slots);
+    let mut parsed = parsed_object(rt, words.json, words.file.as_str(), &file)?;
+    let made = made_of(rt, words, &file, &mut parsed, map_slots);
     with_parsed(file, parsed, made)
 }

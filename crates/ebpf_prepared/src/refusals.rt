@@ -11,7 +11,6 @@ use ebpf_object::prepare::PrepareError;
 use ebpf_parts::ParseError;
 use ebpf_report::refusal::{Refusal, help_of};
 use ebpf_report::refuse::refused;
-use ebpf_report::settings::object_settings;
 use ebpf_report::stop::Stop;
 use ebpf_variants::{
     variant_of_parsing, variant_of_relocation, variant_of_resolving, variant_of_type_relocation,
@@ -85,51 +84,6 @@ fn with_slot(
     }
 }
 
-/// The name of the extern of the kernel's configuration that an error is about.
-fn setting_of<'a>(
-    alloc: Global,
-    object: &Object,
-    error: &'a PrepareError,
-) -> Result<Option<&'a str>, AllocError> {
-    let PrepareError::Externs(refusal) = error else {
-        return Ok(None);
-    };
-    let RelocationError::ExternNotFound { name } = &refusal.error else {
-        return Ok(None);
-    };
-    let name = name.as_str();
-    let settings = object_settings(alloc, object)?;
-    if settings.iter().any(|setting| setting.is(name)) {
-        Ok(Some(name))
-    } else {
-        Ok(None)
-    }
-}
-
-/// The refusal of an extern of the kernel's configuration.
-fn setting_refusal(
-    alloc: Global,
-    name: &str,
-    place: Option<(&str, usize)>,
-) -> Result<Refusal, AllocError> {
-    let sentence = format!(in alloc;
-        "no value for the extern {name:?} of the kernel's configuration"
-    )?;
-    let text = match place {
-        Some((function, slot)) => {
-            format!(in alloc; "function {function:?}, slot {slot}: {sentence}")?
-        }
-        None => sentence,
-    };
-    let help = "loaders give these values, as libbpf does; here they are not written";
-    Ok(Refusal {
-        stage: "externs",
-        variant: "ExternNotFound",
-        text,
-        help: Some(String::from_str(alloc, help)?),
-    })
-}
-
 /// The sentence of an error, without the name of its stage.
 fn sentence_of(
     alloc: Global,
@@ -151,9 +105,6 @@ fn refusal_of(
     error: &PrepareError,
     given: Given,
 ) -> Result<Refusal, AllocError> {
-    if let Some(name) = setting_of(alloc, object, error)? {
-        return setting_refusal(alloc, name, place_of(object, error));
-    }
     let (front, stage, variant) = stage_of(error);
     Ok(Refusal {
         stage,

@@ -13,6 +13,10 @@ pub struct PrepareWords {
     pub btf: Option<Text>,
     /// The file with the kernel's symbols, as /proc/kallsyms.
     pub kallsyms: Option<Text>,
+    /// The file with the kernel's configuration, as /boot/config-RELEASE.
+    pub kconfig: Option<Text>,
+    /// The number of the kernel's version, as `version_number` gives it.
+    pub kernel: Option<u32>,
     /// The programs that are chosen, where they are named.
     pub programs: Items<Text>,
     /// Whether a refusal is told as JSON too.

@@ -57,7 +57,7 @@ Status: 0; 1 where FILE is refused; 2 for other words, and where it can't be rea
 
 /// The usage line of `ebpf inspect`.
 pub const INSPECT_USAGE: &str =
-    "usage: ebpf inspect FILE [--object N] [--btf FILE] [--kallsyms FILE] [--program NAME ..] [--json]";
+    "usage: ebpf inspect FILE [--object N] [--btf FILE] [--kallsyms FILE] [--kconfig FILE] [--kernel VERSION] [--program NAME ..] [--json]";
 
 /// What `ebpf inspect --help` prints behind the usage line.
 pub const INSPECT_HELP: &str = "
@@ -66,21 +66,23 @@ the functions that they reach: the copies of functions, the references between t
 the maps, helper functions and kernel functions that they use, and how far they are
 from the kernel's limits.
 
-  FILE             an object file, as clang makes it, or a program that holds one
-  --object N       of the objects that FILE holds, this one
-  --btf FILE       the kernel's types: raw BTF, or an ELF file with a section .BTF
-  --kallsyms FILE  the kernel's symbols, as /proc/kallsyms
-  --program NAME   tells of this program; may be repeated
-  -j, --json       prints JSON
-  -h, --help       prints this
-  -V, --version    prints the version
+  FILE              an object file, as clang makes it, or a program that holds one
+  --object N        of the objects that FILE holds, this one
+  --btf FILE        the kernel's types: raw BTF, or an ELF file with a section .BTF
+  --kallsyms FILE   the kernel's symbols, as /proc/kallsyms
+  --kconfig FILE    the kernel's configuration, as /boot/config-6.12
+  --kernel VERSION  the kernel's version, as 6.12 or 6.12.3
+  --program NAME    tells of this program; may be repeated
+  -j, --json        prints JSON
+  -h, --help        prints this
+  -V, --version     prints the version
 
 Status: 0; 1 where FILE is refused; 2 for other words, for a program that FILE lacks,
 and where a file can't be read.";
 
 /// The usage line of `ebpf link`.
 pub const LINK_USAGE: &str =
-    "usage: ebpf link FILE [--object N] [--btf FILE] [--kallsyms FILE] [--program NAME ..] [--bytes] [--lines]";
+    "usage: ebpf link FILE [--object N] [--btf FILE] [--kallsyms FILE] [--kconfig FILE] [--kernel VERSION] [--program NAME ..] [--bytes] [--lines]";
 
 /// What `ebpf link --help` prints behind the usage line.
 pub const LINK_HELP: &str = "
@@ -88,15 +90,17 @@ Prints the finished programs of an eBPF object file as instructions: each linked
 the functions that it reaches, with the types, maps and externs of a kernel written,
 calls and loads by name, and what CO-RE records wrote.
 
-  FILE             an object file, as clang makes it, or a program that holds one
-  --object N       of the objects that FILE holds, this one
-  --btf FILE       the kernel's types: raw BTF, or an ELF file with a section .BTF
-  --kallsyms FILE  the kernel's symbols, as /proc/kallsyms
-  --program NAME   prints this program; may be repeated
-  --bytes          prints each slot as its bytes
-  --lines          prints source lines above the instructions
-  -h, --help       prints this
-  -V, --version    prints the version
+  FILE              an object file, as clang makes it, or a program that holds one
+  --object N        of the objects that FILE holds, this one
+  --btf FILE        the kernel's types: raw BTF, or an ELF file with a section .BTF
+  --kallsyms FILE   the kernel's symbols, as /proc/kallsyms
+  --kconfig FILE    the kernel's configuration, as /boot/config-6.12
+  --kernel VERSION  the kernel's version, as 6.12 or 6.12.3
+  --program NAME    prints this program; may be repeated
+  --bytes           prints each slot as its bytes
+  --lines           prints source lines above the instructions
+  -h, --help        prints this
+  -V, --version     prints the version
 
 Status: 0; 1 where FILE is refused; 2 for other words, for a program that FILE lacks,
 and where a file can't be read.";

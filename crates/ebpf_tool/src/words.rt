@@ -4,7 +4,7 @@ use ebpf_base::{Items, Text};
 use ebpf_check::CheckWords;
 use ebpf_link_command::LinkWords;
 use ebpf_list::ListWords;
-use ebpf_prepared::PrepareWords;
+use ebpf_prepared::{PrepareWords, version_number};
 use std::alloc::{AllocError, AllocFailed, Global};
 use thiserror::Error;
 
@@ -57,6 +57,9 @@ pub enum WordsError<'a> {
     /// An option has a value that is no number.
     #[error("{name} takes a number, and not {value}")]
     NoNumber { name: &'a str, value: &'a str },
+    /// An option has a value that is no version of a kernel.
+    #[error("{name} takes a version, as 6.12 or 6.12.3, and not {value}")]
+    NoVersion { name: &'a str, value: &'a str },
     /// No file is named.
     #[error("no FILE")]
     NoFile,
@@ -103,6 +106,8 @@ enum Choice {
     Object,
     Btf,
     Kallsyms,
+    Kconfig,
+    Kernel,
     All,
     Bytes,
     Lines,
@@ -118,6 +123,8 @@ fn choice_of(verb: Verb, name: &str) -> Option<Choice> {
         "--object" => Some(Choice::Object),
         "--btf" if verb.links() => Some(Choice::Btf),
         "--kallsyms" if verb.links() => Some(Choice::Kallsyms),
+        "--kconfig" if verb.links() => Some(Choice::Kconfig),
+        "--kernel" if verb.links() => Some(Choice::Kernel),
         "--all" if verb == Verb::Check => Some(Choice::All),
         "--bytes" if verb == Verb::Link => Some(Choice::Bytes),
         "--lines" if verb == Verb::Link => Some(Choice::Lines),
@@ -152,6 +159,8 @@ struct Options<'a> {
     object: Option<usize>,
     btf: Option<&'a str>,
     kallsyms: Option<&'a str>,
+    kconfig: Option<&'a str>,
+    kernel: Option<u32>,
     all: bool,
     bytes: bool,
     lines: bool,
@@ -185,11 +194,24 @@ fn number_of<'a>(name: &'a str, value: &'a str) -> Result<usize, WordsError<'a>>
     }
 }
 
+/// The version that is an option's value.
+fn version_of<'a>(name: &'a str, value: &'a str) -> Result<u32, WordsError<'a>> {
+    match version_number(value) {
+        Some(version) => Ok(version),
+        None => Err(WordsError::NoVersion { name, value }),
+    }
+}
+
 /// Whether an option has a value.
 fn has_value(choice: Choice) -> bool {
     matches!(
         choice,
-        Choice::Program | Choice::Object | Choice::Btf | Choice::Kallsyms
+        Choice::Program
+            | Choice::Object
+            | Choice::Btf
+            | Choice::Kallsyms
+            | Choice::Kconfig
+            | Choice::Kernel
     )
 }
 
@@ -201,6 +223,8 @@ impl<'a> Options<'a> {
             object: None,
             btf: None,
             kallsyms: None,
+            kconfig: None,
+            kernel: None,
             all: false,
             bytes: false,
             lines: false,
@@ -219,7 +243,12 @@ impl<'a> Options<'a> {
             Choice::Json => self.json = true,
             Choice::Help => self.help = true,
             Choice::Version => self.version = true,
-            Choice::Program | Choice::Object | Choice::Btf | Choice::Kallsyms => {}
+            Choice::Program
+            | Choice::Object
+            | Choice::Btf
+            | Choice::Kallsyms
+            | Choice::Kconfig
+            | Choice::Kernel => {}
         }
     }
 
@@ -235,6 +264,10 @@ impl<'a> Options<'a> {
             Choice::Object if self.object.is_none() => self.object = Some(number_of(name, value)?),
             Choice::Btf if self.btf.is_none() => self.btf = Some(value),
             Choice::Kallsyms if self.kallsyms.is_none() => self.kallsyms = Some(value),
+            Choice::Kconfig if self.kconfig.is_none() => self.kconfig = Some(value),
+            Choice::Kernel if self.kernel.is_none() => {
+                self.kernel = Some(version_of(name, value)?)
+            }
             _ => return Err(WordsError::SecondValue(name)),
         }
         Ok(())
@@ -284,6 +317,8 @@ impl<'a> Options<'a> {
             object: self.object,
             btf: copy(alloc, self.btf)?,
             kallsyms: copy(alloc, self.kallsyms)?,
+            kconfig: copy(alloc, self.kconfig)?,
+            kernel: self.kernel,
             programs: copies(alloc, &self.programs)?,
             json: self.json,
         })

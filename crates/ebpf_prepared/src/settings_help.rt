@@ -1,0 +1,107 @@
+//! Why externs of the kernel's configuration can't be defined, in words.
+
+use crate::settings::number_by_version;
+use crate::words::PrepareWords;
+use ebpf_kconfig::KconfigError;
+use ebpf_report::refusal::{Refusal, help_of};
+use ebpf_report::refuse::refused;
+use ebpf_report::stop::Stop;
+use std::alloc::{AllocError, Global};
+
+/// The name of an error.
+fn variant_of(error: &KconfigError) -> &'static str {
+    match error {
+        KconfigError::NotAVariable { .. } => "NotAVariable",
+        KconfigError::UnreadableName { .. } => "UnreadableName",
+        KconfigError::UnknownName { .. } => "UnknownName",
+        KconfigError::UnsupportedType { .. } => "UnsupportedType",
+        KconfigError::NoValue { .. } => "NoValue",
+        KconfigError::WrongSize { .. } => "WrongSize",
+        KconfigError::TooLarge => "TooLarge",
+        KconfigError::UnsuitedValue { .. } => "UnsuitedValue",
+        KconfigError::ValueOutOfRange { .. } => "ValueOutOfRange",
+        KconfigError::OutOfMemory => "OutOfMemory",
+    }
+}
+
+/// What one can do about an extern of a name that has no value; `has_config` where a configuration is given.
+fn value_help(name: &str, has_config: bool) -> &'static str {
+    if number_by_version(0, name).is_some() {
+        return "--kernel 6.12";
+    }
+    if !name.starts_with("CONFIG_") {
+        return "no loader gives it a value: declare it `__weak`";
+    }
+    if has_config {
+        return "this configuration doesn't set it: declare it `__weak`";
+    }
+    "--kconfig /boot/config-6.12"
+}
+
+/// What one can do about an extern whose value doesn't suit its type.
+fn suiting_help(name: &str) -> &'static str {
+    if name.starts_with("CONFIG_") {
+        "declare it with the type that the configuration's value has: what may be `m` is an `enum libbpf_tristate`"
+    } else {
+        "declare it as an integer"
+    }
+}
+
+/// What one can do about externs that can't be defined.
+fn kconfig_help(error: &KconfigError, has_config: bool) -> Option<&'static str> {
+    match error {
+        KconfigError::NotAVariable { .. } => {
+            Some("declare it as a variable with `__kconfig`, not as a function")
+        }
+        KconfigError::UnreadableName { .. } => {
+            Some("the type information is damaged: look at it with `bpftool btf dump file FILE`")
+        }
+        KconfigError::UnknownName { .. } => {
+            Some("name it as the kernel's configuration does, or as a value that loaders know")
+        }
+        KconfigError::UnsupportedType { .. } => Some(
+            "declare it as `bool`, `enum libbpf_tristate`, `char`, an integer or `char NAME[N]`",
+        ),
+        KconfigError::NoValue { name } => Some(value_help(name.as_str(), has_config)),
+        KconfigError::TooLarge => Some("declare shorter arrays of char"),
+        KconfigError::UnsuitedValue { name } => Some(suiting_help(name.as_str())),
+        KconfigError::ValueOutOfRange { .. } => {
+            Some("declare it with a larger integer, or a signed one")
+        }
+        KconfigError::WrongSize { .. } | KconfigError::OutOfMemory => None,
+    }
+}
+
+/// The sentence of an error.
+fn sentence_of(alloc: Global, error: &KconfigError) -> Result<String, AllocError> {
+    let KconfigError::NoValue { name } = error else {
+        return format!(in alloc; "{error}");
+    };
+    let name = name.as_str();
+    format!(in alloc; "no value for the strong extern {name}")
+}
+
+/// Why the externs of an object can't be defined.
+fn refusal_of(
+    alloc: Global,
+    error: &KconfigError,
+    has_config: bool,
+) -> Result<Refusal, AllocError> {
+    Ok(Refusal {
+        stage: "kconfig",
+        variant: variant_of(error),
+        text: sentence_of(alloc, error)?,
+        help: help_of(alloc, kconfig_help(error, has_config))?,
+    })
+}
+
+/// Says why the externs of an object that the kernel's configuration gives can't be defined; why the work ends.
+pub fn refuse_settings(rt: &HostRuntime, words: &PrepareWords, error: &KconfigError) -> Stop {
+    if matches!(error, KconfigError::OutOfMemory) {
+        return Stop::Memory;
+    }
+    match refusal_of(rt.alloc(), error, words.kconfig.is_some()) {
+        Ok(refusal) => refused(rt, words.json, words.file.as_str(), &refusal, 1),
+        Err(_) => Stop::Memory,
+    }
+}
