@@ -1,0 +1,4 @@
+pub mod KernelSymbols
+pub mod WrittenWords
+pub mod SectionRows
+pub mod TypePlaces
