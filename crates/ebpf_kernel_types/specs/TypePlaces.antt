@@ -1,5 +1,5 @@
 -- Where each type stands among the bytes of types.
-use Rattle.std.specs.Prelude.{ℕ, ◌+◌, ◌*◌, nat_le, List, [], ◌∷◌, length, slice_get, unwrap_or, if◌then◌else◌}
+use Rattle.std.specs.Prelude.{ℕ, nat_le, List, [], ◌∷◌, length, slice_get, unwrap_or, if◌then◌else◌}
 use Rattle.ebpf_base.specs.declared.endianness.Endianness.{Endianness}
 use Rattle.ebpf_btf.specs.Format.{end_of}
 use Rattle.ebpf_btf.specs.Types.{kind_of}
@@ -7,10 +7,10 @@ use Rattle.ebpf_btf.specs.declared.kind.BtfKind.{BtfKind}
 use Rattle.ebpf_btf.specs.declared.kind.BtfKind.TheVariants as kinds
 use Rattle.ebpf_btf.specs.declared.types.BtfType.{BtfType}
 
--- where a type of a kind that begins at an offset ends; void has no bytes
+-- where a type of a kind that begins at an offset ends; there, where it has no bytes, as void, or passes the end
 unfoldable pub type_end : Endianness → List ℕ → ℕ → BtfKind → ℕ
 type_end o part offset kinds.Unknown = offset
-type_end o part offset kind = if nat_le (offset + 12) (length part) then end_of o part offset kind else offset
+type_end o part offset kind = if nat_le (end_of o part offset kind) (length part) then end_of o part offset kind else offset
 
 -- where types stand that follow each other from an offset on
 abbrev pub type_starts : Endianness → List ℕ → ℕ → List BtfType → List ℕ

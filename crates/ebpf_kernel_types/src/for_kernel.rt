@@ -1,23 +1,35 @@
 //! The bytes that the kernel takes.
 
-use crate::appended::{Standins, append_types, append_words, full_strings, standins_for};
+ghost use Rattle.std.specs.Prelude.{◌≡◌, ◌<◌, ◌≤◌, ◌^◌, ◌++◌, ◌∷◌, length, option_map, IfOk};
+ghost use Rattle.ebpf_base.specs.Faults.{Gives, fault_of, first_in};
+ghost use Rattle.ebpf_btf.specs.Header.{first_word, header_bytes};
+ghost use Rattle.ebpf_elf.specs.Faults.{faults};
+ghost use Rattle.ebpf_kernel_types.specs.KernelTypes.{all_types, assembled, kernel_types_of, part_of, read_types, sources_of, types_of_bytes, types_of_section, types_of_sources, written_types};
+ghost use Rattle.ebpf_kernel_types.specs.KernelTypesMemory.{is_kernel_types_memory};
+ghost use Rattle.ebpf_kernel_types.specs.PrivateContracts.{given_of};
+ghost use Rattle.ebpf_kernel_types.specs.declared.error.KernelTypesError.TheVariants.{ElfError};
+
+use crate::appended::{Standins, all_strings, append_types, append_words, standins_for};
 use crate::error::KernelTypesError;
 use crate::places::type_starts;
-use crate::plan::written_words;
+use crate::plan::all_words;
 use crate::sections::Sources;
 use crate::symbols::symbol_table;
 use crate::words::{WrittenWord, write_words};
-use ebpf_base::Endianness;
 use ebpf_base::numbers::read_u32;
+use ebpf_base::{Endianness, Items};
 use ebpf_btf::{Btf, BtfError};
-use ebpf_elf::ElfFile;
+use ebpf_elf::{ElfFile, ElfSection};
 use std::alloc::{AllocError, Global};
 
 /// The number of bytes of the header.
 const HEADER_LENGTH: u32 = 24;
 
 /// The magic, the version 1 and no flags, as a word of an order.
-fn first_word(order: Endianness) -> u32 {
+#[tactic(auto, unfolding(ebpf_btf::specs::Header::first_word))]
+fn first_word(order: Endianness) -> u32
+    ensures { result ≡ first_word order }
+{
     match order {
         Endianness::Little => 0x0001_eb9f,
         Endianness::Big => 0xeb9f_0100,
@@ -25,8 +37,10 @@ fn first_word(order: Endianness) -> u32 {
 }
 
 /// The bytes of the types, inside `.BTF`.
-fn types_part(order: Endianness, bytes: &[u8]) -> &[u8]
-    ensures { length result.now < 2 ^ 32 }
+#[tactic(auto, unfolding(ebpf_btf::specs::Reading::types_part, ebpf_btf::specs::Reading::types_start, ebpf_btf::specs::Reading::types_end, ebpf_btf::specs::Reading::header_length))]
+fn part_of(order: Endianness, bytes: &[u8]) -> &[u8]
+    ensures part { result.now ≡ part_of order bytes.now }
+    ensures small { length result.now < 2 ^ 32 }
 {
     if bytes.len() < 24 {
         return &[];
@@ -39,18 +53,16 @@ fn types_part(order: Endianness, bytes: &[u8]) -> &[u8]
     &bytes[start..end]
 }
 
-/// A header, and types and strings behind it.
-fn assembled(
+/// The header before types of a length, and strings of a length behind them.
+#[tactic(auto, unfolding(ebpf_btf::specs::Header::header_bytes))]
+fn header(
     alloc: Global,
     order: Endianness,
-    types: &[u8],
-    strings: &[u8],
-) -> Result<Vec<u8>, KernelTypesError> {
-    if types.len() > 0xffff_ffff || strings.len() > 0xffff_ffff {
-        return Err(KernelTypesError::TooLarge);
-    }
-    let types_length = types.len() as u32;
-    let strings_length = strings.len() as u32;
+    types: u32,
+    strings: u32,
+) -> Result<Vec<u8>, AllocError>
+    ensures { IfOk result (λ out. out.items ≡ header_bytes order types strings) }
+{
     let mut out = Vec::new(alloc);
     append_words(
         order,
@@ -59,60 +71,112 @@ fn assembled(
             first_word(order),
             HEADER_LENGTH,
             0,
-            types_length,
-            types_length,
-            strings_length,
+            types,
+            types,
+            strings,
         ],
     )?;
-    out.extend_from_slice(types)?;
-    out.extend_from_slice(strings)?;
     Ok(out)
 }
 
-/// The types with words written, and what is appended.
-fn written(
+/// A header, and types and strings behind it.
+fn assembled(
+    alloc: Global,
+    order: Endianness,
+    types: &[u8],
+    strings: &[u8],
+) -> Result<Items<u8>, KernelTypesError>
+    ensures { Gives is_kernel_types_memory result (assembled order types.now strings.now) }
+{
+    if types.len() > 0xffff_ffff || strings.len() > 0xffff_ffff {
+        return Err(KernelTypesError::TooLarge);
+    }
+    let mut out = header(alloc, order, types.len() as u32, strings.len() as u32)?;
+    out.extend_from_slice(types)?;
+    out.extend_from_slice(strings)?;
+    Ok(Items::from_vec(out))
+}
+
+/// The bytes of the types with words written, and of what is appended.
+fn all_types(
     alloc: Global,
     sources: &Sources<'_>,
     standins: Standins,
     words: &[WrittenWord],
-) -> Result<Vec<u8>, KernelTypesError> {
+) -> Result<Vec<u8>, AllocError>
+    requires { length sources.now.types.now.strings < 2 ^ 32 }
+    ensures { IfOk result (λ part. part.items ≡ all_types (given_of sources.now) standins words.now) }
+{
     let mut part = Vec::from_slice(alloc, sources.part)?;
     write_words(sources.order, &mut part, words);
-    append_types(sources.order, sources.types, standins, &mut part)?;
-    let strings = full_strings(alloc, sources.types, standins)?;
+    let int_name = sources.types.string_len() as u32;
+    append_types(sources.order, int_name, standins, &mut part)?;
+    Ok(part)
+}
+
+/// `.BTF` with words written, and what is appended.
+fn written_types(
+    alloc: Global,
+    sources: &Sources<'_>,
+    standins: Standins,
+    words: &[WrittenWord],
+) -> Result<Items<u8>, KernelTypesError>
+    requires { length sources.now.types.now.strings < 2 ^ 32 }
+    ensures { Gives is_kernel_types_memory result (written_types (given_of sources.now) standins words.now) }
+{
+    let part = all_types(alloc, sources, standins, words)?;
+    let strings = all_strings(alloc, sources.types, standins)?;
     assembled(alloc, sources.order, &part, &strings)
 }
 
-/// What `.BTF` comes to.
-fn made(
+/// What the types of some sources come to.
+fn types_of_sources(
+    alloc: Global,
+    sources: &Sources<'_>,
+) -> Result<Items<u8>, KernelTypesError>
+    ensures { Gives is_kernel_types_memory result (types_of_sources (given_of sources.now)) }
+{
+    let standins = match standins_for(sources.types) {
+        Ok(found) => found,
+        Err(error) => return Err(error),
+    };
+    match all_words(alloc, sources, standins) {
+        Ok(words) => written_types(alloc, sources, standins, words.as_slice()),
+        Err(error) => Err(error),
+    }
+}
+
+/// What `.BTF` of a file comes to, whose types these are.
+fn types_of_file(
     alloc: Global,
     file: &ElfFile<'_>,
     bytes: &[u8],
     types: &Btf,
-) -> Result<Vec<u8>, KernelTypesError> {
+) -> Result<Items<u8>, KernelTypesError>
+    ensures { Gives is_kernel_types_memory result (types_of_sources (sources_of file.now bytes.now types.now)) }
+{
     let order = file.endianness();
-    let part = types_part(order, bytes);
+    let part = part_of(order, bytes);
     let starts = type_starts(alloc, order, part, types)?;
     let sources = Sources {
         order,
         part,
         types,
-        starts: &starts,
+        starts: starts.as_slice(),
         file,
         table: symbol_table(file),
     };
-    let standins = match standins_for(types) {
-        Ok(found) => found,
-        Err(error) => return Err(error),
-    };
-    match written_words(alloc, &sources, standins) {
-        Ok(words) => written(alloc, &sources, standins, &words),
-        Err(error) => Err(error),
-    }
+    types_of_sources(alloc, &sources)
 }
 
 /// The types of `.BTF`.
-fn read_types(alloc: Global, order: Endianness, bytes: &[u8]) -> Result<Btf, KernelTypesError> {
+fn read_types(
+    alloc: Global,
+    order: Endianness,
+    bytes: &[u8],
+) -> Result<Btf, KernelTypesError>
+    ensures { Gives is_kernel_types_memory result (read_types order bytes.now) }
+{
     match Btf::parse(alloc, bytes, order) {
         Ok(types) => Ok(types),
         Err(BtfError::OutOfMemory) => Err(KernelTypesError::OutOfMemory),
@@ -120,25 +184,86 @@ fn read_types(alloc: Global, order: Endianness, bytes: &[u8]) -> Result<Btf, Ker
     }
 }
 
-/// The bytes of `.BTF` for the kernel (`BPF_BTF_LOAD`), of the bytes of an ELF64 file; None where it has no `.BTF`.
-pub fn kernel_types(alloc: Global, file: &[u8]) -> Result<Option<Vec<u8>>, KernelTypesError> {
-    let file = match ElfFile::parse(file) {
+/// What the bytes of `.BTF` of a file come to.
+fn types_of_bytes(
+    alloc: Global,
+    file: &ElfFile<'_>,
+    bytes: &[u8],
+) -> Result<Items<u8>, KernelTypesError>
+    ensures { Gives is_kernel_types_memory result (types_of_bytes file.now bytes.now) }
+{
+    match read_types(alloc, file.endianness(), bytes) {
+        Ok(types) => types_of_file(alloc, file, bytes, &types),
+        Err(error) => Err(error),
+    }
+}
+
+/// What the section `.BTF` of a file comes to.
+fn types_of_section(
+    alloc: Global,
+    file: &ElfFile<'_>,
+    section: &ElfSection<'_>,
+) -> Result<Items<u8>, KernelTypesError>
+    ensures { Gives is_kernel_types_memory result (types_of_section file.now section.now) }
+{
+    match section.data() {
+        Ok(bytes) => types_of_bytes(alloc, file, bytes),
+        Err(error) => Err(KernelTypesError::ElfError(error)),
+    }
+}
+
+/// The file that bytes are.
+fn parsed(file: &[u8]) -> Result<ElfFile<'_>, KernelTypesError>
+    ensures fault { fault_of result ≡ option_map ElfError (first_in (faults file.now)) }
+    ensures file { IfOk result (λ parsed. parsed ≡ file.now) }
+{
+    match ElfFile::parse(file) {
+        Ok(file) => Ok(file),
+        Err(error) => Err(KernelTypesError::ElfError(error)),
+    }
+}
+
+/// The types of an object as the kernel takes them (`BPF_BTF_LOAD`), of the bytes of an ELF64 file; None where it has no
+/// section `.BTF`.
+///
+/// They are the file's `.BTF`, but for these words, so that ids of types and offsets of strings stay (libbpf 1.5 writes the
+/// same ones):
+///
+/// - A DATASEC but `.ksyms` and `.kconfig` that states size 0 gets the size of the file's section of its name, and the
+///   entries of its global variables the addresses of the first GLOBAL or WEAK symbols of type OBJECT with their names, in
+///   32 bits. In each such DATASEC, also where it states a size, hidden and internal variables get static linkage, and the
+///   entries stand in the order of their offsets, those of one offset as they stood.
+/// - The first global FUNC with the name of a hidden or internal function of `.text` gets static linkage.
+/// - Of a DATASEC `.ksyms` each entry has 4 bytes, one behind the other. A VAR gets the type of the first INT of 4 bytes and
+///   global linkage; a FUNC global linkage, and its parameters that have a type and no name a name, and in its entry stands
+///   the variable `ksym_func_placeholder`, which is appended, behind `int` where no INT has 4 bytes.
+/// - Of a DATASEC `.kconfig` the entries have the offsets of the externs in the value of their map, by descending alignment,
+///   ascending size and name, and stand in their order; its size is that of the value, and the VARs get global linkage.
+///
+/// The header is the one of 24 bytes, the types behind it and then the strings. Kinds of types that an older kernel lacks
+/// are not replaced.
+///
+/// # Errors
+///
+/// In this order: `ElfError` where the bytes are no file or `.BTF` passes its end; `BtfError` with that of `Btf::parse`;
+/// `TooLarge` where ids or offsets of strings come near 32 bits; then the first fault of the DATASECs by id: `TooLarge` of
+/// one with more than 65,535 entries, which no file has. Of one of own variables `NoSectionSize`, and then of its entries
+/// `NotAVariable`, and `NoSymbol` of a global VAR without a symbol; of `.ksyms` `NotAVariable` of an entry that names neither
+/// a VAR nor a FUNC; of `.kconfig` `NotAVariable`, `UnsupportedExtern`, and `TooLarge` where the value passes 32 bits. At
+/// last `TooLarge` where types or strings take 2^32 bytes. `OutOfMemory` only where memory was refused.
+#[tactic(auto, unfolding(crate::specs::KernelTypes::kernel_types_of))]
+pub fn kernel_types(alloc: Global, file: &[u8]) -> Result<Option<Items<u8>>, KernelTypesError>
+    ensures { Gives is_kernel_types_memory result (kernel_types_of file.now) }
+{
+    let file = match parsed(file) {
         Ok(file) => file,
-        Err(error) => return Err(KernelTypesError::ElfError(error)),
-    };
-    let Some(section) = file.section_by_name(".BTF") else {
-        return Ok(None);
-    };
-    let bytes = match section.data() {
-        Ok(bytes) => bytes,
-        Err(error) => return Err(KernelTypesError::ElfError(error)),
-    };
-    let types = match read_types(alloc, file.endianness(), bytes) {
-        Ok(types) => types,
         Err(error) => return Err(error),
     };
-    match made(alloc, &file, bytes, &types) {
-        Ok(out) => Ok(Some(out)),
-        Err(error) => Err(error),
+    match file.section_by_name(".BTF") {
+        Some(section) => match types_of_section(alloc, &file, &section) {
+            Ok(types) => Ok(Some(types)),
+            Err(error) => Err(error),
+        },
+        None => Ok(None),
     }
 }

@@ -1,11 +1,11 @@
 //! Where each type stands.
 
-ghost use Rattle.std.specs.Prelude.{◌≡◌, ◌+◌, ◌<◌, ◌≤◌, ◌^◌, length, slice_index_or, IfOk};
+ghost use Rattle.std.specs.Prelude.{◌≡◌, ◌*◌, ◌<◌, ◌≤◌, ◌^◌, length, IfOk};
 ghost use Rattle.ebpf_btf.specs.Format.{further_words, info_vlen};
 ghost use Rattle.ebpf_btf.specs.Types.{kind_of};
 ghost use Rattle.ebpf_kernel_types.specs.TypePlaces.{type_end, type_starts, start_of};
 
-use ebpf_base::Endianness;
+use ebpf_base::{Endianness, Items};
 use ebpf_base::numbers::read_u32;
 use ebpf_btf::{Btf, BtfKind};
 use std::alloc::{AllocError, Global};
@@ -36,17 +36,21 @@ fn info_vlen(info: u32) -> u32
     info & 0xffff
 }
 
-/// Where a type of a kind that begins at an offset ends: there where it has no bytes.
+/// Where a type of a kind that begins at an offset ends: there where it has no bytes, or passes the end.
 #[tactic(auto, unfolding(crate::specs::TypePlaces::type_end))]
-fn type_end(order: Endianness, part: &[u8], offset: usize, kind: BtfKind) -> usize
-    requires { length part.now < 2 ^ 32 }
-    ensures { result ≡ type_end order part.now offset kind }
+fn type_end(order: Endianness, part: &[u8], offset: u32, kind: BtfKind) -> u32
+    requires small { length part.now < 2 ^ 32 }
+    ensures end { result ≡ type_end order part.now offset kind }
 {
-    if part.len() < 12 || offset > part.len() - 12 || kind == BtfKind::Unknown {
+    if kind == BtfKind::Unknown || part.len() < 12 || offset as usize > part.len() - 12 {
         return offset;
     }
-    let count = info_vlen(read_u32(order, part, offset + 4));
-    offset + 12 + 4 * further_words(kind, count)
+    let count = info_vlen(read_u32(order, part, offset as usize + 4));
+    let end = offset as usize + 12 + 4 * further_words(kind, count);
+    if end > part.len() {
+        return offset;
+    }
+    end as u32
 }
 
 /// Where types stand in their part, by their ids from 0 on, `void` among them.
@@ -55,11 +59,11 @@ pub fn type_starts(
     order: Endianness,
     part: &[u8],
     types: &Btf,
-) -> Result<Vec<usize>, AllocError>
+) -> Result<Items<u32>, AllocError>
     requires { length part.now < 2 ^ 32 }
-    ensures { IfOk result (λ starts. starts.items ≡ type_starts order part.now 0 types.now.types) }
+    ensures { IfOk result (λ starts. starts ≡ type_starts order part.now 0 types.now.types) }
 {
-    let mut starts = Vec::new(alloc);
+    let mut starts = Items::new(alloc);
     let mut offset = 0;
     for ty in types.types() {
         starts.push(offset)?;
@@ -69,7 +73,7 @@ pub fn type_starts(
 }
 
 /// Where the type with an id stands.
-pub fn start_of(starts: &[usize], type_id: u32) -> usize
+pub fn start_of(starts: &[u32], type_id: u32) -> u32
     ensures { result ≡ start_of starts.now type_id }
 {
     match starts.get(type_id as usize) {

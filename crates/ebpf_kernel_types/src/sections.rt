@@ -1,5 +1,14 @@
 //! What the words of sections are found from.
 
+ghost use Rattle.std.specs.Prelude.{◌≡◌, ◌≤◌, ◌<◌, ◌^◌};
+ghost use Rattle.std.specs.List.{find};
+ghost use Rattle.std.specs.Option.{option_copied};
+ghost use Rattle.ebpf_elf.specs.Sections.{section_name, sections};
+ghost use Rattle.ebpf_kernel_types.specs.DataSections.{file_section, file_size, full_size, linked_variable};
+ghost use Rattle.ebpf_kernel_types.specs.KernelSymbols.{is_btf_name, variable_symbol};
+ghost use Rattle.ebpf_kernel_types.specs.PrivateContracts.{given_of};
+ghost use Rattle.ebpf_kernel_types.specs.TypeSources.{place_in};
+
 use crate::error::KernelTypesError;
 use crate::places::start_of;
 use crate::symbols::variable_symbol;
@@ -18,20 +27,26 @@ pub struct Sources<'a> {
     /// The types.
     pub types: &'a Btf,
     /// Where each type stands.
-    pub starts: &'a [usize],
+    pub starts: &'a [u32],
     /// The file.
     pub file: &'a ElfFile<'a>,
     /// The entries of its symbols.
     pub table: &'a [u8],
 }
 
-/// Where the type with an id stands, and so many bytes behind it.
-pub fn place_in(sources: &Sources<'_>, type_id: u32, within: usize) -> usize {
-    start_of(sources.starts, type_id).wrapping_add(within)
+/// So many bytes behind where the type with an id stands.
+pub fn place_in(sources: &Sources<'_>, type_id: u32, within: usize) -> usize
+    requires { within ≤ 16 }
+    ensures { result ≡ place_in (given_of sources.now) type_id within }
+{
+    start_of(sources.starts, type_id) as usize + within
 }
 
 /// The offset of a variable's name, and its linkage.
-pub fn variable(types: &Btf, type_id: u32) -> Result<(u32, u32), KernelTypesError> {
+#[tactic(auto, unfolding(crate::specs::DataSections::linked_variable))]
+pub fn linked_variable(types: &Btf, type_id: u32) -> Result<(u32, u32), KernelTypesError>
+    ensures { result ≡ linked_variable types.now type_id }
+{
     match types.type_by_id(type_id) {
         Ok(
             BtfType::Var {
@@ -45,7 +60,9 @@ pub fn variable(types: &Btf, type_id: u32) -> Result<(u32, u32), KernelTypesErro
 }
 
 /// The first symbol of a variable with the name at an offset.
-pub fn symbol_of<'a>(sources: &Sources<'a>, name_offset: u32) -> Option<ElfSymbol<'a>> {
+pub fn symbol_of<'a>(sources: &Sources<'a>, name_offset: u32) -> Option<ElfSymbol<'a>>
+    ensures { result ≡ variable_symbol sources.now.file.now sources.now.table.now sources.now.types.now.strings name_offset }
+{
     variable_symbol(
         sources.file,
         sources.table,
@@ -55,7 +72,9 @@ pub fn symbol_of<'a>(sources: &Sources<'a>, name_offset: u32) -> Option<ElfSymbo
 }
 
 /// Whether a section has the name at an offset of the strings of types.
-fn is_named(types: &Btf, name_offset: u32, section: &ElfSection<'_>) -> bool {
+fn is_named(types: &Btf, name_offset: u32, section: &ElfSection<'_>) -> bool
+    ensures { result ≡ is_btf_name types.now.strings name_offset (section_name section.now) }
+{
     match section.name() {
         Ok(name) => is_text_at(types.strings(), name_offset, name),
         Err(_) => false,
@@ -63,22 +82,22 @@ fn is_named(types: &Btf, name_offset: u32, section: &ElfSection<'_>) -> bool {
 }
 
 /// The first section with the name at an offset of the strings of types.
-fn section_of<'a>(sources: &Sources<'a>, name_offset: u32) -> Option<ElfSection<'a>> {
-    for section in sources.file.sections() {
-        if is_named(sources.types, name_offset, &section) {
+fn section_named<'a>(file: &ElfFile<'a>, types: &Btf, name_offset: u32) -> Option<ElfSection<'a>>
+    ensures { result ≡ find (λ s. is_btf_name types.now.strings name_offset (section_name s)) (sections file.now) }
+{
+    for section in file.sections() {
+        if is_named(types, name_offset, &section) {
             return Some(section);
         }
     }
     None
 }
 
-/// The size of the file's section that a DATASEC is of.
-fn file_size(
-    sources: &Sources<'_>,
-    type_id: u32,
-    name_offset: u32,
-) -> Result<u32, KernelTypesError> {
-    match section_of(sources, name_offset) {
+/// The size of a section of the file, of 32 bits and not 0.
+fn file_size(type_id: u32, section: Option<&ElfSection<'_>>) -> Result<u32, KernelTypesError>
+    ensures { result ≡ file_size type_id (option_copied section.entry) }
+{
+    match section {
         Some(section) => {
             let size = section.size();
             if size == 0 || size > 0xffff_ffff {
@@ -91,14 +110,17 @@ fn file_size(
 }
 
 /// The size that a DATASEC gets: the one that it states, or that of the file's section.
-pub fn section_size(
+pub fn full_size(
     sources: &Sources<'_>,
     type_id: u32,
     name_offset: u32,
     size: u32,
-) -> Result<u32, KernelTypesError> {
+) -> Result<u32, KernelTypesError>
+    ensures { result ≡ full_size (given_of sources.now) type_id name_offset size }
+{
     if size != 0 {
         return Ok(size);
     }
-    file_size(sources, type_id, name_offset)
+    let section = section_named(sources.file, sources.types, name_offset);
+    file_size(type_id, section.as_ref())
 }
