@@ -28,12 +28,16 @@ abbrev pub params_words : ℕ → ℕ → List BtfParam → List WrittenWord
 params_words name offset [] = []
 params_words name offset (p ∷ ps) = param_word name offset p ++ params_words name (offset + 8) ps
 
-abbrev pub params_or_fault : TypeSources → ℕ → ℕ → Option BtfType → Result (List WrittenWord) KernelTypesError
-params_or_fault g name proto (Some (FuncProto _ _ params)) = if nat_lt 65535 (length params) then Err TooLarge else Ok (params_words name (place_in g proto 12) params)
+unfoldable pub params_or_fault : TypeSources → ℕ → ℕ → BtfType → Result (List WrittenWord) KernelTypesError
+params_or_fault g name proto (FuncProto _ _ params) = if nat_lt 65535 (length params) then Err TooLarge else Ok (params_words name (place_in g proto 12) params)
 params_or_fault g name proto _ = Ok []
 
-unfoldable pub proto_words : TypeSources → ℕ → ℕ → Result (List WrittenWord) KernelTypesError
-proto_words g name proto = params_or_fault g name proto (slice_get g.types.types proto)
+abbrev pub proto_or_none : TypeSources → ℕ → ℕ → Option BtfType → Result (List WrittenWord) KernelTypesError
+proto_or_none g name proto None = Ok []
+proto_or_none g name proto (Some t) = params_or_fault g name proto t
+
+abbrev pub proto_words : TypeSources → ℕ → ℕ → Result (List WrittenWord) KernelTypesError
+proto_words g name proto = proto_or_none g name proto (slice_get g.types.types proto)
 
 -- a FUNC gets global linkage, and its parameters names
 abbrev pub extern_function_words : TypeSources → ℕ → ℕ → ℕ → Result (List WrittenWord) KernelTypesError

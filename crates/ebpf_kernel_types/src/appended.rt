@@ -129,7 +129,8 @@ fn any_functions(types: &Btf) -> bool
 
 /// The types that stand in. `TooLarge` where an id or an offset passes 32 bits.
 pub fn standins_for(types: &Btf) -> Result<Standins, KernelTypesError>
-    ensures { result ≡ standins_or_fault types.now }
+    ensures standins { result ≡ standins_or_fault types.now }
+    ensures small { IfOk result (λ _. length types.now.strings < 2 ^ 32) }
 {
     let count = types.len();
     let strings = types.string_len();
@@ -180,7 +181,12 @@ pub fn append_words(order: Endianness, out: &mut Vec<u8>, words: &[u32]) -> Resu
 }
 
 /// Appends the INT that stands in, whose name is at an offset.
-fn append_int(order: Endianness, name_offset: u32, adds: bool, part: &mut Vec<u8>) -> Result<(), AllocError>
+fn append_int(
+    order: Endianness,
+    name_offset: u32,
+    adds: bool,
+    part: &mut Vec<u8>,
+) -> Result<(), AllocError>
     ensures { OnOk result (part.new.items ≡ part.old.items ++ flat_map (word_bytes order) (int_words name_offset adds)) }
 {
     if !adds {
@@ -190,7 +196,11 @@ fn append_int(order: Endianness, name_offset: u32, adds: bool, part: &mut Vec<u8
 }
 
 /// Appends the variable that stands in.
-fn append_variable(order: Endianness, standins: Standins, part: &mut Vec<u8>) -> Result<(), AllocError>
+fn append_variable(
+    order: Endianness,
+    standins: Standins,
+    part: &mut Vec<u8>,
+) -> Result<(), AllocError>
     ensures { OnOk result (part.new.items ≡ part.old.items ++ flat_map (word_bytes order) (variable_words standins)) }
 {
     if !standins.adds_variable {

@@ -1,7 +1,7 @@
 //! The bytes that the kernel takes.
 
-ghost use Rattle.std.specs.Prelude.{◌≡◌, ◌<◌, ◌≤◌, ◌^◌, ◌++◌, ◌∷◌, length, option_map, IfOk};
-ghost use Rattle.ebpf_base.specs.Faults.{Gives, fault_of, first_in};
+ghost use Rattle.std.specs.Prelude.{◌≡◌, ◌<◌, ◌≤◌, ◌^◌, ◌++◌, ◌∷◌, length, option_map, IfOk, Ok};
+ghost use Rattle.ebpf_base.specs.Faults.{Gives, Refuses, fault_of, first_in};
 ghost use Rattle.ebpf_btf.specs.Header.{first_word, header_bytes};
 ghost use Rattle.ebpf_elf.specs.Faults.{faults};
 ghost use Rattle.ebpf_kernel_types.specs.KernelTypes.{all_types, assembled, kernel_types_of, part_of, read_types, sources_of, types_of_bytes, types_of_section, types_of_sources, written_types};
@@ -54,27 +54,15 @@ fn part_of(order: Endianness, bytes: &[u8]) -> &[u8]
 }
 
 /// The header before types of a length, and strings of a length behind them.
-#[tactic(auto, unfolding(ebpf_btf::specs::Header::header_bytes))]
-fn header(
-    alloc: Global,
-    order: Endianness,
-    types: u32,
-    strings: u32,
-) -> Result<Vec<u8>, AllocError>
+#[tactic(auto, unfolding(ebpf_btf::specs::Header::header_bytes, ebpf_btf::specs::Words::words_bytes))]
+fn header(alloc: Global, order: Endianness, types: u32, strings: u32) -> Result<Vec<u8>, AllocError>
     ensures { IfOk result (λ out. out.items ≡ header_bytes order types strings) }
 {
     let mut out = Vec::new(alloc);
     append_words(
         order,
         &mut out,
-        &[
-            first_word(order),
-            HEADER_LENGTH,
-            0,
-            types,
-            types,
-            strings,
-        ],
+        &[first_word(order), HEADER_LENGTH, 0, types, types, strings],
     )?;
     Ok(out)
 }
@@ -130,10 +118,7 @@ fn written_types(
 }
 
 /// What the types of some sources come to.
-fn types_of_sources(
-    alloc: Global,
-    sources: &Sources<'_>,
-) -> Result<Items<u8>, KernelTypesError>
+fn types_of_sources(alloc: Global, sources: &Sources<'_>) -> Result<Items<u8>, KernelTypesError>
     ensures { Gives is_kernel_types_memory result (types_of_sources (given_of sources.now)) }
 {
     let standins = match standins_for(sources.types) {
@@ -170,11 +155,7 @@ fn types_of_file(
 }
 
 /// The types of `.BTF`.
-fn read_types(
-    alloc: Global,
-    order: Endianness,
-    bytes: &[u8],
-) -> Result<Btf, KernelTypesError>
+fn read_types(alloc: Global, order: Endianness, bytes: &[u8]) -> Result<Btf, KernelTypesError>
     ensures { Gives is_kernel_types_memory result (read_types order bytes.now) }
 {
     match Btf::parse(alloc, bytes, order) {
@@ -192,10 +173,11 @@ fn types_of_bytes(
 ) -> Result<Items<u8>, KernelTypesError>
     ensures { Gives is_kernel_types_memory result (types_of_bytes file.now bytes.now) }
 {
-    match read_types(alloc, file.endianness(), bytes) {
-        Ok(types) => types_of_file(alloc, file, bytes, &types),
-        Err(error) => Err(error),
-    }
+    let types = match read_types(alloc, file.endianness(), bytes) {
+        Ok(types) => types,
+        Err(error) => return Err(error),
+    };
+    types_of_file(alloc, file, bytes, &types)
 }
 
 /// What the section `.BTF` of a file comes to.
@@ -220,6 +202,24 @@ fn parsed(file: &[u8]) -> Result<ElfFile<'_>, KernelTypesError>
     match ElfFile::parse(file) {
         Ok(file) => Ok(file),
         Err(error) => Err(KernelTypesError::ElfError(error)),
+    }
+}
+
+/// What a file's `.BTF` comes to; None without one.
+#[tactic(auto, unfolding(crate::specs::KernelTypes::kernel_types_of))]
+fn types_in(alloc: Global, file: &[u8]) -> Result<Option<Items<u8>>, KernelTypesError>
+    ensures { Gives is_kernel_types_memory result (kernel_types_of file.now) }
+{
+    let file = match parsed(file) {
+        Ok(file) => file,
+        Err(error) => return Err(error),
+    };
+    match file.section_by_name(".BTF") {
+        Some(section) => match types_of_section(alloc, &file, &section) {
+            Ok(types) => Ok(Some(types)),
+            Err(error) => Err(error),
+        },
+        None => Ok(None),
     }
 }
 
@@ -251,19 +251,13 @@ fn parsed(file: &[u8]) -> Result<ElfFile<'_>, KernelTypesError>
 /// `NotAVariable`, and `NoSymbol` of a global VAR without a symbol; of `.ksyms` `NotAVariable` of an entry that names neither
 /// a VAR nor a FUNC; of `.kconfig` `NotAVariable`, `UnsupportedExtern`, and `TooLarge` where the value passes 32 bits. At
 /// last `TooLarge` where types or strings take 2^32 bytes. `OutOfMemory` only where memory was refused.
-#[tactic(auto, unfolding(crate::specs::KernelTypes::kernel_types_of))]
-pub fn kernel_types(alloc: Global, file: &[u8]) -> Result<Option<Items<u8>>, KernelTypesError>
-    ensures { Gives is_kernel_types_memory result (kernel_types_of file.now) }
+pub fn kernel_types(alloc: Global, file: &[u8]) -> Result<Option<Vec<u8>>, KernelTypesError>
+    ensures types { IfOk result (λ types. kernel_types_of file.now ≡ Ok (option_map (λ bytes. bytes.items) types)) }
+    ensures fault { Refuses is_kernel_types_memory result (fault_of (kernel_types_of file.now)) }
 {
-    let file = match parsed(file) {
-        Ok(file) => file,
-        Err(error) => return Err(error),
-    };
-    match file.section_by_name(".BTF") {
-        Some(section) => match types_of_section(alloc, &file, &section) {
-            Ok(types) => Ok(Some(types)),
-            Err(error) => Err(error),
-        },
-        None => Ok(None),
+    match types_in(alloc, file) {
+        Ok(Some(types)) => Ok(Some(types.into_vec())),
+        Ok(None) => Ok(None),
+        Err(error) => Err(error),
     }
 }

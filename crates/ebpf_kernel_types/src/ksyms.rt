@@ -3,7 +3,7 @@
 ghost use Rattle.std.specs.Prelude.{◌≡◌, ◌+◌, ◌*◌, ◌<◌, ◌≤◌, ◌^◌, ◌++◌, length, IfOk};
 ghost use Rattle.ebpf_base.specs.Faults.{Gives, Refuses};
 ghost use Rattle.ebpf_kernel_types.specs.KernelTypesMemory.{is_kernel_types_memory};
-ghost use Rattle.ebpf_kernel_types.specs.KsymsSections.{extern_function_words, extern_variable_words, extern_words, externs_fault, externs_words, ksyms_rows, ksyms_words, own_ksyms_words, params_words, proto_words, standing_type};
+ghost use Rattle.ebpf_kernel_types.specs.KsymsSections.{extern_function_words, extern_variable_words, extern_words, externs_fault, externs_words, ksyms_rows, ksyms_words, own_ksyms_words, params_or_fault, params_words, proto_words, standing_type};
 ghost use Rattle.ebpf_kernel_types.specs.PrivateContracts.{given_of};
 
 use crate::appended::{Standins, is_func};
@@ -53,8 +53,33 @@ fn params_words(
     Ok(words)
 }
 
+/// The words of a type, where it is a FUNC_PROTO.
+#[tactic(auto, unfolding(crate::specs::KsymsSections::params_or_fault))]
+fn params_or_fault(
+    alloc: Global,
+    sources: &Sources<'_>,
+    name_offset: u32,
+    proto: u32,
+    ty: &BtfType<'_>,
+) -> Result<Items<WrittenWord>, KernelTypesError>
+    ensures { Gives is_kernel_types_memory result (params_or_fault (given_of sources.now) name_offset proto ty.now) }
+{
+    match ty {
+        BtfType::FuncProto { params, .. } => {
+            if params.len() > MOST {
+                return Err(KernelTypesError::TooLarge);
+            }
+            let start = place_in(sources, proto, 12);
+            match params_words(alloc, name_offset, start, params) {
+                Ok(words) => Ok(words),
+                Err(error) => Err(error.into()),
+            }
+        }
+        _ => Ok(Items::new(alloc)),
+    }
+}
+
 /// The words of the FUNC_PROTO of a FUNC.
-#[tactic(auto, unfolding(crate::specs::KsymsSections::proto_words))]
 fn proto_words(
     alloc: Global,
     sources: &Sources<'_>,
@@ -63,17 +88,9 @@ fn proto_words(
 ) -> Result<Items<WrittenWord>, KernelTypesError>
     ensures { Gives is_kernel_types_memory result (proto_words (given_of sources.now) name_offset proto) }
 {
-    match sources.types.type_by_id(proto) {
-        Ok(BtfType::FuncProto { params, .. }) => {
-            if params.len() > MOST {
-                return Err(KernelTypesError::TooLarge);
-            }
-            match params_words(alloc, name_offset, place_in(sources, proto, 12), &params) {
-                Ok(words) => Ok(words),
-                Err(error) => Err(error.into()),
-            }
-        }
-        _ => Ok(Items::new(alloc)),
+    match sources.types.get(proto as usize) {
+        Some(ty) => params_or_fault(alloc, sources, name_offset, proto, &ty),
+        None => Ok(Items::new(alloc)),
     }
 }
 

@@ -5,8 +5,8 @@ ghost use Rattle.ebpf_btf.specs.Format.{further_words, info_vlen};
 ghost use Rattle.ebpf_btf.specs.Types.{kind_of};
 ghost use Rattle.ebpf_kernel_types.specs.TypePlaces.{type_end, type_starts, start_of};
 
-use ebpf_base::{Endianness, Items};
 use ebpf_base::numbers::read_u32;
+use ebpf_base::{Endianness, Items};
 use ebpf_btf::{Btf, BtfKind};
 use std::alloc::{AllocError, Global};
 

@@ -90,11 +90,12 @@ fn types_words(
     let mut words = Items::new(alloc);
     let mut id = 0usize;
     for ty in sources.types.types() {
-        match section_type_words(alloc, sources, standins, id as u32, &ty) {
+        let type_id = id as u32;
+        id += 1;
+        match section_type_words(alloc, sources, standins, type_id, &ty) {
             Ok(found) => words.extend_from_slice(found.as_slice())?,
             Err(error) => return Err(error),
         }
-        id += 1;
     }
     Ok(words)
 }
