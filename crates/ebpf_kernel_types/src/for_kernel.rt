@@ -1,10 +1,11 @@
 //! The bytes that the kernel takes.
 
 ghost use Rattle.std.specs.Prelude.{◌≡◌, ◌<◌, ◌≤◌, ◌^◌, ◌++◌, ◌∷◌, length, option_map, IfOk, Ok};
+ghost use Rattle.std.specs.Option.{option_copied};
 ghost use Rattle.ebpf_base.specs.Faults.{Gives, Refuses, fault_of, first_in};
 ghost use Rattle.ebpf_btf.specs.Header.{first_word, header_bytes};
 ghost use Rattle.ebpf_elf.specs.Faults.{faults};
-ghost use Rattle.ebpf_kernel_types.specs.KernelTypes.{all_types, assembled, kernel_types_of, part_of, read_types, sources_of, types_of_bytes, types_of_section, types_of_sources, written_types};
+ghost use Rattle.ebpf_kernel_types.specs.KernelTypes.{all_types, assembled, kernel_types_of, part_of, read_types, sources_of, types_of_bytes, types_of_found, types_of_section, types_of_sources, written_types};
 ghost use Rattle.ebpf_kernel_types.specs.KernelTypesMemory.{is_kernel_types_memory};
 ghost use Rattle.ebpf_kernel_types.specs.PrivateContracts.{given_of};
 ghost use Rattle.ebpf_kernel_types.specs.declared.error.KernelTypesError.TheVariants.{ElfError};
@@ -205,6 +206,23 @@ fn parsed(file: &[u8]) -> Result<ElfFile<'_>, KernelTypesError>
     }
 }
 
+/// What a section `.BTF` of a file comes to, where there is one.
+fn types_of_found(
+    alloc: Global,
+    file: &ElfFile<'_>,
+    section: Option<&ElfSection<'_>>,
+) -> Result<Option<Items<u8>>, KernelTypesError>
+    ensures { Gives is_kernel_types_memory result (types_of_found file.now (option_copied section.entry)) }
+{
+    match section {
+        Some(section) => match types_of_section(alloc, file, section) {
+            Ok(types) => Ok(Some(types)),
+            Err(error) => Err(error),
+        },
+        None => Ok(None),
+    }
+}
+
 /// What a file's `.BTF` comes to; None without one.
 #[tactic(auto, unfolding(crate::specs::KernelTypes::kernel_types_of))]
 fn types_in(alloc: Global, file: &[u8]) -> Result<Option<Items<u8>>, KernelTypesError>
@@ -214,13 +232,8 @@ fn types_in(alloc: Global, file: &[u8]) -> Result<Option<Items<u8>>, KernelTypes
         Ok(file) => file,
         Err(error) => return Err(error),
     };
-    match file.section_by_name(".BTF") {
-        Some(section) => match types_of_section(alloc, &file, &section) {
-            Ok(types) => Ok(Some(types)),
-            Err(error) => Err(error),
-        },
-        None => Ok(None),
-    }
+    let section = file.section_by_name(".BTF");
+    types_of_found(alloc, &file, section.as_ref())
 }
 
 /// The types of an object as the kernel takes them (`BPF_BTF_LOAD`), of the bytes of an ELF64 file; None where it has no

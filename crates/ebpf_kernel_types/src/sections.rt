@@ -37,7 +37,8 @@ pub struct Sources<'a> {
 /// So many bytes behind where the type with an id stands.
 pub fn place_in(sources: &Sources<'_>, type_id: u32, within: usize) -> usize
     requires { within ≤ 16 }
-    ensures { result ≡ place_in (given_of sources.now) type_id within }
+    ensures place { result ≡ place_in (given_of sources.now) type_id within }
+    ensures near { result < 2 ^ 33 }
 {
     start_of(sources.starts, type_id) as usize + within
 }
