@@ -76,6 +76,14 @@ abbrev pub types_of_found : List ℕ → Option SectionOf → Result (Option (Li
 types_of_found file None = Ok None
 types_of_found file (Some s) = if_ok (types_of_section file s) (λ bytes. Ok (Some bytes))
 
+-- the bytes are no file
+unfoldable pub file_fault : List ℕ → Option KernelTypesError
+file_fault file = option_map ElfError (first_in (faults file))
+
+-- the first section `.BTF`
+unfoldable pub btf_section : List ℕ → Option SectionOf
+btf_section file = find (λ s. is_name (codes ".BTF") (section_name s)) (sections file)
+
 -- of the bytes of a file; none where it has no `.BTF`
 unfoldable pub kernel_types_of : List ℕ → Result (Option (List ℕ)) KernelTypesError
-kernel_types_of file = unless (option_map ElfError (first_in (faults file))) (types_of_found file (find (λ s. is_name (codes ".BTF") (section_name s)) (sections file)))
+kernel_types_of file = unless (file_fault file) (types_of_found file (btf_section file))

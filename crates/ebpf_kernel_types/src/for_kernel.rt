@@ -2,13 +2,11 @@
 
 ghost use Rattle.std.specs.Prelude.{◌≡◌, ◌<◌, ◌≤◌, ◌^◌, ◌++◌, ◌∷◌, length, option_map, IfOk, Ok};
 ghost use Rattle.std.specs.Option.{option_copied};
-ghost use Rattle.ebpf_base.specs.Faults.{Gives, Refuses, fault_of, first_in};
+ghost use Rattle.ebpf_base.specs.Faults.{Gives, Refuses, fault_of};
 ghost use Rattle.ebpf_btf.specs.Header.{first_word, header_bytes};
-ghost use Rattle.ebpf_elf.specs.Faults.{faults};
-ghost use Rattle.ebpf_kernel_types.specs.KernelTypes.{all_types, assembled, kernel_types_of, part_of, read_types, sources_of, types_of_bytes, types_of_found, types_of_section, types_of_sources, written_types};
+ghost use Rattle.ebpf_kernel_types.specs.KernelTypes.{all_types, assembled, btf_section, file_fault, kernel_types_of, part_of, read_types, sources_of, types_of_bytes, types_of_found, types_of_section, types_of_sources, written_types};
 ghost use Rattle.ebpf_kernel_types.specs.KernelTypesMemory.{is_kernel_types_memory};
 ghost use Rattle.ebpf_kernel_types.specs.PrivateContracts.{given_of};
-ghost use Rattle.ebpf_kernel_types.specs.declared.error.KernelTypesError.TheVariants.{ElfError};
 
 use crate::appended::{Standins, all_strings, append_types, append_words, standins_for};
 use crate::error::KernelTypesError;
@@ -196,14 +194,31 @@ fn types_of_section(
 }
 
 /// The file that bytes are.
+#[tactic(auto, unfolding(crate::specs::KernelTypes::file_fault))]
 fn parsed(file: &[u8]) -> Result<ElfFile<'_>, KernelTypesError>
-    ensures fault { fault_of result ≡ option_map ElfError (first_in (faults file.now)) }
+    ensures fault { fault_of result ≡ file_fault file.now }
     ensures file { IfOk result (λ parsed. parsed ≡ file.now) }
 {
     match ElfFile::parse(file) {
         Ok(file) => Ok(file),
         Err(error) => Err(KernelTypesError::ElfError(error)),
     }
+}
+
+/// The first section `.BTF`.
+#[tactic(auto, unfolding(crate::specs::KernelTypes::btf_section))]
+fn btf_section<'a>(file: &ElfFile<'a>) -> Option<ElfSection<'a>>
+    ensures { result ≡ btf_section file.now }
+{
+    file.section_by_name(".BTF")
+}
+
+/// What a file's `.BTF` comes to; None without one.
+fn types_of_parsed(alloc: Global, file: &ElfFile<'_>) -> Result<Option<Items<u8>>, KernelTypesError>
+    ensures { Gives is_kernel_types_memory result (types_of_found file.now (btf_section file.now)) }
+{
+    let section = btf_section(file);
+    types_of_found(alloc, file, section.as_ref())
 }
 
 /// What a section `.BTF` of a file comes to, where there is one.
@@ -223,17 +238,15 @@ fn types_of_found(
     }
 }
 
-/// What a file's `.BTF` comes to; None without one.
+/// What `.BTF` comes to of the file that bytes are; None without one.
 #[tactic(auto, unfolding(crate::specs::KernelTypes::kernel_types_of))]
 fn types_in(alloc: Global, file: &[u8]) -> Result<Option<Items<u8>>, KernelTypesError>
     ensures { Gives is_kernel_types_memory result (kernel_types_of file.now) }
 {
-    let file = match parsed(file) {
-        Ok(file) => file,
-        Err(error) => return Err(error),
-    };
-    let section = file.section_by_name(".BTF");
-    types_of_found(alloc, &file, section.as_ref())
+    match parsed(file) {
+        Ok(file) => types_of_parsed(alloc, &file),
+        Err(error) => Err(error),
+    }
 }
 
 /// The types of an object as the kernel takes them (`BPF_BTF_LOAD`), of the bytes of an ELF64 file; None where it has no
