@@ -1,6 +1,6 @@
 -- The types of an object as the kernel takes them: `.BTF` of its file, but for the words that are written, and what is
 -- appended.
-use Rattle.std.specs.Prelude.{ℕ, ◌^◌, nat_le, nat_lt, ◌||◌, List, [], ◌∷◌, ◌++◌, length, codes, Option, Some, None, Result, Ok, Err, option_map, if◌then◌else◌}
+use Rattle.std.specs.Prelude.{ℕ, nat_lt, ◌||◌, List, [], ◌++◌, length, codes, Option, Some, None, Result, Ok, Err, option_map, if◌then◌else◌}
 use Rattle.std.specs.List.{find}
 use Rattle.ebpf_base.specs.Faults.{first_of, first_in}
 use Rattle.ebpf_base.specs.Results.{if_ok}

@@ -1,5 +1,5 @@
 -- Words that are written over others.
-use Rattle.std.specs.Prelude.{ℕ, ◌+◌, nat_le, List, [], ◌∷◌, ◌++◌, length, take, drop, fold, if◌then◌else◌}
+use Rattle.std.specs.Prelude.{ℕ, ◌+◌, nat_le, List, ◌++◌, length, take, drop, fold, if◌then◌else◌}
 use Rattle.ebpf_base.specs.declared.endianness.Endianness.{Endianness}
 use Rattle.ebpf_btf.specs.Words.{word_bytes}
 use Rattle.ebpf_kernel_types.specs.declared.words.WrittenWord.{WrittenWord}
