@@ -176,10 +176,10 @@ fn reads_types_up_to_the_last_byte(rt: HostRuntime) -> Result<(), Fail> {
 }
 
 /// Takes the last types and strings away.
-fn shorten(btf: &mut Btf, types: usize, strings: usize)
-    requires some { 0 < types }
-{
-    btf.truncate(types, strings);
+fn shorten(btf: &mut Btf, types: usize, strings: usize) {
+    if types > 0 {
+        btf.truncate(types, strings);
+    }
 }
 
 /// Whether both have the same types, and are written alike.
