@@ -1,14 +1,14 @@
 -- That the last slot at an index of a map stands there.
 use Rattle.std.proofs.Common.{◌≡◌, ℕ, Bool, true, false, ◌&&◌, cond, List, [], ◌∷◌, Option, Some, None, unwrap_or, refl, sym, ap, ◌∙◌}
 use Rattle.std.specs.Prelude.{fold}
-use Rattle.std.specs.FinMap.{FinMap, get, insert, empty, get-insert, get-empty, nat_cmp-IsAntisymmetric}
+use Rattle.std.specs.FinMap.{FinMap, get, insert, empty, get-insert, get-empty}
 use Rattle.std.specs.Option.{option_and_then}
 use Rattle.std.specs.Ordering.{eq_by_cmp, nat_cmp}
 use Rattle.std.specs.Cmp.{nat_cmp_total}
 use Rattle.ebpf_base.specs.Keys.{text_cmp, text_total}
 use Rattle.ebpf_base.proofs.Orderings.{is_equal}
 use Rattle.ebpf_base.proofs.TextMaps.{text_exact}
-use Rattle.ebpf_initial_slots.specs.InitialSlots.{by_map_and_index, with_slot}
+use Rattle.ebpf_initial_slots.specs.InitialSlots.{with_slot}
 use Rattle.ebpf_initial_slots.specs.SlotLaws.{LastSlotsStand, last_slot, standing_slot}
 use Rattle.ebpf_initial_slots.specs.declared.slot.InitialSlot.{InitialSlot}
 
