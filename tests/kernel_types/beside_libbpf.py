@@ -3,7 +3,7 @@
 
     beside_libbpf.py LIBBPF PROGRAM [OBJECT ..]
 
-LIBBPF has root/usr/include and root/usr/lib64 of libbpf 1.5, PROGRAM is crates/kernel_types_of as `rt run` builds it. The
+LIBBPF has root/usr/include and root/usr/lib64 of libbpf 1.5, PROGRAM is crates/test_kernel_types as `rt run` builds it. The
 objects are those given, those of crates/*/data and tests/objects, and those that clang makes of the sources in objects/,
 with each version of clang that is there (clang, clang-19).
 
