@@ -28,24 +28,24 @@ abbrev pub function_from : TypeSources → SymbolOf → ℕ → List BtfType →
 function_from g s id [] = None
 function_from g s id (t ∷ ts) = if is_function_of g s id t then Some id else function_from g s (id + 1) ts
 
-abbrev pub function_of : TypeSources → SymbolOf → Option ℕ
-function_of g s = function_from g s 0 g.types.types
+abbrev pub hidden_func : TypeSources → SymbolOf → Option ℕ
+hidden_func g s = function_from g s 0 g.types.types
 
 abbrev pub text_index : List ℕ → Option ℕ
 text_index file = option_map (λ s. s.index) (find (λ s. is_name (codes ".text") (section_name s)) (sections file))
 
-abbrev pub is_in_section : ℕ → Option ℕ → Bool
-is_in_section text None = false
-is_in_section text (Some section) = section == text
+abbrev pub is_in_text : ℕ → Option ℕ → Bool
+is_in_text text None = false
+is_in_text text (Some section) = section == text
 
 abbrev pub is_hidden_function : List ℕ → ℕ → SymbolOf → Bool
-is_hidden_function table text s = is_in_section text (symbol_section_index (entry s)) && is_function_symbol table s && is_hidden table s
+is_hidden_function table text s = is_in_text text (symbol_section_index (entry s)) && is_function_symbol table s && is_hidden table s
 
 -- the info word of its FUNC: static linkage
 abbrev pub function_word : TypeSources → ℕ → SymbolOf → Option WrittenWord
 function_word g text s =
     if is_hidden_function g.table text s
-    then option_map (λ id. record { offset = place_in g id 4; value = 0x0c000000 }) (function_of g s)
+    then option_map (λ id. record { offset = place_in g id 4; value = 0x0c000000 }) (hidden_func g s)
     else None
 
 abbrev pub hidden_words_in : TypeSources → ℕ → List SymbolOf → List WrittenWord

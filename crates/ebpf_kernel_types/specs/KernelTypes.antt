@@ -16,7 +16,7 @@ use Rattle.ebpf_elf.specs.Sections.{SectionOf, data_faults, data_of, section_nam
 use Rattle.ebpf_kernel_types.specs.KernelSymbols.{symbol_table_bytes}
 use Rattle.ebpf_kernel_types.specs.Standins.{all_strings, standin_bytes, standins_or_fault}
 use Rattle.ebpf_kernel_types.specs.TypePlaces.{type_starts}
-use Rattle.ebpf_kernel_types.specs.TypeSources.{TypeSources, unless}
+use Rattle.ebpf_kernel_types.specs.TypeSources.{TypeSources, if_no_fault}
 use Rattle.ebpf_kernel_types.specs.WordsOfTypes.{all_words}
 use Rattle.ebpf_kernel_types.specs.WrittenWords.{words_over}
 use Rattle.ebpf_kernel_types.specs.declared.appended.Standins.{Standins}
@@ -63,22 +63,22 @@ abbrev pub types_or_fault : Result TypeInfo btf_errors.BtfError → Result TypeI
 types_or_fault (Ok types) = Ok types
 types_or_fault (Err e) = Err (BtfError e)
 
-abbrev pub read_types : Endianness → List ℕ → Result TypeInfo KernelTypesError
-read_types order bytes = types_or_fault (type_info_of order bytes)
+abbrev pub types_read : Endianness → List ℕ → Result TypeInfo KernelTypesError
+types_read order bytes = types_or_fault (type_info_of order bytes)
 
 abbrev pub types_of_bytes : List ℕ → List ℕ → Result (List ℕ) KernelTypesError
-types_of_bytes file bytes = if_ok (read_types (ei_data file) bytes) (λ types. types_of_sources (sources_of file bytes types))
+types_of_bytes file bytes = if_ok (types_read (ei_data file) bytes) (λ types. types_of_sources (sources_of file bytes types))
 
 abbrev pub types_of_section : List ℕ → SectionOf → Result (List ℕ) KernelTypesError
-types_of_section file s = unless (option_map ElfError (first_of (data_faults s))) (types_of_bytes file (data_of s))
+types_of_section file s = if_no_fault (option_map ElfError (first_of (data_faults s))) (types_of_bytes file (data_of s))
 
 abbrev pub types_of_found : List ℕ → Option SectionOf → Result (Option (List ℕ)) KernelTypesError
 types_of_found file None = Ok None
 types_of_found file (Some s) = if_ok (types_of_section file s) (λ bytes. Ok (Some bytes))
 
 -- the bytes are no file
-unfoldable pub file_fault : List ℕ → Option KernelTypesError
-file_fault file = option_map ElfError (first_in (faults file))
+unfoldable pub no_file_fault : List ℕ → Option KernelTypesError
+no_file_fault file = option_map ElfError (first_in (faults file))
 
 -- the first section `.BTF`
 unfoldable pub btf_section : List ℕ → Option SectionOf
@@ -86,4 +86,4 @@ btf_section file = find (λ s. is_name (codes ".BTF") (section_name s)) (section
 
 -- of the bytes of a file; none where it has no `.BTF`
 unfoldable pub kernel_types_of : List ℕ → Result (Option (List ℕ)) KernelTypesError
-kernel_types_of file = unless (file_fault file) (types_of_found file (btf_section file))
+kernel_types_of file = if_no_fault (no_file_fault file) (types_of_found file (btf_section file))

@@ -12,7 +12,7 @@ use Rattle.ebpf_btf.specs.declared.types.BtfType.TheVariants.{Func, FuncProto, V
 use Rattle.ebpf_kernel_types.specs.SectionRows.{section_words}
 use Rattle.ebpf_kernel_types.specs.Standins.{is_func}
 use Rattle.ebpf_kernel_types.specs.TypePlaces.{start_of}
-use Rattle.ebpf_kernel_types.specs.TypeSources.{TypeSources, list_or_none, place_in, unless}
+use Rattle.ebpf_kernel_types.specs.TypeSources.{TypeSources, list_or_none, place_in, if_no_fault}
 use Rattle.ebpf_kernel_types.specs.declared.appended.Standins.{Standins}
 use Rattle.ebpf_kernel_types.specs.declared.error.KernelTypesError.{KernelTypesError}
 use Rattle.ebpf_kernel_types.specs.declared.error.KernelTypesError.TheVariants.{NotAVariable, TooLarge}
@@ -62,8 +62,8 @@ extern_words g s id = extern_or_fault g s id (slice_get g.types.types id)
 abbrev pub externs_words : TypeSources → Standins → List DataSecEntry → List WrittenWord
 externs_words g s rows = flat_map (λ row. list_or_none (extern_words g s row.btf_type)) rows
 
-abbrev pub externs_fault : TypeSources → Standins → List DataSecEntry → Option KernelTypesError
-externs_fault g s rows = first_some (λ row. fault_of (extern_words g s row.btf_type)) rows
+abbrev pub ksyms_fault : TypeSources → Standins → List DataSecEntry → Option KernelTypesError
+ksyms_fault g s rows = first_some (λ row. fault_of (extern_words g s row.btf_type)) rows
 
 -- ---- the section
 
@@ -79,4 +79,4 @@ abbrev pub own_ksyms_words : TypeSources → Standins → ℕ → List DataSecEn
 own_ksyms_words g s id rows = section_words (start_of g.starts id) (length rows * 4) (ksyms_rows g.types s 0 rows)
 
 abbrev pub ksyms_words : TypeSources → Standins → ℕ → List DataSecEntry → Result (List WrittenWord) KernelTypesError
-ksyms_words g s id rows = unless (externs_fault g s rows) (Ok (own_ksyms_words g s id rows ++ externs_words g s rows))
+ksyms_words g s id rows = if_no_fault (ksyms_fault g s rows) (Ok (own_ksyms_words g s id rows ++ externs_words g s rows))

@@ -31,8 +31,8 @@ is_func_type _ = false
 unfoldable pub is_func : TypeInfo → ℕ → Bool
 is_func types id = is_func_type (slice_get types.types id)
 
-abbrev pub names_function : TypeInfo → List DataSecEntry → Bool
-names_function types rows = list_any (λ row. is_func types row.btf_type) rows
+abbrev pub names_func : TypeInfo → List DataSecEntry → Bool
+names_func types rows = list_any (λ row. is_func types row.btf_type) rows
 
 abbrev pub is_ksyms : TypeInfo → ℕ → Bool
 is_ksyms types name = is_text (codes ".ksyms") (text_at types.strings name)
@@ -44,7 +44,7 @@ takes_variables types _ = false
 
 -- whether it has a FUNC among its entries
 unfoldable pub takes_functions : TypeInfo → BtfType → Bool
-takes_functions types (DataSec name size rows) = is_ksyms types name && names_function types rows
+takes_functions types (DataSec name size rows) = is_ksyms types name && names_func types rows
 takes_functions types _ = false
 
 -- ---- what is appended

@@ -33,6 +33,6 @@ list_or_none (Ok xs) = xs
 list_or_none (Err e) = []
 
 -- an answer, unless there is a fault
-abbrev pub unless : {X : Type 0} → Option KernelTypesError → Result X KernelTypesError → Result X KernelTypesError
-unless None answer = answer
-unless (Some e) answer = Err e
+abbrev pub if_no_fault : {X : Type 0} → Option KernelTypesError → Result X KernelTypesError → Result X KernelTypesError
+if_no_fault None answer = answer
+if_no_fault (Some e) answer = Err e

@@ -9,7 +9,7 @@ use Rattle.ebpf_kernel_types.specs.DataSections.{data_words}
 use Rattle.ebpf_kernel_types.specs.HiddenFunctions.{hidden_words}
 use Rattle.ebpf_kernel_types.specs.KconfigSections.{kconfig_words}
 use Rattle.ebpf_kernel_types.specs.KsymsSections.{ksyms_words}
-use Rattle.ebpf_kernel_types.specs.TypeSources.{TypeSources, list_or_none, unless}
+use Rattle.ebpf_kernel_types.specs.TypeSources.{TypeSources, list_or_none, if_no_fault}
 use Rattle.ebpf_kernel_types.specs.declared.appended.Standins.{Standins}
 use Rattle.ebpf_kernel_types.specs.declared.error.KernelTypesError.{KernelTypesError}
 use Rattle.ebpf_kernel_types.specs.declared.error.KernelTypesError.TheVariants.{TooLarge}
@@ -33,10 +33,10 @@ types_words g s id [] = []
 types_words g s id (t ∷ ts) = list_or_none (section_type_words g s id t) ++ types_words g s (id + 1) ts
 
 -- the first fault
-abbrev pub types_fault : TypeSources → Standins → ℕ → List BtfType → Option KernelTypesError
-types_fault g s id [] = None
-types_fault g s id (t ∷ ts) = or_else (fault_of (section_type_words g s id t)) (types_fault g s (id + 1) ts)
+abbrev pub type_words_fault : TypeSources → Standins → ℕ → List BtfType → Option KernelTypesError
+type_words_fault g s id [] = None
+type_words_fault g s id (t ∷ ts) = or_else (fault_of (section_type_words g s id t)) (type_words_fault g s (id + 1) ts)
 
 -- those of DATASECs, then those of hidden functions; later words stand
 abbrev pub all_words : TypeSources → Standins → Result (List WrittenWord) KernelTypesError
-all_words g s = unless (types_fault g s 0 g.types.types) (Ok (types_words g s 0 g.types.types ++ hidden_words g))
+all_words g s = if_no_fault (type_words_fault g s 0 g.types.types) (Ok (types_words g s 0 g.types.types ++ hidden_words g))

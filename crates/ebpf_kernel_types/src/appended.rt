@@ -4,7 +4,7 @@ ghost use Rattle.std.specs.Prelude.{◌≡◌, ◌++◌, ◌==◌, ◌≤◌, �
 ghost use Rattle.std.specs.List.{list_any};
 ghost use Rattle.std.specs.List.{flat_map};
 ghost use Rattle.ebpf_btf.specs.Words.{word_bytes};
-ghost use Rattle.ebpf_kernel_types.specs.Standins.{all_strings, first_int, int_words, is_func, is_int_of_4, names_function, standin_bytes, standins_or_fault, takes_functions, takes_variables, variable_words};
+ghost use Rattle.ebpf_kernel_types.specs.Standins.{all_strings, first_int, int_words, is_func, is_int_of_4, names_func, standin_bytes, standins_or_fault, takes_functions, takes_variables, variable_words};
 
 use crate::error::KernelTypesError;
 use ebpf_base::Endianness;
@@ -62,8 +62,8 @@ pub fn is_func(types: &Btf, type_id: u32) -> bool
 }
 
 /// Whether some entry names a FUNC.
-fn names_function(types: &Btf, rows: &Rows<'_, DataSecEntry>) -> bool
-    ensures { result ≡ names_function types.now rows.now }
+fn names_func(types: &Btf, rows: &Rows<'_, DataSecEntry>) -> bool
+    ensures { result ≡ names_func types.now rows.now }
 {
     for row in rows.iter() {
         if is_func(types, row.btf_type) {
@@ -98,7 +98,7 @@ fn takes_functions(types: &Btf, ty: &BtfType<'_>) -> bool
             name_offset,
             entries,
             ..
-        } => is_text_at(types.strings(), *name_offset, ".ksyms") && names_function(types, entries),
+        } => is_text_at(types.strings(), *name_offset, ".ksyms") && names_func(types, entries),
         _ => false,
     }
 }

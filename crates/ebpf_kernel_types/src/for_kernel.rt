@@ -4,7 +4,7 @@ ghost use Rattle.std.specs.Prelude.{◌≡◌, ◌<◌, ◌≤◌, ◌^◌, ◌+
 ghost use Rattle.std.specs.Option.{option_copied};
 ghost use Rattle.ebpf_base.specs.Faults.{Gives, Refuses, fault_of};
 ghost use Rattle.ebpf_btf.specs.Header.{first_word, header_bytes};
-ghost use Rattle.ebpf_kernel_types.specs.KernelTypes.{all_types, assembled, btf_section, file_fault, kernel_types_of, part_of, read_types, sources_of, types_of_bytes, types_of_found, types_of_section, types_of_sources, written_types};
+ghost use Rattle.ebpf_kernel_types.specs.KernelTypes.{all_types, assembled, btf_section, no_file_fault, kernel_types_of, part_of, types_read, sources_of, types_of_bytes, types_of_found, types_of_section, types_of_sources, written_types};
 ghost use Rattle.ebpf_kernel_types.specs.KernelTypesMemory.{is_kernel_types_memory};
 ghost use Rattle.ebpf_kernel_types.specs.PrivateContracts.{given_of};
 
@@ -154,8 +154,8 @@ fn types_of_file(
 }
 
 /// The types of `.BTF`.
-fn read_types(alloc: Global, order: Endianness, bytes: &[u8]) -> Result<Btf, KernelTypesError>
-    ensures { Gives is_kernel_types_memory result (read_types order bytes.now) }
+fn types_read(alloc: Global, order: Endianness, bytes: &[u8]) -> Result<Btf, KernelTypesError>
+    ensures { Gives is_kernel_types_memory result (types_read order bytes.now) }
 {
     match Btf::parse(alloc, bytes, order) {
         Ok(types) => Ok(types),
@@ -172,7 +172,7 @@ fn types_of_bytes(
 ) -> Result<Items<u8>, KernelTypesError>
     ensures { Gives is_kernel_types_memory result (types_of_bytes file.now bytes.now) }
 {
-    let types = match read_types(alloc, file.endianness(), bytes) {
+    let types = match types_read(alloc, file.endianness(), bytes) {
         Ok(types) => types,
         Err(error) => return Err(error),
     };
@@ -194,9 +194,9 @@ fn types_of_section(
 }
 
 /// The file that bytes are.
-#[tactic(auto, unfolding(crate::specs::KernelTypes::file_fault))]
+#[tactic(auto, unfolding(crate::specs::KernelTypes::no_file_fault))]
 fn parsed(file: &[u8]) -> Result<ElfFile<'_>, KernelTypesError>
-    ensures fault { fault_of result ≡ file_fault file.now }
+    ensures fault { fault_of result ≡ no_file_fault file.now }
     ensures file { IfOk result (λ parsed. parsed ≡ file.now) }
 {
     match ElfFile::parse(file) {

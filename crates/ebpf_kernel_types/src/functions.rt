@@ -2,7 +2,7 @@
 
 ghost use Rattle.std.specs.Prelude.{◌≡◌, ◌<◌, ◌≤◌, ◌^◌, ◌++◌, ◌==◌, IfOk, length};
 ghost use Rattle.ebpf_elf.specs.Symbols.{symbols};
-ghost use Rattle.ebpf_kernel_types.specs.HiddenFunctions.{function_of, function_word, hidden_words, hidden_words_in, is_function_of, is_global, is_hidden_function, text_index};
+ghost use Rattle.ebpf_kernel_types.specs.HiddenFunctions.{hidden_func, function_word, hidden_words, hidden_words_in, is_function_of, is_global, is_hidden_function, text_index};
 ghost use Rattle.ebpf_kernel_types.specs.PrivateContracts.{given_of};
 
 use crate::places::start_of;
@@ -50,8 +50,8 @@ fn is_function_of(
 }
 
 /// The id of the first global FUNC that has the name of a symbol.
-fn function_of(sources: &Sources<'_>, symbol: &ElfSymbol<'_>) -> Option<u32>
-    ensures { result ≡ function_of (given_of sources.now) symbol.now }
+fn hidden_func(sources: &Sources<'_>, symbol: &ElfSymbol<'_>) -> Option<u32>
+    ensures { result ≡ hidden_func (given_of sources.now) symbol.now }
 {
     let mut id = 0usize;
     for ty in sources.types.types() {
@@ -92,7 +92,7 @@ fn function_word(sources: &Sources<'_>, text: usize, symbol: &ElfSymbol<'_>) -> 
     if !is_hidden_function(sources.table, text, symbol) {
         return None;
     }
-    match function_of(sources, symbol) {
+    match hidden_func(sources, symbol) {
         Some(id) => Some(WrittenWord {
             offset: place_in(sources, id, 4),
             value: STATIC_FUNC,

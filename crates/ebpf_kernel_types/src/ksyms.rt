@@ -3,7 +3,7 @@
 ghost use Rattle.std.specs.Prelude.{◌≡◌, ◌+◌, ◌*◌, ◌<◌, ◌≤◌, ◌^◌, ◌++◌, length, IfOk};
 ghost use Rattle.ebpf_base.specs.Faults.{Gives, Refuses};
 ghost use Rattle.ebpf_kernel_types.specs.KernelTypesMemory.{is_kernel_types_memory};
-ghost use Rattle.ebpf_kernel_types.specs.KsymsSections.{extern_function_words, extern_variable_words, extern_words, externs_fault, externs_words, ksyms_rows, ksyms_words, own_ksyms_words, params_or_fault, params_words, proto_words, standing_type};
+ghost use Rattle.ebpf_kernel_types.specs.KsymsSections.{extern_function_words, extern_variable_words, extern_words, ksyms_fault, externs_words, ksyms_rows, ksyms_words, own_ksyms_words, params_or_fault, params_words, proto_words, standing_type};
 ghost use Rattle.ebpf_kernel_types.specs.PrivateContracts.{given_of};
 
 use crate::appended::{Standins, is_func};
@@ -171,7 +171,7 @@ fn externs_words(
     rows: &Rows<'_, DataSecEntry>,
 ) -> Result<Items<WrittenWord>, KernelTypesError>
     ensures words { IfOk result (λ words. words ≡ externs_words (given_of sources.now) standins rows.now) }
-    ensures fault { Refuses is_kernel_types_memory result (externs_fault (given_of sources.now) standins rows.now) }
+    ensures fault { Refuses is_kernel_types_memory result (ksyms_fault (given_of sources.now) standins rows.now) }
 {
     let mut words = Items::new(alloc);
     for row in rows.iter() {

@@ -4,7 +4,7 @@ ghost use Rattle.std.specs.Prelude.{◌≡◌, ◌<◌, ◌≤◌, ◌+◌, ◌^
 ghost use Rattle.ebpf_base.specs.Faults.{Gives, Refuses};
 ghost use Rattle.ebpf_kernel_types.specs.KernelTypesMemory.{is_kernel_types_memory};
 ghost use Rattle.ebpf_kernel_types.specs.PrivateContracts.{given_of};
-ghost use Rattle.ebpf_kernel_types.specs.WordsOfTypes.{all_words, few_rows_words, section_type_words, types_fault, types_words};
+ghost use Rattle.ebpf_kernel_types.specs.WordsOfTypes.{all_words, few_rows_words, section_type_words, type_words_fault, types_words};
 
 use crate::appended::Standins;
 use crate::data_sections::data_words;
@@ -85,7 +85,7 @@ fn types_words(
     standins: Standins,
 ) -> Result<Items<WrittenWord>, KernelTypesError>
     ensures words { IfOk result (λ words. words ≡ types_words (given_of sources.now) standins 0 sources.now.types.now.types) }
-    ensures fault { Refuses is_kernel_types_memory result (types_fault (given_of sources.now) standins 0 sources.now.types.now.types) }
+    ensures fault { Refuses is_kernel_types_memory result (type_words_fault (given_of sources.now) standins 0 sources.now.types.now.types) }
 {
     let mut words = Items::new(alloc);
     let mut id = 0usize;

@@ -1,5 +1,5 @@
 use Rattle.std.proofs.Common.{◌≡◌, ◌++◌}
-use Rattle.ebpf_kernel_types.specs.KsymsSections.{externs_fault, externs_words}
+use Rattle.ebpf_kernel_types.specs.KsymsSections.{ksyms_fault, externs_words}
 use Rattle.ebpf_kernel_types.specs.PrivateContracts.{given_of}
 use Rattle.ebpf_kernel_types.proofs.ksyms.externs_words.Given as goal
 
@@ -7,5 +7,5 @@ use Rattle.ebpf_kernel_types.proofs.ksyms.externs_words.Given as goal
 abbrev pub invariant-loop-row : goal.invariant-loop-row
 invariant-loop-row l = record {
   words : l.words ++ externs_words (given_of l.sources) l.standins l.row-iterator ≡ externs_words (given_of l.sources) l.standins l.rows;
-  fault : externs_fault (given_of l.sources) l.standins l.row-iterator ≡ externs_fault (given_of l.sources) l.standins l.rows;
+  fault : ksyms_fault (given_of l.sources) l.standins l.row-iterator ≡ ksyms_fault (given_of l.sources) l.standins l.rows;
 }
