@@ -1,5 +1,4 @@
-"""Builds libebpf_c.a over the libraries below it that the gate has proved; of ebpf_c itself what its edits left proved is
-taken, and the rest is proved once more."""
+"""Builds libebpf_c.a over the libraries below it that the gate has proved: only ebpf_c itself is proved once more."""
 import os
 import subprocess
 import sys
@@ -19,12 +18,10 @@ def left_by_the_gate(crates):
 
 def words(named):
     """What rattle is told: the libraries by their paths, and what the archive is built with."""
-    kept = over_libraries.kept(NAME, named)
     return [
         *over_libraries.words(NAME, named),
         *["--crate-type", "staticlib", "--jobs", str(min(os.cpu_count() or 1, 4))],
         *["--toolchain", over_libraries.KIT / "toolchain", "--backend", "llvm"],
-        *(["--incremental", kept] if kept else []),
     ]
 
 
