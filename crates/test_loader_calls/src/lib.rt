@@ -3,5 +3,3 @@
 
 #[cfg(test)]
 mod initial_slots;
-#[cfg(test)]
-mod kconfig;

@@ -1,6 +1,0 @@
-//! Externs that the kernel's configuration gives, in small objects.
-
-mod configured;
-mod defined;
-mod listed;
-mod objects;
