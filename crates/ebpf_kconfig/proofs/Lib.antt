@@ -1,3 +1,4 @@
 pub mod ConfigLines
 pub mod DataSizes
 pub mod DefinedSymbols
+pub mod FinishedObjects

@@ -2,6 +2,7 @@
 #![tactic(auto)]
 
 mod bytes;
+mod failure;
 mod instructions;
 mod linked;
 mod names;

@@ -1,6 +1,7 @@
 //! The programs of an object's file, linked and written.
 
-use crate::bytes::{write_head, write_slots};
+use crate::bytes::write_finished;
+use crate::failure::BytesFailure;
 use crate::instructions::write_instructions;
 use crate::linked::Linked;
 use crate::notes::RecordNotes;
@@ -8,19 +9,16 @@ use crate::origins::Origins;
 use crate::record_words::RecordTeller;
 use crate::words::LinkWords;
 use ebpf_model::Function;
-use ebpf_prepared::{MapSlots, Prepared, prepare_file};
+use ebpf_object::Object;
+use ebpf_prepared::{
+    MapSlots, Opened, PrepareWords, Prepared, open_file, prepare_file, refuse_preparing,
+};
 use ebpf_reloc::LinkMap;
+use ebpf_report::names::Shown;
 use ebpf_report::programs::ObjectProgram;
 use ebpf_report::stop::Stop;
 use std::alloc::Global;
 use std::io::{self, BufWriter, Write};
-
-/// How programs are written.
-#[derive(Clone, Copy)]
-struct Manner {
-    bytes: bool,
-    lines: bool,
-}
 
 /// Writes a program as instructions.
 fn write_linked<'a, W: Write>(
@@ -36,22 +34,6 @@ fn write_linked<'a, W: Write>(
     write_instructions(out, teller, origins, &linked)
 }
 
-/// Writes the slots of a program.
-fn write_program<'a, W: Write>(
-    alloc: Global,
-    out: &mut W,
-    teller: &mut RecordTeller<'_>,
-    origins: &Origins<'a>,
-    function: &'a Function,
-    map: &'a LinkMap,
-    manner: Manner,
-) -> Result<(), Stop> {
-    if manner.bytes {
-        return Ok(write_slots(out, function.instructions.as_slice())?);
-    }
-    write_linked(alloc, out, teller, origins, function, map, manner.lines)
-}
-
 /// Writes the line of a program: behind an empty one where instructions of another one stand before it.
 fn write_name<W: Write>(
     out: &mut W,
@@ -62,7 +44,9 @@ fn write_name<W: Write>(
     if !stands_alone {
         writeln!(out, "")?;
     }
-    write_head(out, program.name.as_str(), function.instructions.len())
+    let name = Shown(program.name.as_str());
+    let slots = function.instructions.len();
+    writeln!(out, "program {name} slots {slots}")
 }
 
 /// Writes the programs.
@@ -71,7 +55,7 @@ fn write_programs<'a, W: Write>(
     out: &mut W,
     prepared: &'a Prepared,
     origins: &Origins<'a>,
-    manner: Manner,
+    lines: bool,
 ) -> Result<(), Stop> {
     let maps = prepared.link_maps.iter();
     let mut teller = RecordTeller::new(alloc, prepared.parsed.btf.as_ref());
@@ -81,8 +65,8 @@ fn write_programs<'a, W: Write>(
             continue;
         };
         write_name(out, program, function, stands_alone)?;
-        write_program(alloc, out, &mut teller, origins, function, map, manner)?;
-        stands_alone = manner.bytes;
+        write_linked(alloc, out, &mut teller, origins, function, map, lines)?;
+        stands_alone = false;
     }
     Ok(())
 }
@@ -92,11 +76,11 @@ fn write_all<'a>(
     rt: &HostRuntime,
     prepared: &'a Prepared,
     origins: &Origins<'a>,
-    manner: Manner,
+    lines: bool,
 ) -> Result<(), Stop> {
     let alloc = rt.alloc();
     let mut out = BufWriter::new(alloc, rt.stdout())?;
-    write_programs(alloc, &mut out, prepared, origins, manner)?;
+    write_programs(alloc, &mut out, prepared, origins, lines)?;
     out.flush()?;
     Ok(())
 }
@@ -106,27 +90,74 @@ fn write_noted<'a>(
     rt: &HostRuntime,
     prepared: &'a Prepared,
     notes: &'a RecordNotes,
-    manner: Manner,
+    lines: bool,
 ) -> Result<(), Stop> {
     let origins = Origins::new(rt.alloc(), &prepared.object, &prepared.parsed, notes)?;
-    write_all(rt, prepared, &origins, manner)
+    write_all(rt, prepared, &origins, lines)
 }
 
 /// Writes the programs of an object.
-fn write_prepared(rt: &HostRuntime, prepared: &Prepared, manner: Manner) -> Result<(), Stop> {
+fn write_prepared(rt: &HostRuntime, prepared: &Prepared, lines: bool) -> Result<(), Stop> {
     let notes = RecordNotes::of(rt.alloc(), &prepared.parsed, prepared.types.as_ref())?;
-    write_noted(rt, prepared, &notes, manner)
+    write_noted(rt, prepared, &notes, lines)
+}
+
+/// Writes the programs of the object of a file as instructions, behind their source lines where these are wanted.
+fn link_as_instructions(
+    rt: &HostRuntime,
+    words: &PrepareWords,
+    lines: bool,
+) -> Result<(), Stop> {
+    let prepared = prepare_file(rt, words, MapSlots::Numbered)?;
+    let written = write_prepared(rt, &prepared, lines);
+    drop(prepared);
+    written
+}
+
+/// Why the work ends where programs aren't written as bytes: what a pass refuses is told.
+fn stop_of(
+    rt: &HostRuntime,
+    words: &PrepareWords,
+    parsed: &Object,
+    failure: BytesFailure,
+) -> Stop {
+    match failure {
+        BytesFailure::Preparing(error) => {
+            let stop = refuse_preparing(rt, words, parsed, &error);
+            drop(error);
+            stop
+        }
+        BytesFailure::Output(error) => Stop::Output(error),
+        BytesFailure::Memory => Stop::Memory,
+    }
+}
+
+/// Writes the programs of an object that was opened as bytes.
+fn write_opened(rt: &HostRuntime, words: &PrepareWords, opened: &Opened) -> Result<(), Stop> {
+    let alloc = rt.alloc();
+    let mut out = BufWriter::new(alloc, rt.stdout())?;
+    match write_finished(alloc, &opened.parsed, &opened.kernel, &opened.programs, &mut out) {
+        Ok(()) => {}
+        Err(failure) => return Err(stop_of(rt, words, &opened.parsed, failure)),
+    }
+    out.flush()?;
+    Ok(())
+}
+
+/// Writes the programs of the object of a file as bytes.
+fn link_as_bytes(rt: &HostRuntime, words: &PrepareWords) -> Result<(), Stop> {
+    let opened = open_file(rt, words)?;
+    let written = write_opened(rt, words, &opened);
+    drop(opened);
+    written
 }
 
 /// Does what `ebpf link` is asked, and gives the status.
 pub fn link(rt: &HostRuntime, words: &LinkWords) -> Result<u8, Stop> {
-    let manner = Manner {
-        bytes: words.bytes,
-        lines: words.lines,
-    };
-    let prepared = prepare_file(rt, &words.prepare, MapSlots::Numbered)?;
-    let written = write_prepared(rt, &prepared, manner);
-    drop(prepared);
-    written?;
+    if words.bytes {
+        link_as_bytes(rt, &words.prepare)?;
+    } else {
+        link_as_instructions(rt, &words.prepare, words.lines)?;
+    }
     Ok(0)
 }

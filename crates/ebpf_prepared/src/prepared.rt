@@ -1,22 +1,17 @@
 //! An object's file, read and prepared.
 
-use crate::kernel::{Kernel, given_kernel};
+use crate::kernel::Kernel;
 use crate::map_slots::MapSlots;
+use crate::opened::{Opened, open_file};
 use crate::passes::{Passed, pass_all};
 use crate::refusals::refuse_preparing;
-use crate::settings::define_settings;
-use crate::settings_help::refuse_settings;
 use crate::words::PrepareWords;
-use ebpf_base::{Items, Text};
+use ebpf_base::Items;
 use ebpf_btf::Btf;
 use ebpf_object::Object;
 use ebpf_object::relocation::LinkMap;
-use ebpf_report::object_file::read_object;
-use ebpf_report::parsed::parsed_object;
-use ebpf_report::programs::{ObjectProgram, object_programs};
-use ebpf_report::refuse::check_names;
+use ebpf_report::programs::ObjectProgram;
 use ebpf_report::stop::Stop;
-use std::alloc::{AllocError, Global};
 
 /// An object, prepared, with what it was made of.
 #[derive(Drop)]
@@ -35,54 +30,15 @@ pub struct Prepared {
     pub types: Option<Btf>,
 }
 
-/// Whether a text is among others.
-fn is_among(texts: &[Text], wanted: &str) -> bool {
-    texts.iter().any(|text| text.is(wanted))
-}
-
-/// The programs of these names; all without a name.
-fn of_names(
-    alloc: Global,
-    programs: Vec<ObjectProgram>,
-    names: &[Text],
-) -> Result<Vec<ObjectProgram>, AllocError> {
-    if names.is_empty() {
-        return Ok(programs);
-    }
-    let mut chosen = Vec::new(alloc);
-    for program in programs {
-        if !is_among(names, program.name.as_str()) {
-            continue;
-        }
-        chosen.push(program)?;
-    }
-    Ok(chosen)
-}
-
-/// The programs that words choose; a name that no program has is told.
-fn chosen_programs(
-    rt: &HostRuntime,
-    words: &PrepareWords,
-    file: &[u8],
-    object: &Object,
-) -> Result<Vec<ObjectProgram>, Stop> {
-    let alloc = rt.alloc();
-    let names = words.programs.as_slice();
-    let programs = object_programs(alloc, file, object)?;
-    check_names(rt, words.json, words.file.as_str(), &programs, names)?;
-    Ok(of_names(alloc, programs, names)?)
-}
-
 /// An object after all passes; one that a pass refuses is told.
 fn passed(
     rt: &HostRuntime,
     words: &PrepareWords,
-    parsed: &Object,
-    programs: &[ObjectProgram],
+    opened: &Opened,
     map_slots: MapSlots,
-    kernel: &Kernel,
 ) -> Result<Passed, Stop> {
-    match pass_all(rt.alloc(), parsed, programs, map_slots, kernel) {
+    let parsed = &opened.parsed;
+    match pass_all(rt.alloc(), parsed, &opened.programs, map_slots, &opened.kernel) {
         Ok(passed) => Ok(passed),
         Err(error) => {
             let stop = refuse_preparing(rt, words, parsed, &error);
@@ -92,97 +48,46 @@ fn passed(
     }
 }
 
-/// Defines the externs of an object that the kernel's configuration gives; where they can't be, it is told.
-fn define(
-    rt: &HostRuntime,
-    words: &PrepareWords,
-    parsed: &mut Object,
-    kernel: &Kernel,
-) -> Result<(), Stop> {
-    match define_settings(rt.alloc(), parsed, kernel) {
-        Ok(()) => Ok(()),
-        Err(error) => {
-            let stop = refuse_settings(rt, words, &error);
-            drop(error);
-            Err(stop)
-        }
-    }
-}
-
-/// An object after all passes, once the externs are defined that the kernel's configuration gives; what is refused is told.
-fn defined_and_passed(
-    rt: &HostRuntime,
-    words: &PrepareWords,
-    parsed: &mut Object,
-    programs: &[ObjectProgram],
-    map_slots: MapSlots,
-    kernel: &Kernel,
-) -> Result<Passed, Stop> {
-    define(rt, words, parsed, kernel)?;
-    passed(rt, words, parsed, programs, map_slots, kernel)
-}
-
-/// What is made of an object that was parsed.
-#[derive(Drop)]
-struct Made {
-    programs: Vec<ObjectProgram>,
-    passed: Passed,
-    types: Option<Btf>,
-}
-
-/// The programs of an object that words choose, and the object after all passes.
-fn made_of(
-    rt: &HostRuntime,
-    words: &PrepareWords,
-    file: &[u8],
-    parsed: &mut Object,
-    map_slots: MapSlots,
-) -> Result<Made, Stop> {
-    let programs = chosen_programs(rt, words, file, parsed)?;
-    let kernel = given_kernel(rt, words, parsed.endianness)?;
-    let passed = defined_and_passed(rt, words, parsed, &programs, map_slots, &kernel)?;
-    Ok(Made {
+/// An object with what the passes made of it.
+fn with_passed(opened: Opened, passed: Passed) -> Prepared {
+    let Opened {
+        file,
+        parsed,
         programs,
-        passed,
-        types: kernel.types,
-    })
-}
-
-/// An object with what was made of it.
-fn with_parsed(file: Vec<u8>, parsed: Object, made: Result<Made, Stop>) -> Result<Prepared, Stop> {
-    let made = match made {
-        Ok(made) => made,
-        Err(stop) => {
-            drop(parsed);
-            return Err(stop);
-        }
-    };
-    let Made {
-        programs,
-        passed,
+        kernel,
+    } = opened;
+    let Kernel {
         types,
-    } = made;
+        symbols,
+        config,
+        version: _,
+    } = kernel;
+    drop(symbols);
+    drop(config);
     let Passed { object, link_maps } = passed;
-    Ok(Prepared {
+    Prepared {
         file,
         parsed,
         object,
         programs,
         link_maps,
         types,
-    })
+    }
 }
 
-/// Reads the object's file, broadly, then the kernel's types, symbols and configuration that words give, defines the externs
-/// that the configuration gives, and makes all passes over the object: types where they are given, maps, externs, calls. What is refused is told: with status 2 where a file can't be
-/// read or a name is no program's, with status 1 where the object is refused.
+/// Opens the object's file as `open_file` does, and makes all passes over the object: types where they are given, maps,
+/// externs, calls. An object that a pass refuses is told, with status 1.
 pub fn prepare_file(
     rt: &HostRuntime,
     words: &PrepareWords,
     map_slots: MapSlots,
 ) -> Result<Prepared, Stop> {
-    let file = read_object(rt, words.json, words.file.as_str(), words.object)?;
-    let mut parsed = parsed_object(rt, words.json, words.file.as_str(), &file)?;
-    let made = made_of(rt, words, &file, &mut parsed, map_slots);
-    with_parsed(file, parsed, made)
+    let opened = open_file(rt, words)?;
+    match passed(rt, words, &opened, map_slots) {
+        Ok(passed) => Ok(with_passed(opened, passed)),
+        Err(stop) => {
+            drop(opened);
+            Err(stop)
+        }
+    }
 }

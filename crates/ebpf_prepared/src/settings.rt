@@ -1,5 +1,8 @@
 //! The externs that the kernel's configuration gives, defined by what is known of a kernel.
 
+ghost use Rattle.std.specs.Prelude.{◌≡◌, [], OnOk};
+ghost use Rattle.ebpf_kconfig.specs.KconfigExterns.{kconfig_externs};
+
 use crate::kernel::Kernel;
 use ebpf_base::{ByName, Endianness, Items};
 use ebpf_btf::{BtfError, BtfKind};
@@ -105,7 +108,9 @@ pub fn define_settings(
     alloc: Global,
     object: &mut Object,
     kernel: &Kernel,
-) -> Result<(), KconfigError> {
+) -> Result<(), KconfigError>
+    ensures same { OnOk result (kconfig_externs object.old.btf object.old.symbol_table ≡ [] → object.new ≡ object.old) }
+{
     if !may_have_settings(object) {
         return Ok(());
     }

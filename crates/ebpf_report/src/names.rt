@@ -1,5 +1,11 @@
 //! Names from files, written so that none of them says anything to a terminal.
 
+ghost use Rattle.std.specs.Prelude.{◌≡◌, ◌<◌};
+ghost use Rattle.std.specs.Char.{digit_char};
+ghost use Rattle.std.specs.Fmt.{WritesOnOk};
+ghost use Rattle.std.specs.List.{flat_map};
+ghost use Rattle.ebpf_report.specs.Shown.{speaks, escaped_byte, shown_char};
+
 use std::fmt;
 
 /// A name as text shows it: a control character, a backslash and a character that turns the direction of a line are
@@ -13,7 +19,9 @@ pub struct Quoted<'a>(pub &'a str);
 
 /// Whether a character speaks to a terminal: the controls, the marks and overrides of a line's direction, and the two
 /// separators of lines.
-fn speaks(c: char) -> bool {
+fn speaks(c: char) -> bool
+    ensures { result ≡ speaks c }
+{
     matches!(
         c,
         '\u{0}'..='\u{1f}'
@@ -25,30 +33,57 @@ fn speaks(c: char) -> bool {
     )
 }
 
-/// Writes the bytes of a character below U+10000.
-fn write_bytes<W: fmt::Write>(f: &mut fmt::Formatter<W>, c: char) -> fmt::Result {
-    let code = u32::from(c);
-    if code < 0x80 {
-        return write!(f, "\\x{code:02x}");
+/// The character of a digit below 16.
+fn hex_digit(value: u8) -> char
+    requires { value < 16 }
+    ensures { result ≡ digit_char value }
+{
+    if value < 10 {
+        char::from(b'0' + value)
+    } else {
+        char::from(b'a' + (value - 10))
     }
-    let last = 0x80 + code % 0x40;
-    if code < 0x800 {
-        let first = 0xc0 + code / 0x40;
-        return write!(f, "\\x{first:02x}\\x{last:02x}");
+}
+
+/// Writes a byte as `\xNN`.
+fn write_escaped<W: fmt::Write>(f: &mut fmt::Formatter<W>, byte: u8) -> fmt::Result
+    ensures { WritesOnOk W.write_str_gives f.old result (escaped_byte byte) f.new }
+{
+    f.write_str("\\x")?;
+    f.write_char(hex_digit(byte / 16))?;
+    f.write_char(hex_digit(byte % 16))
+}
+
+/// Writes bytes as `\xNN` each.
+fn write_all_escaped<W: fmt::Write>(f: &mut fmt::Formatter<W>, bytes: &[u8]) -> fmt::Result
+    ensures { WritesOnOk W.write_str_gives f.old result (flat_map escaped_byte bytes.now) f.new }
+{
+    for byte in bytes {
+        write_escaped(f, *byte)?;
     }
-    let first = 0xe0 + code / 0x1000 % 0x10;
-    let second = 0x80 + code / 0x40 % 0x40;
-    write!(f, "\\x{first:02x}\\x{second:02x}\\x{last:02x}")
+    Ok(())
+}
+
+/// Writes a character of a name.
+fn write_shown<W: fmt::Write>(f: &mut fmt::Formatter<W>, c: char) -> fmt::Result
+    ensures { WritesOnOk W.write_str_gives f.old result (shown_char c) f.new }
+{
+    if c != '\\' && !speaks(c) {
+        return f.write_char(c);
+    }
+    let mut bytes = [0; 4];
+    write_all_escaped(f, c.encode_utf8(&mut bytes).as_bytes())
 }
 
 impl fmt::Display for Shown<'_> {
+    ghost use Rattle.std.specs.Prelude.{Some};
+    ghost use Rattle.ebpf_report.specs.Shown.{shown};
+
+    ghost output = { λ name. Some (shown name.0.now) };
+
     fn fmt<W: fmt::Write>(&self, f: &mut fmt::Formatter<W>) -> fmt::Result {
         for c in self.0.chars() {
-            if c == '\\' || speaks(c) {
-                write_bytes(f, c)?;
-            } else {
-                f.write_char(c)?;
-            }
+            write_shown(f, c)?;
         }
         Ok(())
     }

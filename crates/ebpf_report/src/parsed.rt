@@ -1,14 +1,20 @@
 //! An object, parsed.
 
+ghost use Rattle.std.specs.Prelude.{IfOk};
+ghost use Rattle.ebpf_object.specs.Prepared.{IsParsed};
+ghost use Rattle.ebpf_parts.specs.declared.reading.Reading.TheVariants.{Broad};
+
 use crate::refuse::refuse_parsing;
 use crate::stop::Stop;
 use ebpf_object::Object;
 use ebpf_parts::{ParseError, Reading};
 use std::alloc::Global;
 
-/// The object of a file's bytes, read broadly. Nothing is stated of it, so that what calls this isn't proved over all that
+/// The object of a file's bytes, read broadly. Little is stated of it, so that what calls this isn't proved over all that
 /// is stated of parsing.
-fn parsed(alloc: Global, file: &[u8]) -> Result<Object, ParseError> {
+fn parsed(alloc: Global, file: &[u8]) -> Result<Object, ParseError>
+    ensures { IfOk result (IsParsed Broad file.now) }
+{
     Object::parse_as(alloc, file, Reading::Broad)
 }
 
@@ -18,7 +24,9 @@ pub fn parsed_object(
     json: bool,
     path: &str,
     file: &[u8],
-) -> Result<Object, Stop> {
+) -> Result<Object, Stop>
+    ensures { IfOk result (IsParsed Broad file.now) }
+{
     match parsed(rt.alloc(), file) {
         Ok(object) => Ok(object),
         Err(error) => {

@@ -1,0 +1,144 @@
+//! An object's file, read, with what words give of a kernel.
+
+ghost use Rattle.std.specs.Prelude.{◌≡◌, ◌×◌, [], IfOk, OnOk};
+ghost use Rattle.ebpf_kconfig.specs.KconfigExterns.{kconfig_externs};
+ghost use Rattle.ebpf_prepared.specs.Opened.{IsOpened};
+
+use crate::kernel::{Kernel, given_kernel};
+use crate::settings::define_settings;
+use crate::settings_help::refuse_settings;
+use crate::words::PrepareWords;
+use ebpf_base::Text;
+use ebpf_object::Object;
+use ebpf_report::object_file::read_object;
+use ebpf_report::parsed::parsed_object;
+use ebpf_report::programs::{ObjectProgram, object_programs};
+use ebpf_report::refuse::check_names;
+use ebpf_report::stop::Stop;
+use std::alloc::{AllocError, Global};
+
+/// An object that was parsed, with what words choose of it and give of a kernel. No pass was made over it.
+#[derive(Drop)]
+pub struct Opened {
+    /// The bytes of its file.
+    pub file: Vec<u8>,
+    /// The object as it was parsed, with the externs defined that the kernel's configuration gives.
+    pub parsed: Object,
+    /// The programs that are chosen, or all, in byte order of their names.
+    pub programs: Vec<ObjectProgram>,
+    /// What is known of a kernel.
+    pub kernel: Kernel,
+}
+
+/// What words choose and give.
+#[derive(Drop)]
+struct Chosen {
+    programs: Vec<ObjectProgram>,
+    kernel: Kernel,
+}
+
+/// Whether a text is among others.
+fn is_among(texts: &[Text], wanted: &str) -> bool {
+    texts.iter().any(|text| text.is(wanted))
+}
+
+/// The programs of these names; all without a name.
+fn of_names(
+    alloc: Global,
+    programs: Vec<ObjectProgram>,
+    names: &[Text],
+) -> Result<Vec<ObjectProgram>, AllocError> {
+    if names.is_empty() {
+        return Ok(programs);
+    }
+    let mut chosen = Vec::new(alloc);
+    for program in programs {
+        if !is_among(names, program.name.as_str()) {
+            continue;
+        }
+        chosen.push(program)?;
+    }
+    Ok(chosen)
+}
+
+/// The programs that words choose; a name that no program has is told.
+fn chosen_programs(
+    rt: &HostRuntime,
+    words: &PrepareWords,
+    file: &[u8],
+    object: &Object,
+) -> Result<Vec<ObjectProgram>, Stop> {
+    let alloc = rt.alloc();
+    let names = words.programs.as_slice();
+    let programs = object_programs(alloc, file, object)?;
+    check_names(rt, words.json, words.file.as_str(), &programs, names)?;
+    Ok(of_names(alloc, programs, names)?)
+}
+
+/// Defines the externs of an object that the kernel's configuration gives; where they can't be, it is told.
+fn define(
+    rt: &HostRuntime,
+    words: &PrepareWords,
+    parsed: &mut Object,
+    kernel: &Kernel,
+) -> Result<(), Stop>
+    ensures same { OnOk result (kconfig_externs parsed.old.btf parsed.old.symbol_table ≡ [] → parsed.new ≡ parsed.old) }
+{
+    match define_settings(rt.alloc(), parsed, kernel) {
+        Ok(()) => Ok(()),
+        Err(error) => {
+            let stop = refuse_settings(rt, words, &error);
+            drop(error);
+            Err(stop)
+        }
+    }
+}
+
+/// What words choose of an object that was parsed and give of a kernel; the externs are defined that its configuration gives.
+fn chosen_of(
+    rt: &HostRuntime,
+    words: &PrepareWords,
+    file: &[u8],
+    parsed: &mut Object,
+) -> Result<Chosen, Stop>
+    ensures same { OnOk result (kconfig_externs parsed.old.btf parsed.old.symbol_table ≡ [] → parsed.new ≡ parsed.old) }
+{
+    let programs = chosen_programs(rt, words, file, parsed)?;
+    let kernel = given_kernel(rt, words, parsed.endianness)?;
+    define(rt, words, parsed, &kernel)?;
+    Ok(Chosen { programs, kernel })
+}
+
+/// An object with what was chosen of it.
+fn with_chosen(
+    file: Vec<u8>,
+    parsed: Object,
+    chosen: Result<Chosen, Stop>,
+) -> Result<Opened, Stop>
+    ensures { IfOk result (λ opened. (opened.file ≡ file) × (opened.parsed ≡ parsed)) }
+{
+    match chosen {
+        Ok(Chosen { programs, kernel }) => Ok(Opened {
+            file,
+            parsed,
+            programs,
+            kernel,
+        }),
+        Err(stop) => {
+            drop(parsed);
+            Err(stop)
+        }
+    }
+}
+
+/// Reads the object's file, broadly, then the kernel's types, symbols and configuration that words give, and defines the
+/// externs that the configuration gives. What is refused is told: with status 2 where a file can't be read or a name is no
+/// program's, with status 1 where the object is refused.
+pub fn open_file(rt: &HostRuntime, words: &PrepareWords) -> Result<Opened, Stop>
+    ensures { IfOk result IsOpened }
+{
+    let file = read_object(rt, words.json, words.file.as_str(), words.object)?;
+    let mut parsed = parsed_object(rt, words.json, words.file.as_str(), &file)?;
+    let chosen = chosen_of(rt, words, &file, &mut parsed);
+    with_chosen(file, parsed, chosen)
+}
