@@ -25,8 +25,8 @@ use ebpf_object::prepare::{PrepareError, SymbolSource, prepare_object};
 use std::alloc::Global;
 use std::io::Write;
 
-/// The function of the program of a name; none where no program has the name, or it has no function.
-pub fn function_named<'a>(object: &'a Object, name: &str) -> Option<&'a Function>
+/// The function of the program of a name.
+fn function_named<'a>(object: &'a Object, name: &str) -> Option<&'a Function>
     ensures { option_copied result ≡ function_named object.now name.now }
 {
     let program = object.programs.get(name)?;

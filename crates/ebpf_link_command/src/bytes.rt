@@ -1,61 +1,54 @@
 //! Programs as bytes.
 
-ghost use Rattle.std.specs.Prelude.{◌≡◌, ◌×◌, ℕ, List, map, OnOk};
+ghost use Rattle.std.specs.Prelude.{◌≡◌, ℕ, List, map, OnOk};
 ghost use Rattle.std.specs.Io.KnownBytes.{Appends};
 ghost use Rattle.std.specs.List.{flat_map};
+ghost use Rattle.std.specs.Option.{option_copied};
 ghost use Rattle.ebpf_commands.specs.Linked.{default_passes};
+ghost use Rattle.ebpf_commands.specs.Printed.{function_named};
 ghost use Rattle.ebpf_ksyms.specs.Sources.TheVariants.{Text};
 ghost use Rattle.ebpf_link_command.specs.Written.{shown_lines, program_name, WritesFinished, HasWritten};
 ghost use Rattle.ebpf_object.specs.Prepared.{IsParsed};
 ghost use Rattle.ebpf_parts.specs.declared.reading.Reading.TheVariants.{Broad};
-ghost use Rattle.ebpf_report.specs.Shown.{shown};
 
 use crate::failure::BytesFailure;
-use ebpf_commands::{function_named, write_program};
+use crate::program_bytes::write_program;
+use ebpf_model::Function;
 use ebpf_object::Object;
 use ebpf_prepared::{Kernel, finished_object};
-use ebpf_report::names::Shown;
 use ebpf_report::programs::ObjectProgram;
-use std::alloc::{AllocError, Global};
-use std::io::Write;
+use std::alloc::Global;
+use std::io::{self, Write};
 
-/// A name as it is shown.
-fn shown_name(alloc: Global, name: &str) -> Result<String, AllocError>
-    ensures { IfOk result (λ text. string_bytes text ≡ shown name.now) }
+/// The function of the program of a name; none where no program has the name, or it has no function.
+fn function_named<'a>(object: &'a Object, name: &str) -> Option<&'a Function>
+    ensures { option_copied result ≡ function_named object.now name.now }
 {
-    let name = Shown(name);
-    format!(in alloc; "{name}")
+    let program = object.programs.get(name)?;
+    object.functions.get(program.function_key())
 }
 
 /// Writes the program of a name: its name as it is shown and the number of its slots, then each slot.
-fn write_named<W: Write>(
-    alloc: Global,
-    object: &Object,
-    name: &str,
-    out: &mut W,
-) -> Result<(), BytesFailure>
+fn write_named<W: Write>(object: &Object, name: &str, out: &mut W) -> io::Result<()>
     ensures { OnOk result (Appends (W.contents out.old) (W.contents out.new) (shown_lines object.now name.now)) }
 {
-    let Some(function) = function_named(object, name) else {
-        return Ok(());
-    };
-    let shown = shown_name(alloc, name)?;
-    write_program(out, shown.as_str(), function.instructions.as_slice())?;
-    Ok(())
+    match function_named(object, name) {
+        Some(function) => write_program(out, name, function.instructions.as_slice()),
+        None => Ok(()),
+    }
 }
 
 /// Writes these programs of an object.
 #[tactic(auto, using(crate::proofs::Lines::one_program, ebpf_base::proofs::Walks::rest_none, ebpf_commands::proofs::Appending::nothing_more))]
-pub fn write_named_programs<W: Write>(
-    alloc: Global,
+fn write_named_programs<W: Write>(
     object: &Object,
     programs: &[ObjectProgram],
     out: &mut W,
-) -> Result<(), BytesFailure>
+) -> io::Result<()>
     ensures { OnOk result (Appends (W.contents out.old) (W.contents out.new) (flat_map (shown_lines object.now) (map program_name programs.now))) }
 {
     for program in programs {
-        write_named(alloc, object, program.name.as_str(), out)?;
+        write_named(object, program.name.as_str(), out)?;
     }
     Ok(())
 }
@@ -65,8 +58,7 @@ pub fn write_named_programs<W: Write>(
 ///
 /// # Errors
 ///
-/// `Preparing` with the first fault of the passes, where nothing was written; `Output` where the writer fails, `Memory` where
-/// memory was refused between.
+/// `Preparing` with the first fault of the passes, where nothing was written; `Output` where the writer fails.
 pub fn write_finished<W: Write>(
     alloc: Global,
     parsed: &Object,
@@ -81,14 +73,14 @@ pub fn write_finished<W: Write>(
         Ok(object) => object,
         Err(error) => return Err(BytesFailure::Preparing(error)),
     };
-    match write_named_programs(alloc, &object, programs, out) {
+    match write_named_programs(&object, programs, out) {
         Ok(()) => {
             drop(object);
             Ok(())
         }
-        Err(failure) => {
+        Err(error) => {
             drop(object);
-            Err(failure)
+            Err(BytesFailure::Output(error))
         }
     }
 }

@@ -1,7 +1,6 @@
 //! Why programs aren't written as bytes, or not all.
 
 use ebpf_object::prepare::PrepareError;
-use std::alloc::AllocError;
 use std::io;
 
 /// Why programs aren't written as bytes, or not all.
@@ -11,18 +10,4 @@ pub enum BytesFailure {
     Preparing(PrepareError),
     /// The writer failed.
     Output(io::Error),
-    /// Memory was refused.
-    Memory,
-}
-
-impl From<AllocError> for BytesFailure {
-    fn from(_error: AllocError) -> BytesFailure {
-        BytesFailure::Memory
-    }
-}
-
-impl From<io::Error> for BytesFailure {
-    fn from(error: io::Error) -> BytesFailure {
-        BytesFailure::Output(error)
-    }
 }

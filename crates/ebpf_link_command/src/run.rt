@@ -128,7 +128,6 @@ fn stop_of(
             stop
         }
         BytesFailure::Output(error) => Stop::Output(error),
-        BytesFailure::Memory => Stop::Memory,
     }
 }
 

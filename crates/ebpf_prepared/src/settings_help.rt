@@ -8,22 +8,6 @@ use ebpf_report::refuse::refused;
 use ebpf_report::stop::Stop;
 use std::alloc::{AllocError, Global};
 
-/// The name of an error.
-fn variant_of(error: &KconfigError) -> &'static str {
-    match error {
-        KconfigError::NotAVariable { .. } => "NotAVariable",
-        KconfigError::UnreadableName { .. } => "UnreadableName",
-        KconfigError::UnknownName { .. } => "UnknownName",
-        KconfigError::UnsupportedType { .. } => "UnsupportedType",
-        KconfigError::NoValue { .. } => "NoValue",
-        KconfigError::WrongSize { .. } => "WrongSize",
-        KconfigError::TooLarge => "TooLarge",
-        KconfigError::UnsuitedValue { .. } => "UnsuitedValue",
-        KconfigError::ValueOutOfRange { .. } => "ValueOutOfRange",
-        KconfigError::OutOfMemory => "OutOfMemory",
-    }
-}
-
 /// What one can do about an extern of a name that has no value; `has_config` where a configuration is given.
 fn value_help(name: &str, has_config: bool) -> &'static str {
     if number_by_version(0, name).is_some() {
@@ -89,7 +73,7 @@ fn refusal_of(
 ) -> Result<Refusal, AllocError> {
     Ok(Refusal {
         stage: "kconfig",
-        variant: variant_of(error),
+        variant: error.variant_name(),
         text: sentence_of(alloc, error)?,
         help: help_of(alloc, kconfig_help(error, has_config))?,
     })

@@ -23,5 +23,5 @@ abbrev pub shown_char : ℕ → List ℕ
 shown_char c = if (c == 92) || speaks c then flat_map escaped_byte (encode_utf8 c) else encode_utf8 c
 
 -- a name as it is shown
-unfoldable pub shown : List ℕ → List ℕ
+abbrev pub shown : List ℕ → List ℕ
 shown name = flat_map shown_char (chars name)

@@ -4,7 +4,7 @@ ghost use Rattle.std.specs.Prelude.{◌≡◌, ◌<◌};
 ghost use Rattle.std.specs.Char.{digit_char};
 ghost use Rattle.std.specs.Fmt.{WritesOnOk};
 ghost use Rattle.std.specs.List.{flat_map};
-ghost use Rattle.ebpf_report.specs.Shown.{speaks, escaped_byte, shown_char};
+ghost use Rattle.ebpf_report.specs.Shown.{speaks, escaped_byte, shown_char, shown};
 
 use std::fmt;
 
@@ -75,6 +75,16 @@ fn write_shown<W: fmt::Write>(f: &mut fmt::Formatter<W>, c: char) -> fmt::Result
     write_all_escaped(f, c.encode_utf8(&mut bytes).as_bytes())
 }
 
+/// Writes a name as it is shown.
+fn write_name<W: fmt::Write>(f: &mut fmt::Formatter<W>, name: &str) -> fmt::Result
+    ensures { WritesOnOk W.write_str_gives f.old result (shown name.now) f.new }
+{
+    for c in name.chars() {
+        write_shown(f, c)?;
+    }
+    Ok(())
+}
+
 impl fmt::Display for Shown<'_> {
     ghost use Rattle.std.specs.Prelude.{Some};
     ghost use Rattle.ebpf_report.specs.Shown.{shown};
@@ -82,10 +92,7 @@ impl fmt::Display for Shown<'_> {
     ghost output = { λ name. Some (shown name.0.now) };
 
     fn fmt<W: fmt::Write>(&self, f: &mut fmt::Formatter<W>) -> fmt::Result {
-        for c in self.0.chars() {
-            write_shown(f, c)?;
-        }
-        Ok(())
+        write_name(f, self.0)
     }
 }
 
