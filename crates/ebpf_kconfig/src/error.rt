@@ -64,6 +64,24 @@ pub enum KconfigError {
     OutOfMemory,
 }
 
+impl KconfigError {
+    /// The name of the variant.
+    pub fn variant_name(&self) -> &'static str {
+        match self {
+            KconfigError::NotAVariable { .. } => "NotAVariable",
+            KconfigError::UnreadableName { .. } => "UnreadableName",
+            KconfigError::UnknownName { .. } => "UnknownName",
+            KconfigError::UnsupportedType { .. } => "UnsupportedType",
+            KconfigError::NoValue { .. } => "NoValue",
+            KconfigError::WrongSize { .. } => "WrongSize",
+            KconfigError::TooLarge => "TooLarge",
+            KconfigError::UnsuitedValue { .. } => "UnsuitedValue",
+            KconfigError::ValueOutOfRange { .. } => "ValueOutOfRange",
+            KconfigError::OutOfMemory => "OutOfMemory",
+        }
+    }
+}
+
 impl From<AllocError> for KconfigError {
     ghost from_gives = { λ _ e. e ≡ OutOfMemory };
 

@@ -1,6 +1,6 @@
 //! An object's file, read, with what words give of a kernel.
 
-ghost use Rattle.std.specs.Prelude.{◌≡◌, ◌×◌, [], IfOk, OnOk};
+ghost use Rattle.std.specs.Prelude.{◌≡◌, [], IfOk, OnOk};
 ghost use Rattle.ebpf_kconfig.specs.KconfigExterns.{kconfig_externs};
 ghost use Rattle.ebpf_prepared.specs.Opened.{IsOpened};
 
