@@ -1,5 +1,8 @@
 //! The programs of an object, with what its file names.
 
+ghost use Rattle.std.specs.Prelude.{◌≡◌, map, IfOk};
+ghost use Rattle.ebpf_report.specs.ObjectPrograms.{program_row, program_rows};
+
 use ebpf_base::Text;
 use ebpf_elf::ElfFile;
 use ebpf_model::Program;
@@ -48,7 +51,9 @@ fn with_section(
     names: &BTreeMap<usize, &str>,
     name: &str,
     program: &Program,
-) -> Result<ObjectProgram, AllocError> {
+) -> Result<ObjectProgram, AllocError>
+    ensures { IfOk result (λ p. program_row p ≡ (name.now, (program.now.section_index, program.now.address))) }
+{
     let section = match names.get(&program.section_index) {
         Some(section) => section,
         None => "",
@@ -65,7 +70,9 @@ pub fn object_programs(
     alloc: Global,
     file: &[u8],
     object: &Object,
-) -> Result<Vec<ObjectProgram>, AllocError> {
+) -> Result<Vec<ObjectProgram>, AllocError>
+    ensures { IfOk result (λ programs. map program_row programs.items ≡ program_rows object.now.programs) }
+{
     let names = section_names(alloc, file)?;
     let mut programs = Vec::with_capacity(alloc, object.programs.len())?;
     for (name, program) in object.programs.iter() {
