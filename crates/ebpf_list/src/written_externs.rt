@@ -44,7 +44,11 @@ pub fn write_externs(
     object.externs = all_known(alloc, object, settings)?;
     match object.relocate_externs() {
         Ok(()) => Ok(true),
-        Err(error) if is_memory(&error) => Err(AllocError),
-        Err(_) => Ok(false),
+        Err(error) => {
+            if is_memory(&error) {
+                return Err(AllocError);
+            }
+            Ok(false)
+        }
     }
 }

@@ -5,7 +5,6 @@ use Rattle.std.specs.FinMap.{FinMap, entries, entries_sorted, is_sorted}
 use Rattle.std.specs.FinMap.Entries.{below_all, is_sorted-where_key}
 use Rattle.std.specs.List.{filter}
 use Rattle.std.specs.Ordering.{is_lt, nat_cmp}
-use Rattle.std.proofs.lemmas.Bool.{ltb-true, ltb-false}
 use Rattle.std.proofs.lemmas.Bool.Decides.{nat_tests}
 use Rattle.ebpf_base.specs.EntriesFrom.{entries_from}
 use Rattle.ebpf_base.proofs.Lists.{filter-filter}
@@ -16,8 +15,12 @@ both_hold : (a b : Bool) → T (a && b) → T a × T b
 both_hold true b p = (tt, p)
 both_hold false b p = absurd p
 
--- an offset below another is below an end only if that one is
-not_below : (a b end : ℕ) → T (is_lt (nat_cmp a b)) → nat_lt a end ≡ false → nat_lt b end ≡ false
+is_true : (b : Bool) → T b → b ≡ true
+is_true true p = refl
+is_true false p = absurd p
+
+-- what stands above an offset that isn't below an end isn't either
+not_below : (a b end : ℕ) → is_lt (nat_cmp a b) ≡ true → nat_lt a end ≡ false → nat_lt b end ≡ false
 not_below a b end below past = grind (arith, nat_tests)
 
 module _ {X : Type 0} where
@@ -25,7 +28,7 @@ module _ {X : Type 0} where
   none_below end a [] h past = refl
   none_below end a (e ∷ es) h past =
       let both = both_hold (is_lt (nat_cmp a e.0)) (below_all nat_cmp a es) h in
-      let later : nat_lt e.0 end ≡ false = not_below a e.0 end both.0 past in
+      let later : nat_lt e.0 end ≡ false = not_below a e.0 end (is_true (is_lt (nat_cmp a e.0)) both.0) past in
       ap (λ b. if b then e ∷ filter (λ e. nat_lt e.0 end) es else filter (λ e. nat_lt e.0 end) es) later ∙ none_below end a es both.1 past
 
   up_to-filter : (end : ℕ) (es : List (ℕ × X)) → T (is_sorted nat_cmp es) → up_to end es ≡ filter (λ e. nat_lt e.0 end) es
