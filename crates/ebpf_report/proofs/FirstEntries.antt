@@ -44,7 +44,7 @@ module _ {K X : Type 0} {R : K → K → Ordering} (o : IsTotalOrder R) (exact :
       ∙ ap (λ x. option_or x (find R q es)) (get-put_first m e.0 e.1 q)
       ∙ regroup (get m q) (eq_by_cmp R q e.0) e.1 (find R q es)
 
-module _ {K V W : Type 0} {R : K → K → Ordering} (f : V → W) where
+module _ {K V W : Type 0} (R : K → K → Ordering) (f : V → W) where
   find-mapped : (q : K) (es : List (K × V)) → find R q (mapped_entries f es) ≡ option_map f (find R q es)
   find-mapped q [] = refl
   find-mapped q (e ∷ es) = by_key (eq_by_cmp R q e.0) (find-mapped q es)
@@ -54,10 +54,11 @@ module _ {K V W : Type 0} {R : K → K → Ordering} (f : V → W) where
       by_key true later = refl
       by_key false later = later
 
+module _ {K V W : Type 0} {R : K → K → Ordering} (f : V → W) where
   -- the entries of a map, each made anew
   pub put_firsts-map_values : IsTotalOrder R → IsAntisymmetric R → (m : FinMap R V) → put_firsts empty (mapped_entries f (entries m)) ≡ map_values f m
   put_firsts-map_values o exact m = map_values-from_get f o exact m _ (λ q.
       first_stands o exact empty (mapped_entries f (entries m)) q
       ∙ ap (λ x. option_or x (find R q (mapped_entries f (entries m)))) (get-empty R q)
-      ∙ find-mapped q (entries m)
+      ∙ find-mapped R f q (entries m)
       ∙ ap (option_map f) (sym (get-entries m q)))

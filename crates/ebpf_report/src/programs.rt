@@ -45,6 +45,14 @@ fn section_names<'a>(
     Ok(names)
 }
 
+/// The name of the section of an index; empty where none can be read.
+fn section_name<'a>(names: &BTreeMap<usize, &'a str>, index: usize) -> &'a str {
+    match names.get(&index) {
+        Some(name) => name,
+        None => "",
+    }
+}
+
 /// A program with its section's name.
 fn with_section(
     alloc: Global,
@@ -54,15 +62,11 @@ fn with_section(
 ) -> Result<ObjectProgram, AllocError>
     ensures { IfOk result (λ p. program_row p ≡ (name.now, (program.now.section_index, program.now.address))) }
 {
-    let section = match names.get(&program.section_index) {
-        Some(section) => section,
-        None => "",
-    };
-    Ok(ObjectProgram {
-        name: Text::from_str(alloc, name)?,
-        section: Text::from_str(alloc, section)?,
-        key: program.function_key(),
-    })
+    let section = section_name(names, program.section_index);
+    let section = Text::from_str(alloc, section)?;
+    let name = Text::from_str(alloc, name)?;
+    let key = program.function_key();
+    Ok(ObjectProgram { name, section, key })
 }
 
 /// All programs of an object with the names of their sections, in byte order of their names.
