@@ -4,7 +4,7 @@ import os
 import sys
 from pathlib import Path
 
-from growths import calls, commands, linking, rows_of_files, still
+from growths import calls, commands, linking, loader, rows_of_files, still
 from growths.run import Runner
 
 # How many faults are printed.
@@ -14,7 +14,7 @@ RUNNERS = {}
 
 
 def all_rows(words):
-    rows = [*calls.rows(), *still.rows(), *linking.rows(), *commands.rows(), *rows_of_files.rows()]
+    rows = [*calls.rows(), *loader.rows(), *still.rows(), *linking.rows(), *commands.rows(), *rows_of_files.rows()]
     return [row for row in rows if not words or any(word in row.name for word in words)]
 
 

@@ -123,7 +123,8 @@ static void prepare(struct bpf_object *object)
 	}
 }
 
-/* The types are made ready before maps and programs are, so that they stand also where a load fails behind. */
+/* The types are made ready before maps and programs are, so that they stand also where a load fails behind. Where it fails
+ * before, for a strong extern or a configuration, hidden functions have stayed global. */
 static void print_types(const char *path)
 {
 	LIBBPF_OPTS(bpf_object_open_opts, options, .object_name = "x", .kconfig = "");
@@ -150,6 +151,7 @@ static void print_types(const char *path)
 
 int main(int count, char **words)
 {
+	setvbuf(stdout, NULL, _IOLBF, 0);
 	libbpf_set_print(getenv("LOUD") ? loud : quiet);
 	register_sections();
 	for (int i = 1; i < count; i++)

@@ -2,14 +2,15 @@
 //! call answers, and what it works on before and afterwards.
 //!
 //! `test_alloc_failures OBJECT TYPES LINES SUBJECT CALL..` reads an object, a kernel's types (little endian; an empty file:
-//! none) and a kernel's symbols. The calls are made one after the other on one value, the last one between the marks. A
-//! call is a name, and a word behind `=` where it asks for one.
+//! none) and a kernel's symbols, or what else a call takes as bytes. The calls are made one after the other on one value, the
+//! last one between the marks. A call is a name, and a word behind `=` where it asks for one.
 #![tactic(auto)]
 
 mod call;
 mod code;
 mod given;
 mod kept;
+mod loader;
 mod object;
 mod passes;
 mod prepared;

@@ -2,9 +2,11 @@
 
 use crate::call::{Call, say};
 use crate::kept::on_kept;
+use crate::loader::on_loader;
 use crate::passes::pass;
 use crate::subject::{Shown, Subject, on_parsed, tell_made};
 use ebpf_object::Object;
+use ebpf_parts::Reading;
 use std::fmt::Debug;
 use std::io;
 
@@ -54,13 +56,19 @@ impl Subject for Object {
         match call.name {
             "clone" => clone(self, call),
             _ if call.name.starts_with("kept_") => on_kept(self, call),
+            _ if call.name.starts_with("loader_") => on_loader(self, call),
             _ => pass(self, call),
         }
     }
 }
 
-/// Makes the calls on the object that the bytes are.
-pub fn on_object<'a>(bytes: &[u8], front: &'a [String], last: &Call<'a>) -> io::Result<()> {
-    let parsed = Object::parse(last.rt.alloc(), bytes);
+/// Makes the calls on the object that the bytes are in a reading.
+pub fn on_object<'a>(
+    bytes: &[u8],
+    reading: Reading,
+    front: &'a [String],
+    last: &Call<'a>,
+) -> io::Result<()> {
+    let parsed = Object::parse_as(last.rt.alloc(), bytes, reading);
     on_parsed(parsed, "no object: ", front, last)
 }

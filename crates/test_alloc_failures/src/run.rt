@@ -3,12 +3,14 @@
 use crate::call::{Call, say};
 use crate::code::on_code;
 use crate::given::{Files, Kernel};
+use crate::loader::types_for_kernel;
 use crate::object::{on_object, parse};
 use crate::prepared::on_steps;
 use crate::small::on_small;
 use crate::still_file::on_file;
 use crate::types::{on_types, parse_types, take_types};
 use ebpf_btf::{Btf, Endianness};
+use ebpf_parts::Reading;
 use std::io;
 
 /// The calls before the one that is looked at, and that one; one without a name where there is none.
@@ -34,7 +36,9 @@ fn on_bytes<'a>(
         "parse" => parse(bytes, last),
         "prepare" => on_steps(bytes, false, last),
         "inspect" => on_steps(bytes, true, last),
-        "object" => on_object(bytes, front, last),
+        "kernel_types" => types_for_kernel(bytes, last),
+        "object" => on_object(bytes, Reading::Stated, front, last),
+        "broad" => on_object(bytes, Reading::Broad, front, last),
         "code" => on_code(bytes, last),
         "file" => on_file(bytes, last),
         "small" => on_small(last),

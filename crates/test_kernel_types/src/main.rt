@@ -1,5 +1,5 @@
-//! Prints the types of an object as the kernel takes them, in hexadecimal digits. Its words are the file, and `-` where
-//! more of them follow: of each file one line, `none` where it has no types, `refused: ..` where they can't be made.
+//! Prints the types of objects as the kernel takes them, in hexadecimal digits. Its words are files: of each one line,
+//! `none` where it has no types, `refused: ..` where they can't be made.
 #![tactic(auto)]
 
 use ebpf_kernel_types::kernel_types;
