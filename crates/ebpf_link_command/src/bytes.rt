@@ -6,7 +6,7 @@ ghost use Rattle.std.specs.List.{flat_map};
 ghost use Rattle.std.specs.Option.{option_copied};
 ghost use Rattle.ebpf_commands.specs.Linked.{default_passes};
 ghost use Rattle.ebpf_commands.specs.Printed.{function_named};
-ghost use Rattle.ebpf_ksyms.specs.Sources.TheVariants.{Text};
+ghost use Rattle.ebpf_ksyms.specs.Sources.{Text};
 ghost use Rattle.ebpf_link_command.specs.Written.{shown_lines, program_name, WritesFinished, HasWritten};
 ghost use Rattle.ebpf_object.specs.Prepared.{IsParsed};
 ghost use Rattle.ebpf_parts.specs.declared.reading.Reading.TheVariants.{Broad};

@@ -3,7 +3,7 @@
 ghost use Rattle.std.specs.Prelude.{◌≡◌, ℕ, List, true, map, Some, IfOk, IfErr};
 ghost use Rattle.std.specs.Option.{option_copied};
 ghost use Rattle.ebpf_commands.specs.Linked.{default_passes};
-ghost use Rattle.ebpf_ksyms.specs.Sources.TheVariants.{Text};
+ghost use Rattle.ebpf_ksyms.specs.Sources.{Text};
 ghost use Rattle.ebpf_object.specs.Headline.{Headline};
 ghost use Rattle.ebpf_object.specs.Prepared.{IsParsed, IsFirstPrepareFault, RefusesPreparing, Stages};
 ghost use Rattle.ebpf_object.specs.Steps.{chosen, descriptor_of};

@@ -110,35 +110,33 @@ fn chosen_of(
 }
 
 /// An object with what was chosen of it.
-fn with_chosen(
-    file: Vec<u8>,
-    parsed: Object,
-    chosen: Result<Chosen, Stop>,
-) -> Result<Opened, Stop>
-    ensures { IfOk result (λ opened. (opened.file ≡ file) × (opened.parsed ≡ parsed)) }
+fn with_chosen(file: Vec<u8>, parsed: Object, chosen: Chosen) -> Opened
+    ensures file { result.file ≡ file }
+    ensures parsed { result.parsed ≡ parsed }
 {
-    match chosen {
-        Ok(Chosen { programs, kernel }) => Ok(Opened {
-            file,
-            parsed,
-            programs,
-            kernel,
-        }),
-        Err(stop) => {
-            drop(parsed);
-            Err(stop)
-        }
+    let Chosen { programs, kernel } = chosen;
+    Opened {
+        file,
+        parsed,
+        programs,
+        kernel,
     }
 }
 
 /// Reads the object's file, broadly, then the kernel's types, symbols and configuration that words give, and defines the
 /// externs that the configuration gives. What is refused is told: with status 2 where a file can't be read or a name is no
 /// program's, with status 1 where the object is refused.
+#[tactic(auto, using(crate::proofs::OpenedObjects::still_parsed))]
 pub fn open_file(rt: &HostRuntime, words: &PrepareWords) -> Result<Opened, Stop>
     ensures { IfOk result IsOpened }
 {
     let file = read_object(rt, words.json, words.file.as_str(), words.object)?;
     let mut parsed = parsed_object(rt, words.json, words.file.as_str(), &file)?;
-    let chosen = chosen_of(rt, words, &file, &mut parsed);
-    with_chosen(file, parsed, chosen)
+    match chosen_of(rt, words, &file, &mut parsed) {
+        Ok(chosen) => Ok(with_chosen(file, parsed, chosen)),
+        Err(stop) => {
+            drop(parsed);
+            Err(stop)
+        }
+    }
 }

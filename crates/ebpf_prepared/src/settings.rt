@@ -78,14 +78,15 @@ fn values_of(
     Ok(values)
 }
 
-/// The values of an object's externs, by name.
-fn object_values(
+/// Defines these externs of an object.
+fn define_externs(
     alloc: Global,
-    object: &Object,
+    object: &mut Object,
     kernel: &Kernel,
-) -> Result<ByName<Items<u8>>, KconfigError> {
-    let externs = kconfig(object)?;
-    values_of(alloc, kernel, externs.as_slice(), object.endianness)
+    externs: &[KconfigExtern],
+) -> Result<(), KconfigError> {
+    let values = values_of(alloc, kernel, externs, object.endianness)?;
+    define_kconfig(object, &values)
 }
 
 /// Whether an object may have such externs: so far as can be said without memory it has the DATASEC of them.
@@ -114,6 +115,9 @@ pub fn define_settings(
     if !may_have_settings(object) {
         return Ok(());
     }
-    let values = object_values(alloc, object, kernel)?;
-    define_kconfig(object, &values)
+    let externs = kconfig(object)?;
+    if externs.is_empty() {
+        return Ok(());
+    }
+    define_externs(alloc, object, kernel, externs.as_slice())
 }
