@@ -29,8 +29,8 @@
  * the refusal is about stands at the front of about, cut to about_room, and *about_len says how many of its bytes stand
  * there: 0 where it is about none. With the number 0 both are as they were.
  *
- * Texts are UTF-8 with a length. Names are compared byte by byte. Lists are in byte order of their names. Each call
- * that writes into a buffer writes to its front and leaves the rest.
+ * Texts are UTF-8 with a length. Names are compared byte by byte. Lists are in byte order of their names, where a call
+ * says no other. Each call that writes into a buffer writes to its front and leaves the rest.
  */
 #ifndef EBPF_H
 #define EBPF_H
@@ -42,8 +42,8 @@
 extern "C" {
 #endif
 
-/* The version of this interface, 0.1.0, as major * 1000000 + minor * 1000 + patch; ebpf_version_number gives the library's. */
-#define EBPF_VERSION_NUMBER 1000
+/* The version of this interface, 0.2.0, as major * 1000000 + minor * 1000 + patch; ebpf_version_number gives the library's. */
+#define EBPF_VERSION_NUMBER 2000
 
 uint32_t ebpf_version_number(void);
 
@@ -58,6 +58,9 @@ enum ebpf_number {
 	EBPF_NO_MAP = 5,     /* no map has the name */
 	EBPF_BAD_NAME = 6,   /* a name that is given is no UTF-8, or a row's name is not inside the text beside it */
 	EBPF_BAD_VALUE = 7,  /* a row's value is not inside the bytes beside it */
+	EBPF_NO_EXTERN = 8,  /* no extern of the kernel's configuration has the name */
+	EBPF_WRONG_LENGTH = 9, /* the data has another length than that of the map */
+	EBPF_NO_VARIABLE = 10, /* no symbol has the name, or its bytes are not inside the data of a map */
 
 	/* 100 to 199: the file can't be parsed, or an object can't be changed by values */
 	EBPF_PARSE_FILE = 100,	  /* + ebpf_file_fault: the file is no ELF64 object */
@@ -115,6 +118,40 @@ enum ebpf_number {
 
 	/* 600 to 699: linking programs with the functions that they reach. About the program */
 	EBPF_CALLS = 600, /* + ebpf_slot_fault */
+
+	/* 700 to 799: a file's types for the kernel. About the type of the file that is named, where it has a name */
+	EBPF_KERNEL_TYPES_FILE = 700,		    /* + ebpf_file_fault: no ELF64 file, or .BTF runs past its end */
+	EBPF_KERNEL_TYPES_READ = 720,		    /* + ebpf_type_fault: .BTF can't be read */
+	EBPF_KERNEL_TYPES_NO_SECTION_SIZE = 740,    /* about the section, of which the file has none with a size */
+	EBPF_KERNEL_TYPES_NOT_A_VARIABLE = 741,	    /* about what a section's entry names, and is no variable */
+	EBPF_KERNEL_TYPES_NO_SYMBOL = 742,	    /* about the global variable that has no symbol */
+	EBPF_KERNEL_TYPES_UNSUPPORTED_EXTERN = 743, /* about the extern of .kconfig whose type has no size there */
+	EBPF_KERNEL_TYPES_TOO_LARGE = 744,	    /* ids, offsets or lengths pass 32 bits */
+
+	/* 800 to 899: initial values of maps of maps and of arrays of programs. About the map, from 822 on */
+	EBPF_INITIAL_SLOTS_FILE = 800, /* + ebpf_file_fault: the bytes are no ELF64 file */
+	EBPF_INITIAL_SLOTS_UNKNOWN_SYMBOL = 820,
+	EBPF_INITIAL_SLOTS_OUTSIDE_MAPS = 821, /* a place is in no map */
+	EBPF_INITIAL_SLOTS_UNSUPPORTED_MAP_TYPE = 822, /* the map holds neither maps nor programs */
+	EBPF_INITIAL_SLOTS_NOT_IN_MAPS = 823,	       /* a value of a map of maps is not in .maps */
+	EBPF_INITIAL_SLOTS_UNSUPPORTED_KEY_SIZE = 824, /* a hash of maps with keys of other than 4 bytes */
+	EBPF_INITIAL_SLOTS_UNKNOWN_MAP = 825,
+	EBPF_INITIAL_SLOTS_UNKNOWN_PROGRAM = 826,
+	EBPF_INITIAL_SLOTS_NOT_AN_ENTRY_POINT = 827, /* a value is not where the program of its name begins */
+	EBPF_INITIAL_SLOTS_NO_VALUES = 828,	     /* the map's type does not end in `values` */
+	EBPF_INITIAL_SLOTS_OUTSIDE_VALUES = 829,     /* a place is before the map's `values` */
+	EBPF_INITIAL_SLOTS_MISALIGNED = 830,	     /* a place is at no whole value */
+
+	/* 900 to 999: externs of the kernel's configuration. About the extern, but for 900, 901 and 906 */
+	EBPF_KCONFIG_NOT_A_VARIABLE = 900,     /* an entry of .kconfig names no variable */
+	EBPF_KCONFIG_UNREADABLE_NAME = 901,    /* the name of one can't be read */
+	EBPF_KCONFIG_UNKNOWN_NAME = 902,       /* it begins neither with CONFIG_ nor with LINUX_ */
+	EBPF_KCONFIG_UNSUPPORTED_TYPE = 903,   /* its type has no values of a configuration */
+	EBPF_KCONFIG_NO_VALUE = 904,	       /* it has to have a value and is given none */
+	EBPF_KCONFIG_WRONG_SIZE = 905,	       /* its value has another size */
+	EBPF_KCONFIG_TOO_LARGE = 906,	       /* the values together pass 32 bits */
+	EBPF_KCONFIG_UNSUITED_VALUE = 907,     /* what is said of it is no value of its type */
+	EBPF_KCONFIG_VALUE_OUT_OF_RANGE = 908, /* its number is out of the range of its type, or of 64 bits */
 };
 
 /* why a file, or a part of it, can't be read */
@@ -321,8 +358,8 @@ struct ebpf_map_shape {
 	uint32_t max_entries;
 	uint32_t flags;
 	uint32_t pinning;	/* 1: by name; 0: not */
-	uint32_t key_type_id;	/* 0: none */
-	uint32_t value_type_id; /* 0: none */
+	uint32_t key_type_id;	/* as BPF_MAP_CREATE takes it with the types of ebpf_kernel_types; 0: none */
+	uint32_t value_type_id; /* as key_type_id */
 };
 
 struct ebpf_map {
@@ -335,7 +372,13 @@ struct ebpf_map {
 	struct ebpf_map_shape inner; /* of the maps that a map of maps holds; all zero where there are none */
 };
 
-/* Lists the maps: a row each, their names one after the other in text. Numbers: 1, 2, 3. */
+/*
+ * Lists the maps: a row each, their names one after the other in text. The ids of types are those of the types that
+ * ebpf_kernel_types gives for the file: 0 for types of maps that the kernel creates without them, and for each map where
+ * the object has no types. The value of a map of variables has the DATASEC of the map's name, where there is one of the
+ * size that the map's data and its values have (or that states size 0). An inner map has its ids by the same types and
+ * rules. Numbers: 1, 2, 3.
+ */
 uint32_t ebpf_maps(struct ebpf_handle *handle, struct ebpf_map *rows, size_t rows_room, char *text, size_t text_room,
 		   struct ebpf_counts *counts);
 
@@ -377,12 +420,53 @@ struct ebpf_section {
 uint32_t ebpf_sections(struct ebpf_handle *handle, struct ebpf_section *rows, size_t rows_room, char *text,
 		       size_t text_room, struct ebpf_counts *counts);
 
+/* ---- what a loader hands to the kernel, laid out as its own structs */
+
 /*
- * ---- what a loader hands to the kernel, laid out as its own structs
- *
- * The object's own types are read and never written as bytes, so no call gives a .BTF: a loader that hands the kernel
- * func info and line info takes the section from the file, and completes its data sections.
+ * The types of a file for BPF_BTF_LOAD: its section .BTF, completed as the kernel takes it. Ids and offsets of strings
+ * stay, so that those of func info, line info and maps fit: the sizes and offsets of data sections are filled in, hidden
+ * functions and variables made static, the externs of .ksyms and .kconfig made variables. *len is their length: 0 where
+ * the file has no .BTF. Numbers: 1, 2, 700 to 799.
  */
+uint32_t ebpf_kernel_types(const uint8_t *file, size_t file_len, uint8_t *types, size_t room, size_t *len, char *about,
+			   size_t about_room, size_t *about_len);
+
+/* what is known of the type that a program is attached to */
+enum ebpf_target_answer {
+	EBPF_TARGET_NOT_WANTED = 0, /* such programs are loaded without the id of a type */
+	EBPF_TARGET_UNNAMED = 1,    /* they are loaded with one, and the section's name has no name of a target */
+	EBPF_TARGET_FOUND = 2,	    /* *type_id is the type's */
+	EBPF_TARGET_NOT_FOUND = 3,  /* the types have none of the name */
+};
+
+/*
+ * What the programs of a section of this name are attached to, as a type (attach_btf_id). Types are raw BTF in the byte
+ * order that its magic number tells: the kernel's, or for freplace those of the program that is replaced. *answer is of
+ * enum ebpf_target_answer; *type_id 0 where none is found. The name of the target follows the first slash, `vmlinux:`
+ * before it and a `?` before the section's name are skipped. It is looked for among the functions, with bpf_lsm_ or
+ * bpf_iter_ before it for lsm and iter, and for tp_btf as the TYPEDEF btf_trace_NAME; of types of one name the first is
+ * found. Numbers: 2, 6, 200 to 219.
+ */
+uint32_t ebpf_attach_target(const char *section_name, size_t section_name_len, const uint8_t *types, size_t types_len,
+			    uint32_t *answer, uint32_t *type_id);
+
+/* An initial value of a map of maps or of an array of programs. */
+struct ebpf_initial_slot {
+	size_t name_at, name_len;     /* the place of the map's name in the text */
+	size_t target_at, target_len; /* the place of the name of what stands there */
+	uint32_t index;		      /* in the map, and its key, in the byte order of the machine */
+	uint32_t is_program;	      /* 1: the program of this name stands there; 0: the map */
+};
+
+/*
+ * Lists the initial values of the object's maps: a row each, by the maps' names in byte order, then by index; in text the
+ * name of each row's map and then that of its target. `file` is what the handle was opened from (other bytes give their
+ * own relocations over this object). An object with an array of programs is opened by ebpf_open_broad. A loader writes the
+ * maps once all are made, and the programs once all are loaded. Numbers: 1, 2, 3, 800 to 899.
+ */
+uint32_t ebpf_initial_slots(const uint8_t *file, size_t file_len, struct ebpf_handle *handle,
+			    struct ebpf_initial_slot *rows, size_t rows_room, char *text, size_t text_room,
+			    struct ebpf_counts *counts, char *about, size_t about_room, size_t *about_len);
 
 /* struct bpf_insn */
 struct ebpf_insn {
@@ -445,6 +529,85 @@ struct ebpf_value {
 uint32_t ebpf_set_values(struct ebpf_handle *handle, const struct ebpf_value *rows, size_t rows_len, const char *text,
 			 size_t text_len, const uint8_t *bytes, size_t bytes_len, char *about, size_t about_room,
 			 size_t *about_len);
+
+/* what an extern of the kernel's configuration holds */
+enum ebpf_kconfig_kind {
+	EBPF_EXTERN_BOOL = 0,	  /* 1 byte: 1 for y, 0 for n */
+	EBPF_EXTERN_TRISTATE = 1, /* 0 for n, 1 for y, 2 for m */
+	EBPF_EXTERN_CHAR = 2,	  /* 1 byte: a number, or the letter */
+	EBPF_EXTERN_INTEGER = 3,  /* 2, 4 or 8 bytes */
+	EBPF_EXTERN_STRING = 4,	  /* an array of bytes: a string with a zero byte */
+};
+
+struct ebpf_kconfig_extern {
+	size_t name_at, name_len; /* its name's place in the text */
+	uint32_t size;		  /* of its value, in bytes */
+	uint32_t kind;		  /* enum ebpf_kconfig_kind */
+	uint32_t is_signed;	  /* 1 or 0: whether its numbers are signed; 0 of other kinds than chars and integers */
+	uint32_t is_weak;	  /* 1 or 0: whether it may stay without a value, and is zeros then */
+};
+
+/*
+ * Lists the externs that the kernel's configuration gives (`extern .. __kconfig`): a row each, in the order in which the
+ * object's types name them, and not by name; their names one after the other in text. Numbers: 1, 2, 3, 900 to 903.
+ */
+uint32_t ebpf_kconfig(struct ebpf_handle *handle, struct ebpf_kconfig_extern *rows, size_t rows_room, char *text,
+		      size_t text_room, struct ebpf_counts *counts, char *about, size_t about_room, size_t *about_len);
+
+/*
+ * The value of such an extern by a kernel's configuration, given as text: /proc/config.gz or /boot/config-RELEASE, unpacked.
+ * Of its lines the first that begins with the extern's name and `=` counts. *is_found is 1 where there is one, and *len the
+ * value's length, as ebpf_kconfig lists it; both are 0 where there is none, and for a name that does not begin with
+ * CONFIG_. The bytes are in the byte order of the object. With the number 1 *is_found is 1; with any other than 0 and 1 it
+ * is as it was. The first extern of the name counts. Numbers: 1, 2, 3, 8, 900 to 903, 907, 908.
+ */
+uint32_t ebpf_kconfig_value(struct ebpf_handle *handle, const char *name, size_t name_len, const char *config,
+			    size_t config_len, uint8_t *value, size_t room, size_t *len, uint32_t *is_found, char *about,
+			    size_t about_room, size_t *about_len);
+
+/*
+ * The value of such an extern that is a number: what the loader knows, as LINUX_KERNEL_VERSION (of the version a.b.c
+ * a << 16 | b << 8 | c), LINUX_HAS_BPF_COOKIE and LINUX_HAS_SYSCALL_WRAPPER (1 or 0). *len is its length. The bytes are in
+ * the byte order of the object. The first extern of the name counts. Numbers: 1, 2, 3, 8, 900 to 903, 907, 908.
+ */
+uint32_t ebpf_kconfig_number(struct ebpf_handle *handle, const char *name, size_t name_len, uint64_t number,
+			     uint8_t *value, size_t room, size_t *len, char *about, size_t about_room,
+			     size_t *about_len);
+
+/*
+ * Defines these externs: puts the map `.kconfig`, whose data are the values, and makes their symbols variables of it, so
+ * that ebpf_maps lists it and ebpf_relocate_maps writes its descriptor (flags BPF_F_RDONLY_PROG: freeze it once it is
+ * filled). Rows are as those of ebpf_set_values, and must_exist is not looked at: of rows of one name the last counts, and
+ * one whose name no extern has is passed over. A weak extern without a row is zeros. An object without such externs is left
+ * as it is. Faults of rows come first, those of names before those of values, then those of the list, then the first of the
+ * values. Numbers: 2, 3, 6, 7, 900 to 906.
+ */
+uint32_t ebpf_define_kconfig(struct ebpf_handle *handle, const struct ebpf_value *rows, size_t rows_len,
+			     const char *text, size_t text_len, const uint8_t *bytes, size_t bytes_len, char *about,
+			     size_t about_room, size_t *about_len);
+
+struct ebpf_variable {
+	size_t name_at, name_len; /* its name's place in the text */
+	size_t map_at, map_len;	  /* the place of the name of its map */
+	uint64_t offset;	  /* where it begins in the map's data */
+	uint64_t size;		  /* in bytes */
+};
+
+/*
+ * Lists the variables in the data of maps: a row each, in text the name of each and then that of its map. They are the
+ * symbols whose bytes, of which there are some, are inside the data of a map; of symbols of one name the one with the
+ * greatest index counts. Numbers: 1, 2, 3.
+ */
+uint32_t ebpf_variables(struct ebpf_handle *handle, struct ebpf_variable *rows, size_t rows_room, char *text,
+			size_t text_room, struct ebpf_counts *counts);
+
+/* The bytes of a variable, as they stand in the data of its map. *len is how many. Numbers: 1, 2, 3, 10. */
+uint32_t ebpf_value(struct ebpf_handle *handle, const char *name, size_t name_len, uint8_t *value, size_t room,
+		    size_t *len);
+
+/* Sets all of the initial data of a map, which has as many bytes as before. Numbers: 3, 5, 9. */
+uint32_t ebpf_set_map_data(struct ebpf_handle *handle, const char *name, size_t name_len, const uint8_t *data,
+			   size_t data_len);
 
 /* Sets how many entries a map holds at most. Numbers: 3, 5. */
 uint32_t ebpf_set_max_entries(struct ebpf_handle *handle, const char *name, size_t name_len, uint32_t entries);

@@ -5,7 +5,7 @@ import sys
 from pathlib import Path
 
 import make_rows
-from c_interface import builds, compiled, examples, growth_rows, more_rows, rows_of_objects
+from c_interface import builds, compiled, examples, growth_rows, loader_rows, more_rows, rows_of_objects
 from c_interface.runs import Files, run
 from growths.inputs import COUNTER, KERNEL, LINES, REFERENCES, SMALL
 from growths.run import Runner
@@ -41,7 +41,7 @@ def all_rows():
     for held in (objects, core, limits):
         printed.add_to(held)
     rows = [row for case in [*objects, *core, *limits] for row in rows_of_objects.rows_of(case)]
-    return rows + more_rows.rows()
+    return rows + more_rows.rows() + loader_rows.rows()
 
 
 def begin(folder):
@@ -64,7 +64,8 @@ def judge_growths(number):
 def said_of_bounds(program, folder):
     """What `bounds` says, as (passed, fault)."""
     files = Files(folder)
-    words = [str(program), *(files.path(data) for data in (SMALL, COUNTER, REFERENCES, KERNEL, LINES))]
+    held = SMALL, COUNTER, REFERENCES, KERNEL, LINES, loader_rows.loaded()
+    words = [str(program), *map(files.path, held)]
     status, lines, err = run(words)
     counts = lines[-1].split() if lines else []
     if status == 0 and not err and counts[1:3] == ["passed,", "0"]:

@@ -1,7 +1,8 @@
 /*
  * What each call of the C interface writes and where, over memory that ends at the end of a page.
  *
- * usage: bounds SMALL COUNTER REFERENCES TYPES SYMBOLS    object files of the repository, a kernel's types and symbols
+ * usage: bounds SMALL COUNTER REFERENCES TYPES SYMBOLS LOADED    object files of the repository, a kernel's types and
+ *                                                                symbols, and an object that a loader has settings for
  *
  * Prints a line for each fault, and at the end 'N passed, M failed'.
  */
@@ -53,6 +54,12 @@ static uint32_t externs(struct ebpf_handle *of, void *rows, size_t room, char *t
 	return ebpf_externs(of, rows, room, text, text_room, counts);
 }
 
+static uint32_t variables(struct ebpf_handle *of, void *rows, size_t room, char *text, size_t text_room,
+			  struct ebpf_counts *counts)
+{
+	return ebpf_variables(of, rows, room, text, text_room, counts);
+}
+
 static uint32_t sections(struct ebpf_handle *of, void *rows, size_t room, char *text, size_t text_room,
 			 struct ebpf_counts *counts)
 {
@@ -70,6 +77,7 @@ static const struct list lists[] = {
 	{ "ebpf_maps", maps, sizeof(struct ebpf_map) },
 	{ "ebpf_externs", externs, sizeof(struct ebpf_extern) },
 	{ "ebpf_sections", sections, sizeof(struct ebpf_section) },
+	{ "ebpf_variables", variables, sizeof(struct ebpf_variable) },
 };
 
 /* Each row begins with its name's place. */
@@ -155,6 +163,11 @@ static uint32_t map_data(struct ebpf_handle *of, const char *name, size_t len, v
 	return ebpf_map_data(of, name, len, to, room, need);
 }
 
+static uint32_t value(struct ebpf_handle *of, const char *name, size_t len, void *to, size_t room, size_t *need)
+{
+	return ebpf_value(of, name, len, to, room, need);
+}
+
 static uint32_t section(struct ebpf_handle *of, const char *name, size_t len, void *to, size_t room, size_t *need)
 {
 	return ebpf_program_section(of, name, len, to, room, need);
@@ -184,6 +197,7 @@ struct values {
 
 static const struct values of_object = { "ebpf_license", license, 1, EBPF_DONE };
 static const struct values of_map = { "ebpf_map_data", map_data, 1, EBPF_NO_MAP };
+static const struct values of_variable = { "ebpf_value", value, 1, EBPF_NO_VARIABLE };
 static const struct values of_program[] = {
 	{ "ebpf_program_section", section, 1, EBPF_NO_PROGRAM },
 	{ "ebpf_slots", slots, sizeof(struct ebpf_insn), EBPF_NO_PROGRAM },
@@ -304,6 +318,23 @@ static void check_about(struct ebpf_handle *object, const char *variable, size_t
 	release(&about);
 }
 
+static void check_data(struct ebpf_handle *object)
+{
+	struct ebpf_handle closed = EBPF_CLOSED_HANDLE;
+	struct guarded data = guarded_copy("\1\2\3\4", 4);
+	uint8_t wanted[4] = { 0 };
+	size_t len = 0;
+
+	CHECK("ebpf_set_map_data", ebpf_set_map_data(object, ".rodata", 7, data.at, 4) == EBPF_DONE);
+	CHECK("ebpf_set_map_data", ebpf_set_map_data(object, ".rodata", 7, data.at, 3) == EBPF_WRONG_LENGTH);
+	CHECK("ebpf_set_map_data", ebpf_set_map_data(object, ".rodat", 6, data.at, 4) == EBPF_NO_MAP);
+	CHECK("ebpf_set_map_data", ebpf_set_map_data(object, "\xff", 1, data.at, 4) == EBPF_NO_MAP);
+	CHECK("ebpf_set_map_data", ebpf_set_map_data(&closed, ".rodata", 7, data.at, 4) == EBPF_CLOSED && !closed.at);
+	CHECK("ebpf_value", ebpf_value(object, "wanted", 6, wanted, 4, &len) == EBPF_DONE && len == 4);
+	CHECK("ebpf_value", !memcmp(wanted, data.at, 4));
+	release(&data);
+}
+
 static void check_changes(const struct guarded *file)
 {
 	struct ebpf_handle object = opened(file), closed = EBPF_CLOSED_HANDLE;
@@ -321,6 +352,8 @@ static void check_changes(const struct guarded *file)
 	      ebpf_set_value(&object, "seen", 4, value, 7, 1, text, 0, &len) == EBPF_PARSE_GLOBAL_DATA);
 	CHECK("ebpf_set_value", ebpf_set_value(&object, "\xff", 1, value, 1, 1, text, 0, &len) == EBPF_BAD_NAME);
 	CHECK("ebpf_set_value", ebpf_set_value(&closed, "seen", 4, value, 8, 1, text, 0, &len) == EBPF_CLOSED);
+	check_data(&object);
+	check_values(&of_variable, &object, "wanted");
 	CHECK("ebpf_set_max_entries", ebpf_set_max_entries(&object, "counts", 6, 5) == EBPF_DONE);
 	CHECK("ebpf_set_max_entries", ebpf_set_max_entries(&object, "count", 5, 5) == EBPF_NO_MAP);
 	CHECK("ebpf_set_max_entries", ebpf_set_max_entries(&closed, "counts", 6, 5) == EBPF_CLOSED);
@@ -360,7 +393,7 @@ static void check_name(uint32_t number, size_t room, size_t need)
 
 static void check_number_names(void)
 {
-	static const uint32_t numbers[] = { 0, 1, 2, 100, 144, 699, 700, UINT32_MAX - 1, UINT32_MAX };
+	static const uint32_t numbers[] = { 0, 1, 2, 8, 100, 144, 699, 700, 744, 820, 908, 909, UINT32_MAX - 1, UINT32_MAX };
 
 	for (size_t at = 0; at < sizeof(numbers) / sizeof(numbers[0]); at++) {
 		struct guarded none = guarded(0);
@@ -436,11 +469,11 @@ static void check_threads(void)
 
 int main(int words, char **word)
 {
-	struct guarded files[5];
+	struct guarded files[6];
 
-	if (words != 6)
-		errx(2, "usage: bounds SMALL COUNTER REFERENCES TYPES SYMBOLS");
-	for (int at = 0; at < 5; at++) {
+	if (words != 7)
+		errx(2, "usage: bounds SMALL COUNTER REFERENCES TYPES SYMBOLS LOADED");
+	for (int at = 0; at < 6; at++) {
 		struct bytes read = read_file(word[at + 1]);
 
 		files[at] = guarded_copy(read.at, read.len);
@@ -452,6 +485,7 @@ int main(int words, char **word)
 	check_handles(&files[0]);
 	check_changes(&files[1]);
 	check_values_by_rows(&files[1]);
+	check_loader_calls(&files[5]);
 	check_number_names();
 	check_license(&files[0], 0);
 	check_license(&files[1], 1);

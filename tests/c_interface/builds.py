@@ -15,8 +15,8 @@ SANITIZED = ["-g", "-fsanitize=address,undefined", "-fno-sanitize-recover=all"]
 
 # Programs with their sources.
 PROGRAMS = {
-    "calls": [HERE / "calls.c", HERE / "listed.c"],
-    "bounds": [HERE / "bounds.c", HERE / "bounds_values.c", HERE / "listed.c"],
+    "calls": [HERE / "calls.c", HERE / "listed.c", HERE / "loader_calls.c"],
+    "bounds": [HERE / "bounds.c", HERE / "bounds_loader.c", HERE / "bounds_values.c", HERE / "listed.c"],
     "loader": [EXAMPLES / "loader.c"],
 }
 

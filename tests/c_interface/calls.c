@@ -9,19 +9,28 @@
  *	values=NAME:must|may:DIGITS,.. size=NAME:N sanitize=N
  *	                                     change what the handle holds, and print `NAME NUMBER ABOUT`
  *	programs named listed declared sections info slots records     list what it holds
+ *	kernel_types target=SECTION settings config=NAME number=NAME:N define=NAME:DIGITS,.. initial variables read=NAME
+ *	data=MAP:DIGITS
+ *	                                     the calls for loaders, which list what they find and print their numbers; a
+ *	                                     configuration's text stands in the place of SYMBOLS
  *	ask=CALL ask=CALL:NAME               asks one of the calls that list, with ample room, and prints its number
  *	names                                lists the numbers that have a name
  * With -m the last action stands between the lines "== begin" and "== end" and its answer behind them; what the handle
  * holds stands before, and behind where the number is not 0.
  */
 #include "listed.h"
-#include "shared.h"
+#include "loader_calls.h"
 #include <unistd.h>
 
 static struct bytes file, types, symbols;
 static struct ebpf_handle object = EBPF_CLOSED_HANDLE;
 static char about[128];
 static size_t about_len;
+
+static struct made_on made_on(void)
+{
+	return (struct made_on){ &object, file, types, symbols, about, sizeof(about), &about_len };
+}
 
 /* The part of a word in front of a separator; the rest begins behind it. */
 static char *cut(char **rest, char separator)
@@ -136,8 +145,12 @@ static uint32_t copy(void)
 
 static uint32_t change(const char *name, char *rest)
 {
+	struct made_on on = made_on();
+	int64_t number = loader_call(&on, name, rest);
 	char *map;
 
+	if (number >= 0)
+		return (uint32_t)number;
 	if (!strcmp(name, "open"))
 		return ebpf_open(file.at, file.len, &object, about, sizeof(about), &about_len);
 	if (!strcmp(name, "open_broad"))
@@ -183,12 +196,21 @@ static uint32_t ask(char *rest)
 {
 	static _Alignas(16) uint8_t rows[ROOM], text[ROOM];
 	char *call = cut(&rest, ':'), *name = rest ? rest : "";
+	struct room room = { rows, text, ROOM, { 7, 7 }, 7 };
+	struct made_on on = made_on();
 	struct ebpf_counts counts = { 7, 7 };
 	size_t len = strlen(name), count = 7, row = ROOM / 128;
 	uint32_t number = 3;
+	int64_t of_loader;
 
 	memset(rows, 0x55, sizeof(rows));
 	memset(text, 0x55, sizeof(text));
+	of_loader = ask_loader_call(&on, call, name, &room);
+	if (of_loader >= 0) {
+		number = (uint32_t)of_loader;
+		counts = room.counts;
+		count = room.count;
+	}
 	if (!strcmp(call, "programs"))
 		number = ebpf_programs(&object, (void *)rows, row, (char *)text, ROOM, &counts);
 	if (!strcmp(call, "maps"))

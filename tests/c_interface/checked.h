@@ -16,4 +16,7 @@ struct ebpf_handle opened(const struct guarded *file);
 /* ebpf_set_values over an object with the variables `wanted` and `seen`. */
 void check_values_by_rows(const struct guarded *file);
 
+/* The calls for loaders, over an object with externs of .kconfig and a map of maps that has initial values. */
+void check_loader_calls(const struct guarded *file);
+
 #endif

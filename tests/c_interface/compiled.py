@@ -5,6 +5,7 @@ import shutil
 import struct
 
 from c_interface.kinds import numbers_read
+from c_interface.map_ids import created_with
 from c_interface.recipes import Recipe, defined, make, recipes
 from c_interface.runs import run
 from c_interface.told import Told
@@ -53,9 +54,10 @@ def slot_lines(functions):
 def map_lines(told):
     for name, numbers in sorted(told.maps.items()):
         of = lambda key: numbers.get(key, 0)
+        key_id, value_id = created_with(of("type"), of("key id"), of("value id"))
         yield (
-            f"map {name} section {told.sections.index('.maps')} kind 2 type {of('type')} key {of('key')}:{of('key id')} value "
-            f"{of('value')}:{of('value id')} entries {of('entries')} flags {of('flags')} extra {of('extra')} pinning 0 data "
+            f"map {name} section {told.sections.index('.maps')} kind 2 type {of('type')} key {of('key')}:{key_id} value "
+            f"{of('value')}:{value_id} entries {of('entries')} flags {of('flags')} extra {of('extra')} pinning 0 data "
         )
 
 

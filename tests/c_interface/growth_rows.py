@@ -1,4 +1,5 @@
 """Calls of the C interface with each growth of memory refused in turn."""
+from c_interface import loader_rows
 from growths import inputs
 from growths.call_row import Parts
 from growths.inputs import COUNTER, KERNEL, LINES, REFERENCES, SMALL, TASKS
@@ -65,6 +66,21 @@ def rows(program):
         GrowthRow(program, "ebpf_set_max_entries", (COUNTER, b"", b""), "open", "entries=counts:9"),
         GrowthRow(program, "ebpf_set_value_size", (COUNTER, b"", b""), "open", "size=counts:9"),
         GrowthRow(program, "ebpf_sanitize", (COUNTER, b"", b""), "open", "sanitize=0"),
+    ]
+    loaded, settings = (loader_rows.loaded(), b"", b""), (loader_rows.declared(loader_rows.SETTINGS).bytes(), b"", b"CONFIG_TEXT=\"a\"\n")
+    found += [
+        GrowthRow(program, "ebpf_kernel_types", loaded, "ask=kernel_types"),
+        GrowthRow(program, "ebpf_kernel_types, no symbol", (loader_rows.without_symbol(), b"", b""), "ask=kernel_types", answer="742 v"),
+        GrowthRow(program, "ebpf_attach_target", (SMALL, loader_rows.TARGETS, b""), "ask=target:lsm/g"),
+        GrowthRow(program, "ebpf_initial_slots", loaded, "open", "ask=initial"),
+        GrowthRow(program, "ebpf_variables", (COUNTER, b"", b""), "open", "ask=variables"),
+        GrowthRow(program, "ebpf_value", (COUNTER, b"", b""), "open", "ask=read:wanted"),
+        GrowthRow(program, "ebpf_set_map_data", (COUNTER, b"", b""), "open", "data=.rodata:01020304"),
+        GrowthRow(program, "ebpf_kconfig", settings, "open", "ask=settings"),
+        GrowthRow(program, "ebpf_kconfig_value", settings, "open", "ask=config:CONFIG_TEXT"),
+        GrowthRow(program, "ebpf_kconfig_number", settings, "open", "ask=number:LINUX_KERNEL_VERSION"),
+        GrowthRow(program, "ebpf_define_kconfig", loaded, "open", "define=CONFIG_COUNT:07000000,CONFIG_COUNT:08000000"),
+        GrowthRow(program, "ebpf_define_kconfig, no value", loaded, "open", "define=CONFIG_NAME:00", answer="904 CONFIG_COUNT"),
     ]
     for count in range(3, 1 + len(passes)):
         found.append(GrowthRow(program, f"{passes[count - 1]}, references.o", ALL, *passes[:count]))

@@ -3,6 +3,7 @@ import re
 
 from c_interface import refusals
 from c_interface.kinds import numbers_of
+from c_interface.map_ids import created_with
 from c_interface.runs import CallsRow
 from rows.case import outcome_lines
 from rows.printed import function_sizes
@@ -50,11 +51,12 @@ def listed_map(line):
 
 
 def declared_map(line):
-    head, kind, key, value, entries, flags, extra, pinning = re.fullmatch(
-        r"((?:map|inner) .*) type (\d+) key (\d+:\d+) value (\d+:\d+) entries (\d+) flags (\d+) extra (\d+) (\w+)", line
+    head, kind, key, key_id, value, value_id, entries, flags, extra, pinning = re.fullmatch(
+        r"((?:map|inner) .*) type (\d+) key (\d+):(\d+) value (\d+):(\d+) entries (\d+) flags (\d+) extra (\d+) (\w+)", line
     ).groups()
     pinning = "1" if pinning == "ByName" else "0"
-    shape = f"type {kind} key {key} value {value} entries {entries} flags {flags} extra {extra} pinning {pinning}"
+    key_id, value_id = created_with(int(kind), int(key_id), int(value_id))
+    shape = f"type {kind} key {key}:{key_id} value {value}:{value_id} entries {entries} flags {flags} extra {extra} pinning {pinning}"
     if head.startswith("inner "):
         return f"inner {shape}"
     name, section = re.fullmatch(r"map (.*) in (\d+) symbol \d+", head).groups()

@@ -1,10 +1,15 @@
+pub mod DataSets
+pub mod GivenRows
 pub mod HandleWords
 pub mod HeldPasses
 pub mod LooseWords
 pub mod Named
+pub mod NamedExterns
 pub mod NamedMaps
 pub mod Objects
 pub mod NextRow
+pub mod NextSlot
+pub mod NextVariable
 pub mod OneValue
 pub mod Refusing
 pub mod Rows

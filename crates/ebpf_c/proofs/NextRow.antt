@@ -6,10 +6,10 @@ use Rattle.ebpf_base.proofs.Walks.{rest_more}
 use Rattle.ebpf_c.specs.Listing.{zero_terminated, rows_from, names_text}
 
 -- the row of the next thing, and those of the things behind it
-pub one_row : {V R : Type 0} (row : V → ℕ → ℕ → R) (rows : List R) (text : List ℕ) (entries : List (List ℕ × V)) (i : ℕ) (e : List ℕ × V) → i < length entries → e ≡ slice_index_or entries i e
-    → (rows ++ row e.1 (length text) (length e.0) ∷ []) ++ rows_from row (length (text ++ zero_terminated e.0)) (drop (i + 1) entries) ≡ rows ++ rows_from row (length text) (drop i entries)
+pub one_row : {V R : Type 0} (row : List ℕ → V → ℕ → R) (rows : List R) (text : List ℕ) (entries : List (List ℕ × V)) (i : ℕ) (e : List ℕ × V) → i < length entries → e ≡ slice_index_or entries i e
+    → (rows ++ row e.0 e.1 (length text) ∷ []) ++ rows_from row (length (text ++ zero_terminated e.0)) (drop (i + 1) entries) ≡ rows ++ rows_from row (length text) (drop i entries)
 one_row row rows text entries i e below here =
-    let r = row e.1 (length text) (length e.0) in
+    let r = row e.0 e.1 (length text) in
     append_assoc rows (r ∷ []) _
     ∙ ap (λ n. rows ++ r ∷ rows_from row n (drop (i + 1) entries)) (length-append text (zero_terminated e.0))
     ∙ ap (λ rest. rows ++ rows_from row (length text) rest) (sym (rest_more entries i e below here))

@@ -1,5 +1,5 @@
 -- What a call leaves of a handle, and why it refuses.
-use Rattle.std.specs.Prelude.{◌≡◌, ◌⊎◌, ℕ, List, Option, Some, None}
+use Rattle.std.specs.Prelude.{◌≡◌, ◌⊎◌, ℕ, List, Option, Some, None, Result, Err, MatchResult}
 use Rattle.ebpf_c.specs.Refusal.{plain, IsReported}
 use Rattle.ebpf_c.specs.declared.codes.TheConstants.{CLOSED, MEMORY}
 use Rattle.ebpf_c.specs.declared.refusal.Refusal.{Refusal}
@@ -13,6 +13,11 @@ IsRefusal {E = E} Stands refusal r = (r ≡ plain MEMORY) ⊎ ((e : E) × Stands
 abbrev pub WhyHeld : Option Object → (Object → Refusal → Type 0) → Refusal → Type 0
 WhyHeld None Why r = r ≡ plain CLOSED
 WhyHeld (Some o) Why r = Why o r
+
+-- what is found of what a handle holds, or why not; a closed one is refused as such
+abbrev pub FindsHeld : {X : Type 0} → (Object → X → Type 0) → (Object → Refusal → Type 0) → Option Object → Result X Refusal → Type 0
+FindsHeld Finds Why None found = found ≡ Err (plain CLOSED)
+FindsHeld Finds Why (Some o) found = MatchResult found (Finds o) (Why o)
 
 -- an open handle holds another object than before
 abbrev pub Changes : (Object → Object → Type 0) → Option Object → Option Object → Type 0

@@ -2,6 +2,7 @@
 use Rattle.std.specs.Prelude.{ℕ, List, Result, Ok, Err}
 use Rattle.ebpf_c.specs.Answers.{Listed}
 use Rattle.ebpf_c.specs.declared.listing.Listing.{Listing}
+use Rattle.ebpf_c.specs.declared.refusal.Refusal.{Refusal}
 use denote.Ref.{Bor}
 
 -- a list that is lent
@@ -13,3 +14,8 @@ found_list (Ok xs) = Ok xs.now
 abbrev pub found_listing : {R : Type 0} → Result (Listing R) ℕ → Result (Listed R) ℕ
 found_listing (Err number) = Err number
 found_listing (Ok listing) = Ok (listing.rows.items, listing.text.items)
+
+-- the same, where a refusal may have a name
+abbrev pub told_listing : {R : Type 0} → Result (Listing R) Refusal → Result (Listed R) Refusal
+told_listing (Err r) = Err r
+told_listing (Ok listing) = Ok (listing.rows.items, listing.text.items)

@@ -2,12 +2,19 @@ pub mod Answers
 pub mod Descriptors
 pub mod Entries
 pub mod ExternRows
+pub mod FileTypeNames
 pub mod Flags
 pub mod Handles
 pub mod HandleOwnership
 pub mod Info
+pub mod InitialSlotRows
+pub mod KconfigCalls
+pub mod KconfigDefinitions
+pub mod KconfigRows
 pub mod Listing
+pub mod LoaderNumbers
 pub mod Loading
+pub mod MapDataSettings
 pub mod MapRows
 pub mod Numbers
 pub mod Opened
@@ -20,8 +27,12 @@ pub mod Reads
 pub mod Refusal
 pub mod SectionRows
 pub mod Settings
+pub mod TargetAnswers
 pub mod TargetTypes
+pub mod Told
+pub mod TypesForKernel
 pub mod Values
+pub mod Variables
 -- What only private contracts and proofs name.
 pub mod LentResults
 pub mod PrivateContracts

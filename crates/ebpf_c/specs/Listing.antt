@@ -13,11 +13,15 @@ zero_terminated name = name ++ 0 ∷ []
 abbrev pub names_text : {V : Type 0} → List (List ℕ × V) → List ℕ
 names_text entries = flat_map (λ e. zero_terminated e.0) entries
 
--- the rows of things whose names begin at a place; a row says where its name begins and how long it is
-abbrev pub rows_from : {V R : Type 0} → (V → ℕ → ℕ → R) → ℕ → List (List ℕ × V) → List R
+-- the rows of things whose names begin at a place; a row says where its name begins
+abbrev pub rows_from : {V R : Type 0} → (List ℕ → V → ℕ → R) → ℕ → List (List ℕ × V) → List R
 rows_from row at [] = []
-rows_from row at (e ∷ entries) = row e.1 at (length e.0) ∷ rows_from row (at + length (zero_terminated e.0)) entries
+rows_from row at (e ∷ entries) = row e.0 e.1 at ∷ rows_from row (at + length (zero_terminated e.0)) entries
+
+-- rows and text of things, in their order
+abbrev pub listed_entries : {V R : Type 0} → (List ℕ → V → ℕ → R) → List (List ℕ × V) → Listed R
+listed_entries row entries = (rows_from row 0 entries, names_text entries)
 
 -- rows and text of all things of a map, in byte order of their names
-abbrev pub listing_of : {V R : Type 0} → (V → ℕ → ℕ → R) → FinMap text_cmp V → Listed R
-listing_of row values = (rows_from row 0 (entries values), names_text (entries values))
+abbrev pub listing_of : {V R : Type 0} → (List ℕ → V → ℕ → R) → FinMap text_cmp V → Listed R
+listing_of row values = listed_entries row (entries values)

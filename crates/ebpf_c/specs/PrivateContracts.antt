@@ -22,3 +22,7 @@ IsSet set name before number after =
 -- a variable's name with its value, both lent
 abbrev pub lent_value : Bor (List ℕ) × (Bor (List ℕ) × Bool) → List ℕ × Global
 lent_value given = (given.0.now, global_of given.1)
+
+-- an extern's name and its value, both lent
+abbrev pub lent_pair : Bor (List ℕ) × Bor (List ℕ) → List ℕ × List ℕ
+lent_pair given = (given.0.now, given.1.now)

@@ -29,11 +29,11 @@ name_of_section_number sections number = name_if (find (λ section. section.1.0 
 abbrev pub loading_of : List (List ℕ × SectionIndex) → Program → Loading
 loading_of sections p = loaded_as (program_kind (name_of_section_number sections p.section_index)) p.section
 
--- the row of a program whose name begins at an offset of the text and has a length
-abbrev pub program_row : FinMap key_cmp Function → List (List ℕ × SectionIndex) → Program → ℕ → ℕ → ebpf_program
-program_row functions sections p name_at name_len = record {
+-- the row of a program of a name that begins at an offset of the text
+abbrev pub program_row : FinMap key_cmp Function → List (List ℕ × SectionIndex) → List ℕ → Program → ℕ → ebpf_program
+program_row functions sections name p name_at = record {
   name_at = name_at;
-  name_len = name_len;
+  name_len = length name;
   section = p.section_index;
   address = p.address;
   slots = slot_count (get functions (p.section_index, p.address));

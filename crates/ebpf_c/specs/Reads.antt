@@ -38,7 +38,7 @@ abbrev pub program_list : Object → Listed ebpf_program
 program_list o = listing_of (program_row o.functions (entries o.section_infos)) o.programs
 
 abbrev pub map_list : Object → Listed ebpf_map
-map_list o = listing_of map_row o.maps
+map_list o = listing_of (map_row o.btf) o.maps
 
 abbrev pub extern_list : Object → Listed ebpf_extern
 extern_list o = listing_of extern_row o.externs

@@ -16,3 +16,9 @@ pub const NO_MAP: u32 = 5;
 pub const BAD_NAME: u32 = 6;
 /// A value is not inside the bytes that it is said to stand in.
 pub const BAD_VALUE: u32 = 7;
+/// No extern of the kernel's configuration has the name.
+pub const NO_EXTERN: u32 = 8;
+/// The data has another length than the map's.
+pub const WRONG_LENGTH: u32 = 9;
+/// No variable of a map has the name.
+pub const NO_VARIABLE: u32 = 10;

@@ -32,12 +32,12 @@ pub struct ebpf_extern {
 }
 
 impl Row<ExternDesc, ()> for ebpf_extern {
-    ghost row_of = { λ _ x name_at name_len. extern_row x name_at name_len };
+    ghost row_of = { λ _ name x name_at. extern_row name x name_at };
 
-    fn row(_context: &(), value: &ExternDesc, name_at: usize, name_len: usize) -> ebpf_extern {
+    fn row(_context: &(), name: &str, value: &ExternDesc, name_at: usize) -> ebpf_extern {
         ebpf_extern {
             name_at,
-            name_len,
+            name_len: name.len(),
             address: known_address(value.ksym_addr),
             type_id: value.btf_id,
             kernel_type_id: known_number(value.kernel_btf_id),

@@ -11,6 +11,9 @@ pub fn general_name(index: u32) -> &'static [u8] {
         5 => b"NoMap",
         6 => b"BadName",
         7 => b"BadValue",
+        8 => b"NoExtern",
+        9 => b"WrongLength",
+        10 => b"NoVariable",
         _ => b"",
     }
 }
@@ -126,6 +129,52 @@ pub fn extern_name(index: u32) -> &'static [u8] {
         6 => b"KallsymsAccessError",
         7 => b"KallsymsParseError",
         8 => b"FunctionNotFound",
+        _ => b"",
+    }
+}
+
+/// The name of a fault of a file's types for the kernel.
+pub fn kernel_types_name(index: u32) -> &'static [u8] {
+    match index {
+        0 => b"NoSectionSize",
+        1 => b"NotAVariable",
+        2 => b"NoSymbol",
+        3 => b"UnsupportedExtern",
+        4 => b"TooLarge",
+        _ => b"",
+    }
+}
+
+/// The name of a fault of the initial values of maps.
+pub fn initial_slot_name(index: u32) -> &'static [u8] {
+    match index {
+        0 => b"UnknownSymbol",
+        1 => b"OutsideMaps",
+        2 => b"UnsupportedMapType",
+        3 => b"NotInMaps",
+        4 => b"UnsupportedKeySize",
+        5 => b"UnknownMap",
+        6 => b"UnknownProgram",
+        7 => b"NotAnEntryPoint",
+        8 => b"NoValues",
+        9 => b"OutsideValues",
+        10 => b"Misaligned",
+        _ => b"",
+    }
+}
+
+/// The name of a fault of externs that the kernel's configuration gives.
+pub fn kconfig_name(index: u32) -> &'static [u8] {
+    match index {
+        0 => b"NotAVariable",
+        1 => b"UnreadableName",
+        2 => b"UnknownName",
+        3 => b"UnsupportedType",
+        4 => b"NoValue",
+        5 => b"WrongSize",
+        6 => b"TooLarge",
+        7 => b"UnsuitedValue",
+        8 => b"ValueOutOfRange",
         _ => b"",
     }
 }

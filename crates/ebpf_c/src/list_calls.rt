@@ -67,8 +67,9 @@ pub extern "C" fn ebpf_programs(
     number
 }
 
-/// Lists the maps of an object: a row each in byte order of their names,
-/// and the names in `text`, a zero byte behind each.
+/// Lists the maps of an object: a row each in byte order of their names, and the names in `text`, a zero byte behind
+/// each. The ids of types are those that a map is created with (`ebpf_loading::map_types`), an inner map's by the same
+/// types; 0 where the object has none.
 ///
 /// # Answers
 ///
@@ -90,7 +91,7 @@ pub extern "C" fn ebpf_maps(
     let Some(object) = handle.take(alloc) else {
         return CLOSED;
     };
-    let number = write_all(alloc, &(), &object.maps, rows, text, counts);
+    let number = write_all(alloc, &object.btf, &object.maps, rows, text, counts);
     handle.put(alloc, object);
     number
 }

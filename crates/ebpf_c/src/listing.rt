@@ -10,12 +10,12 @@ use std::alloc::{AllocError, Global};
 
 /// What C reads of a named thing `V` that stands in a `C`.
 pub trait Row<V, C>: Copy {
-    /// The row of a thing whose name begins at an offset of the text and has a length.
-    ghost row_of: { C → V → ℕ → ℕ → Self };
+    /// The row of a thing of a name that begins at an offset of the text.
+    ghost row_of: { C → List ℕ → V → ℕ → Self };
 
-    /// The row of a thing whose name begins at an offset of the text and has a length.
-    fn row(context: &C, value: &V, name_at: usize, name_len: usize) -> Self
-        ensures { result ≡ row_of context.now value.now name_at name_len };
+    /// The row of a thing of a name that begins at an offset of the text.
+    fn row(context: &C, name: &str, value: &V, name_at: usize) -> Self
+        ensures { result ≡ row_of context.now name.now value.now name_at };
 }
 
 /// Rows, and the text with their names.
@@ -31,20 +31,19 @@ fn add_entry<V, C, R: Row<V, C>>(
     context: &C,
     entry: &Entry<'_, V>,
 ) -> Result<(), AllocError>
-    ensures rows { OnOk result (listing.new.rows.items ≡ listing.old.rows.items ++ R.row_of context.now entry.now.1 (length listing.old.text.items) (length entry.now.0) ∷ []) }
+    ensures rows { OnOk result (listing.new.rows.items ≡ listing.old.rows.items ++ R.row_of context.now entry.now.0 entry.now.1 (length listing.old.text.items) ∷ []) }
     ensures text { OnOk result (listing.new.text.items ≡ listing.old.text.items ++ zero_terminated entry.now.0) }
 {
-    let name = entry.name.as_bytes();
-    let row = R::row(context, entry.value, listing.text.len(), name.len());
+    let row = R::row(context, entry.name, entry.value, listing.text.len());
     listing.rows.push(row)?;
-    listing.text.extend_from_slice(name)?;
+    listing.text.extend_from_slice(entry.name.as_bytes())?;
     listing.text.push(0)?;
     Ok(())
 }
 
-/// The rows and the names of things.
+/// The rows and the names of things, in their order.
 #[tactic(auto, using(crate::proofs::NextRow::one_row, crate::proofs::NextRow::one_text, ebpf_base::proofs::Walks::rest_none))]
-fn list_entries<V, C, R: Row<V, C>>(
+pub fn list_entries<V, C, R: Row<V, C>>(
     alloc: Global,
     context: &C,
     entries: &[Entry<'_, V>],

@@ -1,12 +1,14 @@
 //! Maps as C reads them.
 
 ghost use Rattle.std.specs.Prelude.{◌≡◌};
-ghost use Rattle.ebpf_c.specs.MapRows.{key_type_of, map_row, no_shape, pinning_number, section_kind_number, shape_if, shape_of, value_type_of};
+ghost use Rattle.ebpf_c.specs.MapRows.{map_row, no_shape, pinning_number, section_kind_number, shape_if, shape_of, type_ids_of};
 ghost use Rattle.ebpf_parts.specs.Maps.{inner_of};
 ghost use Rattle.std.specs.Option.{option_copied};
 
 use crate::flags::flag;
 use crate::listing::Row;
+use ebpf_btf::Btf;
+use ebpf_loading::{MapTypeIds, map_types};
 use ebpf_parts::EbpfSectionKind;
 use ebpf_parts::maps::{Map, PinningType};
 
@@ -28,9 +30,9 @@ pub struct ebpf_map_shape {
     pub flags: u32,
     /// 1 where the map is pinned by its name, else 0.
     pub pinning: u32,
-    /// The id of the key's type, 0 where there is none.
+    /// The id of the key's type that the map is created with, 0 where there is none.
     pub key_type_id: u32,
-    /// The id of the value's type, 0 where there is none.
+    /// The id of the value's type that the map is created with, 0 where there is none.
     pub value_type_id: u32,
 }
 
@@ -84,26 +86,19 @@ fn section_kind_number(kind: EbpfSectionKind) -> u32
     }
 }
 
-fn key_type_of(map: &Map) -> u32
-    ensures { result ≡ key_type_of map.now }
+/// The ids of the types that a map of a name is created with; none where its object has no types.
+fn type_ids_of(types: &Option<Btf>, name: &str, map: &Map) -> MapTypeIds
+    ensures { result ≡ type_ids_of types.now name.now map.now }
 {
-    match map {
-        Map::Legacy(_) => 0,
-        Map::Btf(map) => map.def.btf_key_type_id,
+    match types {
+        Some(types) => map_types(name, map, types),
+        None => MapTypeIds { key: 0, value: 0 },
     }
 }
 
-fn value_type_of(map: &Map) -> u32
-    ensures { result ≡ value_type_of map.now }
-{
-    match map {
-        Map::Legacy(_) => 0,
-        Map::Btf(map) => map.def.btf_value_type_id,
-    }
-}
-
-fn shape_of(map: &Map) -> ebpf_map_shape
-    ensures { result ≡ shape_of map.now }
+/// The attributes of a map that is created with types of these ids.
+fn shape_of(map: &Map, ids: MapTypeIds) -> ebpf_map_shape
+    ensures { result ≡ shape_of map.now ids }
 {
     ebpf_map_shape {
         extra: map.map_extra(),
@@ -113,17 +108,17 @@ fn shape_of(map: &Map) -> ebpf_map_shape
         max_entries: map.max_entries(),
         flags: map.map_flags(),
         pinning: pinning_number(map.pinning()),
-        key_type_id: key_type_of(map),
-        value_type_id: value_type_of(map),
+        key_type_id: ids.key,
+        value_type_id: ids.value,
     }
 }
 
-/// The attributes of a map, all zero where there is none.
-fn shape_if(map: Option<&Map>) -> ebpf_map_shape
-    ensures { result ≡ shape_if (option_copied map.entry) }
+/// The attributes of a map in another of a name, all zero where there is none.
+fn shape_if(types: &Option<Btf>, name: &str, map: Option<&Map>) -> ebpf_map_shape
+    ensures { result ≡ shape_if types.now name.now (option_copied map.entry) }
 {
     match map {
-        Some(map) => shape_of(map),
+        Some(map) => shape_of(map, type_ids_of(types, name, map)),
         None => ebpf_map_shape {
             extra: 0,
             type_: 0,
@@ -148,20 +143,20 @@ fn inner_of(map: &Map) -> Option<Map>
     }
 }
 
-impl Row<Map, ()> for ebpf_map {
-    ghost row_of = { λ _ m name_at name_len. map_row m name_at name_len };
+impl Row<Map, Option<Btf>> for ebpf_map {
+    ghost row_of = { λ types name m name_at. map_row types name m name_at };
 
-    fn row(_context: &(), value: &Map, name_at: usize, name_len: usize) -> ebpf_map {
+    fn row(context: &Option<Btf>, name: &str, value: &Map, name_at: usize) -> ebpf_map {
         let inner = inner_of(value);
         ebpf_map {
             name_at,
-            name_len,
+            name_len: name.len(),
             section: value.section_index(),
             data_len: value.data().len(),
             section_kind: section_kind_number(value.section_kind()),
             has_inner: flag(inner.is_some()),
-            shape: shape_of(value),
-            inner: shape_if(inner.as_ref()),
+            shape: shape_of(value, type_ids_of(context, name, value)),
+            inner: shape_if(context, name, inner.as_ref()),
         }
     }
 }

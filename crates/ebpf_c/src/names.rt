@@ -5,7 +5,8 @@ ghost use Rattle.ebpf_c.specs.Answers.{answer, filled};
 
 use crate::codes::{DONE, ROOM};
 use crate::fault_names::{
-    extern_name, file_name, general_name, parse_name, record_name, slot_name, type_name,
+    extern_name, file_name, general_name, initial_slot_name, kconfig_name, kernel_types_name,
+    parse_name, record_name, slot_name, type_name,
 };
 
 /// What a number says, by the stage that answers it and the fault.
@@ -73,7 +74,7 @@ fn passing_name(number: u32) -> Name {
     }
 }
 
-/// The name of a number from 400 on.
+/// The name of a number from 400 on, below 700.
 fn ending_name(number: u32) -> Name {
     if number < 420 {
         return Name {
@@ -99,14 +100,58 @@ fn ending_name(number: u32) -> Name {
     }
 }
 
+/// The name of a number from 700 on, below 800.
+fn kernel_types_number_name(number: u32) -> Name {
+    if number < 720 {
+        return Name {
+            stage: b"kernel types: ",
+            fault: file_name(number.saturating_sub(700)),
+        };
+    }
+    if number < 740 {
+        return Name {
+            stage: b"kernel types: BtfError ",
+            fault: type_name(number - 720),
+        };
+    }
+    Name {
+        stage: b"kernel types: ",
+        fault: kernel_types_name(number - 740),
+    }
+}
+
+/// The name of a number from 800 on.
+fn loading_name(number: u32) -> Name {
+    if number < 820 {
+        return Name {
+            stage: b"initial slots: ",
+            fault: file_name(number.saturating_sub(800)),
+        };
+    }
+    if number < 900 {
+        return Name {
+            stage: b"initial slots: ",
+            fault: initial_slot_name(number - 820),
+        };
+    }
+    Name {
+        stage: b"kconfig: ",
+        fault: kconfig_name(number - 900),
+    }
+}
+
 /// What a number says; nothing where it is none.
 fn name_of(number: u32) -> Name {
     let name = if number < 200 {
         parsing_name(number)
     } else if number < 400 {
         passing_name(number)
-    } else {
+    } else if number < 700 {
         ending_name(number)
+    } else if number < 800 {
+        kernel_types_number_name(number)
+    } else {
+        loading_name(number)
     };
     if name.fault.is_empty() {
         return Name {

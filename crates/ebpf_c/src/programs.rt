@@ -77,18 +77,18 @@ fn loading_of(sections: &[Entry<'_, SectionIndex>], program: &Program) -> Loadin
 }
 
 impl<'a, 'b> Row<Program, Surroundings<'a, 'b>> for ebpf_program {
-    ghost row_of = { λ context p name_at name_len. program_row context.functions.now context.sections.now p name_at name_len };
+    ghost row_of = { λ context name p name_at. program_row context.functions.now context.sections.now name p name_at };
 
     fn row(
         context: &Surroundings<'a, 'b>,
+        name: &str,
         value: &Program,
         name_at: usize,
-        name_len: usize,
     ) -> ebpf_program {
         let loading = loading_of(context.sections, value);
         ebpf_program {
             name_at,
-            name_len,
+            name_len: name.len(),
             section: value.section_index,
             address: value.address,
             slots: slot_count(context.functions, value.function_key()),

@@ -19,12 +19,12 @@ pub struct ebpf_section {
 }
 
 impl Row<SectionIndex, ()> for ebpf_section {
-    ghost row_of = { λ _ s name_at name_len. section_row s name_at name_len };
+    ghost row_of = { λ _ name s name_at. section_row name s name_at };
 
-    fn row(_context: &(), value: &SectionIndex, name_at: usize, name_len: usize) -> ebpf_section {
+    fn row(_context: &(), name: &str, value: &SectionIndex, name_at: usize) -> ebpf_section {
         ebpf_section {
             name_at,
-            name_len,
+            name_len: name.len(),
             number: value.0,
         }
     }

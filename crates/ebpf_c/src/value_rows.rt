@@ -28,7 +28,7 @@ pub struct ebpf_value {
 }
 
 /// The bytes at an offset of a block, where it is inside.
-fn bytes_in(bytes: &[u8], at: usize, count: usize) -> Option<&[u8]>
+pub fn bytes_in(bytes: &[u8], at: usize, count: usize) -> Option<&[u8]>
     ensures { option_copied result ≡ bytes_in bytes.now at count }
 {
     let Some(end) = at.checked_add(count) else {

@@ -20,6 +20,12 @@ pub enum Error {
     NoProgram,
     /// No map has the name.
     NoMap,
+    /// No extern of the kernel's configuration has the name.
+    NoExtern,
+    /// The data has another length than the map's.
+    WrongLength,
+    /// No variable in the data of a map has the name.
+    NoVariable,
     /// The file is no object, or has no such variable.
     Parse(Refusal),
     /// A kernel's types can't be read, or functions can't be relocated to them.
@@ -32,6 +38,12 @@ pub enum Error {
     Externs(Refusal),
     /// Programs can't be linked with the functions that they reach.
     Calls(Refusal),
+    /// The file has no types that the kernel takes.
+    KernelTypes(Refusal),
+    /// The initial values of maps can't be told.
+    InitialSlots(Refusal),
+    /// Externs of the kernel's configuration can't be listed or defined.
+    Kconfig(Refusal),
     /// A number that this wrapper doesn't know.
     Other(Refusal),
 }
@@ -55,12 +67,18 @@ impl Error {
             2 => Error::Memory,
             4 => Error::NoProgram,
             5 => Error::NoMap,
+            8 => Error::NoExtern,
+            9 => Error::WrongLength,
+            10 => Error::NoVariable,
             100..=199 => Error::Parse(refusal),
             200..=299 => Error::Types(refusal),
             300..=399 => Error::Maps(refusal),
             400..=499 => Error::Ksyms(refusal),
             500..=599 => Error::Externs(refusal),
             600..=699 => Error::Calls(refusal),
+            700..=799 => Error::KernelTypes(refusal),
+            800..=899 => Error::InitialSlots(refusal),
+            900..=999 => Error::Kconfig(refusal),
             _ => Error::Other(refusal),
         }
     }
@@ -72,8 +90,12 @@ impl fmt::Display for Error {
             Error::Memory => return out.write_str("out of memory"),
             Error::NoProgram => return out.write_str("no such program"),
             Error::NoMap => return out.write_str("no such map"),
+            Error::NoExtern => return out.write_str("no such extern of the configuration"),
+            Error::WrongLength => return out.write_str("another length than the map's data has"),
+            Error::NoVariable => return out.write_str("no such variable"),
             Error::Parse(refusal) | Error::Types(refusal) | Error::Maps(refusal) | Error::Ksyms(refusal) => refusal,
-            Error::Externs(refusal) | Error::Calls(refusal) | Error::Other(refusal) => refusal,
+            Error::Externs(refusal) | Error::Calls(refusal) | Error::KernelTypes(refusal) => refusal,
+            Error::InitialSlots(refusal) | Error::Kconfig(refusal) | Error::Other(refusal) => refusal,
         };
         write!(out, "{} ({})", refusal.name, refusal.number)?;
         match &refusal.about {

@@ -10,7 +10,7 @@ const ABOUT: usize = 256;
 /// What an ELF file with eBPF programs holds. It stays on its thread.
 pub struct Object {
     // The library takes each handle by a pointer without const, and leaves it as it is where it only lists.
-    handle: UnsafeCell<Handle>,
+    pub(crate) handle: UnsafeCell<Handle>,
 }
 
 /// A kernel, and the maps that are made in it.
@@ -49,7 +49,7 @@ fn map_fds(maps: &[(&str, i32)]) -> (Vec<Descriptor>, String) {
 }
 
 /// Names and values one after the other, and a row for each.
-fn value_rows(values: &[(&str, &[u8], bool)]) -> (Vec<Value>, String, Vec<u8>) {
+pub(crate) fn value_rows(values: &[(&str, &[u8], bool)]) -> (Vec<Value>, String, Vec<u8>) {
     let (mut rows, mut text, mut bytes) = (Vec::new(), String::new(), Vec::new());
     for (name, value, must_exist) in values {
         rows.push(Value {
@@ -73,7 +73,7 @@ pub fn version() -> (u32, u32, u32) {
 }
 
 /// A call that may say what its refusal is about.
-fn telling(call: impl FnOnce(*mut u8, usize, *mut usize) -> u32) -> Result<(), Error> {
+pub(crate) fn telling(call: impl FnOnce(*mut u8, usize, *mut usize) -> u32) -> Result<(), Error> {
     let (mut about, mut len) = ([0u8; ABOUT], 0);
     match call(about.as_mut_ptr(), about.len(), &mut len) {
         0 => Ok(()),
@@ -84,7 +84,7 @@ fn telling(call: impl FnOnce(*mut u8, usize, *mut usize) -> u32) -> Result<(), E
     }
 }
 
-fn plain(number: u32) -> Result<(), Error> {
+pub(crate) fn plain(number: u32) -> Result<(), Error> {
     match number {
         0 => Ok(()),
         number => Err(Error::of(number, None)),
@@ -118,6 +118,21 @@ impl Object {
         telling(|about, room, len| {
             // SAFETY: the slices are borrowed for the call, and a handle of zeros is a closed one.
             unsafe { raw::ebpf_open(file.as_ptr(), file.len(), &mut handle, about, room, len) }
+        })?;
+        Ok(Object {
+            handle: UnsafeCell::new(handle),
+        })
+    }
+
+    /// The object of a file that is read broadly: each section of code is a program's, whatever its name, and an array of
+    /// programs may be declared with its programs.
+    pub fn open_broad(file: &[u8]) -> Result<Object, Error> {
+        let mut handle = Handle {
+            at: std::ptr::null_mut(),
+        };
+        telling(|about, room, len| {
+            // SAFETY: the slices are borrowed for the call, and a handle of zeros is a closed one.
+            unsafe { raw::ebpf_open_broad(file.as_ptr(), file.len(), &mut handle, about, room, len) }
         })?;
         Ok(Object {
             handle: UnsafeCell::new(handle),

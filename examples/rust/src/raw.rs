@@ -112,6 +112,42 @@ pub struct Section {
     pub number: usize,
 }
 
+/// `struct ebpf_kconfig_extern`.
+#[repr(C)]
+#[derive(Clone, Copy, Default)]
+pub struct KconfigExtern {
+    pub name_at: usize,
+    pub name_len: usize,
+    pub size: u32,
+    pub kind: u32,
+    pub is_signed: u32,
+    pub is_weak: u32,
+}
+
+/// `struct ebpf_variable`.
+#[repr(C)]
+#[derive(Clone, Copy, Default)]
+pub struct Variable {
+    pub name_at: usize,
+    pub name_len: usize,
+    pub map_at: usize,
+    pub map_len: usize,
+    pub offset: u64,
+    pub size: u64,
+}
+
+/// `struct ebpf_initial_slot`.
+#[repr(C)]
+#[derive(Clone, Copy, Default)]
+pub struct InitialSlot {
+    pub name_at: usize,
+    pub name_len: usize,
+    pub target_at: usize,
+    pub target_len: usize,
+    pub index: u32,
+    pub is_program: u32,
+}
+
 /// `struct ebpf_insn`, laid out as the kernel's `struct bpf_insn`.
 #[repr(C)]
 #[derive(Clone, Copy, Debug, Default, PartialEq, Eq)]
@@ -145,6 +181,14 @@ extern "C" {
     pub fn ebpf_version_number() -> u32;
     pub fn ebpf_number_name(number: u32, text: *mut u8, room: usize, len: *mut usize) -> u32;
     pub fn ebpf_open(
+        file: *const u8,
+        file_len: usize,
+        handle: *mut Handle,
+        about: *mut u8,
+        about_room: usize,
+        about_len: *mut usize,
+    ) -> u32;
+    pub fn ebpf_open_broad(
         file: *const u8,
         file_len: usize,
         handle: *mut Handle,
@@ -229,6 +273,86 @@ extern "C" {
         room: usize,
         count: *mut usize,
     ) -> u32;
+    pub fn ebpf_kernel_types(
+        file: *const u8,
+        file_len: usize,
+        types: *mut u8,
+        room: usize,
+        len: *mut usize,
+        about: *mut u8,
+        about_room: usize,
+        about_len: *mut usize,
+    ) -> u32;
+    pub fn ebpf_attach_target(
+        section_name: *const u8,
+        section_name_len: usize,
+        types: *const u8,
+        types_len: usize,
+        answer: *mut u32,
+        type_id: *mut u32,
+    ) -> u32;
+    pub fn ebpf_initial_slots(
+        file: *const u8,
+        file_len: usize,
+        handle: *mut Handle,
+        rows: *mut InitialSlot,
+        rows_room: usize,
+        text: *mut u8,
+        text_room: usize,
+        counts: *mut Counts,
+        about: *mut u8,
+        about_room: usize,
+        about_len: *mut usize,
+    ) -> u32;
+    pub fn ebpf_kconfig(
+        handle: *mut Handle,
+        rows: *mut KconfigExtern,
+        rows_room: usize,
+        text: *mut u8,
+        text_room: usize,
+        counts: *mut Counts,
+        about: *mut u8,
+        about_room: usize,
+        about_len: *mut usize,
+    ) -> u32;
+    pub fn ebpf_kconfig_value(
+        handle: *mut Handle,
+        name: *const u8,
+        name_len: usize,
+        config: *const u8,
+        config_len: usize,
+        value: *mut u8,
+        room: usize,
+        len: *mut usize,
+        is_found: *mut u32,
+        about: *mut u8,
+        about_room: usize,
+        about_len: *mut usize,
+    ) -> u32;
+    pub fn ebpf_kconfig_number(
+        handle: *mut Handle,
+        name: *const u8,
+        name_len: usize,
+        number: u64,
+        value: *mut u8,
+        room: usize,
+        len: *mut usize,
+        about: *mut u8,
+        about_room: usize,
+        about_len: *mut usize,
+    ) -> u32;
+    pub fn ebpf_define_kconfig(
+        handle: *mut Handle,
+        rows: *const Value,
+        rows_len: usize,
+        text: *const u8,
+        text_len: usize,
+        bytes: *const u8,
+        bytes_len: usize,
+        about: *mut u8,
+        about_room: usize,
+        about_len: *mut usize,
+    ) -> u32;
     pub fn ebpf_set_value(
         handle: *mut Handle,
         name: *const u8,
@@ -251,6 +375,29 @@ extern "C" {
         about: *mut u8,
         about_room: usize,
         about_len: *mut usize,
+    ) -> u32;
+    pub fn ebpf_variables(
+        handle: *mut Handle,
+        rows: *mut Variable,
+        rows_room: usize,
+        text: *mut u8,
+        text_room: usize,
+        counts: *mut Counts,
+    ) -> u32;
+    pub fn ebpf_value(
+        handle: *mut Handle,
+        name: *const u8,
+        name_len: usize,
+        value: *mut u8,
+        room: usize,
+        len: *mut usize,
+    ) -> u32;
+    pub fn ebpf_set_map_data(
+        handle: *mut Handle,
+        name: *const u8,
+        name_len: usize,
+        data: *const u8,
+        data_len: usize,
     ) -> u32;
     pub fn ebpf_set_max_entries(handle: *mut Handle, name: *const u8, name_len: usize, entries: u32) -> u32;
     pub fn ebpf_set_value_size(handle: *mut Handle, name: *const u8, name_len: usize, size: u32) -> u32;

@@ -62,7 +62,7 @@ fn an_object_is_prepared_with_its_values() {
 
 #[test]
 fn the_version_is_told() {
-    assert_eq!(version(), (0, 1, 0));
+    assert_eq!(version(), (0, 2, 0));
     let object = Object::open(&file("test_rows/data/counter.o")).expect("an object");
     assert!(object.states_license().expect("a section license"));
 }

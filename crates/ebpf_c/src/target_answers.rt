@@ -1,0 +1,82 @@
+//! The types that programs are attached to.
+
+ghost use Rattle.std.specs.Prelude.{◌≡◌, ◌<◌, IfOk, IfErr};
+ghost use Rattle.ebpf_c.specs.TargetAnswers.{target_number, target_type_id, CannotFindTarget, IsTarget, TellsNone, TellsTarget};
+
+use crate::codes::{BAD_NAME, DONE, MEMORY};
+use crate::descriptors::text_of;
+use crate::refusal::Refusal;
+use crate::target_types::read_types;
+use ebpf_loading::{AttachTarget, attach_target};
+use std::alloc::Global;
+
+/// The number of what is known of a target.
+fn target_number(target: &AttachTarget) -> u32
+    ensures { result ≡ target_number target.now }
+{
+    match target {
+        AttachTarget::NotWanted => 0,
+        AttachTarget::Unnamed => 1,
+        AttachTarget::Found { .. } => 2,
+        AttachTarget::NotFound { .. } => 3,
+    }
+}
+
+/// The id of a target's type, 0 where none is found.
+fn target_type_id(target: &AttachTarget) -> u32
+    ensures { result ≡ target_type_id target.now }
+{
+    match target {
+        AttachTarget::Found { type_id } => *type_id,
+        AttachTarget::NotWanted | AttachTarget::Unnamed | AttachTarget::NotFound { .. } => 0,
+    }
+}
+
+/// What the programs of a section of a name are attached to, among the types that the bytes spell.
+fn find_target(alloc: Global, name: &[u8], types: &[u8]) -> Result<AttachTarget, Refusal>
+    ensures target { IfOk result (IsTarget name.now types.now) }
+    ensures why { IfErr result (CannotFindTarget name.now types.now) }
+    ensures refuses { IfErr result (λ r. 0 < r.number) }
+{
+    let Some(section) = text_of(name) else {
+        return Err(Refusal::plain(BAD_NAME));
+    };
+    let types = match read_types(alloc, types) {
+        Ok(types) => types,
+        Err(refusal) => return Err(refusal),
+    };
+    match attach_target(alloc, section, &types) {
+        Ok(target) => Ok(target),
+        Err(_) => Err(Refusal::plain(MEMORY)),
+    }
+}
+
+/// Says what the programs of a section of this name are attached to, as a type of the kernel's, or for `freplace` of the
+/// program that is replaced: 0 in `answer` where they are loaded without the id of a type, 1 where the name has no name of
+/// a target, 2 where the type is found, and 3 where there is none; and its id, 0 but for 2. The types are raw BTF in the
+/// byte order that its magic number tells.
+///
+/// # Answers
+///
+/// 0; 2; 6 where the name is no text; then 200 to 214 where the types can't be read. `answer` and `type_id` are then as
+/// they were.
+#[unsafe(no_mangle)]
+pub extern "C" fn ebpf_attach_target(
+    alloc: Global,
+    section_name: &[u8],
+    types: &[u8],
+    answer: &mut u32,
+    type_id: &mut u32,
+) -> u32
+    ensures found { result ≡ DONE → TellsTarget section_name.now types.now answer.new type_id.new }
+    ensures refused { ¬ (result ≡ DONE) → TellsNone section_name.now types.now result answer.old answer.new type_id.old type_id.new }
+{
+    match find_target(alloc, section_name, types) {
+        Ok(target) => {
+            *answer = target_number(&target);
+            *type_id = target_type_id(&target);
+            DONE
+        }
+        Err(refusal) => refusal.number,
+    }
+}
