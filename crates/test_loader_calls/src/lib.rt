@@ -3,3 +3,7 @@
 
 #[cfg(test)]
 mod initial_slots;
+#[cfg(test)]
+mod kconfig;
+#[cfg(test)]
+mod same;

@@ -1,0 +1,8 @@
+//! Externs that the kernel's configuration gives, in small objects.
+
+mod configured;
+mod defined;
+mod listed;
+mod objects;
+mod referred;
+mod types;
