@@ -111,5 +111,5 @@ module _ {K : Type 0} {R : K → K → Ordering} (o : IsTotalOrder R) (exact : I
         by_test others true is = others (xs ++ n ∷ []) (is ∙ some_is_any xs n) (pushed_below xs n) ∙ ap if_any (append_assoc xs (n ∷ []) (numbers_from (n + 1) ls))
         by_test others false is = others xs is (still_below xs n below)
 
-    pub users_stand : (layouts : List Layout) → get (users_from used 0 empty layouts) q ≡ if_any (numbers_of (λ l. list_any (eq_by_cmp R q) (used l)) layouts)
+    pub users_stand : (layouts : List Layout) → get {R = R} (users_from used 0 empty layouts) q ≡ if_any (numbers_of (λ l. list_any (eq_by_cmp R q) (used l)) layouts)
     users_stand layouts = all_programs layouts 0 empty [] (get-empty R q) (λ m above. ends_in-empty m)

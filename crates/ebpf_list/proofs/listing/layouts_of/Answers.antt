@@ -9,7 +9,7 @@ use Rattle.ebpf_list.proofs.listing.layouts_of.Goals as goal
 pub returns : goal.returns
 returns c =
     let before = c.args.object.now in
-    let after = c.write_externs-is_written.new.object in
+    let after = c.write_externs.new.object in
     let is_written = c.in_ok-is_written.is_written in
     of_prepared c.layouts_if.result
     (λ made each. record {
