@@ -92,7 +92,7 @@ void load_programs(struct loading *of, const char *asked);
 size_t find_program(const struct programs *programs, const char *name);
 
 /* running.c */
-void run(int loaded, const struct ebpf_program *program, struct bytes given, unsigned wait);
+void run(int loaded, const struct ebpf_program *program, struct bytes given, unsigned milliseconds);
 
 /* printing.c */
 void print_map(const struct loading *of, const char *name);
