@@ -79,6 +79,7 @@ void print_targets(struct loading *of);
 /* maps.c */
 void list_maps(struct loading *of);
 void make_maps(struct loading *of);
+int has_map(const struct maps *maps, const char *name);
 size_t find_map(const struct maps *maps, const char *name);
 
 /* initial.c */
@@ -95,6 +96,6 @@ size_t find_program(const struct programs *programs, const char *name);
 void run(int loaded, const struct ebpf_program *program, struct bytes given, unsigned milliseconds);
 
 /* printing.c */
-void print_map(const struct loading *of, const char *name);
+void print_held(struct loading *of, const char *name);
 
 #endif

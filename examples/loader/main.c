@@ -1,8 +1,8 @@
 /*
  * Loads the programs of an eBPF object file into the running kernel, runs one of them, and prints what it returns and what a
- * map holds then; on bpf(2) and libebpf.a alone.
+ * map or a variable holds then; on bpf(2) and libebpf.a alone.
  *
- * usage: loader [--config FILE] [--wait MILLISECONDS] FILE PROGRAM [MAP [BYTES]]
+ * usage: loader [--config FILE] [--wait MILLISECONDS] FILE PROGRAM [MAP|VARIABLE [BYTES]]
  *        loader --targets FILE
  *
  * BYTES: a file with the bytes that the program runs on; 64 zero bytes if left out.
@@ -28,7 +28,7 @@ struct options {
 
 static _Noreturn void usage(void)
 {
-	fputs("usage: loader [--config FILE] [--wait MILLISECONDS] FILE PROGRAM [MAP [BYTES]]\n"
+	fputs("usage: loader [--config FILE] [--wait MILLISECONDS] FILE PROGRAM [MAP|VARIABLE [BYTES]]\n"
 	      "       loader --targets FILE\n",
 	      stderr);
 	exit(2);
@@ -121,7 +121,7 @@ static void load_and_run(struct loading *of, const struct options *options)
 	load(of, options);
 	run(of->programs.loaded[asked], &of->programs.rows[asked], given, options->milliseconds);
 	if (options->count > 2)
-		print_map(of, options->words[2]);
+		print_held(of, options->words[2]);
 	free(given.at);
 }
 

@@ -18,16 +18,26 @@ void list_maps(struct loading *of)
 	check("maps", number);
 }
 
-/* The place of a map among all. */
-size_t find_map(const struct maps *maps, const char *name)
+static size_t place_of(const struct maps *maps, const char *name)
 {
 	size_t at = 0;
 
 	while (at < maps->counts.rows && strcmp(name, maps->names + maps->rows[at].name_at))
 		at++;
-	if (at == maps->counts.rows)
-		errx(1, "no map %s", name);
 	return at;
+}
+
+int has_map(const struct maps *maps, const char *name)
+{
+	return place_of(maps, name) < maps->counts.rows;
+}
+
+/* The place of a map among all. */
+size_t find_map(const struct maps *maps, const char *name)
+{
+	if (!has_map(maps, name))
+		errx(1, "no map %s", name);
+	return place_of(maps, name);
 }
 
 /*
