@@ -8,7 +8,8 @@ from loader import cases, configuration, kernel_ids
 
 HERE = Path(__file__).parent
 TOP = HERE.parents[1]
-STRICT = ["-std=c11", "-Wall", "-Wextra", "-Werror", "-O2", f"-I{TOP / 'include'}"]
+STRICT = ["-std=c11", "-Wall", "-Wextra", "-Werror", f"-I{TOP / 'include'}"]
+SANITIZED = ["-O1", "-g", "-fsanitize=address,undefined", "-fno-sanitize-recover=all"]
 
 # What is said where bpf(2) is not allowed, or not there.
 NOT_ALLOWED = ("Operation not permitted", "Function not implemented")
@@ -51,12 +52,20 @@ def judge(case, loader, folder):
     return fault or case.fault(run([loader, *case.options, path, *case.words], folder))
 
 
-def built(compiler, library, folder):
-    """The loader, by a compiler."""
-    path = folder / f"loader-{compiler}"
+def built(compiler, flags, library, path):
+    """What a compiler says where it doesn't build the loader, or None."""
     sources = sorted((TOP / "examples/loader").glob("*.c"))
-    done = run([compiler, *STRICT, *sources, library, "-o", path], folder)
-    return path, done.stderr[-2000:] if done.returncode else None
+    done = run([compiler, *STRICT, *flags, *sources, library, "-o", path], path.parent)
+    return done.stderr[-2000:] if done.returncode else None
+
+
+def loaders(library, folder):
+    """The loader by each compiler, and once with the sanitizers; each with what is wrong with its build, or None."""
+    compilers = [name for name in ("gcc", "clang") if shutil.which(name)]
+    builds = [(name, ["-O2"], f"loader-{name}") for name in compilers]
+    builds += [(name, SANITIZED, f"loader-{name}-sanitized") for name in compilers[:1]]
+    for compiler, flags, name in builds:
+        yield folder / name, built(compiler, flags, library, folder / name)
 
 
 def why_not(loader, folder):
@@ -90,9 +99,8 @@ def main(library, folder):
     count = Count()
     (folder / "own_config").write_text(configuration.OWN)
     why = why_nothing()
-    for compiler in [name for name in ("gcc", "clang") if shutil.which(name)]:
-        loader, fault = built(compiler, library, folder)
-        count.add(f"the loader by {compiler}", fault)
+    for loader, fault in loaders(library, folder):
+        count.add(f"{loader.name}, its build", fault)
         if fault or why:
             continue
         targets = cases.Case("what programs are attached to", "targets", [], cases.targets(), options=["--targets"])
