@@ -1,5 +1,5 @@
-// Values of the kernel's configuration: of a number, a bool, a tristate and a string, ones that have to be known and weak ones,
-// and what loaders know of the kernel.
+// Values of the kernel's configuration: of a number, a bool, a tristate and a string, ones that have to be known and weak
+// ones, and what loaders know of the kernel.
 #include "own.h"
 
 enum libbpf_tristate { TRI_NO, TRI_YES, TRI_MODULE };

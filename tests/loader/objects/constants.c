@@ -1,4 +1,5 @@
-// Variables of each data section. The kernel takes a constant one as an index only since it knows the value of a map that is frozen.
+// Variables of each data section. The kernel takes a constant one as an index only since it knows the values of a map that is
+// frozen.
 #include "own.h"
 
 const volatile u32 limit = 8;
