@@ -82,6 +82,7 @@ ALL = [
     ),
     Case("functions of the kernel, in tc", "kernel_functions", ["find_own_task"], ran(FUNCTIONS, 1)),
     Case("the same in syscall", "kernel_functions", ["find_own_task_in_syscall"], ran(FUNCTIONS, 11)),
+    Case("what the kernel may lack", "symbols", ["look"], ran(["look"], 1)),
     Case(
         "a program of tp_btf",
         "traced",
