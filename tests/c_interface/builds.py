@@ -17,7 +17,7 @@ SANITIZED = ["-g", "-fsanitize=address,undefined", "-fno-sanitize-recover=all"]
 PROGRAMS = {
     "calls": [HERE / "calls.c", HERE / "listed.c", HERE / "loader_calls.c"],
     "bounds": [HERE / "bounds.c", HERE / "bounds_loader.c", HERE / "bounds_values.c", HERE / "listed.c"],
-    "loader": [EXAMPLES / "loader.c"],
+    "loader": sorted((EXAMPLES / "loader").glob("*.c")),
 }
 
 

@@ -103,11 +103,7 @@ fn write_prepared(rt: &HostRuntime, prepared: &Prepared, lines: bool) -> Result<
 }
 
 /// Writes the programs of the object of a file as instructions, behind their source lines where these are wanted.
-fn link_as_instructions(
-    rt: &HostRuntime,
-    words: &PrepareWords,
-    lines: bool,
-) -> Result<(), Stop> {
+fn link_as_instructions(rt: &HostRuntime, words: &PrepareWords, lines: bool) -> Result<(), Stop> {
     let prepared = prepare_file(rt, words, MapSlots::Numbered)?;
     let written = write_prepared(rt, &prepared, lines);
     drop(prepared);
@@ -115,12 +111,7 @@ fn link_as_instructions(
 }
 
 /// Why the work ends where programs aren't written as bytes: what a pass refuses is told.
-fn stop_of(
-    rt: &HostRuntime,
-    words: &PrepareWords,
-    parsed: &Object,
-    failure: BytesFailure,
-) -> Stop {
+fn stop_of(rt: &HostRuntime, words: &PrepareWords, parsed: &Object, failure: BytesFailure) -> Stop {
     match failure {
         BytesFailure::Preparing(error) => {
             let stop = refuse_preparing(rt, words, parsed, &error);
@@ -135,7 +126,13 @@ fn stop_of(
 fn write_opened(rt: &HostRuntime, words: &PrepareWords, opened: &Opened) -> Result<(), Stop> {
     let alloc = rt.alloc();
     let mut out = BufWriter::new(alloc, rt.stdout())?;
-    match write_finished(alloc, &opened.parsed, &opened.kernel, &opened.programs, &mut out) {
+    match write_finished(
+        alloc,
+        &opened.parsed,
+        &opened.kernel,
+        &opened.programs,
+        &mut out,
+    ) {
         Ok(()) => {}
         Err(failure) => return Err(stop_of(rt, words, &opened.parsed, failure)),
     }

@@ -38,7 +38,13 @@ fn passed(
     map_slots: MapSlots,
 ) -> Result<Passed, Stop> {
     let parsed = &opened.parsed;
-    match pass_all(rt.alloc(), parsed, &opened.programs, map_slots, &opened.kernel) {
+    match pass_all(
+        rt.alloc(),
+        parsed,
+        &opened.programs,
+        map_slots,
+        &opened.kernel,
+    ) {
         Ok(passed) => Ok(passed),
         Err(error) => {
             let stop = refuse_preparing(rt, words, parsed, &error);

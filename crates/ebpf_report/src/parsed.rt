@@ -19,12 +19,7 @@ fn parsed(alloc: Global, file: &[u8]) -> Result<Object, ParseError>
 }
 
 /// The object of a file's bytes, read broadly; one that can't be parsed is told.
-pub fn parsed_object(
-    rt: &HostRuntime,
-    json: bool,
-    path: &str,
-    file: &[u8],
-) -> Result<Object, Stop>
+pub fn parsed_object(rt: &HostRuntime, json: bool, path: &str, file: &[u8]) -> Result<Object, Stop>
     ensures { IfOk result (IsParsed Broad file.now) }
 {
     match parsed(rt.alloc(), file) {

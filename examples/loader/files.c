@@ -1,0 +1,42 @@
+/* Memory, and the bytes of files. */
+#include "loader.h"
+
+/* Zeros. No pointer that the library is given is null, so there is always one more. */
+void *zeros(size_t count, size_t size)
+{
+	void *made = calloc(count + 1, size);
+
+	if (!made)
+		errx(1, "no memory");
+	return made;
+}
+
+/* All bytes up to the end of a stream. */
+struct bytes read_stream(FILE *stream, const char *name)
+{
+	struct bytes read = { NULL, 0 };
+	size_t room = 0;
+
+	do {
+		room = 2 * room + 65536;
+		read.at = realloc(read.at, room);
+		if (!read.at)
+			errx(1, "no memory");
+		read.len += fread(read.at + read.len, 1, room - read.len, stream);
+	} while (read.len == room);
+	if (ferror(stream))
+		err(1, "%s", name);
+	return read;
+}
+
+struct bytes read_file(const char *path)
+{
+	FILE *file = fopen(path, "rb");
+	struct bytes read;
+
+	if (!file)
+		err(1, "%s", path);
+	read = read_stream(file, path);
+	fclose(file);
+	return read;
+}

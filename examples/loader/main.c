@@ -1,0 +1,140 @@
+/*
+ * Loads the programs of an eBPF object file into the running kernel, runs one of them, and prints what it returns and what a
+ * map or a variable holds then; on bpf(2) and libebpf.a alone.
+ *
+ * usage: loader [--config FILE] [--wait MILLISECONDS] FILE PROGRAM [MAP|VARIABLE [BYTES]]
+ *        loader --targets FILE
+ *
+ * BYTES: a file with the bytes that the program runs on; 64 zero bytes if left out.
+ * --config: a file with the kernel's configuration; if left out that of the running kernel, by /boot/config-RELEASE or by
+ *           /proc/config.gz, which `zcat` unpacks.
+ * --wait: how long to wait between the run and the map, or how long a program of tp_btf stays attached.
+ * --targets: prints what the programs are attached to, as ids of the kernel's types, and loads nothing.
+ *
+ * Programs of a section with `?` are loaded where they are asked for. A program of iter runs as a walk, whose lines are
+ * printed; one of tp_btf is attached; the others run once by themselves, where the kernel does that. Each map is made anew,
+ * also where it says that it is to be pinned. The status is 0, or 1 with a line on standard error that says whether the
+ * library or the kernel refuses, and what, behind the kernel's own log.
+ */
+#include "loader.h"
+
+struct options {
+	const char *config;
+	unsigned milliseconds;
+	int targets;
+	char **words;
+	int count;
+};
+
+static _Noreturn void usage(void)
+{
+	fputs("usage: loader [--config FILE] [--wait MILLISECONDS] FILE PROGRAM [MAP|VARIABLE [BYTES]]\n"
+	      "       loader --targets FILE\n",
+	      stderr);
+	exit(2);
+}
+
+static struct options parse(int count, char **word)
+{
+	struct options of = { 0 };
+	int at = 1;
+
+	for (; at < count && !strncmp(word[at], "--", 2); at++) {
+		if (!strcmp(word[at], "--targets"))
+			of.targets = 1;
+		else if (!strcmp(word[at], "--config") && at + 1 < count)
+			of.config = word[++at];
+		else if (!strcmp(word[at], "--wait") && at + 1 < count)
+			of.milliseconds = strtoul(word[++at], NULL, 10);
+		else
+			usage();
+	}
+	of.words = word + at;
+	of.count = count - at;
+	if (of.targets ? of.count != 1 : of.count < 2 || of.count > 4)
+		usage();
+	return of;
+}
+
+static void open_object(struct loading *of, const char *path)
+{
+	of->file = read_file(path);
+	of->kernel_types = read_file("/sys/kernel/btf/vmlinux");
+	check(path, ebpf_open_broad(of->file.at, of->file.len, &of->object, ABOUT));
+	list_programs(of);
+}
+
+/* Each pass over the object, in the library's order. */
+static void prepare(struct loading *of, const char *path)
+{
+	struct bytes types = of->kernel_types, symbols = of->kernel_symbols;
+	const struct maps *maps = &of->maps;
+
+	check(path, ebpf_relocate_types(&of->object, types.at, types.len, ABOUT));
+	check(path, ebpf_relocate_maps(&of->object, maps->made, maps->counts.rows, maps->names, maps->counts.text,
+				       ABOUT));
+	check(path, ebpf_resolve_externs(&of->object, types.at, types.len, symbols.at, symbols.len, ABOUT));
+	check(path, ebpf_relocate_externs(&of->object, ABOUT));
+	check(path, ebpf_relocate_calls(&of->object, ABOUT));
+}
+
+/* From the opened object to programs that the kernel has, with all that they refer to. */
+static void load(struct loading *of, const struct options *options)
+{
+	define_kconfig(of, options->config);
+	list_maps(of);
+	list_initial(of);
+	load_types(of);
+	make_maps(of);
+	put_initial_maps(of);
+	of->kernel_symbols = read_file("/proc/kallsyms");
+	prepare(of, options->words[0]);
+	load_programs(of, options->words[1]);
+	put_initial_programs(of);
+}
+
+static void free_all(struct loading *of)
+{
+	ebpf_close(&of->object);
+	free(of->file.at);
+	free(of->kernel_types.at);
+	free(of->kernel_symbols.at);
+	free(of->maps.rows);
+	free(of->maps.names);
+	free(of->maps.made);
+	free(of->programs.rows);
+	free(of->programs.names);
+	free(of->programs.loaded);
+	free(of->initial.rows);
+	free(of->initial.names);
+}
+
+static void load_and_run(struct loading *of, const struct options *options)
+{
+	size_t asked = find_program(&of->programs, options->words[1]);
+	struct bytes given = { NULL, 64 };
+
+	if (options->count > 3)
+		given = read_file(options->words[3]);
+	else
+		given.at = zeros(given.len, 1);
+	load(of, options);
+	run(of->programs.loaded[asked], &of->programs.rows[asked], given, options->milliseconds);
+	if (options->count > 2)
+		print_held(of, options->words[2]);
+	free(given.at);
+}
+
+int main(int count, char **word)
+{
+	struct loading of = { .object = EBPF_CLOSED_HANDLE };
+	struct options options = parse(count, word);
+
+	open_object(&of, options.words[0]);
+	if (options.targets)
+		print_targets(&of);
+	else
+		load_and_run(&of, &options);
+	free_all(&of);
+	return 0;
+}

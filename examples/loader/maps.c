@@ -1,0 +1,126 @@
+/* Maps in the kernel. */
+#include "loader.h"
+#include <unistd.h>
+
+void list_maps(struct loading *of)
+{
+	struct maps *all = &of->maps;
+	uint32_t number;
+
+	do {
+		free(all->rows);
+		free(all->names);
+		all->rows = zeros(all->counts.rows, sizeof(*all->rows));
+		all->names = zeros(all->counts.text, 1);
+		number = ebpf_maps(&of->object, all->rows, all->counts.rows, all->names, all->counts.text,
+				   &all->counts);
+	} while (number == EBPF_ROOM);
+	check("maps", number);
+}
+
+static size_t place_of(const struct maps *maps, const char *name)
+{
+	size_t at = 0;
+
+	while (at < maps->counts.rows && strcmp(name, maps->names + maps->rows[at].name_at))
+		at++;
+	return at;
+}
+
+int has_map(const struct maps *maps, const char *name)
+{
+	return place_of(maps, name) < maps->counts.rows;
+}
+
+/* The place of a map among all. */
+size_t find_map(const struct maps *maps, const char *name)
+{
+	if (!has_map(maps, name))
+		errx(1, "no map %s", name);
+	return place_of(maps, name);
+}
+
+/*
+ * How many entries the kernel is asked for: for a ring buffer bytes, which it takes as a power of two of pages alone; an
+ * array of events that states none has one for each processor.
+ */
+static uint32_t entries_of(const struct ebpf_map_shape *shape)
+{
+	uint64_t room = sysconf(_SC_PAGESIZE);
+
+	if (shape->type == BPF_MAP_TYPE_PERF_EVENT_ARRAY && !shape->max_entries)
+		return sysconf(_SC_NPROCESSORS_CONF);
+	if (shape->type != BPF_MAP_TYPE_RINGBUF && shape->type != BPF_MAP_TYPE_USER_RINGBUF)
+		return shape->max_entries;
+	while (room < shape->max_entries)
+		room *= 2;
+	return room;
+}
+
+static int make_map(const struct loading *of, const struct ebpf_map_shape *shape, int inner, const char *name)
+{
+	union bpf_attr attr;
+	int made;
+
+	clear(&attr);
+	attr.map_type = shape->type;
+	attr.key_size = shape->key_size;
+	attr.value_size = shape->value_size;
+	attr.max_entries = entries_of(shape);
+	attr.map_flags = shape->flags;
+	attr.map_extra = shape->extra;
+	attr.inner_map_fd = inner;
+	attr.btf_fd = of->own_types;
+	attr.btf_key_type_id = shape->key_type_id;
+	attr.btf_value_type_id = shape->value_type_id;
+	put_name(attr.map_name, name);
+	made = bpf(BPF_MAP_CREATE, &attr);
+	if (made < 0 && shape->value_type_id) { /* once more without types, which the kernel doesn't take for each map */
+		attr.btf_fd = attr.btf_key_type_id = attr.btf_value_type_id = 0;
+		made = bpf(BPF_MAP_CREATE, &attr);
+	}
+	if (made < 0)
+		err(1, "the kernel refuses the map %s", name);
+	return made;
+}
+
+/* Writes the bytes that a map of variables begins with; what is constant no one writes from then on. */
+static void fill_map(struct loading *of, const struct ebpf_map *map, int made)
+{
+	struct bytes data = { zeros(map->data_len, 1), map->data_len };
+	const char *name = of->maps.names + map->name_at;
+	union bpf_attr attr;
+	uint32_t key = 0;
+
+	clear(&attr);
+	attr.map_fd = made;
+	attr.key = (uintptr_t)&key;
+	attr.value = (uintptr_t)data.at;
+	check("data of a map", ebpf_map_data(&of->object, name, map->name_len, data.at, data.len, &data.len));
+	if (bpf(BPF_MAP_UPDATE_ELEM, &attr))
+		err(1, "the kernel refuses the data of %s", name);
+	clear(&attr);
+	attr.map_fd = made;
+	if (map->section_kind == EBPF_SECTION_RODATA && bpf(BPF_MAP_FREEZE, &attr))
+		err(1, "the kernel doesn't freeze %s", name);
+	free(data.at);
+}
+
+/* Makes each map; of a map of maps first one of those that it holds, by which the kernel knows what it takes. */
+void make_maps(struct loading *of)
+{
+	struct maps *all = &of->maps;
+
+	all->made = zeros(all->counts.rows, sizeof(*all->made));
+	for (size_t at = 0; at < all->counts.rows; at++) {
+		const struct ebpf_map *map = &all->rows[at];
+		int inner = map->has_inner ? make_map(of, &map->inner, 0, "inner") : 0;
+		int made = make_map(of, &map->shape, inner, all->names + map->name_at);
+
+		all->made[at] = (struct ebpf_descriptor){ map->name_at, map->name_len, made };
+		if (inner)
+			close(inner);
+		if (map->data_len)
+			fill_map(of, map, made);
+	}
+}
