@@ -1,10 +1,11 @@
 //! The initial values of maps of an object that clang 14 made, and what is said of it where it is changed.
 
+use super::same::same;
+use ebpf_base::Items;
 use ebpf_initial_slots::{InitialSlot, InitialSlotError, InitialTarget, initial_slots};
 use ebpf_object::Object;
-use ebpf_parts::Reading;
+use ebpf_parts::{ParseError, Reading};
 use std::alloc::{AllocError, Global};
-use std::process::Abort;
 use std::test::Fail;
 
 /// The object of this text, by `clang -target bpf -g -O2 -c`, without what debuggers read, `.BTF.ext` and `.rel.BTF`:
@@ -134,103 +135,118 @@ fn write(bytes: &mut [u8], field: &Field) {
     }
 }
 
-/// The bytes of the object with some fields changed.
-fn object_bytes(alloc: Global, changes: &[Field]) -> Result<Vec<u8>, AllocError> {
+/// Writes fields, one after the other.
+fn write_all(bytes: &mut [u8], fields: &[Field]) {
+    for field in fields {
+        write(bytes, field);
+    }
+}
+
+/// The bytes of the object.
+fn parts(alloc: Global) -> Result<Vec<u8>, AllocError> {
     let mut bytes = Vec::new(alloc);
     for digits in OBJECT.iter() {
         push_hex(&mut bytes, *digits)?;
     }
-    for field in changes {
-        write(&mut bytes, field);
-    }
     Ok(bytes)
 }
 
-/// Sees that a slot is this one.
-fn expect_slot(rt: &impl Abort, slot: &InitialSlot, wanted: &(&str, u32, bool, &str)) {
-    let (map, index, is_program, name) = *wanted;
-    let (program, target) = match &slot.target {
-        InitialTarget::Map(name) => (false, name.as_str()),
-        InitialTarget::Program(name) => (true, name.as_str()),
-    };
-    assert_eq!(rt; slot.map.as_str(), map);
-    assert_eq!(rt; slot.index, index);
-    assert_eq!(rt; program, is_program);
-    assert_eq!(rt; target, name);
+/// The same with some fields changed.
+fn object_bytes(alloc: Global, changes: &[Field]) -> Result<Vec<u8>, AllocError> {
+    let mut bytes = parts(alloc)?;
+    write_all(&mut bytes, changes);
+    Ok(bytes)
 }
 
-/// Sees that the object with some fields changed has these slots.
-fn expect_slots(
-    rt: &impl Abort,
+/// The object of a file.
+fn parsed(alloc: Global, bytes: &[u8]) -> Result<Object, ParseError> {
+    Object::parse_as(alloc, bytes, Reading::Broad)
+}
+
+/// The initial values of the maps of an object, whose file has these bytes.
+fn slots_of(
     alloc: Global,
-    changes: &[Field],
-    wanted: &[(&str, u32, bool, &str)],
-) -> Result<(), Fail> {
-    let bytes = object_bytes(alloc, changes)?;
-    let object = Object::parse_as(alloc, &bytes, Reading::Broad)?;
-    let slots = initial_slots(alloc, &bytes, &object)?;
-    assert_eq!(rt; slots.len(), wanted.len());
-    for (slot, wanted) in slots.iter().zip(wanted.iter()) {
-        expect_slot(rt, slot, wanted);
+    file: &[u8],
+    object: &Object,
+) -> Result<Items<InitialSlot>, InitialSlotError> {
+    initial_slots(alloc, file, object)
+}
+
+/// Adds a value's line: its map, its index, and the map or the program that it is.
+fn add_slot(text: &mut String, slot: &InitialSlot) -> Result<(), AllocError> {
+    let (kind, name) = match &slot.target {
+        InitialTarget::Map(name) => ("map", name),
+        InitialTarget::Program(name) => ("program", name),
+    };
+    let map = slot.map.as_str();
+    writeln!(text, "{map} {} {kind} {}", slot.index, name.as_str())
+}
+
+/// A line for each value.
+fn lines(alloc: Global, slots: &[InitialSlot]) -> Result<String, AllocError> {
+    let mut text = String::new(alloc);
+    for slot in slots {
+        add_slot(&mut text, slot)?;
     }
-    Ok(())
+    Ok(text)
+}
+
+/// These lines, or why there are no values.
+fn shown(
+    alloc: Global,
+    slots: Result<Items<InitialSlot>, InitialSlotError>,
+) -> Result<String, AllocError> {
+    match slots {
+        Ok(slots) => lines(alloc, slots.as_slice()),
+        Err(error) => format!(in alloc; "{error}"),
+    }
+}
+
+/// The values of the object of these bytes, by those of a file.
+fn outcome(alloc: Global, bytes: &[u8], file: &[u8]) -> Result<String, AllocError> {
+    match parsed(alloc, bytes) {
+        Ok(object) => shown(alloc, slots_of(alloc, file, &object)),
+        Err(error) => format!(in alloc; "{error:?}"),
+    }
+}
+
+/// Fails where the values of the object with some fields changed aren't these.
+fn gives(alloc: Global, changes: &[Field], want: &str) -> Result<(), Fail> {
+    let bytes = object_bytes(alloc, changes)?;
+    let text = outcome(alloc, &bytes, &bytes)?;
+    same(text.as_str(), want)
 }
 
 #[test]
 fn of_an_object(rt: HostRuntime) -> Result<(), Fail> {
-    let wanted = [
-        ("calls", 1, true, "tail"),
-        ("calls", 2, true, "call"),
-        ("hashed", 1, false, "second"),
-        ("outer", 0, false, "second"),
-        ("outer", 2, false, "first"),
-    ];
-    expect_slots(&rt, rt.alloc(), &[], &wanted)
+    let want = "calls 1 program tail\ncalls 2 program call\nhashed 1 map second\n\
+        outer 0 map second\nouter 2 map first\n";
+    gives(rt.alloc(), &[], want)
 }
 
 #[test]
 fn later_stands(rt: HostRuntime) -> Result<(), Fail> {
-    let wanted = [
-        ("calls", 2, true, "call"),
-        ("hashed", 1, false, "second"),
-        ("outer", 2, false, "first"),
-    ];
+    let want = "calls 2 program call\nhashed 1 map second\nouter 2 map first\n";
     let changes = [(RELOCATIONS, 8, 0x40), (RELOCATIONS + 48, 8, 0x88)];
-    expect_slots(&rt, rt.alloc(), &changes, &wanted)
-}
-
-/// Sees how the object with some fields changed is refused.
-fn expect_fault(
-    rt: &impl Abort,
-    alloc: Global,
-    changes: &[Field],
-    sentence: &str,
-) -> Result<(), Fail> {
-    let bytes = object_bytes(alloc, changes)?;
-    let object = Object::parse_as(alloc, &bytes, Reading::Broad)?;
-    match initial_slots(alloc, &bytes, &object) {
-        Ok(slots) => assert_eq!(rt; slots.len(), 99, "{sentence}"),
-        Err(error) => assert_eq!(rt; format!(in alloc; "{error}")?.as_str(), sentence),
-    }
-    Ok(())
+    gives(rt.alloc(), &changes, want)
 }
 
 #[test]
 fn faults_of_places(rt: HostRuntime) -> Result<(), Fail> {
     let alloc = rt.alloc();
     let sentence = "the relocation at offset 0x44 of .maps is in no map";
-    expect_fault(&rt, alloc, &[(RELOCATIONS, 8, 0x44)], sentence)?;
+    gives(alloc, &[(RELOCATIONS, 8, 0x44)], sentence)?;
     let sentence = "the relocation at offset 0x89 of .maps is in no map";
-    expect_fault(&rt, alloc, &[(RELOCATIONS + 64, 8, 0x89)], sentence)?;
+    gives(alloc, &[(RELOCATIONS + 64, 8, 0x89)], sentence)?;
     let sentence =
         "the relocation at offset 0x28 of .maps is before the member 'values' of the map \"outer\"";
-    expect_fault(&rt, alloc, &[(RELOCATIONS, 8, 0x28)], sentence)?;
+    gives(alloc, &[(RELOCATIONS, 8, 0x28)], sentence)?;
     let sentence =
         "the relocation at offset 0x34 of .maps is at no whole value of the map \"outer\"";
-    expect_fault(&rt, alloc, &[(RELOCATIONS, 8, 0x34)], sentence)?;
+    gives(alloc, &[(RELOCATIONS, 8, 0x34)], sentence)?;
     let sentence = "the relocation at offset 0x64 of .maps is in no map";
     let changes = [(RELOCATIONS + 32, 8, 0x64), (RELOCATIONS + 64, 8, 0x84)];
-    expect_fault(&rt, alloc, &changes, sentence)
+    gives(alloc, &changes, sentence)
 }
 
 /// As linkers write it: the size of the DATASEC, and the offset of `outer`.
@@ -241,33 +257,33 @@ fn faults_of_maps(rt: HostRuntime) -> Result<(), Fail> {
     let alloc = rt.alloc();
     let sentence =
         "the map \"outer\" of type 1 has initial values, but is neither a map of maps nor an array of programs";
-    expect_fault(&rt, alloc, &[(468, 4, 1)], sentence)?;
+    gives(alloc, &[(468, 4, 1)], sentence)?;
     let sentence =
         "the hash of maps \"hashed\" has initial values and keys of 8 bytes: only of 4 can be";
-    expect_fault(&rt, alloc, &[(364, 4, 8)], sentence)?;
+    gives(alloc, &[(364, 4, 8)], sentence)?;
     let sentence = "the type of the map \"outer\" does not end in a member 'values'";
-    expect_fault(&rt, alloc, &[(VALUES, 1, 0x56)], sentence)?;
+    gives(alloc, &[(VALUES, 1, 0x56)], sentence)?;
     let sentence =
         "the relocation at offset 0x30 of .maps is before the member 'values' of the map \"outer\"";
-    expect_fault(&rt, alloc, &PLACED, sentence)
+    gives(alloc, &PLACED, sentence)
 }
 
 #[test]
 fn faults_of_symbols(rt: HostRuntime) -> Result<(), Fail> {
     let alloc = rt.alloc();
     let sentence = "the relocation at offset 0x30 of .maps names symbol 99, which the object lacks";
-    expect_fault(&rt, alloc, &[(RELOCATIONS + SYMBOL, 4, 99)], sentence)?;
+    gives(alloc, &[(RELOCATIONS + SYMBOL, 4, 99)], sentence)?;
     let sentence = "the value \"call\" of the map of maps \"outer\" is not in .maps";
-    expect_fault(&rt, alloc, &[(RELOCATIONS + SYMBOL, 4, 3)], sentence)?;
+    gives(alloc, &[(RELOCATIONS + SYMBOL, 4, 3)], sentence)?;
     let sentence = "the value \"\" of the map of maps \"outer\" is no map";
     let changes = [(FIRST_SYMBOL + 6, 2, 3), (RELOCATIONS + SYMBOL, 4, 1)];
-    expect_fault(&rt, alloc, &changes, sentence)?;
+    gives(alloc, &changes, sentence)?;
     let sentence = "the value \"second\" of the array of programs \"calls\" is no program";
-    expect_fault(&rt, alloc, &[(RELOCATIONS + 48 + SYMBOL, 4, 4)], sentence)?;
+    gives(alloc, &[(RELOCATIONS + 48 + SYMBOL, 4, 4)], sentence)?;
     let sentence =
         "the value \"call\" of the array of programs \"calls\" is not where the program stands";
-    expect_fault(&rt, alloc, &in_place_of_call(3, 16), sentence)?;
-    expect_fault(&rt, alloc, &in_place_of_call(2, 8), sentence)
+    gives(alloc, &in_place_of_call(3, 16), sentence)?;
+    gives(alloc, &in_place_of_call(2, 8), sentence)
 }
 
 /// Where the symbol with index 1 stands.
@@ -283,11 +299,17 @@ fn in_place_of_call(section: u64, address: u64) -> [Field; 4] {
     ]
 }
 
+/// Fails where a file of no bytes isn't refused.
+fn refuses_no_file(alloc: Global, bytes: &[u8]) -> Result<(), Fail> {
+    let text = outcome(alloc, bytes, &[])?;
+    same(
+        text.as_str(),
+        "the file has fewer than the 64 bytes of an ELF header",
+    )
+}
+
 #[test]
 fn of_no_file(rt: HostRuntime) -> Result<(), Fail> {
     let bytes = object_bytes(rt.alloc(), &[])?;
-    let object = Object::parse_as(rt.alloc(), &bytes, Reading::Broad)?;
-    let refused = initial_slots(rt.alloc(), &[], &object);
-    assert!(rt; matches!(refused, Err(InitialSlotError::ElfError(_))));
-    Ok(())
+    refuses_no_file(rt.alloc(), &bytes)
 }
