@@ -4,6 +4,8 @@ program reads the name of the one that it runs from its standard input.
 import re
 import shutil
 
+# What a crate is read from.
+PARTS = ("src", "specs", "proofs")
 MAIN = """//! The programs that are run together.
 #![tactic(auto)]
 
@@ -78,7 +80,9 @@ def one_crate(top, folder, crate, names):
     crates_txt = (top / "crates.txt").read_text()
     (folder / "crates").mkdir(parents=True)
     for old in (top / "crates").iterdir():
-        (folder / "crates" / old.name).symlink_to(old)
+        for part in PARTS:
+            if (old / part).is_dir():
+                shutil.copytree(old / part, folder / "crates" / old.name / part)
     if (top / "HANDLES").exists():
         shutil.copy(top / "HANDLES", folder)
     made = folder / "crates" / crate
