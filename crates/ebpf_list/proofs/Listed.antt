@@ -12,7 +12,6 @@ use Rattle.ebpf_model.specs.declared.function.Function.{Function}
 use Rattle.ebpf_object.specs.WrittenSlots.{with_externs}
 use Rattle.ebpf_object.specs.declared.object.Object.{Object}
 
-
 -- only externs and functions differ
 abbrev pub Keeps : Object → Object → Type 0
 Keeps before after = after ≡ record before { externs = after.externs; functions = after.functions }

@@ -92,7 +92,13 @@ fn add_program_helpers(
 ) -> Result<(), AllocError>
     ensures { OnOk result (users.new ≡ with_users program users.old (helpers_of by_function.now layout.now)) }
 {
-    add_helpers_at(alloc, users, by_function, layout.functions.as_slice(), program)
+    add_helpers_at(
+        alloc,
+        users,
+        by_function,
+        layout.functions.as_slice(),
+        program,
+    )
 }
 
 /// The programs that call helper functions, by those that each function calls.

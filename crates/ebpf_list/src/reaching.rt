@@ -28,10 +28,7 @@ fn add_reached(
 }
 
 /// The keys of the functions that some program reaches.
-fn reached_by_some(
-    alloc: Global,
-    layouts: &[Layout],
-) -> Result<BTreeSet<(usize, u64)>, AllocError>
+fn reached_by_some(alloc: Global, layouts: &[Layout]) -> Result<BTreeSet<(usize, u64)>, AllocError>
     ensures { IfOk result (λ reached. reached.keys ≡ fold (insert_key key_cmp) [] (reached_keys layouts.now)) }
 {
     let mut reached = BTreeSet::new(alloc);
