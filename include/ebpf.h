@@ -51,14 +51,14 @@ uint32_t ebpf_version_number(void);
 
 enum ebpf_number {
 	EBPF_DONE = 0,
-	EBPF_ROOM = 1,	     /* a buffer is too small; the counts say how much is needed */
-	EBPF_MEMORY = 2,     /* no memory was found */
-	EBPF_CLOSED = 3,     /* the handle is closed */
-	EBPF_NO_PROGRAM = 4, /* no program has the name */
-	EBPF_NO_MAP = 5,     /* no map has the name */
-	EBPF_BAD_NAME = 6,   /* a name that is given is no UTF-8, or a row's name is not inside the text beside it */
-	EBPF_BAD_VALUE = 7,  /* a row's value is not inside the bytes beside it */
-	EBPF_NO_EXTERN = 8,  /* no extern of the kernel's configuration has the name */
+	EBPF_ROOM = 1,	       /* a buffer is too small; the counts say how much is needed */
+	EBPF_MEMORY = 2,       /* no memory was found */
+	EBPF_CLOSED = 3,       /* the handle is closed */
+	EBPF_NO_PROGRAM = 4,   /* no program has the name */
+	EBPF_NO_MAP = 5,       /* no map has the name */
+	EBPF_BAD_NAME = 6,     /* a name that is given is no UTF-8, or a row's name is not inside the text beside it */
+	EBPF_BAD_VALUE = 7,    /* a row's value is not inside the bytes beside it */
+	EBPF_NO_EXTERN = 8,    /* no extern of the kernel's configuration has the name */
 	EBPF_WRONG_LENGTH = 9, /* the data has another length than that of the map */
 	EBPF_NO_VARIABLE = 10, /* no symbol has the name, or its bytes are not inside the data of a map */
 
