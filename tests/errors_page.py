@@ -45,6 +45,8 @@ TYPES = {
     "relocation::RelocationError": ("ebpf_model/src/error.rt", "Why slots can't be written or linked."),
     "extern_types::KsymsError": ("ebpf_ksyms/src/error.rt", "What `resolve_externs` gives (stage `ksyms`)."),
     "ebpf_kconfig::KconfigError": ("ebpf_kconfig/src/error.rt", "What `kconfig`, `define_kconfig`, `kconfig_value` and `kconfig_number` give."),
+    "ebpf_initial_slots::InitialSlotError": ("ebpf_initial_slots/src/error.rt", "What `initial_slots` gives. `readelf -r` shows the relocations of `.maps`."),
+    "ebpf_kernel_types::KernelTypesError": ("ebpf_kernel_types/src/error.rt", "What `kernel_types` gives. `bpftool btf dump file FILE` shows the types."),
 }
 
 DAMAGED = "the file is cut or damaged: make it again, and look at it with `readelf -S`"
@@ -140,6 +142,25 @@ ADVICE = {
     "ebpf_kconfig::KconfigError::TooLarge": "declare shorter arrays of char",
     "ebpf_kconfig::KconfigError::UnsuitedValue": "declare it with the type that the configuration's value has: what may be `m` is a tristate",
     "ebpf_kconfig::KconfigError::ValueOutOfRange": "declare it with a larger integer, or a signed one",
+    "ebpf_initial_slots::InitialSlotError::ElfError": "give the bytes that the object was parsed from",
+    "ebpf_initial_slots::InitialSlotError::UnknownSymbol": "the bytes are not those that the object was parsed from, or the file is damaged",
+    "ebpf_initial_slots::InitialSlotError::OutsideMaps": "compile with `-g`, and don't strip `.BTF` or symbols",
+    "ebpf_initial_slots::InitialSlotError::UnsupportedMapType": "leave `values` out of the map, or declare it as a map of maps or an array of programs",
+    "ebpf_initial_slots::InitialSlotError::UnsupportedKeySize": "declare its keys with 4 bytes, or put its maps once it is loaded",
+    "ebpf_initial_slots::InitialSlotError::NotInMaps": "name maps that are declared in `.maps`",
+    "ebpf_initial_slots::InitialSlotError::UnknownMap": "name maps of this object that aren't `static`",
+    "ebpf_initial_slots::InitialSlotError::UnknownProgram": "name programs of this object that aren't `static`, and no functions of `.text`",
+    "ebpf_initial_slots::InitialSlotError::NotAnEntryPoint": "two symbols have that name: rename one of them",
+    "ebpf_initial_slots::InitialSlotError::NoValues": "declare `__array(values, ..)` as the last member",
+    "ebpf_initial_slots::InitialSlotError::OutsideValues": "give values to the member `values` alone, which is the last one",
+    "ebpf_initial_slots::InitialSlotError::Misaligned": "declare the member by libbpf's `__array`",
+    "ebpf_kernel_types::KernelTypesError::ElfError": DAMAGED,
+    "ebpf_kernel_types::KernelTypesError::BtfError": "as the `BtfError` that it holds",
+    "ebpf_kernel_types::KernelTypesError::NoSectionSize": "the section is empty, or was stripped: compile again",
+    "ebpf_kernel_types::KernelTypesError::NotAVariable": TYPES_DAMAGED,
+    "ebpf_kernel_types::KernelTypesError::NoSymbol": "don't strip symbols",
+    "ebpf_kernel_types::KernelTypesError::UnsupportedExtern": "declare it as `bool`, `enum libbpf_tristate`, `char`, an integer or `char NAME[N]`",
+    "ebpf_kernel_types::KernelTypesError::TooLarge": "split the object",
     "prepare::Explained::Maps": "give a descriptor for the map of this name; where no map stands, the object has nothing that the instruction could refer to",
 }
 

@@ -5,6 +5,8 @@
 mod explained;
 mod externs;
 mod file;
+mod initial_slots;
+mod kernel_types;
 mod object;
 mod prepare;
 mod records;
@@ -26,7 +28,9 @@ fn show_all(rt: &HostRuntime, file: &[u8]) -> io::Result<()> {
     records::show_all(rt)?;
     slots::show_all(rt)?;
     externs::show_all(rt)?;
-    settings::show_all(rt)
+    settings::show_all(rt)?;
+    initial_slots::show_all(rt)?;
+    kernel_types::show_all(rt)
 }
 
 fn main(rt: HostRuntime) -> io::Result<()> {

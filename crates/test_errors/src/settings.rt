@@ -8,18 +8,7 @@ impl Sample for KconfigError {
     const TYPE: &'static str = "ebpf_kconfig::KconfigError";
 
     fn variant(&self) -> &'static str {
-        match self {
-            KconfigError::NotAVariable { .. } => "NotAVariable",
-            KconfigError::UnreadableName { .. } => "UnreadableName",
-            KconfigError::UnknownName { .. } => "UnknownName",
-            KconfigError::UnsupportedType { .. } => "UnsupportedType",
-            KconfigError::NoValue { .. } => "NoValue",
-            KconfigError::WrongSize { .. } => "WrongSize",
-            KconfigError::TooLarge => "TooLarge",
-            KconfigError::UnsuitedValue { .. } => "UnsuitedValue",
-            KconfigError::ValueOutOfRange { .. } => "ValueOutOfRange",
-            KconfigError::OutOfMemory => "OutOfMemory",
-        }
+        self.variant_name()
     }
 }
 
