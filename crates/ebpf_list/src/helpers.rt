@@ -1,116 +1,129 @@
-//! What programs use: helper functions and maps.
+//! Which programs call which helper functions.
 
+ghost use Rattle.std.specs.Prelude.{◌≡◌, IfOk, OnOk};
+ghost use Rattle.std.specs.FinMap as finite;
+ghost use Rattle.std.specs.Option.{option_copied};
+ghost use Rattle.ebpf_list.specs.PrivateContracts.{helpers_at, helpers_of, keys_or_none, users_from, with_user_beside, with_users};
+ghost use Rattle.ebpf_list.specs.Users.{AreUsers, calls};
+
+use crate::by_number::ByNumber;
 use crate::layout::Layout;
+use crate::numbers::{note, one_number};
 use ebpf_base::{ByKey, Items};
 use ebpf_object::Object;
 use ebpf_report::helper_calls::helpers_by_function;
-use ebpf_report::map_uses::MapUse;
 use std::alloc::{AllocError, Global};
-use std::collections::{BTreeMap, BTreeSet};
+use std::collections::BTreeSet;
 
-/// The numbers of programs, by what they use.
-pub type Users<K> = BTreeMap<K, Vec<usize>>;
-
-/// Notes that the program of a number uses something, once.
-fn add_user<K: Ord + Drop>(
+/// Notes that the program of a number calls a helper function.
+fn add_caller(
     alloc: Global,
-    users: &mut Users<K>,
-    used: K,
+    users: &mut ByNumber<Items<usize>>,
+    helper: u32,
     program: usize,
-) -> Result<(), AllocError> {
-    if let Some(numbers) = users.get_mut(&used) {
-        if numbers.last() != Some(&program) {
-            numbers.push(program)?;
+) -> Result<(), AllocError>
+    ensures { OnOk result (users.new ≡ with_user_beside users.old helper program (finite.get users.old helper)) }
+{
+    match users.get_mut(helper) {
+        Some(numbers) => {
+            note(numbers, program)?;
         }
-        return Ok(());
+        None => {
+            users.insert(helper, one_number(alloc, program)?)?;
+        }
     }
-    let mut numbers = Vec::new(alloc);
-    numbers.push(program)?;
-    users.insert(used, numbers)?;
     Ok(())
 }
 
 /// Notes the helper functions that a function of the program of a number calls.
 fn add_helpers(
     alloc: Global,
-    users: &mut Users<u32>,
+    users: &mut ByNumber<Items<usize>>,
     helpers: &BTreeSet<u32>,
     program: usize,
-) -> Result<(), AllocError> {
+) -> Result<(), AllocError>
+    ensures { OnOk result (users.new ≡ with_users program users.old helpers.now.keys) }
+{
     for helper in helpers.iter() {
-        add_user(alloc, users, *helper, program)?;
+        add_caller(alloc, users, *helper, program)?;
+    }
+    Ok(())
+}
+
+/// Notes those of a function that calls some.
+fn add_helpers_found(
+    alloc: Global,
+    users: &mut ByNumber<Items<usize>>,
+    helpers: Option<&BTreeSet<u32>>,
+    program: usize,
+) -> Result<(), AllocError>
+    ensures { OnOk result (users.new ≡ with_users program users.old (keys_or_none (option_copied helpers.entry))) }
+{
+    match helpers {
+        Some(helpers) => add_helpers(alloc, users, helpers, program),
+        None => Ok(()),
+    }
+}
+
+/// Notes the helper functions that the functions of some keys call, which the program of a number reaches.
+fn add_helpers_at(
+    alloc: Global,
+    users: &mut ByNumber<Items<usize>>,
+    by_function: &ByKey<BTreeSet<u32>>,
+    keys: &[(usize, u64)],
+    program: usize,
+) -> Result<(), AllocError>
+    ensures { OnOk result (users.new ≡ with_users program users.old (helpers_at by_function.now keys.now)) }
+{
+    for key in keys {
+        add_helpers_found(alloc, users, by_function.get(*key), program)?;
     }
     Ok(())
 }
 
 /// Notes the helper functions that the program of a number calls.
+#[tactic(auto, unfolding(crate::specs::PrivateContracts::helpers_of))]
 fn add_program_helpers(
     alloc: Global,
-    users: &mut Users<u32>,
+    users: &mut ByNumber<Items<usize>>,
     by_function: &ByKey<BTreeSet<u32>>,
     layout: &Layout,
     program: usize,
-) -> Result<(), AllocError> {
-    for key in layout.functions.iter() {
-        if let Some(helpers) = by_function.get(*key) {
-            add_helpers(alloc, users, helpers, program)?;
-        }
-    }
-    Ok(())
+) -> Result<(), AllocError>
+    ensures { OnOk result (users.new ≡ with_users program users.old (helpers_of by_function.now layout.now)) }
+{
+    add_helpers_at(
+        alloc,
+        users,
+        by_function,
+        layout.functions.as_slice(),
+        program,
+    )
 }
 
-/// The helper functions that programs call, by their numbers.
+/// The programs that call helper functions, by those that each function calls.
+fn callers(
+    alloc: Global,
+    by_function: &ByKey<BTreeSet<u32>>,
+    layouts: &[Layout],
+) -> Result<ByNumber<Items<usize>>, AllocError>
+    ensures { IfOk result (λ users. users ≡ users_from (helpers_of by_function.now) 0 finite.empty layouts.now) }
+{
+    let mut users = ByNumber::new(alloc);
+    for (program, layout) in layouts.iter().enumerate() {
+        add_program_helpers(alloc, &mut users, by_function, layout, program)?;
+    }
+    Ok(users)
+}
+
+/// The programs that call helper functions, by the helper's number.
 pub fn helper_users(
     alloc: Global,
     object: &Object,
     layouts: &[Layout],
-) -> Result<Users<u32>, AllocError> {
+) -> Result<ByNumber<Items<usize>>, AllocError>
+    ensures { IfOk result (λ users. AreUsers (calls object.now) layouts.now users) }
+{
     let by_function = helpers_by_function(alloc, object)?;
-    let mut users = BTreeMap::new(alloc);
-    for (program, layout) in layouts.iter().enumerate() {
-        add_program_helpers(alloc, &mut users, &by_function, layout, program)?;
-    }
-    Ok(users)
-}
-
-/// Notes the maps that a function of the program of a number uses.
-fn add_maps<'a>(
-    alloc: Global,
-    users: &mut Users<&'a str>,
-    uses: &'a Items<MapUse>,
-    program: usize,
-) -> Result<(), AllocError> {
-    for used in uses.iter() {
-        add_user(alloc, users, used.name.as_str(), program)?;
-    }
-    Ok(())
-}
-
-/// Notes the maps that the program of a number uses.
-fn add_program_maps<'a>(
-    alloc: Global,
-    users: &mut Users<&'a str>,
-    uses: &'a ByKey<Items<MapUse>>,
-    layout: &Layout,
-    program: usize,
-) -> Result<(), AllocError> {
-    for key in layout.functions.iter() {
-        if let Some(uses) = uses.get(*key) {
-            add_maps(alloc, users, uses, program)?;
-        }
-    }
-    Ok(())
-}
-
-/// The maps that programs use, by their names; `uses` has those of each function.
-pub fn map_users<'a>(
-    alloc: Global,
-    uses: &'a ByKey<Items<MapUse>>,
-    layouts: &[Layout],
-) -> Result<Users<&'a str>, AllocError> {
-    let mut users = BTreeMap::new(alloc);
-    for (program, layout) in layouts.iter().enumerate() {
-        add_program_maps(alloc, &mut users, uses, layout, program)?;
-    }
-    Ok(users)
+    callers(alloc, &by_function, layouts)
 }

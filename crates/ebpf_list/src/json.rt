@@ -148,10 +148,10 @@ fn write_inner<W: Write>(out: &mut W, map: &Map) -> Result<(), Stop> {
 }
 
 /// Writes a map.
-fn write_map<'a, W: Write>(
+fn write_map<W: Write>(
     out: &mut W,
-    listing: &Listing<'a>,
-    name: &'a str,
+    listing: &Listing<'_>,
+    name: &str,
     map: &Map,
 ) -> Result<(), Stop> {
     let quoted = Quoted(name);
@@ -194,7 +194,7 @@ fn write_helpers<W: Write>(out: &mut W, listing: &Listing<'_>) -> io::Result<()>
         write!(out, "{{\"number\":{helper},\"name\":")?;
         write_helper_name(out, *helper)?;
         write!(out, ",")?;
-        write_names(out, listing, programs)?;
+        write_names(out, listing, programs.as_slice())?;
         write!(out, "}}")?;
     }
     write!(out, "]")

@@ -1,13 +1,19 @@
 //! What the programs of an object are made of.
 
-use ebpf_base::{ByName, Items, Text};
-use ebpf_model::{EbpfRelocationError, ExternDesc, RelocationError};
+ghost use Rattle.std.specs.Prelude.{◌≡◌, false, IfOk, MatchBool, MatchOption};
+ghost use Rattle.std.specs.List.{AllZip};
+ghost use Rattle.ebpf_list.specs.Layouts.{AreLayouts, IsLayout, IsOfCopies, IsOfOne};
+ghost use Rattle.ebpf_model.specs.Memory.{is_memory_at};
+ghost use Rattle.ebpf_object.specs.Headline.{linkable};
+ghost use Rattle.ebpf_reloc.specs.SlotTargets.{read};
+
+use crate::written_externs::is_memory;
+use ebpf_base::Items;
+use ebpf_model::EbpfRelocationError;
 use ebpf_object::Object;
-use ebpf_object::relocation::{LinkMap, ProgramMaps};
+use ebpf_object::relocation::{CodeCopy, LinkMap, ProgramMaps};
 use ebpf_report::programs::ObjectProgram;
-use ebpf_report::unknown_externs::{add_settings, add_unknown};
 use std::alloc::{AllocError, Global};
-use std::collections::BTreeSet;
 
 /// What a program is made of.
 #[derive(Drop)]
@@ -18,40 +24,10 @@ pub struct Layout {
     pub functions: Vec<(usize, u64)>,
 }
 
-/// Whether memory was refused.
-fn is_memory(error: &EbpfRelocationError) -> bool {
-    matches!(error.error, RelocationError::OutOfMemory)
-}
-
-/// The externs of an object as if a kernel had them all.
-fn all_known(
-    alloc: Global,
-    object: &Object,
-    settings: &[Text],
-) -> Result<ByName<ExternDesc>, AllocError> {
-    let mut known = ByName::new(alloc);
-    add_unknown(&object.externs, &mut known)?;
-    add_settings(settings, &mut known)?;
-    Ok(known)
-}
-
-/// Writes externs as if a kernel had them all, so that what calls them counts as no reference to a function; whether they
-/// could be written.
-pub fn write_externs(
-    alloc: Global,
-    object: &mut Object,
-    settings: &[Text],
-) -> Result<bool, AllocError> {
-    object.externs = all_known(alloc, object, settings)?;
-    match object.relocate_externs() {
-        Ok(()) => Ok(true),
-        Err(error) if is_memory(&error) => Err(AllocError),
-        Err(_) => Ok(false),
-    }
-}
-
 /// A program of one function, which can't be linked.
-fn unlinked(alloc: Global, program: &ObjectProgram) -> Result<Layout, AllocError> {
+fn unlinked(alloc: Global, program: &ObjectProgram) -> Result<Layout, AllocError>
+    ensures { IfOk result (λ l. IsOfOne program.now l) }
+{
     let mut functions = Vec::new(alloc);
     functions.push(program.key)?;
     Ok(Layout {
@@ -60,11 +36,13 @@ fn unlinked(alloc: Global, program: &ObjectProgram) -> Result<Layout, AllocError
     })
 }
 
-/// What a linked program is made of.
-fn linked(alloc: Global, map: &LinkMap) -> Result<Layout, AllocError> {
-    let mut functions = Vec::with_capacity(alloc, map.copies.len())?;
+/// What a linked program is made of, by its copies of functions.
+fn linked(alloc: Global, copies: &[CodeCopy]) -> Result<Layout, AllocError>
+    ensures { IfOk result (λ l. IsOfCopies copies.now l) }
+{
+    let mut functions = Vec::with_capacity(alloc, copies.len())?;
     let mut slots: usize = 0;
-    for copy in map.copies.iter() {
+    for copy in copies {
         functions.push(copy.key)?;
         slots = slots.saturating_add(copy.slots);
     }
@@ -74,17 +52,46 @@ fn linked(alloc: Global, map: &LinkMap) -> Result<Layout, AllocError> {
     })
 }
 
+/// What a program is made of, by its link map.
+fn layout_of_map(
+    alloc: Global,
+    map: Option<LinkMap>,
+    program: &ObjectProgram,
+) -> Result<Layout, AllocError>
+    ensures { IfOk result (λ l. MatchOption map (IsOfOne program.now l) (λ m. IsOfCopies m.copies l)) }
+{
+    match map {
+        Some(map) => Ok(linked(alloc, map.copies.as_slice())?),
+        None => Ok(unlinked(alloc, program)?),
+    }
+}
+
+/// What a program is made of that linking refuses.
+fn refused_layout(
+    alloc: Global,
+    error: &EbpfRelocationError,
+    program: &ObjectProgram,
+) -> Result<Layout, AllocError>
+    ensures { IfOk result (λ l. (is_memory_at error.now ≡ false) × IsOfOne program.now l) }
+{
+    if is_memory(error) {
+        return Err(AllocError);
+    }
+    Ok(unlinked(alloc, program)?)
+}
+
 /// What a program is made of.
 fn layout_of(
     alloc: Global,
     maps: &ProgramMaps<'_>,
     program: &ObjectProgram,
-) -> Result<Layout, AllocError> {
+) -> Result<Layout, AllocError>
+    requires { read maps.now.functions.parts ≡ linkable maps.now.object.now }
+    ensures { IfOk result (λ l. IsLayout maps.now.object.now program.now l) }
+{
     match maps.of(program.name.as_str()) {
-        Ok(Some(map)) => linked(alloc, &map),
-        Ok(None) => unlinked(alloc, program),
-        Err(error) if is_memory(&error) => Err(AllocError),
-        Err(_) => unlinked(alloc, program),
+        Ok(map) => layout_of_map(alloc, map, program),
+        Err(error) => refused_layout(alloc, &error, program),
     }
 }
 
@@ -92,10 +99,28 @@ fn layout_of(
 pub fn unlinked_layouts(
     alloc: Global,
     programs: &[ObjectProgram],
-) -> Result<Items<Layout>, AllocError> {
+) -> Result<Items<Layout>, AllocError>
+    ensures { IfOk result (λ all. AllZip IsOfOne programs.now all) }
+{
     let mut all = Items::new(alloc);
     for program in programs {
         all.push(unlinked(alloc, program)?)?;
+    }
+    Ok(all)
+}
+
+/// What each of some programs is made of.
+fn layouts_in(
+    alloc: Global,
+    maps: &ProgramMaps<'_>,
+    programs: &[ObjectProgram],
+) -> Result<Items<Layout>, AllocError>
+    requires { read maps.now.functions.parts ≡ linkable maps.now.object.now }
+    ensures { IfOk result (λ all. AreLayouts maps.now.object.now programs.now all) }
+{
+    let mut all = Items::new(alloc);
+    for program in programs {
+        all.push(layout_of(alloc, maps, program)?)?;
     }
     Ok(all)
 }
@@ -105,54 +130,28 @@ pub fn layouts(
     alloc: Global,
     object: &Object,
     programs: &[ObjectProgram],
-) -> Result<Items<Layout>, AllocError> {
+) -> Result<Items<Layout>, AllocError>
+    ensures { IfOk result (λ all. AreLayouts object.now programs.now all) }
+{
     let sections = object.text_sections(alloc)?;
     let Ok(maps) = object.program_maps(&sections) else {
         return Err(AllocError);
     };
-    let mut all = Items::new(alloc);
-    for program in programs {
-        all.push(layout_of(alloc, &maps, program)?)?;
-    }
-    Ok(all)
+    layouts_in(alloc, &maps, programs)
 }
 
-/// Adds the functions of a program.
-fn add_reached(
-    reached: &mut BTreeSet<(usize, u64)>,
-    functions: &[(usize, u64)],
-) -> Result<(), AllocError> {
-    for function in functions {
-        reached.insert(*function)?;
-    }
-    Ok(())
-}
-
-/// The keys of the functions that some program reaches.
-fn reached_by_some(
-    alloc: Global,
-    layouts: &[Layout],
-) -> Result<BTreeSet<(usize, u64)>, AllocError> {
-    let mut reached = BTreeSet::new(alloc);
-    for layout in layouts {
-        add_reached(&mut reached, &layout.functions)?;
-    }
-    Ok(reached)
-}
-
-/// The keys of the functions that no program reaches.
-pub fn unreached(
+/// What each program is made of, where the object's externs were written; else none can be linked.
+pub fn layouts_if(
     alloc: Global,
     object: &Object,
-    layouts: &[Layout],
-) -> Result<Vec<(usize, u64)>, AllocError> {
-    let reached = reached_by_some(alloc, layouts)?;
-    let mut keys = Vec::new(alloc);
-    for (key, _) in object.functions.iter() {
-        if reached.contains(key) {
-            continue;
-        }
-        keys.push(*key)?;
+    programs: &[ObjectProgram],
+    is_written: bool,
+) -> Result<Items<Layout>, AllocError>
+    ensures { IfOk result (λ all. MatchBool is_written (AreLayouts object.now programs.now all) (AllZip IsOfOne programs.now all)) }
+{
+    if is_written {
+        layouts(alloc, object, programs)
+    } else {
+        unlinked_layouts(alloc, programs)
     }
-    Ok(keys)
 }

@@ -1,15 +1,20 @@
 //! `ebpf list`: what an object has.
 #![tactic(auto)]
 
+mod by_number;
 mod helpers;
 mod json;
 mod layout;
 mod license;
 mod listing;
+mod maps;
+mod numbers;
+mod reaching;
 mod records;
 mod run;
 mod text;
 mod words;
+mod written_externs;
 
 pub use run::list;
 pub use words::ListWords;

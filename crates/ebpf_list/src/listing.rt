@@ -1,10 +1,20 @@
 //! What an object has.
 
-use crate::helpers::{Users, helper_users, map_users};
-use crate::layout::{Layout, layouts, unlinked_layouts, unreached, write_externs};
+ghost use Rattle.std.specs.Prelude.{◌≡◌, IfOk};
+ghost use Rattle.std.specs.Option.{option_copied};
+ghost use Rattle.ebpf_list.specs.ExternRows.{extern_row, extern_rows, is_func, is_function};
+ghost use Rattle.ebpf_list.specs.Listings.{AreObjectLayouts, IsListed, IsListing, IsWanted};
+ghost use Rattle.ebpf_object.specs.declared.object.Object.{Object};
+
+use crate::by_number::ByNumber;
+use crate::helpers::helper_users;
+use crate::layout::{Layout, layouts_if};
+use crate::maps::map_users;
+use crate::reaching::unreached;
 use crate::records::{Asked, counted_records};
-use ebpf_base::{ByKey, Items, Text};
-use ebpf_btf::{Btf, BtfError, BtfKind};
+use crate::written_externs::write_externs;
+use ebpf_base::{ByKey, ByName, Items, Text};
+use ebpf_btf::{Btf, BtfError, BtfType};
 use ebpf_elf::ElfFile;
 use ebpf_model::ExternDesc;
 use ebpf_object::Object;
@@ -52,24 +62,34 @@ pub struct Listing<'a> {
     /// What each program is made of, in the order of the programs.
     pub layouts: &'a Items<Layout>,
     /// The programs that use a map, by the map's name.
-    pub map_users: Users<&'a str>,
+    pub map_users: ByName<Items<usize>>,
     /// The programs that call a helper function, by its number.
-    pub helper_users: Users<u32>,
+    pub helper_users: ByNumber<Items<usize>>,
     /// How many CO-RE records ask what of which type.
     pub records: BTreeMap<Asked, usize>,
     /// The functions that no program reaches.
     pub unreached: Vec<(usize, u64)>,
 }
 
-/// Whether a type is a function.
-fn is_function(types: Option<&Btf>, id: u32) -> bool {
-    let Some(types) = types else {
-        return false;
-    };
-    let Ok(ty) = types.type_by_id(id) else {
-        return false;
-    };
-    ty.kind() == BtfKind::Func
+/// Whether the type of an id is a function.
+#[tactic(auto, unfolding(crate::specs::ExternRows::is_func))]
+fn is_func(types: &Btf, id: u32) -> bool
+    ensures { result ≡ is_func types.now id }
+{
+    match types.type_by_id(id) {
+        Ok(BtfType::Func { .. }) => true,
+        _ => false,
+    }
+}
+
+/// Whether the type of an id is a function; without types none is.
+fn is_function(types: Option<&Btf>, id: u32) -> bool
+    ensures { result ≡ is_function (option_copied types.entry) id }
+{
+    match types {
+        Some(types) => is_func(types, id),
+        None => false,
+    }
 }
 
 /// An extern of a name.
@@ -78,7 +98,9 @@ fn extern_of(
     types: Option<&Btf>,
     name: &str,
     known: &ExternDesc,
-) -> Result<Extern, AllocError> {
+) -> Result<Extern, AllocError>
+    ensures { IfOk result (λ row. row ≡ extern_row (option_copied types.entry) name.now known.now) }
+{
     Ok(Extern {
         name: Text::from_str(alloc, name)?,
         is_function: is_function(types, known.btf_id),
@@ -88,7 +110,9 @@ fn extern_of(
 }
 
 /// The externs of an object.
-fn externs(alloc: Global, object: &Object) -> Result<Items<Extern>, AllocError> {
+fn externs(alloc: Global, object: &Object) -> Result<Items<Extern>, AllocError>
+    ensures { IfOk result (λ rows. rows ≡ extern_rows object.now) }
+{
     let mut all = Items::new(alloc);
     for (name, known) in object.externs.iter() {
         all.push(extern_of(alloc, object.btf.as_ref(), name.as_str(), known)?)?;
@@ -116,7 +140,9 @@ fn file_types(alloc: Global, file: &[u8], object: &Object) -> Result<Option<usiz
 }
 
 /// What stands in an object.
-pub fn wanted_by(alloc: Global, file: &[u8], object: &Object) -> Result<Wanted, AllocError> {
+pub fn wanted_by(alloc: Global, file: &[u8], object: &Object) -> Result<Wanted, AllocError>
+    ensures { IfOk result (λ wanted. IsWanted object.now wanted) }
+{
     let programs = object_programs(alloc, file, object)?;
     let externs = externs(alloc, object)?;
     let settings = object_settings(alloc, object)?;
@@ -136,12 +162,11 @@ pub fn layouts_of(
     alloc: Global,
     object: &mut Object,
     wanted: &Wanted,
-) -> Result<Items<Layout>, AllocError> {
-    if write_externs(alloc, object, wanted.settings.as_slice())? {
-        layouts(alloc, object, &wanted.programs)
-    } else {
-        unlinked_layouts(alloc, &wanted.programs)
-    }
+) -> Result<Items<Layout>, AllocError>
+    ensures { IfOk result (λ layouts. AreObjectLayouts object.old wanted.now object.new layouts) }
+{
+    let is_written = write_externs(alloc, object, wanted.settings.as_slice())?;
+    layouts_if(alloc, object, wanted.programs.as_slice(), is_written)
 }
 
 /// What an object has, whose externs are written.
@@ -150,7 +175,10 @@ pub fn listing_of<'a>(
     object: &'a Object,
     wanted: &'a Wanted,
     layouts: &'a Items<Layout>,
-) -> Result<Listing<'a>, AllocError> {
+) -> Result<Listing<'a>, AllocError>
+    ensures tables { IfOk result (λ listing. IsListing object.now wanted.now layouts.now listing) }
+    ensures listed { (parsed : Object) → IsWanted parsed wanted.now → AreObjectLayouts parsed wanted.now object.now layouts.now → IfOk result (λ listing. IsListed parsed listing) }
+{
     let made = layouts.as_slice();
     let map_users = map_users(alloc, &wanted.map_uses, made)?;
     let helper_users = helper_users(alloc, object, made)?;
@@ -195,8 +223,8 @@ impl<'a> Listing<'a> {
     }
 
     /// The numbers of the programs that use the map of a name.
-    pub fn users_of_map(&self, name: &'a str) -> &[usize] {
-        match self.map_users.get(&name) {
+    pub fn users_of_map(&self, name: &str) -> &[usize] {
+        match self.map_users.get(name) {
             Some(numbers) => numbers.as_slice(),
             None => &[],
         }

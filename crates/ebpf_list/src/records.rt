@@ -1,5 +1,11 @@
 //! The CO-RE records of an object, counted.
 
+ghost use Rattle.std.specs.Prelude.{◌≡◌, ℕ, IfOk, OnOk};
+ghost use Rattle.ebpf_list.specs.PrivateContracts.{CountsMore, with_one};
+ghost use Rattle.ebpf_list.specs.RecordCounts.{AreCounts, asked_by, asks, count_at, object_records, section_records};
+ghost use Rattle.ebpf_report.specs.declared.kinds.Kind.{Kind};
+
+use ebpf_base::Items;
 use ebpf_btf::Btf;
 use ebpf_ext::Relocation;
 use ebpf_object::Object;
@@ -20,26 +26,55 @@ pub struct Asked {
 /// How many records ask something of a type, by the type's id.
 type ByType = BTreeMap<(u32, Kind), usize>;
 
+/// What a record asks, of which type.
+fn asked_by(record: &Relocation) -> (u32, Kind)
+    ensures { result ≡ asked_by record.now }
+{
+    (record.type_id, Kind::of(record.kind))
+}
+
+/// Counts a record.
+fn count_record(counts: &mut ByType, record: &Relocation) -> Result<(), AllocError>
+    ensures { OnOk result ((asked : ℕ × Kind) → count_at counts.new asked ≡ with_one (count_at counts.old asked) (asks asked record.now)) }
+{
+    let asked = asked_by(record);
+    let before = counts.get(&asked).copied().unwrap_or(0);
+    counts.insert(asked, before.saturating_add(1))?;
+    Ok(())
+}
+
 /// Counts the records of a section.
-fn count_section(counts: &mut ByType, records: &[Relocation]) -> Result<(), AllocError> {
+fn count_section(counts: &mut ByType, records: &[Relocation]) -> Result<(), AllocError>
+    ensures { OnOk result (CountsMore counts.old records.now counts.new) }
+{
     for record in records {
-        let asked = (record.type_id, Kind::of(record.kind));
-        let before = counts.get(&asked).copied().unwrap_or(0);
-        counts.insert(asked, before.saturating_add(1))?;
+        count_record(counts, record)?;
     }
     Ok(())
 }
 
-/// Counts the records of an object.
-fn counts(alloc: Global, object: &Object) -> Result<ByType, AllocError> {
+/// Counts the records of some sections.
+fn count_sections(
+    alloc: Global,
+    sections: &[(u32, Items<Relocation>)],
+) -> Result<ByType, AllocError>
+    ensures { IfOk result (λ counts. AreCounts (section_records sections.now) counts) }
+{
     let mut counts = BTreeMap::new(alloc);
-    let Some(ext) = &object.btf_ext else {
-        return Ok(counts);
-    };
-    for section in ext.relocations() {
+    for section in sections {
         count_section(&mut counts, section.1.as_slice())?;
     }
     Ok(counts)
+}
+
+/// Counts the records of an object.
+fn counts(alloc: Global, object: &Object) -> Result<ByType, AllocError>
+    ensures { IfOk result (λ counts. AreCounts (object_records object.now) counts) }
+{
+    match &object.btf_ext {
+        Some(ext) => count_sections(alloc, ext.relocations()),
+        None => Ok(BTreeMap::new(alloc)),
+    }
 }
 
 /// Adds to the count of what is asked of a type of a name.

@@ -208,11 +208,11 @@ fn push_manner(table: &mut Table<'_>, columns: MapColumns, map: &Map) -> Result<
 }
 
 /// The row of a map.
-fn push_map<'a>(
+fn push_map(
     table: &mut Table<'_>,
-    listing: &Listing<'a>,
+    listing: &Listing<'_>,
     columns: MapColumns,
-    name: &'a str,
+    name: &str,
     map: &Map,
 ) -> Result<(), AllocError> {
     let users = listing.users_of_map(name).len();
@@ -285,7 +285,7 @@ fn write_helpers<W: Write>(alloc: Global, out: &mut W, listing: &Listing<'_>) ->
     for (helper, programs) in listing.helper_users.iter() {
         table.push_number(*helper as usize)?;
         table.push_helper(*helper)?;
-        push_names(alloc, &mut table, listing, programs)?;
+        push_names(alloc, &mut table, listing, programs.as_slice())?;
     }
     Ok(write_table(out, "HELPERS", listing.helper_users.len(), &table)?)
 }

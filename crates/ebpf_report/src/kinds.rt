@@ -1,5 +1,8 @@
 //! What a finding is about, in a word.
 
+ghost use Rattle.std.specs.Prelude.{◌≡◌};
+ghost use Rattle.ebpf_report.specs.RecordKinds.{kind_of};
+
 use ebpf_ext::RelocationKind;
 
 /// What a finding is about: what a record asks, or something else that a kernel has to have.
@@ -43,7 +46,10 @@ pub enum Kind {
 
 impl Kind {
     /// What a record of a kind is about.
-    pub fn of(kind: RelocationKind) -> Kind {
+    #[tactic(auto, unfolding(crate::specs::RecordKinds::kind_of))]
+    pub fn of(kind: RelocationKind) -> Kind
+        ensures { result ≡ kind_of kind }
+    {
         match kind {
             RelocationKind::FieldByteOffset => Kind::ByteOffset,
             RelocationKind::FieldByteSize => Kind::ByteSize,

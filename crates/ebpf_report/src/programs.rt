@@ -1,5 +1,8 @@
 //! The programs of an object, with what its file names.
 
+ghost use Rattle.std.specs.Prelude.{◌≡◌, map, IfOk};
+ghost use Rattle.ebpf_report.specs.ObjectPrograms.{program_row, program_rows};
+
 use ebpf_base::Text;
 use ebpf_elf::ElfFile;
 use ebpf_model::Program;
@@ -42,22 +45,28 @@ fn section_names<'a>(
     Ok(names)
 }
 
+/// The name of the section of an index; empty where none can be read.
+fn section_name<'a>(names: &BTreeMap<usize, &'a str>, index: usize) -> &'a str {
+    match names.get(&index) {
+        Some(name) => name,
+        None => "",
+    }
+}
+
 /// A program with its section's name.
 fn with_section(
     alloc: Global,
     names: &BTreeMap<usize, &str>,
     name: &str,
     program: &Program,
-) -> Result<ObjectProgram, AllocError> {
-    let section = match names.get(&program.section_index) {
-        Some(section) => section,
-        None => "",
-    };
-    Ok(ObjectProgram {
-        name: Text::from_str(alloc, name)?,
-        section: Text::from_str(alloc, section)?,
-        key: program.function_key(),
-    })
+) -> Result<ObjectProgram, AllocError>
+    ensures { IfOk result (λ p. program_row p ≡ (name.now, (program.now.section_index, program.now.address))) }
+{
+    let section = section_name(names, program.section_index);
+    let section = Text::from_str(alloc, section)?;
+    let name = Text::from_str(alloc, name)?;
+    let key = program.function_key();
+    Ok(ObjectProgram { name, section, key })
 }
 
 /// All programs of an object with the names of their sections, in byte order of their names.
@@ -65,7 +74,9 @@ pub fn object_programs(
     alloc: Global,
     file: &[u8],
     object: &Object,
-) -> Result<Vec<ObjectProgram>, AllocError> {
+) -> Result<Vec<ObjectProgram>, AllocError>
+    ensures { IfOk result (λ programs. map program_row programs.items ≡ program_rows object.now.programs) }
+{
     let names = section_names(alloc, file)?;
     let mut programs = Vec::with_capacity(alloc, object.programs.len())?;
     for (name, program) in object.programs.iter() {

@@ -1,11 +1,20 @@
 //! Externs of which nothing is known, as they are written where a kernel is still to come.
 
+ghost use Rattle.std.specs.Prelude.{◌≡◌, OnOk};
+ghost use Rattle.std.specs.FinMap as finite;
+ghost use Rattle.ebpf_base.specs.Keyed.{put_all};
+ghost use Rattle.ebpf_base.specs.Mapped.{mapped_entries};
+ghost use Rattle.ebpf_report.specs.FirstEntries.{put_firsts};
+ghost use Rattle.ebpf_report.specs.KnownExterns.{settings_named, unknown};
+
 use ebpf_base::{ByName, Text};
 use ebpf_model::ExternDesc;
 use std::alloc::AllocError;
 
 /// An extern whose value isn't known.
-pub fn unknown(known: ExternDesc) -> ExternDesc {
+pub fn unknown(known: ExternDesc) -> ExternDesc
+    ensures { result ≡ unknown known }
+{
     ExternDesc {
         kernel_btf_id: Some(1),
         is_resolved: true,
@@ -17,7 +26,9 @@ pub fn unknown(known: ExternDesc) -> ExternDesc {
 pub fn add_unknown(
     all: &ByName<ExternDesc>,
     written: &mut ByName<ExternDesc>,
-) -> Result<(), AllocError> {
+) -> Result<(), AllocError>
+    ensures { OnOk result (written.new ≡ put_firsts written.old (mapped_entries unknown (finite.entries all.now))) }
+{
     for (name, known) in all.iter() {
         if written.contains_key(name.as_str()) {
             continue;
@@ -38,7 +49,9 @@ const SETTING: ExternDesc = ExternDesc {
 };
 
 /// Notes the externs that the kernel's configuration gives.
-pub fn add_settings(names: &[Text], written: &mut ByName<ExternDesc>) -> Result<(), AllocError> {
+pub fn add_settings(names: &[Text], written: &mut ByName<ExternDesc>) -> Result<(), AllocError>
+    ensures { OnOk result (written.new ≡ put_all written.old (settings_named names.now)) }
+{
     for name in names {
         let name = name.clone()?;
         written.insert(name.into_string(), SETTING)?;

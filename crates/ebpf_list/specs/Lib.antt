@@ -1,0 +1,8 @@
+pub mod ExternRows
+pub mod Reached
+pub mod Users
+pub mod Layouts
+pub mod WrittenExterns
+pub mod RecordCounts
+pub mod Listings
+pub mod PrivateContracts

@@ -1,0 +1,4 @@
+pub mod FirstEntries
+pub mod LentNames
+pub mod Ranges
+pub mod SortedKeys

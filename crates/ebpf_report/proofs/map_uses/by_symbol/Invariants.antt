@@ -1,0 +1,13 @@
+use Rattle.std.proofs.Common.{◌≡◌}
+use Rattle.std.specs.List.{flat_map}
+use Rattle.ebpf_base.specs.Keyed.{put_all}
+use Rattle.ebpf_base.specs.Keys.{by_bytes}
+use Rattle.ebpf_parts.specs.Maps.{symbol_index_of}
+use Rattle.ebpf_report.specs.FunctionMaps.{at_symbol, names_by_symbol}
+use Rattle.ebpf_report.specs.PrivateContracts.{lent_names}
+use Rattle.ebpf_report.proofs.map_uses.by_symbol.Given as goal
+
+-- with the names of the maps that are left, all are there
+abbrev pub invariant-loop-name : goal.invariant-loop-name
+invariant-loop-name l =
+    put_all (lent_names l.names) (flat_map (λ e. at_symbol (symbol_index_of e.1) e.0) (by_bytes l.name-iterator)) ≡ names_by_symbol l.object.maps

@@ -1,0 +1,12 @@
+use Rattle.std.proofs.Common.{◌≡◌}
+use Rattle.std.specs.FinMap.{entries}
+use Rattle.ebpf_base.specs.Keys.{by_bytes}
+use Rattle.ebpf_base.specs.Mapped.{mapped_entries}
+use Rattle.ebpf_report.specs.FirstEntries.{put_firsts}
+use Rattle.ebpf_report.specs.KnownExterns.{unknown}
+use Rattle.ebpf_report.proofs.unknown_externs.add_unknown.Given as goal
+
+-- with the externs that are left, all are there
+abbrev pub invariant-loop-name : goal.invariant-loop-name
+invariant-loop-name l =
+    put_firsts l.written (mapped_entries unknown (by_bytes l.name-iterator)) ≡ put_firsts l.fn.written (mapped_entries unknown (entries l.all))
