@@ -7,7 +7,8 @@ SLOT = rb"[0-9a-f]{2}(?: [0-9a-f]{2}){7}\n"
 HEAD = re.compile(rb"program (.*?) slots (\d+)\n", re.DOTALL)
 SLOTS = re.compile(rb"(?:%s)*" % SLOT)
 COPY = rb"copy \d+ \d+ \d+ 0x[0-9a-f]+ .*?\n"
-REPORT = re.compile(rb"%s(?:%s)*(?:ref \d+ \d+ (?:call|load)\n)*" % (COPY.replace(rb"\d+", b"0", 1), COPY), re.DOTALL)
+# A name may hold a line's end, so a report ends where the next one or the output does.
+REPORT = re.compile(rb"%s(?:%s)*(?:ref \d+ \d+ (?:call|load)\n)*(?=program |\Z)" % (COPY.replace(rb"\d+", b"0", 1), COPY), re.DOTALL)
 
 # A line of slots: eight numbers of two digits.
 SLOT_LENGTH = 24
