@@ -1,5 +1,5 @@
 #!/usr/bin/env python3
-"""Measures ebpf-link on accepted files that are made to take long: time and memory have to grow as the file does.
+"""Measures ebpf-link on accepted files that are made to take long: seconds of a processor and memory have to grow as the file does.
 
 usage: hostile_costs.py PROGRAM [--base BYTES] [--seconds N] [WORD..]     WORD: only shapes whose name has it
        hostile_costs.py EBPF --command COMMAND ..                         the same of a command of `ebpf`
@@ -9,8 +9,8 @@ Each shape of costs/shapes.py is made with about BYTES (262144), twice and four 
 kernel's types makes a second file. A row fails where the program ends otherwise than with status 0, where time grows by
 more than 6 from the first size to the last (and is more than 0.1 s there), or where memory passes 64 bytes for each byte
 of the files and 16 MiB; of shapes that are told the status alone counts. What the object itself has to own isn't among
-the shapes: long names of many symbols, functions that overlap, a license for each program, zeros of a data map. Ends
-with 'N passed, M failed'.
+the shapes, but for long names of sections, which are told: long names of many symbols, functions that overlap, a license
+for each program, zeros of a data map. Ends with 'N passed, M failed'.
 """
 import argparse
 import os

@@ -24,10 +24,11 @@
  * Counts: where the answer is 0 or 1 (EBPF_ROOM), a call's counts (*len, *count, *counts) say how much there is, and
  * so how much room is needed. With any other number they are as they were.
  *
- * about: a call that can refuse by a name has `char *about, size_t about_room, size_t *about_len`. Where it answers
- * another number than 0, the name of the function, the program, the map, the section, the symbol or the variable that
- * the refusal is about stands at the front of about, cut to about_room, and *about_len says how many of its bytes stand
- * there: 0 where it is about none. With the number 0 both are as they were.
+ * about: a call that can refuse by a name has `char *about, size_t about_room, struct ebpf_refusal *refusal`. Where it
+ * answers another number than 0, the name of the function, the program, the map, the section, the symbol or the variable
+ * that the refusal is about stands at the front of about, cut to about_room, and *refusal has the number, how many bytes
+ * of the name stand there (0 where it is about none), and the numbers that the error states: the slot, the symbol, the
+ * section, the addresses, .. (struct ebpf_refusal). With the number 0 both are as they were.
  *
  * Texts are UTF-8 with a length. Names are compared byte by byte. Lists are in byte order of their names, where a call
  * says no other. Each call that writes into a buffer writes to its front and leaves the rest.
@@ -42,8 +43,8 @@
 extern "C" {
 #endif
 
-/* The version of this interface, 0.2.0, as major * 1000000 + minor * 1000 + patch; ebpf_version_number gives the library's. */
-#define EBPF_VERSION_NUMBER 2000
+/* The version of this interface, 0.3.0, as major * 1000000 + minor * 1000 + patch; ebpf_version_number gives the library's. */
+#define EBPF_VERSION_NUMBER 3000
 
 uint32_t ebpf_version_number(void);
 
@@ -83,6 +84,7 @@ enum ebpf_number {
 	EBPF_PARSE_NO_SYMBOLS = 154,	  /* about the section */
 	EBPF_PARSE_NO_TYPES = 155,
 	EBPF_PARSE_BIG_ENDIAN_CODE = 156, /* the broad reading alone */
+	EBPF_PARSE_TOO_LARGE = 157, /* ebpf_open_within alone */
 
 	/* 200 to 299: types. About the section, from 220 on */
 	EBPF_TYPES_READ = 200,	/* + ebpf_type_fault: the kernel's types can't be read */
@@ -203,6 +205,48 @@ enum ebpf_slot_fault {
 	EBPF_SLOT_MAP_ADDRESS = 11,
 };
 
+/* ---- what is told of a refusal beside the name that it is about */
+
+/* the numbers that an error states, added up in ebpf_refusal.has */
+enum ebpf_detail {
+	EBPF_HAS_SLOT = 1,
+	EBPF_HAS_OFFSET = 2,
+	EBPF_HAS_SYMBOL = 4,
+	EBPF_HAS_ADDRESS = 8,
+	EBPF_HAS_OTHER_ADDRESS = 16,
+	EBPF_HAS_SECTION = 32,
+	EBPF_HAS_SIZE = 64,
+	EBPF_HAS_OTHER_SIZE = 128,
+	EBPF_HAS_TYPE = 256,
+	EBPF_HAS_RELOCATION = 512,
+	EBPF_HAS_INDEX = 1024,
+	EBPF_HAS_COUNT = 2048,
+	EBPF_HAS_KIND = 4096,
+};
+
+/*
+ * A refusal. Where a call answers another number than 0 it writes every field: those that `has` does not name are 0.
+ * docs/C.md says which numbers have which.
+ */
+struct ebpf_refusal {
+	uint32_t number;	/* what the call answers */
+	uint32_t has;		/* which of the numbers below the error states: enum ebpf_detail, added up */
+	uint64_t slot;		/* the index of an instruction slot in its function */
+	uint64_t offset;	/* an offset in bytes: of a relocation in its section, or of a string in .BTF's strings */
+	uint64_t symbol;	/* the index of a symbol in the file's table */
+	uint64_t address;	/* an address in a section, or in the kernel */
+	uint64_t other_address; /* the second one, where two differ */
+	uint64_t section;	/* the index of a section in the file */
+	uint64_t size;		/* a size in bytes: of what is there or wanted */
+	uint64_t other_size;	/* the second one, where two differ: of the value that is given */
+	uint64_t type_id;	/* the id of a type */
+	uint64_t relocation;	/* the index of a relocation, or of a CO-RE record, among those of its section */
+	uint64_t index;		/* the number of a member, an element or a variant that is asked for */
+	uint64_t count;		/* how many of them there are, or how many slots */
+	uint64_t kind;		/* the number of a kind of map (enum bpf_map_type) or of CO-RE record */
+	size_t name_len;	/* how many bytes of the name stand in `about` */
+};
+
 /*
  * The name of a number, as "parse: BadMagic": the stage and the fault. Each number of the tables above has one, the sum
  * of a stage's first number and any fault of its table too, whether a call answers it or not; of every other number it is
@@ -223,7 +267,7 @@ struct ebpf_handle {
  * Numbers: 2, 100 to 199.
  */
 uint32_t ebpf_open(const uint8_t *file, size_t file_len, struct ebpf_handle *handle, char *about, size_t about_room,
-		   size_t *about_len);
+		   struct ebpf_refusal *refusal);
 
 /*
  * The same, where the file is read broadly: each section of code is a program's, whatever its name (those of names that the
@@ -233,7 +277,16 @@ uint32_t ebpf_open(const uint8_t *file, size_t file_len, struct ebpf_handle *han
  * Numbers: 2, 100 to 199.
  */
 uint32_t ebpf_open_broad(const uint8_t *file, size_t file_len, struct ebpf_handle *handle, char *about,
-			 size_t about_room, size_t *about_len);
+			 size_t about_room, struct ebpf_refusal *refusal);
+
+/*
+ * The same, read broadly where `broad` is not 0, where what is made of the file owns at most `most_bytes` bytes; that is
+ * counted before it is made, and passed it is 157. For files from strangers: a file of some kilobytes may else make an
+ * object of gigabytes. docs/C.md says what counts.
+ * Numbers: 2, 100 to 199.
+ */
+uint32_t ebpf_open_within(const uint8_t *file, size_t file_len, uint32_t broad, uint64_t most_bytes,
+			  struct ebpf_handle *handle, char *about, size_t about_room, struct ebpf_refusal *refusal);
 
 /* Makes `copy` hold a copy of what `handle` holds; what `copy` held before is closed. Numbers: 2, 3. */
 uint32_t ebpf_clone(struct ebpf_handle *handle, struct ebpf_handle *copy);
@@ -339,6 +392,12 @@ struct ebpf_program {
 uint32_t ebpf_programs(struct ebpf_handle *handle, struct ebpf_program *rows, size_t rows_room, char *text,
 		       size_t text_room, struct ebpf_counts *counts);
 
+/*
+ * The program of a name: its row as ebpf_programs lists it, but that the text which it points into is `name` itself
+ * (name_at is 0). No list is made. Numbers: 3, 4.
+ */
+uint32_t ebpf_find_program(struct ebpf_handle *handle, const char *name, size_t name_len, struct ebpf_program *row);
+
 /* what the section that declares a map is for */
 enum ebpf_section_kind {
 	EBPF_SECTION_NONE = 0,
@@ -381,6 +440,12 @@ struct ebpf_map {
  */
 uint32_t ebpf_maps(struct ebpf_handle *handle, struct ebpf_map *rows, size_t rows_room, char *text, size_t text_room,
 		   struct ebpf_counts *counts);
+
+/*
+ * The map of a name: its row as ebpf_maps lists it, but that the text which it points into is `name` itself (name_at is 0).
+ * No list is made. Numbers: 3, 5.
+ */
+uint32_t ebpf_find_map(struct ebpf_handle *handle, const char *name, size_t name_len, struct ebpf_map *row);
 
 /* The initial data of a map. *len is its length. Numbers: 1, 3, 5. */
 uint32_t ebpf_map_data(struct ebpf_handle *handle, const char *name, size_t name_len, uint8_t *data, size_t room,
@@ -429,7 +494,7 @@ uint32_t ebpf_sections(struct ebpf_handle *handle, struct ebpf_section *rows, si
  * the file has no .BTF. Numbers: 1, 2, 700 to 799.
  */
 uint32_t ebpf_kernel_types(const uint8_t *file, size_t file_len, uint8_t *types, size_t room, size_t *len, char *about,
-			   size_t about_room, size_t *about_len);
+			   size_t about_room, struct ebpf_refusal *refusal);
 
 /* what is known of the type that a program is attached to */
 enum ebpf_target_answer {
@@ -466,7 +531,7 @@ struct ebpf_initial_slot {
  */
 uint32_t ebpf_initial_slots(const uint8_t *file, size_t file_len, struct ebpf_handle *handle,
 			    struct ebpf_initial_slot *rows, size_t rows_room, char *text, size_t text_room,
-			    struct ebpf_counts *counts, char *about, size_t about_room, size_t *about_len);
+			    struct ebpf_counts *counts, char *about, size_t about_room, struct ebpf_refusal *refusal);
 
 /* struct bpf_insn */
 struct ebpf_insn {
@@ -510,7 +575,8 @@ uint32_t ebpf_line_infos(struct ebpf_handle *handle, const char *name, size_t na
  * UTF-8 is refused before all other faults of the value. Numbers: 2, 3, 6, 150 to 152.
  */
 uint32_t ebpf_set_value(struct ebpf_handle *handle, const char *name, size_t name_len, const uint8_t *value,
-			size_t value_len, uint32_t must_exist, char *about, size_t about_room, size_t *about_len);
+			size_t value_len, uint32_t must_exist, char *about, size_t about_room,
+			struct ebpf_refusal *refusal);
 
 /* A variable's name and its value, places in the text and in the bytes that are given beside the rows. */
 struct ebpf_value {
@@ -528,7 +594,7 @@ struct ebpf_value {
  */
 uint32_t ebpf_set_values(struct ebpf_handle *handle, const struct ebpf_value *rows, size_t rows_len, const char *text,
 			 size_t text_len, const uint8_t *bytes, size_t bytes_len, char *about, size_t about_room,
-			 size_t *about_len);
+			 struct ebpf_refusal *refusal);
 
 /* what an extern of the kernel's configuration holds */
 enum ebpf_kconfig_kind {
@@ -552,7 +618,8 @@ struct ebpf_kconfig_extern {
  * object's types name them, and not by name; their names one after the other in text. Numbers: 1, 2, 3, 900 to 903.
  */
 uint32_t ebpf_kconfig(struct ebpf_handle *handle, struct ebpf_kconfig_extern *rows, size_t rows_room, char *text,
-		      size_t text_room, struct ebpf_counts *counts, char *about, size_t about_room, size_t *about_len);
+		      size_t text_room, struct ebpf_counts *counts, char *about, size_t about_room,
+		      struct ebpf_refusal *refusal);
 
 /*
  * The value of such an extern by a kernel's configuration, given as text: /proc/config.gz or /boot/config-RELEASE, unpacked.
@@ -562,8 +629,8 @@ uint32_t ebpf_kconfig(struct ebpf_handle *handle, struct ebpf_kconfig_extern *ro
  * is as it was. The first extern of the name counts. Numbers: 1, 2, 3, 8, 900 to 903, 907, 908.
  */
 uint32_t ebpf_kconfig_value(struct ebpf_handle *handle, const char *name, size_t name_len, const char *config,
-			    size_t config_len, uint8_t *value, size_t room, size_t *len, uint32_t *is_found, char *about,
-			    size_t about_room, size_t *about_len);
+			    size_t config_len, uint8_t *value, size_t room, size_t *len, uint32_t *is_found,
+			    char *about, size_t about_room, struct ebpf_refusal *refusal);
 
 /*
  * The value of such an extern that is a number: what the loader knows, as LINUX_KERNEL_VERSION (of the version a.b.c
@@ -572,7 +639,7 @@ uint32_t ebpf_kconfig_value(struct ebpf_handle *handle, const char *name, size_t
  */
 uint32_t ebpf_kconfig_number(struct ebpf_handle *handle, const char *name, size_t name_len, uint64_t number,
 			     uint8_t *value, size_t room, size_t *len, char *about, size_t about_room,
-			     size_t *about_len);
+			     struct ebpf_refusal *refusal);
 
 /*
  * Defines these externs: puts the map `.kconfig`, whose data are the values, and makes their symbols variables of it, so
@@ -584,7 +651,7 @@ uint32_t ebpf_kconfig_number(struct ebpf_handle *handle, const char *name, size_
  */
 uint32_t ebpf_define_kconfig(struct ebpf_handle *handle, const struct ebpf_value *rows, size_t rows_len,
 			     const char *text, size_t text_len, const uint8_t *bytes, size_t bytes_len, char *about,
-			     size_t about_room, size_t *about_len);
+			     size_t about_room, struct ebpf_refusal *refusal);
 
 struct ebpf_variable {
 	size_t name_at, name_len; /* its name's place in the text */
@@ -637,14 +704,58 @@ struct ebpf_descriptor {
  * Numbers: 2, 3, 200 to 299.
  */
 uint32_t ebpf_relocate_types(struct ebpf_handle *handle, const uint8_t *types, size_t types_len, char *about,
-			     size_t about_room, size_t *about_len);
+			     size_t about_room, struct ebpf_refusal *refusal);
+
+/* what a CO-RE record comes to over a kernel's types */
+enum ebpf_record_result {
+	EBPF_RECORD_VALUE = 0,	 /* its instruction gets `value`: also the 0 that says that something is not there */
+	EBPF_RECORD_ABSENT = 1,	 /* there is no value, and its instruction fails where it is reached; `absence` says why */
+	EBPF_RECORD_REFUSED = 2, /* it can't be applied, and ebpf_relocate_types refuses by the number `fault` */
+};
+
+/* what a kernel's types lack */
+enum ebpf_absence {
+	EBPF_ABSENT_NONE = 0,	     /* nothing */
+	EBPF_ABSENT_TYPE = 1,	     /* a type of the kind and the name */
+	EBPF_ABSENT_TYPE_KIND = 2,   /* types have the kind and the name, and none is compatible with the object's own */
+	EBPF_ABSENT_MEMBER = 3,	     /* a member of a name on the way to the field, or an element of a number */
+	EBPF_ABSENT_MEMBER_KIND = 4, /* there is a member of the name, and its type is not compatible with the object's own */
+	EBPF_ABSENT_ENUMERATOR = 5,  /* a variant of the name */
+	EBPF_ABSENT_VALUE = 6,	     /* the field is there, and what is asked of it can't be had */
+};
+
+struct ebpf_record_outcome {
+	size_t name_at, name_len; /* the place of its section's name in the text; of length 0 where that can't be read */
+	size_t number;		  /* its place among the records of that section in .BTF.ext, from 0 on */
+	size_t section;		  /* the index of the section of the function that has its slot; 0 where none has it */
+	uint64_t address;	  /* the function's address there, in bytes; 0 where none has it */
+	size_t slot;		  /* the number of its slot in the function; 0 where none has it */
+	uint64_t value;		  /* 0 where `result` is not EBPF_RECORD_VALUE */
+	uint32_t has_slot;	  /* 1 or 0: whether a function of its section has its slot */
+	uint32_t result;	  /* enum ebpf_record_result */
+	uint32_t absence;	  /* enum ebpf_absence */
+	uint32_t fault;		  /* of enum ebpf_number, 220 to 249; 0 where it is not refused */
+};
+
+/*
+ * Lists what each CO-RE record of the object comes to over a kernel's types: a row each, section by section as .BTF.ext has
+ * them and in order, also behind one that is refused; in text the name of each row's section. Asked before
+ * ebpf_relocate_types, or in its place: the object stays. That call refuses by the first row that is refused, or by a
+ * section of .BTF.ext before it that has no records and a name that the file lacks; else it writes the values. An object
+ * without types or records has no rows. Numbers: 1, 2, 3, 200 to 219.
+ */
+uint32_t ebpf_record_outcomes(struct ebpf_handle *handle, const uint8_t *types, size_t types_len,
+			      struct ebpf_record_outcome *rows, size_t rows_room, char *text, size_t text_room,
+			      struct ebpf_counts *counts, char *about, size_t about_room,
+			      struct ebpf_refusal *refusal);
 
 /*
  * Writes descriptors of maps into the slots that refer to them. A row whose name is no UTF-8, or not inside the text, is
  * refused before all other faults. Numbers: 2, 3, 6, 300 to 399.
  */
 uint32_t ebpf_relocate_maps(struct ebpf_handle *handle, const struct ebpf_descriptor *rows, size_t rows_len,
-			    const char *text, size_t text_len, char *about, size_t about_room, size_t *about_len);
+			    const char *text, size_t text_len, char *about, size_t about_room,
+			    struct ebpf_refusal *refusal);
 
 /*
  * Finds the externs in a kernel's types and in its symbols, which are given as the text of /proc/kallsyms. Types of
@@ -652,13 +763,49 @@ uint32_t ebpf_relocate_maps(struct ebpf_handle *handle, const struct ebpf_descri
  */
 uint32_t ebpf_resolve_externs(struct ebpf_handle *handle, const uint8_t *types, size_t types_len,
 			      const uint8_t *symbols, size_t symbols_len, char *about, size_t about_room,
-			      size_t *about_len);
+			      struct ebpf_refusal *refusal);
 
 /* Writes what is known of the externs into the slots that refer to them. Numbers: 2, 3, 500 to 599. */
-uint32_t ebpf_relocate_externs(struct ebpf_handle *handle, char *about, size_t about_room, size_t *about_len);
+uint32_t ebpf_relocate_externs(struct ebpf_handle *handle, char *about, size_t about_room,
+			       struct ebpf_refusal *refusal);
 
 /* Links each program with the functions that it reaches. Numbers: 2, 3, 600 to 699. */
-uint32_t ebpf_relocate_calls(struct ebpf_handle *handle, char *about, size_t about_room, size_t *about_len);
+uint32_t ebpf_relocate_calls(struct ebpf_handle *handle, char *about, size_t about_room, struct ebpf_refusal *refusal);
+
+/* A copy of a function in a linked program. Slots are counted, each 8 bytes. */
+struct ebpf_code_copy {
+	size_t name_at, name_len; /* the place of the function's name in the text */
+	size_t base;		  /* the slot of the linked program at which the copy begins */
+	size_t slots;		  /* how many slots it has */
+	size_t section;		  /* the index of the function's section */
+	uint64_t address;	  /* the function's address there, in bytes */
+};
+
+/*
+ * Lists what the program of a name is made of once ebpf_relocate_calls has linked it; asked before that call, or in its
+ * place. A row for each copy of a function: first the program's own, at slot 0, then one of each function that it reaches,
+ * in the order in which they stand; the functions' names one after the other in text. Nothing is linked. A program that
+ * can't be linked is refused as ebpf_relocate_calls refuses it, about the program; others are not looked at.
+ * Numbers: 1, 2, 3, 4, 600 to 699.
+ */
+uint32_t ebpf_link_map(struct ebpf_handle *handle, const char *name, size_t name_len, struct ebpf_code_copy *rows,
+		       size_t rows_room, char *text, size_t text_room, struct ebpf_counts *counts, char *about,
+		       size_t about_room, struct ebpf_refusal *refusal);
+
+/* A slot of a linked program that refers to one of its copies. */
+struct ebpf_code_reference {
+	size_t slot;	  /* its number in the linked program */
+	size_t base;	  /* the slot at which the copy begins that it refers to, as in that copy's row */
+	uint32_t is_call; /* 1: it calls the function; 0: it loads its address */
+};
+
+/*
+ * Lists the slots of the linked program of a name that refer to its copies: a row each, in the order of the slots. *count
+ * is how many. Asked as ebpf_link_map is, and refused alike. Numbers: 1, 2, 3, 4, 600 to 699.
+ */
+uint32_t ebpf_link_references(struct ebpf_handle *handle, const char *name, size_t name_len,
+			      struct ebpf_code_reference *rows, size_t room, size_t *count, char *about,
+			      size_t about_room, struct ebpf_refusal *refusal);
 
 /*
  * Opens the object of a file and runs all of these passes over it. Where types_len is 0, functions are not relocated
@@ -669,7 +816,7 @@ uint32_t ebpf_relocate_calls(struct ebpf_handle *handle, char *about, size_t abo
 uint32_t ebpf_prepare(const uint8_t *file, size_t file_len, const uint8_t *types, size_t types_len,
 		      const struct ebpf_descriptor *rows, size_t rows_len, const char *text, size_t text_len,
 		      const uint8_t *symbols, size_t symbols_len, struct ebpf_handle *handle, char *about,
-		      size_t about_room, size_t *about_len);
+		      size_t about_room, struct ebpf_refusal *refusal);
 
 /*
  * Runs the same passes over the object that the handle holds, whose values and sizes may be set before; so maps can be
@@ -679,7 +826,7 @@ uint32_t ebpf_prepare(const uint8_t *file, size_t file_len, const uint8_t *types
 uint32_t ebpf_prepare_handle(struct ebpf_handle *handle, const uint8_t *types, size_t types_len,
 			     const struct ebpf_descriptor *rows, size_t rows_len, const char *text, size_t text_len,
 			     const uint8_t *symbols, size_t symbols_len, char *about, size_t about_room,
-			     size_t *about_len);
+			     struct ebpf_refusal *refusal);
 
 #ifdef __cplusplus
 }

@@ -83,6 +83,7 @@ ADVICE = {
     "obj::ParseError::MapSymbolNameNotFound": "never given",
     "obj::ParseError::NoSymbolsForSection": "don't strip symbols",
     "obj::ParseError::BigEndianCode": "compile with `-target bpfel`; only the broad reading gives it",
+    "obj::ParseError::TooLarge": "raise the limit; only `parse_within` gives it",
     "obj::ParseError::NoBTF": "compile with `-g`, and don't strip `.BTF`",
     "obj::BtfError::InvalidHeader": TYPES_DAMAGED,
     "obj::BtfError::InvalidTypeInfo": TYPES_DAMAGED + "; kinds past 19 are not known",

@@ -1,7 +1,6 @@
 """Runs that are measured."""
 import os
 import signal
-import time
 
 # The sizes of each shape, as multiples of the first.
 TIMES = (1, 2, 4)
@@ -14,7 +13,7 @@ FOR_EACH_BYTE, FLOOR = 64, 16 << 20
 
 
 class Run:
-    """A status (None: too long), seconds, bytes of memory at the peak, and the size of the files."""
+    """A status (None: too long), seconds of a processor, bytes of memory at the peak, and the size of the files."""
 
     def __init__(self, status, seconds, memory, size):
         self.status, self.seconds, self.memory, self.size = status, seconds, memory, size
@@ -27,7 +26,6 @@ def too_long(_signal, _frame):
 def once(words, seconds):
     """A run of a program on the files among its words."""
     quiet = os.open("/dev/null", os.O_RDWR)
-    started = time.perf_counter()
     moved = [(os.POSIX_SPAWN_DUP2, quiet, to) for to in (0, 1, 2)]
     process = os.posix_spawn(words[0], words, {}, file_actions=moved)
     os.close(quiet)
@@ -42,7 +40,7 @@ def once(words, seconds):
         _, _, used = os.wait4(process, 0)
         status = None
     size = sum(os.path.getsize(word) for word in words[1:] if os.path.exists(word))
-    return Run(status, time.perf_counter() - started, 1024 * used.ru_maxrss, size)
+    return Run(status, used.ru_utime + used.ru_stime, 1024 * used.ru_maxrss, size)
 
 
 def run(words, seconds):

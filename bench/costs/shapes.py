@@ -378,6 +378,17 @@ def maps_of_one_hash(size):
     return file.bytes()
 
 
+@told
+@shape
+def sections_of_ends_of_one_long_name(size):
+    """Sections whose names are the ends of one long name: the object owns each. They are few, so that it fits."""
+    file = with_program()
+    at = file.names.long(size - size // 16)
+    for number in range(min(many(size // 16, 64), SECTIONS)):
+        file.section(at + number, flags=0)
+    return file.bytes()
+
+
 @shape
 def sections_of_one_hash(size):
     file = with_program()

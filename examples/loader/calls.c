@@ -4,9 +4,46 @@
 #include <unistd.h>
 
 char about[128];
-size_t about_len;
+struct ebpf_refusal refusal;
 
-/* Ends the loader where the library refuses, by the refusal's name and what it is about. */
+/* Writes the number that a refusal has behind a name, where it has one. */
+static size_t put_detail(char *to, size_t room, enum ebpf_detail detail, const char *name, uint64_t number)
+{
+	return refusal.has & detail ? (size_t)snprintf(to, room, ", %s %llu", name, (unsigned long long)number) : 0;
+}
+
+/* The numbers that tell where in the file the refusal is, or that differ. */
+static const char *details(void)
+{
+	static char text[1024];
+	const struct {
+		enum ebpf_detail detail;
+		const char *name;
+		uint64_t number;
+	} all[] = {
+		{ EBPF_HAS_SECTION, "section", refusal.section },
+		{ EBPF_HAS_SYMBOL, "symbol", refusal.symbol },
+		{ EBPF_HAS_ADDRESS, "address", refusal.address },
+		{ EBPF_HAS_OTHER_ADDRESS, "and address", refusal.other_address },
+		{ EBPF_HAS_SLOT, "slot", refusal.slot },
+		{ EBPF_HAS_OFFSET, "offset", refusal.offset },
+		{ EBPF_HAS_RELOCATION, "relocation", refusal.relocation },
+		{ EBPF_HAS_TYPE, "type", refusal.type_id },
+		{ EBPF_HAS_KIND, "kind", refusal.kind },
+		{ EBPF_HAS_INDEX, "number", refusal.index },
+		{ EBPF_HAS_COUNT, "of", refusal.count },
+		{ EBPF_HAS_SIZE, "size", refusal.size },
+		{ EBPF_HAS_OTHER_SIZE, "and size", refusal.other_size },
+	};
+	size_t len = 0;
+
+	for (size_t at = 0; at < sizeof(all) / sizeof(*all); at++)
+		len += put_detail(text + len, sizeof(text) - len, all[at].detail, all[at].name, all[at].number);
+	text[len] = 0;
+	return text;
+}
+
+/* Ends the loader where the library refuses, by the refusal's name, what it is about and what else is told of it. */
 void check(const char *what, uint32_t number)
 {
 	char name[64] = { 0 };
@@ -15,7 +52,10 @@ void check(const char *what, uint32_t number)
 	if (number == EBPF_DONE)
 		return;
 	ebpf_number_name(number, name, sizeof(name), &len);
-	errx(1, "%s: the library refuses: %.*s (%u) %.*s", what, (int)len, name, number, (int)about_len, about);
+	if (refusal.number != number)
+		errx(1, "%s: the library refuses: %.*s (%u)", what, (int)len, name, number);
+	errx(1, "%s: the library refuses: %.*s (%u) %.*s%s", what, (int)len, name, number, (int)refusal.name_len, about,
+	     details());
 }
 
 /* All zero, which the kernel asks of what a command doesn't use; an initialiser of a union clears one member alone. */

@@ -50,10 +50,10 @@ struct loading {
 	struct initial initial;
 };
 
-/* What the library's last refusal is about. */
+/* What the library's last refusal is about, and what else is told of it. */
 extern char about[128];
-extern size_t about_len;
-#define ABOUT about, sizeof(about), &about_len
+extern struct ebpf_refusal refusal;
+#define ABOUT about, sizeof(about), &refusal
 
 /* files.c: memory, and the bytes of files */
 void *zeros(size_t count, size_t size);

@@ -5,7 +5,7 @@ import sys
 from pathlib import Path
 
 import make_rows
-from c_interface import builds, compiled, examples, growth_rows, loader_rows, more_rows, rows_of_objects
+from c_interface import builds, compiled, detail_rows, examples, found_rows, growth_rows, loader_rows, more_rows, record_rows, rows_of_objects
 from c_interface.runs import Files, run
 from growths.inputs import COUNTER, KERNEL, LINES, REFERENCES, SMALL
 from growths.run import Runner
@@ -41,7 +41,8 @@ def all_rows():
     for held in (objects, core, limits):
         printed.add_to(held)
     rows = [row for case in [*objects, *core, *limits] for row in rows_of_objects.rows_of(case)]
-    return rows + more_rows.rows() + loader_rows.rows()
+    rows += [row for case in [*core, *limits] for row in record_rows.rows_of(case)]
+    return rows + more_rows.rows() + loader_rows.rows() + found_rows.rows() + record_rows.rows() + list(detail_rows.rows())
 
 
 def begin(folder):
@@ -79,6 +80,8 @@ def of_calls(folder, count, made):
     names.append(f"calls-{builds.compilers()[0]}-sanitized")
     HELD["rows"] = all_rows()
     HELD["growths"] = growth_rows.rows(made[names[0]].path)
+    for what, fault in detail_rows.page_faults(HELD["rows"]):
+        count.add("the table of details", what, fault)
     pairs = [(made[name].path, number) for name in names for number in range(len(HELD["rows"]))]
     with multiprocessing.Pool(os.cpu_count(), begin, [folder]) as pool:
         for name, fault in pool.imap(judge_calls, pairs, 16):

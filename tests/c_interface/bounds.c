@@ -8,6 +8,7 @@
  */
 #include "checked.h"
 #include "listed.h"
+#include "told.h"
 #include <pthread.h>
 
 size_t passed, failed;
@@ -24,10 +25,10 @@ void count_check(int holds, const char *of, const char *what, int line)
 struct ebpf_handle opened(const struct guarded *file)
 {
 	struct ebpf_handle handle = EBPF_CLOSED_HANDLE;
-	size_t len = 0;
+	struct ebpf_refusal refusal = { 0 };
 	char about = 0;
 
-	if (ebpf_open(file->at, file->size, &handle, &about, 0, &len) != EBPF_DONE)
+	if (ebpf_open(file->at, file->size, &handle, &about, 0, &refusal) != EBPF_DONE)
 		errx(3, "a file of the repository can't be opened");
 	return handle;
 }
@@ -285,38 +286,26 @@ static void check_handles(const struct guarded *file)
 {
 	struct ebpf_handle object = opened(file), copy = EBPF_CLOSED_HANDLE, closed = EBPF_CLOSED_HANDLE;
 	struct guarded text = guarded(0);
-	size_t len = 77;
+	struct ebpf_refusal refusal = unwritten();
 
 	CHECK("ebpf_clone", ebpf_clone(&closed, &copy) == EBPF_CLOSED && copy.at == NULL && closed.at == NULL);
 	CHECK("ebpf_clone", ebpf_clone(&object, &copy) == EBPF_DONE && copy.at != NULL && copy.at != object.at);
 	CHECK("ebpf_relocate_calls",
-	      ebpf_relocate_calls(&copy, (char *)text.at, 0, &len) == EBPF_DONE && len == 77);
+	      ebpf_relocate_calls(&copy, (char *)text.at, 0, &refusal) == EBPF_DONE && is_unwritten(&refusal));
 	CHECK("ebpf_clone", first_key(&copy) == 1 && first_key(&object) == (uint32_t)-1);
 	CHECK("ebpf_clone", ebpf_clone(&object, &copy) == EBPF_DONE && first_key(&copy) == (uint32_t)-1);
 	ebpf_close(&copy);
-	CHECK("ebpf_relocate_calls", ebpf_relocate_calls(&copy, (char *)text.at, 0, &len) == EBPF_CLOSED);
-	CHECK("ebpf_open", ebpf_open(file->at, 63, &object, (char *)text.at, 0, &len) == EBPF_PARSE_FILE);
+	CHECK("ebpf_relocate_calls", ebpf_relocate_calls(&copy, (char *)text.at, 0, &refusal) == EBPF_CLOSED);
+	CHECK("ebpf_open", ebpf_open(file->at, 63, &object, (char *)text.at, 0, &refusal) == EBPF_PARSE_FILE);
 	CHECK("ebpf_open", first_key(&object) == (uint32_t)-1);
-	CHECK("ebpf_open", ebpf_open(file->at, 0, &closed, (char *)text.at, 0, &len) == EBPF_PARSE_FILE && !closed.at);
-	CHECK("ebpf_open", ebpf_open(file->at, file->size, &object, (char *)text.at, 0, &len) == EBPF_DONE);
+	CHECK("ebpf_open",
+	      ebpf_open(file->at, 0, &closed, (char *)text.at, 0, &refusal) == EBPF_PARSE_FILE && !closed.at);
+	CHECK("ebpf_open", ebpf_open(file->at, file->size, &object, (char *)text.at, 0, &refusal) == EBPF_DONE);
 	ebpf_close(&object);
 	release(&text);
 }
 
-/* ---- what a refusal is about */
-
-static void check_about(struct ebpf_handle *object, const char *variable, size_t room)
-{
-	struct guarded about = guarded(room);
-	size_t len = 77, whole = strlen(variable), kept = room < whole ? room : whole;
-	uint8_t value = 0;
-
-	CHECK("about", ebpf_set_value(object, variable, whole, &value, 1, 1, (char *)about.at, room, &len) ==
-			       EBPF_PARSE_SYMBOL_NOT_FOUND);
-	CHECK("about", len == kept);
-	CHECK("about", !memcmp(about.at, variable, kept) && is_untouched(&about, kept));
-	release(&about);
-}
+/* ---- what changes an object */
 
 static void check_data(struct ebpf_handle *object)
 {
@@ -341,17 +330,21 @@ static void check_changes(const struct guarded *file)
 	struct guarded none = guarded(0);
 	struct ebpf_descriptor row = { 1, SIZE_MAX, 3 };
 	uint8_t value[8] = { 1, 2, 3, 4, 5, 6, 7, 8 };
-	size_t len = 77;
+	struct ebpf_refusal refusal = unwritten();
 	char *text = (char *)none.at;
 
 	for (size_t room = 0; room < 12; room++)
 		check_about(&object, "no_such", room);
-	CHECK("ebpf_set_value", ebpf_set_value(&object, "no_such", 7, value, 1, 0, text, 0, &len) == EBPF_DONE);
-	CHECK("ebpf_set_value", ebpf_set_value(&object, "seen", 4, value, 8, 1, text, 0, &len) == EBPF_DONE && len == 77);
+	CHECK("ebpf_set_value", ebpf_set_value(&object, "no_such", 7, value, 1, 0, text, 0, &refusal) == EBPF_DONE);
+	CHECK("ebpf_set_value", ebpf_set_value(&object, "seen", 4, value, 8, 1, text, 0, &refusal) == EBPF_DONE &&
+					is_unwritten(&refusal));
 	CHECK("ebpf_set_value",
-	      ebpf_set_value(&object, "seen", 4, value, 7, 1, text, 0, &len) == EBPF_PARSE_GLOBAL_DATA);
-	CHECK("ebpf_set_value", ebpf_set_value(&object, "\xff", 1, value, 1, 1, text, 0, &len) == EBPF_BAD_NAME);
-	CHECK("ebpf_set_value", ebpf_set_value(&closed, "seen", 4, value, 8, 1, text, 0, &len) == EBPF_CLOSED);
+	      ebpf_set_value(&object, "seen", 4, value, 7, 1, text, 0, &refusal) == EBPF_PARSE_GLOBAL_DATA);
+	CHECK("ebpf_set_value",
+	      is_told(&refusal, EBPF_PARSE_GLOBAL_DATA, 0) && refusal.size == 8 && refusal.other_size == 7);
+	CHECK("ebpf_set_value", refusal.has == (EBPF_HAS_SIZE | EBPF_HAS_OTHER_SIZE));
+	CHECK("ebpf_set_value", ebpf_set_value(&object, "\xff", 1, value, 1, 1, text, 0, &refusal) == EBPF_BAD_NAME);
+	CHECK("ebpf_set_value", ebpf_set_value(&closed, "seen", 4, value, 8, 1, text, 0, &refusal) == EBPF_CLOSED);
 	check_data(&object);
 	check_values(&of_variable, &object, "wanted");
 	CHECK("ebpf_set_max_entries", ebpf_set_max_entries(&object, "counts", 6, 5) == EBPF_DONE);
@@ -361,19 +354,19 @@ static void check_changes(const struct guarded *file)
 	CHECK("ebpf_set_value_size", ebpf_set_value_size(&object, text, 0, 5) == EBPF_NO_MAP);
 	CHECK("ebpf_set_value_size", ebpf_set_value_size(&closed, "counts", 6, 5) == EBPF_CLOSED);
 	CHECK("ebpf_sanitize", ebpf_sanitize(&object, 0) == EBPF_DONE && ebpf_sanitize(&closed, 0) == EBPF_CLOSED);
-	CHECK("ebpf_relocate_maps", ebpf_relocate_maps(&object, &row, 1, "a", 1, text, 0, &len) == EBPF_BAD_NAME);
-	CHECK("ebpf_relocate_maps", ebpf_relocate_maps(&closed, &row, 0, text, 0, text, 0, &len) == EBPF_CLOSED);
-	CHECK("ebpf_relocate_types", ebpf_relocate_types(&object, none.at, 0, text, 0, &len) == EBPF_TYPES_READ);
-	CHECK("ebpf_relocate_types", ebpf_relocate_types(&closed, none.at, 0, text, 0, &len) == EBPF_CLOSED);
+	CHECK("ebpf_relocate_maps", ebpf_relocate_maps(&object, &row, 1, "a", 1, text, 0, &refusal) == EBPF_BAD_NAME);
+	CHECK("ebpf_relocate_maps", ebpf_relocate_maps(&closed, &row, 0, text, 0, text, 0, &refusal) == EBPF_CLOSED);
+	CHECK("ebpf_relocate_types", ebpf_relocate_types(&object, none.at, 0, text, 0, &refusal) == EBPF_TYPES_READ);
+	CHECK("ebpf_relocate_types", ebpf_relocate_types(&closed, none.at, 0, text, 0, &refusal) == EBPF_CLOSED);
 	CHECK("ebpf_resolve_externs",
-	      ebpf_resolve_externs(&closed, none.at, 0, none.at, 0, text, 0, &len) == EBPF_CLOSED);
-	CHECK("ebpf_relocate_externs", ebpf_relocate_externs(&closed, text, 0, &len) == EBPF_CLOSED);
-	CHECK("ebpf_prepare_handle", ebpf_prepare_handle(&closed, none.at, 0, &row, 1, "a", 1, none.at, 0, text, 0,
-							 &len) == EBPF_CLOSED);
+	      ebpf_resolve_externs(&closed, none.at, 0, none.at, 0, text, 0, &refusal) == EBPF_CLOSED);
+	CHECK("ebpf_relocate_externs", ebpf_relocate_externs(&closed, text, 0, &refusal) == EBPF_CLOSED);
+	CHECK("ebpf_prepare_handle",
+	      ebpf_prepare_handle(&closed, none.at, 0, &row, 1, "a", 1, none.at, 0, text, 0, &refusal) == EBPF_CLOSED);
 	CHECK("ebpf_prepare_handle", ebpf_prepare_handle(&object, none.at, 0, &row, 1, "a", 1, none.at, 0, text, 0,
-							 &len) == EBPF_BAD_NAME);
+							 &refusal) == EBPF_BAD_NAME);
 	CHECK("ebpf_prepare_handle", ebpf_prepare_handle(&object, value, 8, &row, 0, "a", 1, none.at, 0, text, 0,
-							 &len) == EBPF_TYPES_READ);
+							 &refusal) == EBPF_TYPES_READ);
 	ebpf_close(&object);
 	release(&none);
 }
@@ -429,6 +422,7 @@ static void *prepare(void *to)
 {
 	struct ebpf_handle object = opened(&given[0]);
 	struct guarded none = guarded(0);
+	struct ebpf_refusal refusal = { 0 };
 	size_t len = 0, found = 0, count;
 	struct ebpf_descriptor *rows;
 	char *text;
@@ -436,11 +430,11 @@ static void *prepare(void *to)
 	count = number_maps(&object, &rows, &text, &len);
 	for (int times = 0; times < 20; times++)
 		if (ebpf_prepare(given[0].at, given[0].size, given[1].at, given[1].size, rows, count, text, len,
-				 given[2].at, given[2].size, &object, (char *)none.at, 0, &found) != EBPF_DONE)
+				 given[2].at, given[2].size, &object, (char *)none.at, 0, &refusal) != EBPF_DONE)
 			return "ebpf_prepare refuses";
-	if (ebpf_open(given[0].at, given[0].size, &object, (char *)none.at, 0, &found) != EBPF_DONE ||
+	if (ebpf_open(given[0].at, given[0].size, &object, (char *)none.at, 0, &refusal) != EBPF_DONE ||
 	    ebpf_prepare_handle(&object, given[1].at, given[1].size, rows, count, text, len, given[2].at, given[2].size,
-				(char *)none.at, 0, &found) != EBPF_DONE)
+				(char *)none.at, 0, &refusal) != EBPF_DONE)
 		return "ebpf_prepare_handle refuses";
 	if (ebpf_slots(&object, "on_enter", 8, to, 1024, &found) != EBPF_DONE || !found)
 		return "no slots";
@@ -485,6 +479,7 @@ int main(int words, char **word)
 	check_handles(&files[0]);
 	check_changes(&files[1]);
 	check_values_by_rows(&files[1]);
+	check_found_calls(&files[0], &files[1], &files[3]);
 	check_loader_calls(&files[5]);
 	check_number_names();
 	check_license(&files[0], 0);

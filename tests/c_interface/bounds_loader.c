@@ -1,5 +1,6 @@
 /* The calls for loaders. */
 #include "checked.h"
+#include "told.h"
 
 /* What the calls are made on. */
 static const struct guarded *given;
@@ -7,40 +8,42 @@ static const char config[] = "CONFIG_COUNT=7\nCONFIG_NAME=\"abc\"\n";
 
 /* ---- bytes, with a name for what a refusal is about */
 
-typedef uint32_t bytes_call(struct ebpf_handle *, uint8_t *, size_t, size_t *, char *, size_t, size_t *);
+typedef uint32_t bytes_call(struct ebpf_handle *, uint8_t *, size_t, size_t *, char *, size_t, struct ebpf_refusal *);
 
 static uint32_t types(struct ebpf_handle *of, uint8_t *to, size_t room, size_t *len, char *about, size_t about_room,
-		      size_t *about_len)
+		      struct ebpf_refusal *refusal)
 {
 	(void)of;
-	return ebpf_kernel_types(given->at, given->size, to, room, len, about, about_room, about_len);
+	return ebpf_kernel_types(given->at, given->size, to, room, len, about, about_room, refusal);
 }
 
-static uint32_t configured(struct ebpf_handle *of, uint8_t *to, size_t room, size_t *len, char *about, size_t about_room,
-			   size_t *about_len)
+static uint32_t configured(struct ebpf_handle *of, uint8_t *to, size_t room, size_t *len, char *about,
+			   size_t about_room, struct ebpf_refusal *refusal)
 {
 	uint32_t is_found = 77;
-	uint32_t number = ebpf_kconfig_value(of, "CONFIG_NAME", 11, config, strlen(config), to, room, len, &is_found, about,
-					     about_room, about_len);
+	uint32_t number = ebpf_kconfig_value(of, "CONFIG_NAME", 11, config, strlen(config), to, room, len, &is_found,
+					     about, about_room, refusal);
 
 	CHECK("ebpf_kconfig_value", is_found == (number == EBPF_DONE || number == EBPF_ROOM ? 1 : 77));
 	return number;
 }
 
 static uint32_t numbered(struct ebpf_handle *of, uint8_t *to, size_t room, size_t *len, char *about, size_t about_room,
-			 size_t *about_len)
+			 struct ebpf_refusal *refusal)
 {
-	return ebpf_kconfig_number(of, "CONFIG_COUNT", 12, 7, to, room, len, about, about_room, about_len);
+	return ebpf_kconfig_number(of, "CONFIG_COUNT", 12, 7, to, room, len, about, about_room, refusal);
 }
 
 static void check_bytes_room(const char *name, bytes_call *call, struct ebpf_handle *of, size_t room, size_t need)
 {
 	struct guarded to = guarded(room), about = guarded(8);
-	size_t len = 77, about_len = 78;
-	uint32_t number = call(of, to.at, room, &len, (char *)about.at, 8, &about_len);
+	struct ebpf_refusal refusal = unwritten();
+	size_t len = 77;
+	uint32_t number = call(of, to.at, room, &len, (char *)about.at, 8, &refusal);
 
 	CHECK(name, number == (room < need ? EBPF_ROOM : EBPF_DONE));
-	CHECK(name, len == need && about_len == (room < need ? 0 : 78));
+	CHECK(name, len == need);
+	CHECK(name, room < need ? is_told(&refusal, EBPF_ROOM, 0) && !refusal.has : is_unwritten(&refusal));
 	CHECK(name, is_untouched(&to, room < need ? 0 : need) && is_untouched(&about, 0));
 	release(&to);
 	release(&about);
@@ -50,52 +53,45 @@ static void check_bytes(const char *name, bytes_call *call, struct ebpf_handle *
 {
 	struct ebpf_handle closed = EBPF_CLOSED_HANDLE;
 	struct guarded to = guarded(16), about = guarded(8);
-	size_t need = 77, len = 77, about_len = 78;
+	struct ebpf_refusal refusal = unwritten();
+	size_t need = 77, len = 77;
 
-	CHECK(name, call(of, to.at, 0, &need, (char *)about.at, 8, &about_len) == EBPF_ROOM && need && !about_len);
+	CHECK(name, call(of, to.at, 0, &need, (char *)about.at, 8, &refusal) == EBPF_ROOM && need);
+	CHECK(name, is_told(&refusal, EBPF_ROOM, 0));
 	check_bytes_room(name, call, of, need - 1, need);
 	check_bytes_room(name, call, of, need, need);
 	check_bytes_room(name, call, of, need + 5, need);
-	about_len = 78;
+	refusal = unwritten();
 	if (takes_handle)
-		CHECK(name, call(&closed, to.at, 16, &len, (char *)about.at, 8, &about_len) == EBPF_CLOSED && len == 77 &&
-				    about_len == 0 && is_untouched(&to, 0) && is_untouched(&about, 0));
+		CHECK(name, call(&closed, to.at, 16, &len, (char *)about.at, 8, &refusal) == EBPF_CLOSED && len == 77 &&
+				    is_told(&refusal, EBPF_CLOSED, 0) && is_untouched(&to, 0) &&
+				    is_untouched(&about, 0));
 	release(&to);
 	release(&about);
 }
 
 /* ---- lists, with a name for what a refusal is about */
 
-typedef uint32_t list_call(struct ebpf_handle *, void *, size_t, char *, size_t, struct ebpf_counts *, char *, size_t,
-			   size_t *);
-
 static uint32_t settings(struct ebpf_handle *of, void *rows, size_t room, char *text, size_t text_room,
-			 struct ebpf_counts *counts, char *about, size_t about_room, size_t *about_len)
+			 struct ebpf_counts *counts, char *about, size_t about_room, struct ebpf_refusal *refusal)
 {
-	return ebpf_kconfig(of, rows, room, text, text_room, counts, about, about_room, about_len);
+	return ebpf_kconfig(of, rows, room, text, text_room, counts, about, about_room, refusal);
 }
 
 static uint32_t initial(struct ebpf_handle *of, void *rows, size_t room, char *text, size_t text_room,
-			struct ebpf_counts *counts, char *about, size_t about_room, size_t *about_len)
+			struct ebpf_counts *counts, char *about, size_t about_room, struct ebpf_refusal *refusal)
 {
 	return ebpf_initial_slots(given->at, given->size, of, rows, room, text, text_room, counts, about, about_room,
-				  about_len);
+				  refusal);
 }
 
-struct list {
-	const char *name;
-	list_call *call;
-	size_t row;
-	size_t names; /* how many places of names a row begins with */
-};
-
-static const struct list lists[] = {
+static const struct told_list lists[] = {
 	{ "ebpf_kconfig", settings, sizeof(struct ebpf_kconfig_extern), 1 },
 	{ "ebpf_initial_slots", initial, sizeof(struct ebpf_initial_slot), 2 },
 };
 
 /* Names lie in the text, a zero byte behind each. */
-static void check_names(const struct list *list, const uint8_t *rows, const char *text, struct ebpf_counts counts)
+static void check_names(const struct told_list *list, const uint8_t *rows, const char *text, struct ebpf_counts counts)
 {
 	int is_inside = 1;
 
@@ -109,17 +105,18 @@ static void check_names(const struct list *list, const uint8_t *rows, const char
 	CHECK(list->name, is_inside);
 }
 
-static void check_list_room(const struct list *list, struct ebpf_handle *of, struct ebpf_counts room,
+static void check_list_room(const struct told_list *list, struct ebpf_handle *of, struct ebpf_counts room,
 			    struct ebpf_counts need)
 {
 	struct guarded rows = guarded(room.rows * list->row), text = guarded(room.text), about = guarded(8);
 	struct ebpf_counts counts = { 77, 78 };
 	int fits = room.rows >= need.rows && room.text >= need.text;
-	size_t about_len = 79;
-	uint32_t number = list->call(of, rows.at, room.rows, (char *)text.at, room.text, &counts, (char *)about.at, 8,
-				     &about_len);
+	struct ebpf_refusal refusal = unwritten();
+	uint32_t number =
+		list->call(of, rows.at, room.rows, (char *)text.at, room.text, &counts, (char *)about.at, 8, &refusal);
 
-	CHECK(list->name, number == (fits ? EBPF_DONE : EBPF_ROOM) && about_len == (fits ? 79 : 0));
+	CHECK(list->name, number == (fits ? EBPF_DONE : EBPF_ROOM));
+	CHECK(list->name, fits ? is_unwritten(&refusal) : is_told(&refusal, EBPF_ROOM, 0) && !refusal.has);
 	CHECK(list->name, counts.rows == need.rows && counts.text == need.text);
 	CHECK(list->name, is_untouched(&rows, fits ? need.rows * list->row : 0));
 	CHECK(list->name, is_untouched(&text, fits ? need.text : 0) && is_untouched(&about, 0));
@@ -130,18 +127,21 @@ static void check_list_room(const struct list *list, struct ebpf_handle *of, str
 	release(&about);
 }
 
-static void check_list(const struct list *list, struct ebpf_handle *of)
+void check_told_list(const struct told_list *list, struct ebpf_handle *of)
 {
 	struct ebpf_handle closed = EBPF_CLOSED_HANDLE;
 	struct guarded rows = guarded(list->row), text = guarded(1), about = guarded(0);
 	struct ebpf_counts need = { 0, 0 }, counts = { 77, 78 };
-	size_t len = 79;
+	struct ebpf_refusal refusal = unwritten();
 	char *told = (char *)about.at;
 
-	CHECK(list->name, list->call(of, rows.at, 0, (char *)text.at, 0, &need, told, 0, &len) == EBPF_ROOM && need.rows);
-	CHECK(list->name, is_untouched(&rows, 0) && is_untouched(&text, 0) && len == 0);
-	CHECK(list->name, list->call(&closed, rows.at, 1, (char *)text.at, 1, &counts, told, 0, &len) == EBPF_CLOSED);
+	CHECK(list->name,
+	      list->call(of, rows.at, 0, (char *)text.at, 0, &need, told, 0, &refusal) == EBPF_ROOM && need.rows);
+	CHECK(list->name, is_untouched(&rows, 0) && is_untouched(&text, 0) && is_told(&refusal, EBPF_ROOM, 0));
+	CHECK(list->name,
+	      list->call(&closed, rows.at, 1, (char *)text.at, 1, &counts, told, 0, &refusal) == EBPF_CLOSED);
 	CHECK(list->name, counts.rows == 77 && counts.text == 78 && is_untouched(&rows, 0) && is_untouched(&text, 0));
+	CHECK(list->name, is_told(&refusal, EBPF_CLOSED, 0));
 	check_list_room(list, of, need, need);
 	check_list_room(list, of, (struct ebpf_counts){ need.rows + 3, need.text + 3 }, need);
 	check_list_room(list, of, (struct ebpf_counts){ need.rows - 1, need.text }, need);
@@ -157,12 +157,13 @@ static void check_targets(struct ebpf_handle *of)
 {
 	struct guarded held = guarded_copy("fentry/f", 8), none = guarded(0), bytes;
 	uint32_t answer = 77, type_id = 78;
-	size_t len = 0, about_len = 0;
+	struct ebpf_refusal refusal = { 0 };
+	size_t len = 0;
 	uint8_t *read;
 
-	types(of, none.at, 0, &len, (char *)none.at, 0, &about_len);
+	types(of, none.at, 0, &len, (char *)none.at, 0, &refusal);
 	read = zeros(len, 1);
-	types(of, read, len, &len, (char *)none.at, 0, &about_len);
+	types(of, read, len, &len, (char *)none.at, 0, &refusal);
 	bytes = guarded_copy(read, len);
 	CHECK("ebpf_attach_target",
 	      ebpf_attach_target((char *)held.at, 8, bytes.at, bytes.size, &answer, &type_id) == EBPF_DONE);
@@ -186,11 +187,12 @@ static uint32_t define(struct ebpf_handle *object, const struct ebpf_value *rows
 {
 	struct guarded held = guarded_copy(rows, count * sizeof(*rows)), names = guarded_copy(text, strlen(text));
 	struct guarded values = guarded_copy(bytes, bytes_len), about = guarded(0);
-	size_t len = 77;
+	struct ebpf_refusal refusal = unwritten();
 	uint32_t number = ebpf_define_kconfig(object, (void *)held.at, count, (char *)names.at, names.size, values.at,
-					      values.size, (char *)about.at, 0, &len);
+					      values.size, (char *)about.at, 0, &refusal);
 
-	CHECK("ebpf_define_kconfig", len == (number == EBPF_DONE ? 77 : 0));
+	CHECK("ebpf_define_kconfig",
+	      number == EBPF_DONE ? is_unwritten(&refusal) : is_told(&refusal, number, refusal.name_len));
 	release(&held);
 	release(&names);
 	release(&values);
@@ -235,17 +237,18 @@ void check_loader_calls(const struct guarded *file)
 {
 	struct ebpf_handle object = opened(file);
 	struct guarded none = guarded(0);
-	size_t len = 77, about_len = 78;
+	struct ebpf_refusal refusal = unwritten();
+	size_t len = 77;
 
 	given = file;
 	check_bytes("ebpf_kernel_types", types, &object, 0);
 	check_bytes("ebpf_kconfig_value", configured, &object, 1);
 	check_bytes("ebpf_kconfig_number", numbered, &object, 1);
-	CHECK("ebpf_kernel_types", ebpf_kernel_types(file->at, 63, none.at, 0, &len, (char *)none.at, 0, &about_len) ==
+	CHECK("ebpf_kernel_types", ebpf_kernel_types(file->at, 63, none.at, 0, &len, (char *)none.at, 0, &refusal) ==
 					   EBPF_KERNEL_TYPES_FILE);
-	CHECK("ebpf_kernel_types", len == 77 && about_len == 0);
+	CHECK("ebpf_kernel_types", len == 77 && is_told(&refusal, EBPF_KERNEL_TYPES_FILE, 0));
 	for (size_t at = 0; at < sizeof(lists) / sizeof(lists[0]); at++)
-		check_list(&lists[at], &object);
+		check_told_list(&lists[at], &object);
 	check_targets(&object);
 	check_definitions(file);
 	ebpf_close(&object);

@@ -1,5 +1,6 @@
-/* Values of many variables. */
+/* Values of variables, and what a refusal is about. */
 #include "checked.h"
+#include "told.h"
 
 /* What is answered for rows, names and values that end where their memory does. */
 static uint32_t set_rows(struct ebpf_handle *object, const struct ebpf_value *rows, size_t count, const char *text,
@@ -7,11 +8,11 @@ static uint32_t set_rows(struct ebpf_handle *object, const struct ebpf_value *ro
 {
 	struct guarded held = guarded_copy(rows, count * sizeof(*rows)), names = guarded_copy(text, strlen(text));
 	struct guarded values = guarded_copy(bytes, bytes_len), about = guarded(0);
-	size_t len = 77;
+	struct ebpf_refusal refusal = unwritten();
 	uint32_t number = ebpf_set_values(object, (void *)held.at, count, (char *)names.at, names.size, values.at,
-					  values.size, (char *)about.at, 0, &len);
+					  values.size, (char *)about.at, 0, &refusal);
 
-	CHECK("ebpf_set_values", len == (number == EBPF_DONE ? 77 : 0));
+	CHECK("ebpf_set_values", number == EBPF_DONE ? is_unwritten(&refusal) : is_told(&refusal, number, 0));
 	release(&held);
 	release(&names);
 	release(&values);
@@ -60,4 +61,20 @@ void check_values_by_rows(const struct guarded *file)
 	rows[0].value_at = 12;
 	CHECK("ebpf_set_values", set_rows(&object, rows, 3, text, bytes, 16) == EBPF_DONE && wanted_of(&object) == 42);
 	ebpf_close(&object);
+}
+
+void check_about(struct ebpf_handle *object, const char *variable, size_t room)
+{
+	struct guarded about = guarded(room), held = guarded(sizeof(struct ebpf_refusal));
+	struct ebpf_refusal *refusal = (void *)held.at;
+	size_t whole = strlen(variable), kept = room < whole ? room : whole;
+	uint8_t value = 0;
+
+	CHECK("about", ebpf_set_value(object, variable, whole, &value, 1, 1, (char *)about.at, room, refusal) ==
+			       EBPF_PARSE_SYMBOL_NOT_FOUND);
+	CHECK("about", is_told(refusal, EBPF_PARSE_SYMBOL_NOT_FOUND, kept) && !refusal->has);
+	CHECK("about", is_untouched(&held, held.size));
+	CHECK("about", !memcmp(about.at, variable, kept) && is_untouched(&about, kept));
+	release(&about);
+	release(&held);
 }

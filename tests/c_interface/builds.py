@@ -15,8 +15,8 @@ SANITIZED = ["-g", "-fsanitize=address,undefined", "-fno-sanitize-recover=all"]
 
 # Programs with their sources.
 PROGRAMS = {
-    "calls": [HERE / "calls.c", HERE / "listed.c", HERE / "loader_calls.c"],
-    "bounds": [HERE / "bounds.c", HERE / "bounds_loader.c", HERE / "bounds_values.c", HERE / "listed.c"],
+    "calls": [HERE / f"{name}.c" for name in ("calls", "listed", "loader_calls", "found_calls", "record_calls", "told")],
+    "bounds": [HERE / f"{name}.c" for name in ("bounds", "bounds_loader", "bounds_values", "bounds_found", "listed", "told")],
     "loader": sorted((EXAMPLES / "loader").glob("*.c")),
 }
 

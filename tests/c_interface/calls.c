@@ -7,10 +7,10 @@
  *	open prepare prepare_handle prepare_handle=NAME:N,.. clone types maps maps=NAME:N,.. resolve externs calls
  *	value=NAME:must|may:DIGITS entries=NAME:N
  *	values=NAME:must|may:DIGITS,.. size=NAME:N sanitize=N
- *	                                     change what the handle holds, and print `NAME NUMBER ABOUT`
+ *	                                     change what the handle holds, and print `NAME NUMBER ABOUT {DETAIL N ..}`
  *	programs named listed declared sections info slots records     list what it holds
  *	kernel_types target=SECTION settings config=NAME number=NAME:N define=NAME:DIGITS,.. initial variables read=NAME
- *	data=MAP:DIGITS
+ *	data=MAP:DIGITS find_map=NAME find_program=NAME link_map=NAME link_references=NAME outcomes
  *	                                     the calls for loaders, which list what they find and print their numbers; a
  *	                                     configuration's text stands in the place of SYMBOLS
  *	ask=CALL ask=CALL:NAME               asks one of the calls that list, with ample room, and prints its number
@@ -18,18 +18,21 @@
  * With -m the last action stands between the lines "== begin" and "== end" and its answer behind them; what the handle
  * holds stands before, and behind where the number is not 0.
  */
+#include "found_calls.h"
 #include "listed.h"
-#include "loader_calls.h"
+#include "record_calls.h"
+#include "told.h"
 #include <unistd.h>
 
 static struct bytes file, types, symbols;
 static struct ebpf_handle object = EBPF_CLOSED_HANDLE;
 static char about[128];
-static size_t about_len;
+static struct ebpf_refusal refusal;
+#define ABOUT about, sizeof(about), &refusal
 
 static struct made_on made_on(void)
 {
-	return (struct made_on){ &object, file, types, symbols, about, sizeof(about), &about_len };
+	return (struct made_on){ &object, file, types, symbols, ABOUT };
 }
 
 /* The part of a word in front of a separator; the rest begins behind it. */
@@ -75,7 +78,7 @@ static void give_map_fds(const char *name, char *rest)
 	free(given.text);
 	memset(&given, 0, sizeof(given));
 	if (prepares)
-		ebpf_open(file.at, file.len, &held, about, sizeof(about), &about_len);
+		ebpf_open(file.at, file.len, &held, ABOUT);
 	if (!prepares && rest)
 		read_map_fds(rest);
 	else if (prepares && held.at)
@@ -105,8 +108,7 @@ static uint32_t set_value(char *rest)
 	uint8_t value[64] = { 0 };
 	size_t len = read_digits(rest, value, sizeof(value));
 
-	return ebpf_set_value(&object, name, strlen(name), value, len, !strcmp(must, "must"), about, sizeof(about),
-			      &about_len);
+	return ebpf_set_value(&object, name, strlen(name), value, len, !strcmp(must, "must"), ABOUT);
 }
 
 /* The values NAME:must|may:DIGITS,.. as rows. Nothing is allocated here, where growths may be refused. */
@@ -128,7 +130,7 @@ static uint32_t set_values(char *rest)
 		text_len += strlen(name);
 		bytes_len += len;
 	}
-	return ebpf_set_values(&object, rows, count, text, text_len, bytes, bytes_len, about, sizeof(about), &about_len);
+	return ebpf_set_values(&object, rows, count, text, text_len, bytes, bytes_len, ABOUT);
 }
 
 static uint32_t copy(void)
@@ -143,38 +145,48 @@ static uint32_t copy(void)
 	return number;
 }
 
-static uint32_t change(const char *name, char *rest)
+/* `counted`: growths of memory are, so that only the call itself may be made. */
+static uint32_t change(const char *name, char *rest, int counted)
 {
 	struct made_on on = made_on();
 	int64_t number = loader_call(&on, name, rest);
 	char *map;
 
+	if (number < 0)
+		number = found_call(&on, name, rest);
+	if (number < 0)
+		number = record_call(&on, name);
 	if (number >= 0)
 		return (uint32_t)number;
+	if (!strcmp(name, "calls") && !counted)
+		return link_as_told(&on);
+	if (!strcmp(name, "types") && !counted)
+		return relocate_as_told(&on);
 	if (!strcmp(name, "open"))
-		return ebpf_open(file.at, file.len, &object, about, sizeof(about), &about_len);
+		return ebpf_open(file.at, file.len, &object, ABOUT);
 	if (!strcmp(name, "open_broad"))
-		return ebpf_open_broad(file.at, file.len, &object, about, sizeof(about), &about_len);
+		return ebpf_open_broad(file.at, file.len, &object, ABOUT);
+	if (!strcmp(name, "open_within")) /* =BYTES, read as stated; =BYTES:broad */
+		return ebpf_open_within(file.at, file.len, strchr(rest, ':') != NULL, strtoull(rest, NULL, 10), &object,
+					ABOUT);
 	if (!strcmp(name, "prepare"))
 		return ebpf_prepare(file.at, file.len, types.at, types.len, given.rows, given.count, given.text,
-				    given.text_len, symbols.at, symbols.len, &object, about, sizeof(about), &about_len);
+				    given.text_len, symbols.at, symbols.len, &object, ABOUT);
 	if (!strcmp(name, "prepare_handle"))
 		return ebpf_prepare_handle(&object, types.at, types.len, given.rows, given.count, given.text,
-					   given.text_len, symbols.at, symbols.len, about, sizeof(about), &about_len);
+					   given.text_len, symbols.at, symbols.len, ABOUT);
 	if (!strcmp(name, "clone"))
 		return copy();
 	if (!strcmp(name, "types"))
-		return ebpf_relocate_types(&object, types.at, types.len, about, sizeof(about), &about_len);
+		return ebpf_relocate_types(&object, types.at, types.len, ABOUT);
 	if (!strcmp(name, "maps"))
-		return ebpf_relocate_maps(&object, given.rows, given.count, given.text, given.text_len, about,
-					  sizeof(about), &about_len);
+		return ebpf_relocate_maps(&object, given.rows, given.count, given.text, given.text_len, ABOUT);
 	if (!strcmp(name, "resolve"))
-		return ebpf_resolve_externs(&object, types.at, types.len, symbols.at, symbols.len, about, sizeof(about),
-					    &about_len);
+		return ebpf_resolve_externs(&object, types.at, types.len, symbols.at, symbols.len, ABOUT);
 	if (!strcmp(name, "externs"))
-		return ebpf_relocate_externs(&object, about, sizeof(about), &about_len);
+		return ebpf_relocate_externs(&object, ABOUT);
 	if (!strcmp(name, "calls"))
-		return ebpf_relocate_calls(&object, about, sizeof(about), &about_len);
+		return ebpf_relocate_calls(&object, ABOUT);
 	if (!strcmp(name, "value"))
 		return set_value(rest);
 	if (!strcmp(name, "values"))
@@ -206,6 +218,10 @@ static uint32_t ask(char *rest)
 	memset(rows, 0x55, sizeof(rows));
 	memset(text, 0x55, sizeof(text));
 	of_loader = ask_loader_call(&on, call, name, &room);
+	if (of_loader < 0)
+		of_loader = ask_found_call(&on, call, name, &room);
+	if (of_loader < 0)
+		of_loader = ask_record_call(&on, call, &room);
 	if (of_loader >= 0) {
 		number = (uint32_t)of_loader;
 		counts = room.counts;
@@ -299,6 +315,18 @@ static void mark(const char *line, int is_marked)
 		err(3, "cannot write");
 }
 
+/* The name and the numbers that a refusal tells; a call that tells of none leaves them as they were. */
+static void put_told(uint32_t number)
+{
+	if (is_unwritten(&refusal))
+		return;
+	if (number == EBPF_DONE || !is_told(&refusal, number, refusal.name_len) || refusal.name_len > sizeof(about))
+		errx(3, "another refusal than %u is told", number);
+	if (refusal.name_len)
+		printf(" %.*s", (int)refusal.name_len, about);
+	put_details(&refusal);
+}
+
 static void act(char *word, int is_marked)
 {
 	char *rest = word, *name = cut(&rest, '=');
@@ -312,13 +340,12 @@ static void act(char *word, int is_marked)
 		printf("before:\n");
 		put_all();
 	}
-	about_len = 0;
+	refusal = unwritten();
 	mark("== begin\n", is_marked);
-	number = strcmp(name, "ask") ? change(name, rest) : ask(rest);
+	number = strcmp(name, "ask") ? change(name, rest, is_marked) : ask(rest);
 	mark("== end\n", is_marked);
 	printf("%s %u", is_marked ? "answer:" : name, number);
-	if (about_len)
-		printf(" %.*s", (int)about_len, about);
+	put_told(number);
 	printf("\n");
 	if (is_marked && number != EBPF_DONE) {
 		printf("after:\n");

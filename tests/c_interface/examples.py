@@ -6,7 +6,7 @@ import subprocess
 import sys
 
 from c_interface.builds import EXAMPLES, TOP
-from growths.inputs import COUNTER
+from growths.inputs import COUNTER, SMALL
 
 # What is listed of the object that clang made.
 LISTED = """
@@ -56,14 +56,18 @@ def python(folder, library):
     path, fault = shared(folder, library)
     if fault:
         return [("the shared object", fault)]
-    lines = re.search(r"```python\n(.*?)```", (TOP / "docs/C.md").read_text(), re.DOTALL)[1]
-    (folder / "listed.py").write_text(lines)
+    for name, lines in zip(("listed.py", "linked.py"), re.findall(r"```python\n(.*?)```", (TOP / "docs/C.md").read_text(), re.DOTALL)):
+        (folder / name).write_text(lines)
     (folder / "nothing").write_bytes(b"nothing")
     done = run([sys.executable, folder / "listed.py", COUNTER], cwd=folder)
     refused = run([sys.executable, folder / "listed.py", folder / "nothing"], cwd=folder)
+    made = run([sys.executable, folder / "linked.py", SMALL, "p"], cwd=folder)
+    absent = run([sys.executable, folder / "linked.py", SMALL, "q"], cwd=folder)
     return [
         ("the lines of Python", None if done.stdout == "on_packet 15\non_wake 13\n" else said(done)),
         ("the same on no object", None if refused.stderr == "refused: 100\n" else said(refused)),
+        ("a program's copies", None if made.stdout == "2\n0 p\n2 f\n" else said(made)),
+        ("those of no program", None if absent.stderr == "refused: 4\n" else said(absent)),
     ]
 
 

@@ -4,6 +4,7 @@ from growths import inputs
 from growths.call_row import Parts
 from growths.inputs import COUNTER, KERNEL, LINES, REFERENCES, SMALL, TASKS
 from growths.run import Row
+from rows import linked
 from rows.elf import File
 
 MEMORY = "2"
@@ -17,7 +18,7 @@ class GrowthRow(Row):
     def __init__(self, program, name, files, *actions, answer="0"):
         super().__init__(f"growths: {name}", program, "-m", *files, *actions)
         self.answer = answer
-        self.may_do_without = actions[-1] in ("open", "open_broad", "prepare", "prepare_handle")
+        self.may_do_without = actions[-1].split("=")[0] in ("open", "open_broad", "open_within", "prepare", "prepare_handle")
 
     def ample_fault(self, ample):
         parts = Parts(ample.out)
@@ -48,6 +49,7 @@ def rows(program):
     found = [GrowthRow(program, f"ebpf_open, {name}", (data, b"", b""), "open") for name, data in opened]
     broad = [*opened, ("no kind", no_kind)]
     found += [GrowthRow(program, f"ebpf_open_broad, {name}", (data, b"", b""), "open_broad") for name, data in broad]
+    found += [GrowthRow(program, f"ebpf_open_within, {name}", (data, b"", b""), "open_within=1000000:broad") for name, data in broad]
     found += [GrowthRow(program, f"ebpf_clone, {name}", (data, b"", b""), "open", "clone") for name, data in opened]
     found += [
         GrowthRow(program, "ebpf_open, no kind", (no_kind, b"", b""), "open", answer="144 nothing/p"),
@@ -70,7 +72,7 @@ def rows(program):
     loaded, settings = (loader_rows.loaded(), b"", b""), (loader_rows.declared(loader_rows.SETTINGS).bytes(), b"", b"CONFIG_TEXT=\"a\"\n")
     found += [
         GrowthRow(program, "ebpf_kernel_types", loaded, "ask=kernel_types"),
-        GrowthRow(program, "ebpf_kernel_types, no symbol", (loader_rows.without_symbol(), b"", b""), "ask=kernel_types", answer="742 v"),
+        GrowthRow(program, "ebpf_kernel_types, no symbol", (loader_rows.without_symbol(), b"", b""), "ask=kernel_types", answer="742 v {type 2}"),
         GrowthRow(program, "ebpf_attach_target", (SMALL, loader_rows.TARGETS, b""), "ask=target:lsm/g"),
         GrowthRow(program, "ebpf_initial_slots", loaded, "open", "ask=initial"),
         GrowthRow(program, "ebpf_variables", (COUNTER, b"", b""), "open", "ask=variables"),
@@ -81,6 +83,21 @@ def rows(program):
         GrowthRow(program, "ebpf_kconfig_number", settings, "open", "ask=number:LINUX_KERNEL_VERSION"),
         GrowthRow(program, "ebpf_define_kconfig", loaded, "open", "define=CONFIG_COUNT:07000000,CONFIG_COUNT:08000000"),
         GrowthRow(program, "ebpf_define_kconfig, no value", loaded, "open", "define=CONFIG_NAME:00", answer="904 CONFIG_COUNT"),
+    ]
+    faulty = linked.two_faults(), b"", b""
+    found += [
+        GrowthRow(program, "ebpf_find_map", (COUNTER, b"", b""), "open", "ask=find_map:tables"),
+        GrowthRow(program, "ebpf_find_program", (COUNTER, b"", b""), "open", "ask=find_program:on_packet"),
+        GrowthRow(program, "ebpf_link_map, two calls", (two, b"", b""), "open", "ask=link_map:p"),
+        GrowthRow(program, "ebpf_link_map, no function", faulty, "open", "ask=link_map:p", answer="602 p {address 48}"),
+        GrowthRow(program, "ebpf_link_references, two calls", (two, b"", b""), "open", "ask=link_references:p"),
+        GrowthRow(program, "ebpf_link_references, no function", faulty, "open", "ask=link_references:p", answer="602 p {address 48}"),
+    ]
+    core, types = inputs.core()
+    found += [
+        GrowthRow(program, "ebpf_record_outcomes", (core, types, b""), "open", "ask=outcomes"),
+        GrowthRow(program, "ebpf_record_outcomes, counter.o", (COUNTER, TASKS, b""), "open", "ask=outcomes"),
+        GrowthRow(program, "ebpf_record_outcomes, no types", (COUNTER, b"types", b""), "open", "ask=outcomes", answer="200"),
     ]
     for count in range(3, 1 + len(passes)):
         found.append(GrowthRow(program, f"{passes[count - 1]}, references.o", ALL, *passes[:count]))

@@ -17,6 +17,29 @@ static void need(const char *what, uint32_t number)
 	} while (call(object, list, (counts).rows, names, (counts).text, &(counts)) == EBPF_ROOM); \
 	need(#call, call(object, list, (counts).rows, names, (counts).text, &(counts)))
 
+/* A row of a list is the one that is found by its name, which then points into that name. */
+static void need_found_program(struct ebpf_handle *object, struct ebpf_program row, const char *text)
+{
+	struct ebpf_program found;
+
+	memset(&found, 0x55, sizeof(found));
+	need("ebpf_find_program", ebpf_find_program(object, text + row.name_at, row.name_len, &found));
+	row.name_at = 0;
+	if (memcmp(&row, &found, sizeof(row)))
+		errx(3, "ebpf_find_program finds another row than ebpf_programs lists");
+}
+
+static void need_found_map(struct ebpf_handle *object, struct ebpf_map row, const char *text)
+{
+	struct ebpf_map found;
+
+	memset(&found, 0x55, sizeof(found));
+	need("ebpf_find_map", ebpf_find_map(object, text + row.name_at, row.name_len, &found));
+	row.name_at = 0;
+	if (memcmp(&row, &found, sizeof(row)))
+		errx(3, "ebpf_find_map finds another row than ebpf_maps lists");
+}
+
 void put_programs(struct ebpf_handle *object)
 {
 	struct ebpf_program *rows = NULL;
@@ -27,6 +50,7 @@ void put_programs(struct ebpf_handle *object)
 	for (size_t at = 0; at < counts.rows; at++) {
 		const struct ebpf_program *row = &rows[at];
 
+		need_found_program(object, *row, text);
 		printf("program %s kind %u flags %u type %u attach %d section %zu address %llu\n", text + row->name_at,
 		       row->kind, row->flags, row->program_type, (int)row->attach_type, row->section,
 		       (unsigned long long)row->address);
@@ -65,6 +89,7 @@ void put_maps(struct ebpf_handle *object)
 	for (size_t at = 0; at < counts.rows; at++) {
 		const struct ebpf_map *row = &rows[at];
 
+		need_found_map(object, *row, text);
 		printf("map %s section %zu kind %u ", text + row->name_at, row->section, row->section_kind);
 		put_shape(&row->shape);
 		put_data(object, text + row->name_at, row->data_len);

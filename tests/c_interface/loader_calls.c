@@ -9,7 +9,7 @@ static int64_t put_types(const struct made_on *on)
 	static uint8_t types[MANY];
 	size_t len = 0;
 	uint32_t number = ebpf_kernel_types(on->file.at, on->file.len, types, sizeof(types), &len, on->about,
-					    on->about_room, on->about_len);
+					    on->about_room, on->refusal);
 
 	if (number == EBPF_DONE) {
 		printf("bytes ");
@@ -37,7 +37,7 @@ static int64_t put_settings(const struct made_on *on)
 	static char text[MANY];
 	struct ebpf_counts counts = { 0, 0 };
 	uint32_t number = ebpf_kconfig(on->object, rows, FEW, text, sizeof(text), &counts, on->about, on->about_room,
-				       on->about_len);
+				       on->refusal);
 
 	for (size_t at = 0; at < counts.rows; at++)
 		printf("setting %s size %u kind %u signed %u weak %u\n", text + rows[at].name_at, rows[at].size,
@@ -50,8 +50,9 @@ static int64_t put_configured(const struct made_on *on, const char *name)
 	static uint8_t value[MANY];
 	uint32_t is_found = 77;
 	size_t len = 78;
-	uint32_t number = ebpf_kconfig_value(on->object, name, strlen(name), (char *)on->config.at, on->config.len, value,
-					     sizeof(value), &len, &is_found, on->about, on->about_room, on->about_len);
+	uint32_t number =
+		ebpf_kconfig_value(on->object, name, strlen(name), (char *)on->config.at, on->config.len, value,
+				   sizeof(value), &len, &is_found, on->about, on->about_room, on->refusal);
 
 	if (number == EBPF_DONE) {
 		printf("found %u ", is_found);
@@ -69,7 +70,7 @@ static int64_t put_number(const struct made_on *on, char *rest)
 	char *end = strchr(rest, ':');
 	size_t len = 78;
 	uint32_t number = ebpf_kconfig_number(on->object, rest, (size_t)(end - rest), strtoull(end + 1, NULL, 0), value,
-					      sizeof(value), &len, on->about, on->about_room, on->about_len);
+					      sizeof(value), &len, on->about, on->about_room, on->refusal);
 
 	if (number == EBPF_DONE) {
 		printf("value ");
@@ -111,7 +112,7 @@ static int64_t define(const struct made_on *on, char *rest)
 		bytes_len += len;
 	}
 	return ebpf_define_kconfig(on->object, rows, count, text, text_len, bytes, bytes_len, on->about, on->about_room,
-				   on->about_len);
+				   on->refusal);
 }
 
 static int64_t put_initial_slots(const struct made_on *on)
@@ -119,8 +120,8 @@ static int64_t put_initial_slots(const struct made_on *on)
 	static struct ebpf_initial_slot rows[FEW];
 	static char text[MANY];
 	struct ebpf_counts counts = { 0, 0 };
-	uint32_t number = ebpf_initial_slots(on->file.at, on->file.len, on->object, rows, FEW, text, sizeof(text), &counts,
-					     on->about, on->about_room, on->about_len);
+	uint32_t number = ebpf_initial_slots(on->file.at, on->file.len, on->object, rows, FEW, text, sizeof(text),
+					     &counts, on->about, on->about_room, on->refusal);
 
 	for (size_t at = 0; at < counts.rows; at++) {
 		const struct ebpf_initial_slot *row = &rows[at];
@@ -203,24 +204,24 @@ int64_t ask_loader_call(const struct made_on *on, const char *call, const char *
 
 	if (!strcmp(call, "kernel_types"))
 		return ebpf_kernel_types(on->file.at, on->file.len, room->text, room->bytes, &room->count, on->about,
-					 on->about_room, on->about_len);
+					 on->about_room, on->refusal);
 	if (!strcmp(call, "target"))
 		return ebpf_attach_target(name, len, on->types.at, on->types.len, &is_found, &type_id);
 	if (!strcmp(call, "settings"))
 		return ebpf_kconfig(on->object, (void *)room->rows, rows, text, room->bytes, &room->counts, on->about,
-				    on->about_room, on->about_len);
+				    on->about_room, on->refusal);
 	if (!strcmp(call, "config"))
 		return ebpf_kconfig_value(on->object, name, len, (char *)on->config.at, on->config.len, room->text,
-					  room->bytes, &room->count, &is_found, on->about, on->about_room, on->about_len);
+					  room->bytes, &room->count, &is_found, on->about, on->about_room, on->refusal);
 	if (!strcmp(call, "number"))
 		return ebpf_kconfig_number(on->object, name, len, 1, room->text, room->bytes, &room->count, on->about,
-					   on->about_room, on->about_len);
+					   on->about_room, on->refusal);
 	if (!strcmp(call, "variables"))
 		return ebpf_variables(on->object, (void *)room->rows, rows, text, room->bytes, &room->counts);
 	if (!strcmp(call, "read"))
 		return ebpf_value(on->object, name, len, room->text, room->bytes, &room->count);
 	if (!strcmp(call, "initial"))
 		return ebpf_initial_slots(on->file.at, on->file.len, on->object, (void *)room->rows, rows, text,
-					  room->bytes, &room->counts, on->about, on->about_room, on->about_len);
+					  room->bytes, &room->counts, on->about, on->about_room, on->refusal);
 	return -1;
 }

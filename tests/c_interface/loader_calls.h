@@ -10,7 +10,7 @@ struct made_on {
 	struct bytes file, types, config;
 	char *about;
 	size_t about_room;
-	size_t *about_len;
+	struct ebpf_refusal *refusal;
 };
 
 /* Makes the call of an action, and prints what it lists; its number. -1 where no call has the name. */

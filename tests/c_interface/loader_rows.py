@@ -73,8 +73,8 @@ def setting_lists():
     yield CallsRow("no settings", (SMALL, b"", b""), ["open", "settings"], ["open 0", "settings 0"])
     yield CallsRow("settings of a closed handle", (SMALL, b"", b""), ["settings"], ["settings 3"])
     faults = [
-        ("no variable", File().data(".BTF", btf(SCALARS[0], datasec(".kconfig", 1))), "settings 900"),
-        ("no name", File().data(".BTF", btf(SCALARS[0], variable(999, 1), datasec(".kconfig", 2))), "settings 901"),
+        ("no variable", File().data(".BTF", btf(SCALARS[0], datasec(".kconfig", 1))), "settings 900 {type 1}"),
+        ("no name", File().data(".BTF", btf(SCALARS[0], variable(999, 1), datasec(".kconfig", 2))), "settings 901 {offset 999}"),
         ("another name", declared({"OTHER": (COUNT, STRONG)}), "settings 902 OTHER"),
         ("another type", declared({"CONFIG_OTHER": (OTHER, WEAK)}), "settings 903 CONFIG_OTHER"),
     ]
@@ -169,7 +169,7 @@ def defined():
     few = {name: value for name, value in strong.items() if name != "CONFIG_LETTER"}
     faults = [
         ("no value", few.items(), "define 904 CONFIG_LETTER"),
-        ("another size", [*strong.items(), ("CONFIG_FLAG", b"\0\0")], "define 905 CONFIG_FLAG"),
+        ("another size", [*strong.items(), ("CONFIG_FLAG", b"\0\0")], "define 905 CONFIG_FLAG {size 1 other_size 2}"),
         ("a name that is no text", [("\udcff", b""), *few.items()], "define 6"),
     ]
     for name, rows, said in faults:
@@ -187,20 +187,21 @@ def defined():
 INNER_SIZE, OUTER_SIZE, VALUES = 32, 48, 24
 
 
-def declared_maps(size=OUTER_SIZE):
-    """The types of the section .maps: an array, and a map of maps that begins behind it."""
+def declared_maps(size=OUTER_SIZE, kind=12, key=7):
+    """The types of the section .maps: an array, and a map of maps that begins behind it. The type of its keys' size is 7
+    for 4 bytes, and 3 for 2."""
     types = [
         integer("unsigned int", 4),
         array(1, 2),
         pointer(2),
-        array(1, 12),
+        array(1, kind),
         pointer(4),
         array(1, 4),
         pointer(6),
         struct_of("inner", INNER_SIZE, ("type", 3, 0), ("key_size", 7, 64), ("value_size", 7, 128), ("max_entries", 7, 192)),
         pointer(8),
         ty("", ARRAY, 0, 9, 1, 0),
-        struct_of("", VALUES, ("type", 5, 0), ("key_size", 7, 64), ("max_entries", 7, 128), ("values", 10, 192)),
+        struct_of("", VALUES, ("type", 5, 0), ("key_size", key, 64), ("max_entries", 7, 128), ("values", 10, 192)),
         variable("inner", 8),
         variable("outer", 11),
     ]
@@ -229,13 +230,13 @@ def initial():
     yield row("two at one place", [(first, 2), (first, 1)], "slot outer 0 map inner")
     yield row("none", [])
     faults = [
-        ("no symbol", [(first, 9)], "initial 820"),
-        ("in no map", [(first + 24, 1)], "initial 821"),
-        ("another type of map", [(8, 1)], "initial 822 inner"),
+        ("no symbol", [(first, 9)], f"initial 820 {{offset {first} symbol 9}}"),
+        ("in no map", [(first + 24, 1)], f"initial 821 {{offset {first + 24}}}"),
+        ("another type of map", [(8, 1)], "initial 822 inner {kind 2}"),
         ("not in the section", [(first, 4)], "initial 823 outer"),
         ("no such map", [(first, 3)], "initial 825 outer"),
-        ("before the values", [(INNER_SIZE + 8, 1)], "initial 829 outer"),
-        ("at no whole value", [(first + 4, 1)], "initial 830 outer"),
+        ("before the values", [(INNER_SIZE + 8, 1)], f"initial 829 outer {{offset {INNER_SIZE + 8}}}"),
+        ("at no whole value", [(first + 4, 1)], f"initial 830 outer {{offset {first + 4}}}"),
     ]
     for name, relocations, answer in faults:
         yield row(name, relocations, answer=answer)
@@ -271,11 +272,11 @@ def for_kernel():
     yield row("no file", b"nothing", "kernel_types 700")
     yield row("another magic", bytes(64), "kernel_types 701")
     yield row("no types", File().data(".BTF", b"nothing").bytes(), "kernel_types 720")
-    yield row("no section", typed(held, variable("v", 1), datasec(".data", 2)), "kernel_types 740 .data")
-    yield row("no variable", typed(held, datasec(".data", 1), sections=[".data"]), "kernel_types 741 int")
-    yield row("no symbol", without_symbol(), "kernel_types 742 v")
+    yield row("no section", typed(held, variable("v", 1), datasec(".data", 2)), "kernel_types 740 .data {type 3}")
+    yield row("no variable", typed(held, datasec(".data", 1), sections=[".data"]), "kernel_types 741 int {type 1}")
+    yield row("no symbol", without_symbol(), "kernel_types 742 v {type 2}")
     other = struct_of("s", 4, ("a", 1, 0))
-    yield row("a setting", typed(held, other, variable("CONFIG_S", 2), datasec(".kconfig", 3)), "kernel_types 743 CONFIG_S")
+    yield row("a setting", typed(held, other, variable("CONFIG_S", 2), datasec(".kconfig", 3)), "kernel_types 743 CONFIG_S {type 3}")
 
 
 # ---- targets

@@ -18,7 +18,7 @@ UNNAMED = "unnamed"
 @dataclass
 class Recipe:
     """How an object is made: the names of its programs' sections, the compiler's further words, and a symbol that is then
-    taken out; and what `ebpf_open` and `ebpf_open_broad` answer."""
+    taken out; and what `ebpf_open` and `ebpf_open_broad` answer, without the ids of types."""
 
     name: str
     sections: list = field(default_factory=lambda: ["xdp"])
@@ -68,9 +68,9 @@ def of_maps():
 
 def of_licenses():
     for name, said, stated, broadly in [
-        ("a padded license", '[16] SEC("license") = "GPL"', "141", "0"),
-        ("a license of no byte", '[0] SEC("license")', "141", "0"),
-        ("a license without a zero", "[3] SEC(\"license\") = { 'G', 'P', 'L' }", "140", "140"),
+        ("a padded license", '[16] SEC("license") = "GPL"', "141 {size 16}", "0"),
+        ("a license of no byte", '[0] SEC("license")', "141 {size 0}", "0"),
+        ("a license without a zero", "[3] SEC(\"license\") = { 'G', 'P', 'L' }", "140 {size 3}", "140 {size 3}"),
     ]:
         yield Recipe(name, words=defined(LICENSE=f"char _license{said}"), stated=stated, broad=broadly)
 
@@ -81,7 +81,7 @@ def of_orders():
 
 
 def recipes():
-    yield Recipe("broad.c", source="broad.c", stated="141")
+    yield Recipe("broad.c", source="broad.c", stated="141 {size 16}")
     yield Recipe("readings.c")
     for of in [of_names, of_symbols, of_maps, of_licenses, of_orders]:
         yield from of()

@@ -13,8 +13,8 @@ PARSING = ["ElfError", "SectionError", "BtfError", *refusals.PARSING]
 
 
 def refused(action, fault):
-    number, about = fault
-    return f"{action} {number} {about}".rstrip()
+    number, told = fault
+    return f"{action} {number} {told}".rstrip()
 
 
 def slot_digits(text):

@@ -273,17 +273,21 @@ static uint64_t list_all(struct ebpf_handle *object)
 	return mixed;
 }
 
-/* A buffer for what a refusal is about, and how much of it was written. */
-#define ABOUT room(about_part, about_room), about_room, &about_len
+/* A buffer for what a refusal is about, and what else is told of it. */
+#define ABOUT room(about_part, about_room), about_room, &told
 
-static size_t about_room, about_len;
+static size_t about_room;
+static struct ebpf_refusal told;
 
-/* An answer of a call that changes the object, in two ranges; what it is about has to be inside its room. */
+/* An answer of a call that changes the object, in two ranges. What is told of a refusal has its number, and what it is
+ * about has to be inside its room. */
 static uint32_t judged(const char *call, uint32_t number, uint32_t first, uint32_t last, uint32_t other, uint32_t end)
 {
-	if (about_len > about_room)
-		say("%s is about %zu bytes in a room of %zu", call, about_len, about_room);
-	about_len = 0;
+	if (told.number != number)
+		say("%s answers %u and tells of %u", call, number, told.number);
+	if (told.name_len > about_room)
+		say("%s is about %zu bytes in a room of %zu", call, told.name_len, about_room);
+	told = (struct ebpf_refusal){ 0 };
 	return in_ranges(call, number, first, last, other, end);
 }
 

@@ -3,6 +3,7 @@ use Rattle.std.specs.Prelude.{◌≡◌, ◌⊎◌, ℕ, List, Option, Some, Non
 use Rattle.ebpf_c.specs.Refusal.{plain, IsReported}
 use Rattle.ebpf_c.specs.declared.codes.TheConstants.{CLOSED, MEMORY}
 use Rattle.ebpf_c.specs.declared.refusal.Refusal.{Refusal}
+use Rattle.ebpf_c.specs.declared.refusal_row.ebpf_refusal.{ebpf_refusal}
 use Rattle.ebpf_object.specs.declared.object.Object.{Object}
 
 -- the refusal for a want of memory, or for an error that stands
@@ -26,8 +27,8 @@ Changes Change (Some old) None = ⊥
 Changes Change (Some old) (Some new) = Change old new
 
 -- a call refuses for a reason: the handle is as it was, and C is told
-pub record IsRefused (Why : Refusal → Type 0) (answer : ℕ) (before after : Option Object) (about_before about_after : List ℕ) (about_count : ℕ) : Type 0 where
+pub record IsRefused (Why : Refusal → Type 0) (answer : ℕ) (before after : Option Object) (about_before about_after : List ℕ) (report : ebpf_refusal) : Type 0 where
   pub stays : after ≡ before
   pub refusal : Refusal
   pub why : Why refusal
-  pub reported : IsReported refusal answer about_before about_after about_count
+  pub reported : IsReported refusal answer about_before about_after report

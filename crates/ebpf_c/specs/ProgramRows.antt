@@ -26,19 +26,23 @@ abbrev pub name_of_section_number : List (List ℕ × SectionIndex) → ℕ → 
 name_of_section_number sections number = name_if (find (λ section. section.1.0 == number) sections)
 
 -- how a program is loaded, by the name of its section and its kind
-abbrev pub loading_of : List (List ℕ × SectionIndex) → Program → Loading
-loading_of sections p = loaded_as (program_kind (name_of_section_number sections p.section_index)) p.section
+abbrev pub loading_of : List ℕ → Program → Loading
+loading_of section_name p = loaded_as (program_kind section_name) p.section
 
--- the row of a program of a name that begins at an offset of the text
-abbrev pub program_row : FinMap key_cmp Function → List (List ℕ × SectionIndex) → List ℕ → Program → ℕ → ebpf_program
-program_row functions sections name p name_at = record {
+-- the row of a program of a name that begins at an offset of the text, whose section has a name
+abbrev pub program_row_in : FinMap key_cmp Function → List ℕ → List ℕ → Program → ℕ → ebpf_program
+program_row_in functions section_name name p name_at = record {
   name_at = name_at;
   name_len = length name;
   section = p.section_index;
   address = p.address;
   slots = slot_count (get functions (p.section_index, p.address));
   kind = program_kind_number p.section;
-  flags = (loading_of sections p).flags;
-  program_type = (loading_of sections p).program_type;
-  attach_type = (loading_of sections p).attach_type;
+  flags = (loading_of section_name p).flags;
+  program_type = (loading_of section_name p).program_type;
+  attach_type = (loading_of section_name p).attach_type;
 }
+
+-- the same among named sections
+abbrev pub program_row : FinMap key_cmp Function → List (List ℕ × SectionIndex) → List ℕ → Program → ℕ → ebpf_program
+program_row functions sections name p name_at = program_row_in functions (name_of_section_number sections p.section_index) name p name_at

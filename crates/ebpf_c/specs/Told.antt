@@ -2,11 +2,14 @@
 -- front of the buffers, or the counts say how much there is; else C is told of the refusal.
 use Rattle.std.specs.Prelude.{◌≡◌, ℕ, ◌==◌, List, [], ◌++◌, length, take, drop, min, Option, is_some, unwrap_or, Result, Ok, Err, if◌then◌else◌}
 use Rattle.ebpf_c.specs.Answers.{Listed, answer, answer_listed, count_after, counts_of, filled, filled_rows, filled_text}
+use Rattle.ebpf_c.specs.Details.{no_details}
 use Rattle.ebpf_c.specs.Flags.{flag}
 use Rattle.ebpf_c.specs.Refusal.{name_of}
+use Rattle.ebpf_c.specs.RefusalRows.{refusal_row}
 use Rattle.ebpf_c.specs.declared.buffers.ebpf_counts.{ebpf_counts}
 use Rattle.ebpf_c.specs.declared.codes.TheConstants.{ROOM}
 use Rattle.ebpf_c.specs.declared.refusal.Refusal.{Refusal}
+use Rattle.ebpf_c.specs.declared.refusal_row.ebpf_refusal.{ebpf_refusal}
 
 -- a refusal by its number alone
 abbrev pub numbered : {X : Type 0} → Result X Refusal → Result X ℕ
@@ -18,19 +21,23 @@ abbrev pub about_after : {X : Type 0} → Result X Refusal → List ℕ → List
 about_after (Ok x) about = about
 about_after (Err r) about = take (length about) (name_of r) ++ drop (length (name_of r)) about
 
--- how much of it stands there; want of room is about nothing with a name
-abbrev pub about_len_after : {X : Type 0} → Result X Refusal → ℕ → List ℕ → ℕ → ℕ
-about_len_after (Ok x) number about len = if number == ROOM then 0 else len
-about_len_after (Err r) number about len = min (length (name_of r)) (length about)
+-- the row of a number alone
+abbrev pub plain_row : ℕ → ebpf_refusal
+plain_row number = refusal_row number no_details 0
+
+-- the row that tells of it; want of room is told by its number alone
+abbrev pub report_after : {X : Type 0} → Result X Refusal → ℕ → List ℕ → ebpf_refusal → ebpf_refusal
+report_after (Ok x) number about report = if number == ROOM then plain_row ROOM else report
+report_after (Err r) number about report = refusal_row r.number r.details (min (length (name_of r)) (length about))
 
 -- ---- one list, whose length is the count
 
-pub record LeavesList (found : Result (List ℕ) Refusal) (number : ℕ) (out out_left : List ℕ) (count count_left : ℕ) (about about_left : List ℕ) (len len_left : ℕ) : Type 0 where
+pub record LeavesList (found : Result (List ℕ) Refusal) (number : ℕ) (out out_left : List ℕ) (count count_left : ℕ) (about about_left : List ℕ) (report report_left : ebpf_refusal) : Type 0 where
   pub answered : number ≡ answer (numbered found) out
   pub listed : out_left ≡ filled (numbered found) out
   pub counted : count_left ≡ count_after (numbered found) count
   pub told : about_left ≡ about_after found about
-  pub told_length : len_left ≡ about_len_after found number about len
+  pub reported : report_left ≡ report_after found number about report
 
 -- ---- bytes that may be none, and a number that says whether there are
 
@@ -42,16 +49,16 @@ abbrev pub found_after : Result (Option (List ℕ)) Refusal → ℕ → ℕ
 found_after (Ok value) is_found = flag (is_some value)
 found_after (Err r) is_found = is_found
 
-pub record LeavesValue (found : Result (Option (List ℕ)) Refusal) (number : ℕ) (out out_left : List ℕ) (count count_left is_found is_found_left : ℕ) (about about_left : List ℕ) (len len_left : ℕ) : Type 0 where
-  pub bytes : LeavesList (bytes_found found) number out out_left count count_left about about_left len len_left
+pub record LeavesValue (found : Result (Option (List ℕ)) Refusal) (number : ℕ) (out out_left : List ℕ) (count count_left is_found is_found_left : ℕ) (about about_left : List ℕ) (report report_left : ebpf_refusal) : Type 0 where
+  pub bytes : LeavesList (bytes_found found) number out out_left count count_left about about_left report report_left
   pub says : is_found_left ≡ found_after found is_found
 
 -- ---- rows and the text that they point into
 
-pub record LeavesListing {R : Type 0} (found : Result (Listed R) Refusal) (number : ℕ) (rows rows_left : List R) (text text_left : List ℕ) (counts counts_left : ebpf_counts) (about about_left : List ℕ) (len len_left : ℕ) : Type 0 where
+pub record LeavesListing {R : Type 0} (found : Result (Listed R) Refusal) (number : ℕ) (rows rows_left : List R) (text text_left : List ℕ) (counts counts_left : ebpf_counts) (about about_left : List ℕ) (report report_left : ebpf_refusal) : Type 0 where
   pub answered : number ≡ answer_listed (numbered found) rows text
   pub rows_are : rows_left ≡ filled_rows (numbered found) rows text
   pub text_is : text_left ≡ filled_text (numbered found) rows text
   pub counted : counts_left ≡ counts_of (numbered found) counts
   pub told : about_left ≡ about_after found about
-  pub told_length : len_left ≡ about_len_after found number about len
+  pub reported : report_left ≡ report_after found number about report

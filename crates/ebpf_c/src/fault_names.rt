@@ -77,6 +77,7 @@ pub fn parse_name(index: u32) -> &'static [u8] {
         14 => b"NoSymbolsForSection",
         15 => b"NoBTF",
         16 => b"BigEndianCode",
+        17 => b"TooLarge",
         _ => b"",
     }
 }

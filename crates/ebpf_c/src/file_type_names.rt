@@ -4,6 +4,7 @@ ghost use Rattle.std.specs.Prelude.{◌≡◌, IfOk};
 ghost use Rattle.ebpf_c.specs.FileTypeNames.{file_type_name, file_types, name_of_id, types_of_section};
 ghost use Rattle.ebpf_c.specs.LoaderNumbers.{type_refusal_in};
 
+use crate::details::Details;
 use crate::refusal::Refusal;
 use ebpf_base::Text;
 use ebpf_btf::{Btf, BtfError};
@@ -77,5 +78,10 @@ pub fn type_refusal_in(
     ensures { IfOk result (λ refusal. refusal ≡ type_refusal_in file.now number type_id) }
 {
     let name = file_type_name(alloc, file, type_id)?;
-    Ok(Refusal { number, name })
+    let details = Details::none().of_type(type_id);
+    Ok(Refusal {
+        number,
+        name,
+        details,
+    })
 }

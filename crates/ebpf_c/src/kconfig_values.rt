@@ -14,6 +14,7 @@ use crate::descriptors::text_of;
 use crate::handle::ebpf_handle;
 use crate::kconfig_refusal::kconfig_refusal;
 use crate::refusal::Refusal;
+use crate::refusal_row::ebpf_refusal;
 use crate::told::{tell_bytes, tell_value};
 use ebpf_base::Items;
 use ebpf_kconfig::{KconfigExtern, kconfig, kconfig_number, kconfig_value};
@@ -148,13 +149,13 @@ pub extern "C" fn ebpf_kconfig_value(
     len: &mut usize,
     is_found: &mut u32,
     about: &mut [u8],
-    about_len: &mut usize,
+    report: &mut ebpf_refusal,
 ) -> u32
     ensures stays { handle.new.object ≡ handle.old.object }
-    ensures value { (found : Result (Option (List ℕ)) Refusal) × FindsHeld (IsConfigured name.now config.now) (CannotConfigure name.now config.now) handle.old.object found × LeavesValue found result value.old value.new len.old len.new is_found.old is_found.new about.old about.new about_len.old about_len.new }
+    ensures value { (found : Result (Option (List ℕ)) Refusal) × FindsHeld (IsConfigured name.now config.now) (CannotConfigure name.now config.now) handle.old.object found × LeavesValue found result value.old value.new len.old len.new is_found.old is_found.new about.old about.new report.old report.new }
 {
     let found = value_held(alloc, handle, name, config);
-    tell_value(alloc, found, value, len, is_found, about, about_len)
+    tell_value(alloc, found, value, len, is_found, about, report)
 }
 
 /// Writes the value that a number is to an extern that the kernel's configuration gives, and its length. Of externs of one
@@ -174,11 +175,11 @@ pub extern "C" fn ebpf_kconfig_number(
     value: &mut [u8],
     len: &mut usize,
     about: &mut [u8],
-    about_len: &mut usize,
+    report: &mut ebpf_refusal,
 ) -> u32
     ensures stays { handle.new.object ≡ handle.old.object }
-    ensures value { (found : Result (List ℕ) Refusal) × FindsHeld (IsNumbered name.now number) (CannotNumber name.now number) handle.old.object found × LeavesList found result value.old value.new len.old len.new about.old about.new about_len.old about_len.new }
+    ensures value { (found : Result (List ℕ) Refusal) × FindsHeld (IsNumbered name.now number) (CannotNumber name.now number) handle.old.object found × LeavesList found result value.old value.new len.old len.new about.old about.new report.old report.new }
 {
     let found = number_held(alloc, handle, name, number);
-    tell_bytes(found, value, len, about, about_len)
+    tell_bytes(found, value, len, about, report)
 }

@@ -4,6 +4,7 @@ ghost use Rattle.std.specs.Prelude.{◌≡◌, ◌<◌};
 ghost use Rattle.ebpf_c.specs.Numbers.{ksyms_refusal};
 
 use crate::codes::MEMORY;
+use crate::details::Details;
 use crate::refusal::Refusal;
 use crate::type_fault::type_refusal;
 use ebpf_ksyms::KsymsError;
@@ -19,7 +20,15 @@ pub fn ksyms_refusal(error: KsymsError) -> Refusal
         KsymsError::IncompatibleFunctionSignature { name } => Refusal::named(402, name),
         KsymsError::IncompatibleVariableType { name } => Refusal::named(403, name),
         KsymsError::InvalidExternType { name } => Refusal::named(404, name),
-        KsymsError::AmbiguousResolution { name, .. } => Refusal::named(405, name),
+        KsymsError::AmbiguousResolution {
+            name,
+            first_addr,
+            second_addr,
+        } => Refusal::named_detailed(
+            405,
+            name,
+            Details::none().two_addresses(first_addr, second_addr),
+        ),
         KsymsError::KallsymsAccessError(_) => Refusal::plain(406),
         KsymsError::KallsymsParseError(text) => Refusal::named(407, text),
         KsymsError::FunctionNotFound { name } => Refusal::named(408, name),

@@ -7,6 +7,7 @@ ghost use Rattle.ebpf_c.specs.Passes.{CannotLink, HasLinked};
 use crate::codes::{CLOSED, DONE};
 use crate::handle::ebpf_handle;
 use crate::refusal::{Refusal, answered, tell};
+use crate::refusal_row::ebpf_refusal;
 use crate::slot_refusal::slot_refusal;
 use ebpf_model::EbpfRelocationError;
 use ebpf_object::Object;
@@ -42,16 +43,16 @@ pub extern "C" fn ebpf_relocate_calls(
     alloc: Global,
     handle: &mut ebpf_handle,
     about: &mut [u8],
-    about_len: &mut usize,
+    report: &mut ebpf_refusal,
 ) -> u32
     ensures linked { result ≡ DONE → Changes HasLinked handle.old.object handle.new.object }
-    ensures quiet { result ≡ DONE → (about.new ≡ about.old) × (about_len.new ≡ about_len.old) }
-    ensures refused { ¬ (result ≡ DONE) → IsRefused (WhyHeld handle.old.object CannotLink) result handle.old.object handle.new.object about.old about.new about_len.new }
+    ensures quiet { result ≡ DONE → (about.new ≡ about.old) × (report.new ≡ report.old) }
+    ensures refused { ¬ (result ≡ DONE) → IsRefused (WhyHeld handle.old.object CannotLink) result handle.old.object handle.new.object about.old about.new report.new }
 {
     let Some(mut object) = handle.take(alloc) else {
-        return tell(&Refusal::plain(CLOSED), about, about_len);
+        return tell(&Refusal::plain(CLOSED), about, report);
     };
     let answer = link_programs(alloc, &mut object);
     handle.put(alloc, object);
-    answered(answer, about, about_len)
+    answered(answer, about, report)
 }

@@ -26,7 +26,7 @@ pub struct Listing<R> {
 }
 
 /// Adds the row and the name of a thing.
-fn add_entry<V, C, R: Row<V, C>>(
+pub fn add_entry<V, C, R: Row<V, C>>(
     listing: &mut Listing<R>,
     context: &C,
     entry: &Entry<'_, V>,

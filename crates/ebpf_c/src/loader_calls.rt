@@ -15,6 +15,7 @@ use crate::buffers::ebpf_counts;
 use crate::handle::ebpf_handle;
 use crate::kconfig_lists::list_kconfig_held;
 use crate::kconfig_rows::ebpf_kconfig_extern;
+use crate::refusal_row::ebpf_refusal;
 use crate::slot_lists::list_slots_held;
 use crate::slot_rows::ebpf_initial_slot;
 use crate::told::{tell_bytes, tell_listing};
@@ -37,12 +38,12 @@ pub extern "C" fn ebpf_kernel_types(
     types: &mut [u8],
     len: &mut usize,
     about: &mut [u8],
-    about_len: &mut usize,
+    report: &mut ebpf_refusal,
 ) -> u32
-    ensures { (found : Result (List ℕ) Refusal) × AreTypesForKernel file.now found × LeavesList found result types.old types.new len.old len.new about.old about.new about_len.old about_len.new }
+    ensures { (found : Result (List ℕ) Refusal) × AreTypesForKernel file.now found × LeavesList found result types.old types.new len.old len.new about.old about.new report.old report.new }
 {
     let found = types_for_kernel(alloc, file);
-    tell_bytes(found, types, len, about, about_len)
+    tell_bytes(found, types, len, about, report)
 }
 
 /// Lists the externs of an object that the kernel's configuration gives: a row each in the order in which the types of the
@@ -60,13 +61,13 @@ pub extern "C" fn ebpf_kconfig(
     text: &mut [u8],
     counts: &mut ebpf_counts,
     about: &mut [u8],
-    about_len: &mut usize,
+    report: &mut ebpf_refusal,
 ) -> u32
     ensures stays { handle.new.object ≡ handle.old.object }
-    ensures listed { (found : Result (Listed ebpf_kconfig_extern) Refusal) × FindsHeld IsKconfigList CannotListKconfig handle.old.object found × LeavesListing found result rows.old rows.new text.old text.new counts.old counts.new about.old about.new about_len.old about_len.new }
+    ensures listed { (found : Result (Listed ebpf_kconfig_extern) Refusal) × FindsHeld IsKconfigList CannotListKconfig handle.old.object found × LeavesListing found result rows.old rows.new text.old text.new counts.old counts.new about.old about.new report.old report.new }
 {
     let found = list_kconfig_held(alloc, handle);
-    tell_listing(found, rows, text, counts, about, about_len)
+    tell_listing(found, rows, text, counts, about, report)
 }
 
 /// Lists the initial values of an object's maps of maps and arrays of programs: a row each by the maps' names in byte order,
@@ -87,11 +88,11 @@ pub extern "C" fn ebpf_initial_slots(
     text: &mut [u8],
     counts: &mut ebpf_counts,
     about: &mut [u8],
-    about_len: &mut usize,
+    report: &mut ebpf_refusal,
 ) -> u32
     ensures stays { handle.new.object ≡ handle.old.object }
-    ensures listed { (found : Result (Listed ebpf_initial_slot) Refusal) × FindsHeld (IsSlotList file.now) (CannotListSlots file.now) handle.old.object found × LeavesListing found result rows.old rows.new text.old text.new counts.old counts.new about.old about.new about_len.old about_len.new }
+    ensures listed { (found : Result (Listed ebpf_initial_slot) Refusal) × FindsHeld (IsSlotList file.now) (CannotListSlots file.now) handle.old.object found × LeavesListing found result rows.old rows.new text.old text.new counts.old counts.new about.old about.new report.old report.new }
 {
     let found = list_slots_held(alloc, file, handle);
-    tell_listing(found, rows, text, counts, about, about_len)
+    tell_listing(found, rows, text, counts, about, report)
 }

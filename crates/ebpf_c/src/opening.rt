@@ -10,6 +10,7 @@ use crate::codes::{CLOSED, DONE, MEMORY};
 use crate::handle::ebpf_handle;
 use crate::parse_refusal::parse_refusal;
 use crate::refusal::{Refusal, tell};
+use crate::refusal_row::ebpf_refusal;
 use ebpf_object::Object;
 use ebpf_object::obj::Reading;
 use std::alloc::{AllocError, Global};
@@ -38,18 +39,18 @@ fn open(
     reading: Reading,
     handle: &mut ebpf_handle,
     about: &mut [u8],
-    about_len: &mut usize,
+    report: &mut ebpf_refusal,
 ) -> u32
     ensures opened { result ≡ DONE → (handle.new.object ≡ Some (object_as reading file.now)) × (parse_fault_as reading file.now ≡ None) }
-    ensures quiet { result ≡ DONE → (about.new ≡ about.old) × (about_len.new ≡ about_len.old) }
-    ensures refused { ¬ (result ≡ DONE) → IsRefused (CannotOpen reading file.now) result handle.old.object handle.new.object about.old about.new about_len.new }
+    ensures quiet { result ≡ DONE → (about.new ≡ about.old) × (report.new ≡ report.old) }
+    ensures refused { ¬ (result ≡ DONE) → IsRefused (CannotOpen reading file.now) result handle.old.object handle.new.object about.old about.new report.new }
 {
     match open_object(alloc, file, reading) {
         Ok(object) => {
             handle.put(alloc, object);
             DONE
         }
-        Err(refusal) => tell(&refusal, about, about_len),
+        Err(refusal) => tell(&refusal, about, report),
     }
 }
 
@@ -64,13 +65,13 @@ pub extern "C" fn ebpf_open(
     file: &[u8],
     handle: &mut ebpf_handle,
     about: &mut [u8],
-    about_len: &mut usize,
+    report: &mut ebpf_refusal,
 ) -> u32
     ensures opened { result ≡ DONE → (handle.new.object ≡ Some (object_of file.now)) × (parse_fault file.now ≡ None) }
-    ensures quiet { result ≡ DONE → (about.new ≡ about.old) × (about_len.new ≡ about_len.old) }
-    ensures refused { ¬ (result ≡ DONE) → IsRefused (CannotOpen Stated file.now) result handle.old.object handle.new.object about.old about.new about_len.new }
+    ensures quiet { result ≡ DONE → (about.new ≡ about.old) × (report.new ≡ report.old) }
+    ensures refused { ¬ (result ≡ DONE) → IsRefused (CannotOpen Stated file.now) result handle.old.object handle.new.object about.old about.new report.new }
 {
-    open(alloc, file, Reading::Stated, handle, about, about_len)
+    open(alloc, file, Reading::Stated, handle, about, report)
 }
 
 /// Opens the object of a file that is read broadly, where every section of code is a program's, whatever its name. What the
@@ -85,13 +86,13 @@ pub extern "C" fn ebpf_open_broad(
     file: &[u8],
     handle: &mut ebpf_handle,
     about: &mut [u8],
-    about_len: &mut usize,
+    report: &mut ebpf_refusal,
 ) -> u32
     ensures opened { result ≡ DONE → (handle.new.object ≡ Some (object_as Broad file.now)) × (parse_fault_as Broad file.now ≡ None) }
-    ensures quiet { result ≡ DONE → (about.new ≡ about.old) × (about_len.new ≡ about_len.old) }
-    ensures refused { ¬ (result ≡ DONE) → IsRefused (CannotOpen Broad file.now) result handle.old.object handle.new.object about.old about.new about_len.new }
+    ensures quiet { result ≡ DONE → (about.new ≡ about.old) × (report.new ≡ report.old) }
+    ensures refused { ¬ (result ≡ DONE) → IsRefused (CannotOpen Broad file.now) result handle.old.object handle.new.object about.old about.new report.new }
 {
-    open(alloc, file, Reading::Broad, handle, about, about_len)
+    open(alloc, file, Reading::Broad, handle, about, report)
 }
 
 /// A copy of an object, in a box of its own.

@@ -11,6 +11,7 @@ use crate::descriptors::{descriptors_in, ebpf_descriptor, have_names};
 use crate::handle::ebpf_handle;
 use crate::prepare_refusal::prepare_refusal;
 use crate::refusal::{Refusal, tell};
+use crate::refusal_row::ebpf_refusal;
 use crate::target_types::read_types_if;
 use ebpf_btf::Btf;
 use ebpf_object::Object;
@@ -101,17 +102,17 @@ pub extern "C" fn ebpf_prepare(
     symbols: &[u8],
     handle: &mut ebpf_handle,
     about: &mut [u8],
-    about_len: &mut usize,
+    report: &mut ebpf_refusal,
 ) -> u32
     ensures prepared { result ≡ DONE → IsPreparedIn (preparation_inputs file.now types.now rows.now text.now symbols.now) handle.new.object }
-    ensures quiet { result ≡ DONE → (about.new ≡ about.old) × (about_len.new ≡ about_len.old) }
-    ensures refused { ¬ (result ≡ DONE) → IsRefused (CannotPrepare (preparation_inputs file.now types.now rows.now text.now symbols.now)) result handle.old.object handle.new.object about.old about.new about_len.new }
+    ensures quiet { result ≡ DONE → (about.new ≡ about.old) × (report.new ≡ report.old) }
+    ensures refused { ¬ (result ≡ DONE) → IsRefused (CannotPrepare (preparation_inputs file.now types.now rows.now text.now symbols.now)) result handle.old.object handle.new.object about.old about.new report.new }
 {
     match prepare_box(alloc, file, types, rows, text, symbols) {
         Ok(object) => {
             handle.put(alloc, object);
             DONE
         }
-        Err(refusal) => tell(&refusal, about, about_len),
+        Err(refusal) => tell(&refusal, about, report),
     }
 }

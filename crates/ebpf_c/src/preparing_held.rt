@@ -10,6 +10,7 @@ use crate::handle::ebpf_handle;
 use crate::prepare_refusal::prepare_refusal;
 use crate::preparing::all_passes;
 use crate::refusal::{Refusal, answered, tell};
+use crate::refusal_row::ebpf_refusal;
 use crate::target_types::read_types_if;
 use ebpf_object::Object;
 use ebpf_object::prepare::{SymbolText, prepare_in_place};
@@ -63,16 +64,16 @@ pub extern "C" fn ebpf_prepare_handle(
     text: &[u8],
     symbols: &[u8],
     about: &mut [u8],
-    about_len: &mut usize,
+    report: &mut ebpf_refusal,
 ) -> u32
     ensures prepared { result ≡ DONE → Changes (HasPreparedHeld (held_inputs types.now rows.now text.now symbols.now)) handle.old.object handle.new.object }
-    ensures quiet { result ≡ DONE → (about.new ≡ about.old) × (about_len.new ≡ about_len.old) }
-    ensures refused { ¬ (result ≡ DONE) → IsRefused (WhyHeld handle.old.object (CannotPrepareHeld (held_inputs types.now rows.now text.now symbols.now))) result handle.old.object handle.new.object about.old about.new about_len.new }
+    ensures quiet { result ≡ DONE → (about.new ≡ about.old) × (report.new ≡ report.old) }
+    ensures refused { ¬ (result ≡ DONE) → IsRefused (WhyHeld handle.old.object (CannotPrepareHeld (held_inputs types.now rows.now text.now symbols.now))) result handle.old.object handle.new.object about.old about.new report.new }
 {
     let Some(mut object) = handle.take(alloc) else {
-        return tell(&Refusal::plain(CLOSED), about, about_len);
+        return tell(&Refusal::plain(CLOSED), about, report);
     };
     let answer = prepare_held(alloc, &mut object, types, rows, text, symbols);
     handle.put(alloc, object);
-    answered(answer, about, about_len)
+    answered(answer, about, report)
 }

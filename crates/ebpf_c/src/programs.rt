@@ -2,7 +2,7 @@
 
 ghost use Rattle.std.specs.Prelude.{◌≡◌};
 ghost use Rattle.std.specs.FinMap.{get};
-ghost use Rattle.ebpf_c.specs.ProgramRows.{loading_of, program_row, name_of_section_number, slot_count};
+ghost use Rattle.ebpf_c.specs.ProgramRows.{loading_of, name_of_section_number, program_row, program_row_in, slot_count};
 
 use crate::entries::Entry;
 use crate::listing::Row;
@@ -69,11 +69,34 @@ pub fn name_of_section_number<'b>(sections: &[Entry<'b, SectionIndex>], number: 
 }
 
 /// How a program is loaded, by the name of its section and its kind.
-fn loading_of(sections: &[Entry<'_, SectionIndex>], program: &Program) -> Loading
-    ensures { result ≡ loading_of sections.now program.now }
+fn loading_of(section_name: &str, program: &Program) -> Loading
+    ensures { result ≡ loading_of section_name.now program.now }
 {
-    let name = name_of_section_number(sections, program.section_index);
-    loaded_as(program_kind(name), program.section)
+    loaded_as(program_kind(section_name), program.section)
+}
+
+/// The row of a program whose section has a name, and whose own name begins at an offset of the text.
+pub fn program_row(
+    functions: &ByKey<Function>,
+    section_name: &str,
+    name: &str,
+    program: &Program,
+    name_at: usize,
+) -> ebpf_program
+    ensures { result ≡ program_row_in functions.now section_name.now name.now program.now name_at }
+{
+    let loading = loading_of(section_name, program);
+    ebpf_program {
+        name_at,
+        name_len: name.len(),
+        section: program.section_index,
+        address: program.address,
+        slots: slot_count(functions, program.function_key()),
+        kind: program_kind_number(program.section),
+        flags: loading.flags,
+        program_type: loading.program_type,
+        attach_type: loading.attach_type,
+    }
 }
 
 impl<'a, 'b> Row<Program, Surroundings<'a, 'b>> for ebpf_program {
@@ -85,17 +108,7 @@ impl<'a, 'b> Row<Program, Surroundings<'a, 'b>> for ebpf_program {
         value: &Program,
         name_at: usize,
     ) -> ebpf_program {
-        let loading = loading_of(context.sections, value);
-        ebpf_program {
-            name_at,
-            name_len: name.len(),
-            section: value.section_index,
-            address: value.address,
-            slots: slot_count(context.functions, value.function_key()),
-            kind: program_kind_number(value.section),
-            flags: loading.flags,
-            program_type: loading.program_type,
-            attach_type: loading.attach_type,
-        }
+        let section_name = name_of_section_number(context.sections, value.section_index);
+        program_row(context.functions, section_name, name, value, name_at)
     }
 }

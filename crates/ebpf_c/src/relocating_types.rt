@@ -7,6 +7,7 @@ ghost use Rattle.ebpf_c.specs.Passes.{CannotRelocateTypes, HasRelocatedTypes};
 use crate::codes::{CLOSED, DONE};
 use crate::handle::ebpf_handle;
 use crate::refusal::{Refusal, answered, tell};
+use crate::refusal_row::ebpf_refusal;
 use crate::target_types::read_types;
 use crate::types_refusal::types_refusal;
 use ebpf_object::Object;
@@ -42,16 +43,16 @@ pub extern "C" fn ebpf_relocate_types(
     handle: &mut ebpf_handle,
     types: &[u8],
     about: &mut [u8],
-    about_len: &mut usize,
+    report: &mut ebpf_refusal,
 ) -> u32
     ensures relocated { result ≡ DONE → Changes (HasRelocatedTypes types.now) handle.old.object handle.new.object }
-    ensures quiet { result ≡ DONE → (about.new ≡ about.old) × (about_len.new ≡ about_len.old) }
-    ensures refused { ¬ (result ≡ DONE) → IsRefused (WhyHeld handle.old.object (CannotRelocateTypes types.now)) result handle.old.object handle.new.object about.old about.new about_len.new }
+    ensures quiet { result ≡ DONE → (about.new ≡ about.old) × (report.new ≡ report.old) }
+    ensures refused { ¬ (result ≡ DONE) → IsRefused (WhyHeld handle.old.object (CannotRelocateTypes types.now)) result handle.old.object handle.new.object about.old about.new report.new }
 {
     let Some(mut object) = handle.take(alloc) else {
-        return tell(&Refusal::plain(CLOSED), about, about_len);
+        return tell(&Refusal::plain(CLOSED), about, report);
     };
     let answer = relocate_types(alloc, &mut object, types);
     handle.put(alloc, object);
-    answered(answer, about, about_len)
+    answered(answer, about, report)
 }

@@ -8,6 +8,7 @@ use crate::codes::{CLOSED, DONE};
 use crate::handle::ebpf_handle;
 use crate::ksyms_refusal::ksyms_refusal;
 use crate::refusal::{Refusal, answered, tell};
+use crate::refusal_row::ebpf_refusal;
 use crate::slot_refusal::slot_refusal;
 use crate::target_types::read_types_if;
 use ebpf_object::Object;
@@ -54,18 +55,18 @@ pub extern "C" fn ebpf_resolve_externs(
     types: &[u8],
     symbols: &[u8],
     about: &mut [u8],
-    about_len: &mut usize,
+    report: &mut ebpf_refusal,
 ) -> u32
     ensures resolved { result ≡ DONE → Changes (HasResolved types.now symbols.now) handle.old.object handle.new.object }
-    ensures quiet { result ≡ DONE → (about.new ≡ about.old) × (about_len.new ≡ about_len.old) }
-    ensures refused { ¬ (result ≡ DONE) → IsRefused (WhyHeld handle.old.object (CannotResolve types.now symbols.now)) result handle.old.object handle.new.object about.old about.new about_len.new }
+    ensures quiet { result ≡ DONE → (about.new ≡ about.old) × (report.new ≡ report.old) }
+    ensures refused { ¬ (result ≡ DONE) → IsRefused (WhyHeld handle.old.object (CannotResolve types.now symbols.now)) result handle.old.object handle.new.object about.old about.new report.new }
 {
     let Some(mut object) = handle.take(alloc) else {
-        return tell(&Refusal::plain(CLOSED), about, about_len);
+        return tell(&Refusal::plain(CLOSED), about, report);
     };
     let answer = resolve_externs(alloc, &mut object, types, symbols);
     handle.put(alloc, object);
-    answered(answer, about, about_len)
+    answered(answer, about, report)
 }
 
 /// Writes the externs of an object into the slots that refer to them.
@@ -92,16 +93,16 @@ pub extern "C" fn ebpf_relocate_externs(
     alloc: Global,
     handle: &mut ebpf_handle,
     about: &mut [u8],
-    about_len: &mut usize,
+    report: &mut ebpf_refusal,
 ) -> u32
     ensures written { result ≡ DONE → Changes HasWrittenExterns handle.old.object handle.new.object }
-    ensures quiet { result ≡ DONE → (about.new ≡ about.old) × (about_len.new ≡ about_len.old) }
-    ensures refused { ¬ (result ≡ DONE) → IsRefused (WhyHeld handle.old.object CannotWriteExterns) result handle.old.object handle.new.object about.old about.new about_len.new }
+    ensures quiet { result ≡ DONE → (about.new ≡ about.old) × (report.new ≡ report.old) }
+    ensures refused { ¬ (result ≡ DONE) → IsRefused (WhyHeld handle.old.object CannotWriteExterns) result handle.old.object handle.new.object about.old about.new report.new }
 {
     let Some(mut object) = handle.take(alloc) else {
-        return tell(&Refusal::plain(CLOSED), about, about_len);
+        return tell(&Refusal::plain(CLOSED), about, report);
     };
     let answer = write_externs(&mut object);
     handle.put(alloc, object);
-    answered(answer, about, about_len)
+    answered(answer, about, report)
 }

@@ -8,6 +8,7 @@ use crate::codes::{BAD_NAME, BAD_VALUE, CLOSED, DONE, MEMORY};
 use crate::handle::ebpf_handle;
 use crate::parse_refusal::parse_refusal;
 use crate::refusal::{Refusal, answered, tell};
+use crate::refusal_row::ebpf_refusal;
 use crate::value_rows::{are_named, ebpf_value, have_values, values_in};
 use ebpf_object::Object;
 use std::alloc::Global;
@@ -59,16 +60,16 @@ pub extern "C" fn ebpf_set_values(
     text: &[u8],
     bytes: &[u8],
     about: &mut [u8],
-    about_len: &mut usize,
+    report: &mut ebpf_refusal,
 ) -> u32
     ensures patched { result ≡ DONE → Changes (HasPatchedAll rows.now text.now bytes.now) handle.old.object handle.new.object }
-    ensures quiet { result ≡ DONE → (about.new ≡ about.old) × (about_len.new ≡ about_len.old) }
-    ensures refused { ¬ (result ≡ DONE) → IsRefused (WhyHeld handle.old.object (CannotPatchAll rows.now text.now bytes.now)) result handle.old.object handle.new.object about.old about.new about_len.new }
+    ensures quiet { result ≡ DONE → (about.new ≡ about.old) × (report.new ≡ report.old) }
+    ensures refused { ¬ (result ≡ DONE) → IsRefused (WhyHeld handle.old.object (CannotPatchAll rows.now text.now bytes.now)) result handle.old.object handle.new.object about.old about.new report.new }
 {
     let Some(mut object) = handle.take(alloc) else {
-        return tell(&Refusal::plain(CLOSED), about, about_len);
+        return tell(&Refusal::plain(CLOSED), about, report);
     };
     let answer = set_values(alloc, &mut object, rows, text, bytes);
     handle.put(alloc, object);
-    answered(answer, about, about_len)
+    answered(answer, about, report)
 }

@@ -1,9 +1,10 @@
 //! Why slots can't be relocated.
 
 ghost use Rattle.std.specs.Prelude.{◌≡◌, ◌<◌, ◌≤◌};
-ghost use Rattle.ebpf_c.specs.Numbers.{slot_number, slot_refusal};
+ghost use Rattle.ebpf_c.specs.Numbers.{slot_details, slot_number, slot_refusal};
 
 use crate::codes::MEMORY;
+use crate::details::Details;
 use crate::refusal::Refusal;
 use ebpf_model::{EbpfRelocationError, RelocationError};
 
@@ -31,6 +32,33 @@ fn slot_number(first: u32, error: &RelocationError) -> u32
     }
 }
 
+/// The numbers that a fault of slots states.
+fn slot_details(error: &RelocationError) -> Details
+    ensures { result ≡ slot_details error.now }
+{
+    let none = Details::none();
+    match error {
+        RelocationError::UnknownSymbol { index } => none.of_symbol(*index),
+        RelocationError::SectionNotFound {
+            section_index,
+            symbol_index,
+            ..
+        } => none.at_section(*section_index).of_symbol(*symbol_index),
+        RelocationError::UnknownFunction { address, .. } => none.at_address(*address),
+        RelocationError::UnknownProgram {
+            section_index,
+            address,
+        } => none.at_section(*section_index).at_address(*address),
+        RelocationError::InvalidRelocationOffset {
+            offset,
+            relocation_number,
+        } => none.at_offset(*offset).of_relocation(*relocation_number),
+        RelocationError::UnsupportedTextSymbol { index } => none.of_symbol(*index),
+        RelocationError::MapAddressOverflow { offset } => none.at_offset(*offset),
+        _ => none,
+    }
+}
+
 /// The refusal for a fault of slots, about the function or the program. The first of the faults has the number `first`.
 pub fn slot_refusal(first: u32, error: EbpfRelocationError) -> Refusal
     requires small { first ≤ 1000 }
@@ -39,5 +67,6 @@ pub fn slot_refusal(first: u32, error: EbpfRelocationError) -> Refusal
     ensures refuses { 0 < result.number }
 {
     let number = slot_number(first, &error.error);
-    Refusal::named(number, error.function)
+    let details = slot_details(&error.error);
+    Refusal::named_detailed(number, error.function, details)
 }

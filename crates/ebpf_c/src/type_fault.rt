@@ -1,9 +1,10 @@
 //! Why types can't be read.
 
 ghost use Rattle.std.specs.Prelude.{◌≡◌, ◌<◌, ◌≤◌};
-ghost use Rattle.ebpf_c.specs.Numbers.{type_number, type_refusal};
+ghost use Rattle.ebpf_c.specs.Numbers.{type_details, type_number, type_refusal};
 
 use crate::codes::MEMORY;
+use crate::details::Details;
 use crate::refusal::Refusal;
 use ebpf_btf::BtfError;
 
@@ -34,6 +35,21 @@ pub fn type_number(first: u32, error: &BtfError) -> u32
     }
 }
 
+/// The numbers that a fault of types states.
+pub fn type_details(error: &BtfError) -> Details
+    ensures { result ≡ type_details error.now }
+{
+    let none = Details::none();
+    match error {
+        BtfError::InvalidStringOffset { offset } => none.at_offset(*offset as u64),
+        BtfError::InvalidRelocationKind { kind } => none.of_kind(*kind),
+        BtfError::UnexpectedBtfType { type_id } => none.of_type(*type_id),
+        BtfError::UnknownBtfType { type_id } => none.of_type(*type_id),
+        BtfError::MaximumTypeDepth { type_id } => none.of_type(*type_id),
+        _ => none,
+    }
+}
+
 /// The refusal for a fault of types, the first of which has the number `first`.
 pub fn type_refusal(first: u32, error: BtfError) -> Refusal
     requires small { first ≤ 1000 }
@@ -42,11 +58,16 @@ pub fn type_refusal(first: u32, error: BtfError) -> Refusal
     ensures refuses { 0 < result.number }
 {
     let number = type_number(first, &error);
+    let details = type_details(&error);
     match error {
-        BtfError::UnknownBtfTypeName { type_name } => Refusal::named(number, type_name),
-        BtfError::InnerMapCannotBePinned { name } => Refusal::named(number, name),
-        BtfError::MultiLevelMapInMapNotSupported { name } => Refusal::named(number, name),
-        BtfError::InvalidValuesSpec { name } => Refusal::named(number, name),
-        _ => Refusal::plain(number),
+        BtfError::UnknownBtfTypeName { type_name } => Refusal::named_detailed(
+            number, type_name, details,
+        ),
+        BtfError::InnerMapCannotBePinned { name } => Refusal::named_detailed(number, name, details),
+        BtfError::MultiLevelMapInMapNotSupported { name } => Refusal::named_detailed(
+            number, name, details,
+        ),
+        BtfError::InvalidValuesSpec { name } => Refusal::named_detailed(number, name, details),
+        _ => Refusal::detailed(number, details),
     }
 }

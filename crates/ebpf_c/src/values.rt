@@ -10,6 +10,7 @@ use crate::descriptors::text_of;
 use crate::handle::ebpf_handle;
 use crate::parse_refusal::parse_refusal;
 use crate::refusal::{Refusal, answered, tell};
+use crate::refusal_row::ebpf_refusal;
 use ebpf_object::Object;
 use std::alloc::{AllocError, Global};
 use std::collections::HashMap;
@@ -68,16 +69,16 @@ pub extern "C" fn ebpf_set_value(
     value: &[u8],
     must_exist: u32,
     about: &mut [u8],
-    about_len: &mut usize,
+    report: &mut ebpf_refusal,
 ) -> u32
     ensures patched { result ≡ DONE → Changes (HasPatched name.now value.now (not (must_exist == 0))) handle.old.object handle.new.object }
-    ensures quiet { result ≡ DONE → (about.new ≡ about.old) × (about_len.new ≡ about_len.old) }
-    ensures refused { ¬ (result ≡ DONE) → IsRefused (WhyHeld handle.old.object (CannotPatch name.now value.now (not (must_exist == 0)))) result handle.old.object handle.new.object about.old about.new about_len.new }
+    ensures quiet { result ≡ DONE → (about.new ≡ about.old) × (report.new ≡ report.old) }
+    ensures refused { ¬ (result ≡ DONE) → IsRefused (WhyHeld handle.old.object (CannotPatch name.now value.now (not (must_exist == 0)))) result handle.old.object handle.new.object about.old about.new report.new }
 {
     let Some(mut object) = handle.take(alloc) else {
-        return tell(&Refusal::plain(CLOSED), about, about_len);
+        return tell(&Refusal::plain(CLOSED), about, report);
     };
     let answer = set_value(alloc, &mut object, name, value, must_exist != 0);
     handle.put(alloc, object);
-    answered(answer, about, about_len)
+    answered(answer, about, report)
 }

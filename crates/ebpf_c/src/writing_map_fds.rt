@@ -9,6 +9,7 @@ use crate::descriptors::{descriptors_in, ebpf_descriptor, have_names};
 use crate::handle::ebpf_handle;
 use crate::prepare_refusal::prepare_refusal;
 use crate::refusal::{Refusal, answered, tell};
+use crate::refusal_row::ebpf_refusal;
 use ebpf_object::Object;
 use ebpf_object::prepare::relocate_own_maps;
 use std::alloc::Global;
@@ -52,16 +53,16 @@ pub extern "C" fn ebpf_relocate_maps(
     rows: &[ebpf_descriptor],
     text: &[u8],
     about: &mut [u8],
-    about_len: &mut usize,
+    report: &mut ebpf_refusal,
 ) -> u32
     ensures fds_written { result ≡ DONE → Changes (HasWrittenMapFds rows.now text.now) handle.old.object handle.new.object }
-    ensures quiet { result ≡ DONE → (about.new ≡ about.old) × (about_len.new ≡ about_len.old) }
-    ensures refused { ¬ (result ≡ DONE) → IsRefused (WhyHeld handle.old.object (CannotWriteMapFds rows.now text.now)) result handle.old.object handle.new.object about.old about.new about_len.new }
+    ensures quiet { result ≡ DONE → (about.new ≡ about.old) × (report.new ≡ report.old) }
+    ensures refused { ¬ (result ≡ DONE) → IsRefused (WhyHeld handle.old.object (CannotWriteMapFds rows.now text.now)) result handle.old.object handle.new.object about.old about.new report.new }
 {
     let Some(mut object) = handle.take(alloc) else {
-        return tell(&Refusal::plain(CLOSED), about, about_len);
+        return tell(&Refusal::plain(CLOSED), about, report);
     };
     let answer = write_map_fds(alloc, &mut object, rows, text);
     handle.put(alloc, object);
-    answered(answer, about, about_len)
+    answered(answer, about, report)
 }

@@ -1,5 +1,6 @@
 pub mod Empty
 pub mod Ranges
+pub mod ShortNames
 pub mod Texts
 pub mod Sound
 pub mod Tables

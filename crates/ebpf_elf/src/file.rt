@@ -32,23 +32,12 @@ impl<'a> Model for ElfFile<'a> {
     ghost view = { λ f. f.layout.table.bytes.now };
 }
 
-/// Whether the name of a section can be read and is this one.
-#[tactic(auto)]
-fn is_named(section: &ElfSection<'_>, name: &str) -> bool
-    ensures { result ≡ is_name name.now (section_name section.now) }
-{
-    match section.name() {
-        Ok(text) => text == name,
-        Err(_) => false,
-    }
-}
-
 /// The first section of this name.
 fn first_named<'a>(sections: Sections<'a>, name: &str) -> Option<ElfSection<'a>>
     ensures { result ≡ find (λ s. is_name name.now (section_name s)) sections.entry }
 {
     for section in sections {
-        if is_named(&section, name) {
+        if section.has_name(name) {
             return Some(section);
         }
     }

@@ -2,7 +2,7 @@
 
 ghost use Rattle.std.specs.Prelude.{◌≡◌, ◌==◌, None, Some, MatchOption, IfOk, IfErr};
 ghost use Rattle.std.specs.List.{position};
-ghost use Rattle.ebpf_elf.specs.Names.{bytes_before_zero, name_bytes, string_table_name};
+ghost use Rattle.ebpf_elf.specs.Names.{bytes_before_zero, name_bytes, string_table_name, is_name};
 ghost use Rattle.ebpf_elf.specs.declared.error.ElfReadError.TheVariants.{BadStringTable};
 
 use crate::error::ElfReadError;
@@ -52,4 +52,25 @@ pub fn name_in(names: &[u8], index: usize) -> Result<&str, ElfReadError>
         Ok(text) => Ok(text),
         Err(_) => Err(ElfReadError::BadStringTable),
     }
+}
+
+/// Whether the name with this index can be read and is this text.
+fn reads_as(names: &[u8], index: usize, text: &str) -> bool
+    ensures { result ≡ is_name text.now (string_table_name names.now index) }
+{
+    match name_in(names, index) {
+        Ok(name) => name == text,
+        Err(_) => false,
+    }
+}
+
+/// The same, where one byte more than the text has is looked at, and no other.
+pub fn is_name_in(names: &[u8], index: usize, text: &str) -> bool
+    ensures { result ≡ is_name text.now (string_table_name names.now index) }
+{
+    let longest = text.len() + 1;
+    if index > names.len() || names.len() - index <= longest {
+        return reads_as(names, index, text);
+    }
+    reads_as(&names[..index + longest], index, text)
 }

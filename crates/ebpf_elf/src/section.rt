@@ -3,6 +3,7 @@
 ghost use Rattle.std.specs.Prelude.{◌≡◌, ◌<◌, ◌≤◌, None, Some, IfOk, IfErr};
 ghost use Rattle.ebpf_base.specs.Faults.{first_of, fault_of};
 ghost use Rattle.ebpf_elf.specs.File.{section};
+ghost use Rattle.ebpf_elf.specs.Names.{is_name};
 ghost use Rattle.ebpf_elf.specs.Relocations.{relocations};
 ghost use Rattle.ebpf_elf.specs.Sections.{SectionOf, header, section_name, data_faults, data_of};
 ghost use Rattle.ebpf_elf.specs.declared.error.ElfReadError.TheVariants.{BadStringTable};
@@ -12,7 +13,7 @@ use crate::entries::SectionIndex;
 use crate::error::ElfReadError;
 use crate::header::SectionHeader;
 use crate::layout::Layout;
-use crate::names::name_in;
+use crate::names::{is_name_in, name_in};
 use crate::relocation_sections::RelocationSections;
 use crate::relocations::Relocations;
 use std::marker::Model;
@@ -92,6 +93,15 @@ impl<'a> ElfSection<'a> {
         ensures error { IfErr result (λ e. e ≡ BadStringTable) }
     {
         name_in(self.layout.names, self.fields.sh_name as usize)
+    }
+
+    /// Whether the section has this name; not where its name can't be read. It costs as this text's length does, however
+    /// long the section's name is.
+    #[tactic(auto, unfolding(crate::specs::Sections::section_name))]
+    pub fn has_name(&self, text: &str) -> bool
+        ensures { result ≡ is_name text.now (section_name self.now) }
+    {
+        is_name_in(self.layout.names, self.fields.sh_name as usize, text)
     }
 
     /// The section's bytes in the file (sh_offset, sh_size). A section of type NOBITS has none.

@@ -1,8 +1,11 @@
 pub mod DataSections
+pub mod FunctionLinkages
 pub mod HiddenFunctions
 pub mod KconfigRooms
 pub mod KconfigSections
 pub mod KernelSymbols
+pub mod KernelTypeLaws
+pub mod KernelTypeList
 pub mod KernelTypes
 pub mod KernelTypesMemory
 pub mod KsymsSections

@@ -1,5 +1,6 @@
--- The INT and the VAR that stand in for what `.ksyms` names, since the kernel takes variables alone in a DATASEC (libbpf
--- 1.5, libbpf.c: add_dummy_ksym_var, find_int_btf_id). They are appended, so that ids and offsets stay.
+-- The INT and the VAR that stand in for what `.ksyms` names, since the kernel takes variables alone in a DATASEC. They are
+-- appended, so that ids and offsets stay. libbpf 1.5 appends the VAR alone (libbpf.c: add_dummy_ksym_var): where it finds no
+-- INT of 4 bytes (find_int_btf_id), its variables have the type void, which the kernel refuses.
 use Rattle.std.specs.Prelude.{ℕ, ◌+◌, nat_lt, Bool, false, true, not, ◌&&◌, ◌||◌, ◌==◌, List, [], ◌∷◌, ◌++◌, length, codes, Option, Some, None, Result, Ok, Err, slice_get, if◌then◌else◌}
 use Rattle.std.specs.List.{flat_map, list_any, position_from}
 use Rattle.ebpf_base.specs.declared.endianness.Endianness.{Endianness}

@@ -253,7 +253,7 @@ fn types_in(alloc: Global, file: &[u8]) -> Result<Option<Items<u8>>, KernelTypes
 /// section `.BTF`.
 ///
 /// They are the file's `.BTF`, but for these words, so that ids of types and offsets of strings stay (libbpf 1.5 writes the
-/// same ones):
+/// same ones, where some INT has 4 bytes):
 ///
 /// - A DATASEC but `.ksyms` and `.kconfig` that states size 0 gets the size of the file's section of its name, and the
 ///   entries of its global variables the addresses of the first GLOBAL or WEAK symbols of type OBJECT with their names, in
@@ -262,7 +262,8 @@ fn types_in(alloc: Global, file: &[u8]) -> Result<Option<Items<u8>>, KernelTypes
 /// - The first global FUNC with the name of a hidden or internal function of `.text` gets static linkage.
 /// - Of a DATASEC `.ksyms` each entry has 4 bytes, one behind the other. A VAR gets the type of the first INT of 4 bytes and
 ///   global linkage; a FUNC global linkage, and its parameters that have a type and no name a name, and in its entry stands
-///   the variable `ksym_func_placeholder`, which is appended, behind `int` where no INT has 4 bytes.
+///   the variable `ksym_func_placeholder`, which is appended. Where no INT has 4 bytes, `int` is appended before it (libbpf
+///   appends none, and gives the variables the type void, which the kernel refuses).
 /// - Of a DATASEC `.kconfig` the entries have the offsets of the externs in the value of their map, by descending alignment,
 ///   ascending size and name, and stand in their order; its size is that of the value, and the VARs get global linkage.
 ///

@@ -8,6 +8,7 @@ mod for_kernel;
 mod functions;
 mod kconfig;
 mod ksyms;
+pub mod laws;
 mod layout;
 mod places;
 mod plan;

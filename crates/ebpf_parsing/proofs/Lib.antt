@@ -11,6 +11,7 @@ pub mod Tiles
 pub mod TypeErrors
 pub mod Walked
 pub mod Words
+pub mod SectionNames
 pub mod LastData
 pub mod LastEntries
 pub mod LastPrograms

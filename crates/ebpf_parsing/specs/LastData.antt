@@ -8,6 +8,7 @@ use Rattle.ebpf_btf.specs.TypeInfo.{TypeInfo}
 use Rattle.ebpf_parsing.specs.DataMaps.{data_maps}
 use Rattle.ebpf_parsing.specs.OfSection.{maps_by}
 use Rattle.ebpf_parsing.specs.ObjectTables.{added}
+use Rattle.ebpf_parsing.specs.SectionNames.{NamedSectionValue}
 use Rattle.ebpf_parsing.specs.Symbols.{SymbolValue}
 use Rattle.ebpf_parsing.specs.declared.object_tables.ObjectTables.{ObjectTables}
 use Rattle.ebpf_parsing.specs.declared.metadata.FileMetadata.{FileMetadata}
@@ -27,9 +28,16 @@ is_data_kind _ = false
 abbrev pub data_row : SectionValue → List (List ℕ × ℕ)
 data_row s = if is_data_kind s.kind then (s.name, s.index.0) ∷ [] else []
 
+-- the same of a section of which no more is read
+abbrev pub named_data_row : NamedSectionValue → List (List ℕ × ℕ)
+named_data_row s = if is_data_kind s.kind then (s.name, s.index) ∷ [] else []
+
 -- the index of the last section of data of each name
 abbrev pub last_data : List SectionValue → FinMap text_cmp ℕ
 last_data sections = put_all empty (flat_map data_row sections)
+
+abbrev pub last_named_data : List NamedSectionValue → FinMap text_cmp ℕ
+last_named_data sections = put_all empty (flat_map named_data_row sections)
 
 abbrev pub is_index : ℕ → Option ℕ → Bool
 is_index i None = true

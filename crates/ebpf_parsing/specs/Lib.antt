@@ -22,6 +22,7 @@ pub mod Readings
 -- What only private contracts and proofs name.
 pub mod Groups
 pub mod RecordsBySlot
+pub mod SectionNames
 pub mod LastData
 pub mod ObjectTables
 pub mod PrivateContracts

@@ -8,22 +8,15 @@ ghost use Rattle.ebpf_parsing.specs.BtfDefinedMaps.{btf_defined_maps, btf_define
 ghost use Rattle.ebpf_parts.specs.Memory.{is_parse_memory};
 
 use crate::groups::Groups;
-use crate::last_data::name_or_empty;
-use crate::section_names::names_of_kinds;
+use crate::section_names::{NamedSection, names_of_kinds};
 use crate::symbol_names::symbol_indices_by_name;
 use crate::symbols::NamedSymbol;
 use ebpf_base::{ByName, Text};
 use ebpf_btf::Btf;
 use ebpf_declarations::{BtfDefinedMaps, parse_error};
-use ebpf_elf::{ElfFile, ElfSection};
 use ebpf_parts::maps::Map;
 use ebpf_parts::{EbpfSectionKind, ParseError, Reading, Section};
 use std::alloc::Global;
-
-/// Whether a section has BTF-defined maps.
-fn has_btf_defined_maps(section: &ElfSection<'_>) -> bool {
-    EbpfSectionKind::from_elf(name_or_empty(section), section) == EbpfSectionKind::BtfMaps
-}
 
 /// Adds the indices of symbols by name.
 fn add_symbol_indices(
@@ -45,15 +38,15 @@ fn add_symbol_indices(
 /// The symbols of all sections of BTF-defined maps.
 fn map_symbols(
     alloc: Global,
-    file: &ElfFile<'_>,
+    sections: &[NamedSection<'_>],
     symbols: &Groups<NamedSymbol<'_>>,
 ) -> Result<ByName<usize>, ParseError>
     ensures memory { IfErr result (λ e. is_parse_memory e ≡ true) }
 {
     let mut numbers = ByName::new(alloc);
-    for section in file.sections() {
-        if has_btf_defined_maps(&section) {
-            add_symbol_indices(alloc, &mut numbers, symbols.of(section.index().0))?;
+    for section in sections {
+        if section.kind == EbpfSectionKind::BtfMaps {
+            add_symbol_indices(alloc, &mut numbers, symbols.of(section.index))?;
         }
     }
     Ok(numbers)
@@ -65,7 +58,7 @@ pub fn find_btf_defined_maps<'b>(
     alloc: Global,
     types: &'b Option<Btf>,
     reading: Reading,
-    file: &ElfFile<'_>,
+    sections: &[NamedSection<'_>],
     symbols: &Groups<NamedSymbol<'_>>,
 ) -> Result<Option<BtfDefinedMaps<'b>>, ParseError>
     ensures types { IfOk result (λ declared. declared ≡ types_in_reading reading types.now) }
@@ -74,8 +67,8 @@ pub fn find_btf_defined_maps<'b>(
     let Some(types) = types else {
         return Ok(None);
     };
-    let names = names_of_kinds(alloc, file, &[EbpfSectionKind::BtfMaps])?;
-    let numbers = map_symbols(alloc, file, symbols)?;
+    let names = names_of_kinds(alloc, sections, &[EbpfSectionKind::BtfMaps])?;
+    let numbers = map_symbols(alloc, sections, symbols)?;
     match BtfDefinedMaps::gather(alloc, types, reading, names.as_slice(), &numbers) {
         Ok(declared) => Ok(Some(declared)),
         Err(error) => Err(parse_error(error)),

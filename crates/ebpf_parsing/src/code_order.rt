@@ -6,7 +6,7 @@ ghost use Rattle.ebpf_base.specs.Faults.{fault_of};
 ghost use Rattle.ebpf_elf.specs.Sections.{sections};
 ghost use Rattle.ebpf_parsing.specs.CodeOrder.{has_code, has_big_endian_code, is_big, order_fault_as};
 
-use crate::last_data::name_or_empty;
+use crate::section_names::name_or_empty;
 use ebpf_btf::Endianness;
 use ebpf_elf::constants::SHT_NOBITS;
 use ebpf_elf::{ElfFile, ElfSection};

@@ -53,10 +53,7 @@ fn ext_in(alloc: Global, order: Endianness, bytes: &[u8], types: &Btf) -> Result
 pub fn is_type_information(section: &ElfSection<'_>) -> bool
     ensures { result ≡ is_type_information section.now }
 {
-    match section.name() {
-        Ok(name) => name == ".BTF" || name == ".BTF.ext",
-        Err(_) => false,
-    }
+    section.has_name(".BTF") || section.has_name(".BTF.ext")
 }
 
 /// Remembers the index of a section by its name.

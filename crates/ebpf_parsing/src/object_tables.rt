@@ -34,7 +34,7 @@ use crate::metadata::FileMetadata;
 use crate::program_functions::{put_functions, put_programs};
 use crate::records_by_name::{RecordsByName, SectionInputs};
 use crate::relocations::{RelocationTable, by_offset};
-use crate::section_names::names_of_kinds;
+use crate::section_names::{NamedSection, named_sections, names_of_kinds};
 use crate::sections::read_section;
 use crate::symbols::NamedSymbol;
 use crate::text::put_text_functions;
@@ -228,7 +228,7 @@ impl ObjectTables {
 fn section_inputs<'s>(
     alloc: Global,
     metadata: &'s FileMetadata,
-    file: &ElfFile<'_>,
+    sections: &[NamedSection<'_>],
     symbols: &Groups<NamedSymbol<'_>>,
 ) -> Result<SectionInputs<'s>, ParseError>
     ensures inputs { IfOk result (λ inputs. inputs ≡ metadata.now) }
@@ -236,11 +236,17 @@ fn section_inputs<'s>(
 {
     let code = names_of_kinds(
         alloc,
-        file,
+        sections,
         &[EbpfSectionKind::Program, EbpfSectionKind::Text],
     )?;
     let records = RecordsByName::gather(alloc, &metadata.btf_ext, code.as_slice())?;
-    let declared = find_btf_defined_maps(alloc, &metadata.btf, metadata.reading, file, symbols)?;
+    let declared = find_btf_defined_maps(
+        alloc,
+        &metadata.btf,
+        metadata.reading,
+        sections,
+        symbols,
+    )?;
     Ok(SectionInputs {
         metadata,
         records,
@@ -284,6 +290,7 @@ fn read_by_last(
 }
 
 /// What the sections of a file give, each with its relocations and its symbols.
+#[tactic(auto, using(crate::proofs::SectionNames::last_of_named))]
 pub fn read_sections(
     alloc: Global,
     metadata: &FileMetadata,
@@ -297,7 +304,8 @@ pub fn read_sections(
     ensures object_tables { IfOk result (λ p. p ≡ object_tables_of metadata.now section_infos file.now) }
     ensures fault { Refuses is_parse_memory result (sections_fault metadata.now.reading metadata.now.btf file.now) }
 {
-    let last = last_data_sections(alloc, file)?;
-    let inputs = section_inputs(alloc, metadata, file, symbols)?;
+    let named = named_sections(alloc, file)?;
+    let last = last_data_sections(alloc, named.as_slice())?;
+    let inputs = section_inputs(alloc, metadata, named.as_slice(), symbols)?;
     read_by_last(alloc, &inputs, section_infos, file, tables, symbols, &last)
 }

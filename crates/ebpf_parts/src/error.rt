@@ -89,6 +89,10 @@ pub enum ParseError {
     OutOfMemory,
     #[error("the file is big-endian and has code")]
     BigEndianCode,
+    #[error("what is made of the file would own more than {most_bytes} bytes")]
+    TooLarge {
+        most_bytes: u64,
+    },
 }
 
 impl From<AllocError> for ParseError {

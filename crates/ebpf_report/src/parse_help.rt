@@ -88,6 +88,7 @@ pub fn parse_help(error: &ParseError) -> Option<&'static str> {
         ParseError::InvalidGlobalData { .. }
         | ParseError::MapNotFound { .. }
         | ParseError::MapSymbolNameNotFound { .. }
-        | ParseError::OutOfMemory => None,
+        | ParseError::OutOfMemory
+        | ParseError::TooLarge { .. } => None,
     }
 }

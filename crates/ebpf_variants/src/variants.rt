@@ -30,6 +30,7 @@ pub fn variant_of_parsing(error: &ParseError) -> &'static str {
         ParseError::NoBTF => "NoBTF",
         ParseError::OutOfMemory => "OutOfMemory",
         ParseError::BigEndianCode => "BigEndianCode",
+        ParseError::TooLarge { .. } => "TooLarge",
     }
 }
 

@@ -15,6 +15,14 @@ use ebpf_object::prepare::{PrepareError, Steps};
 use std::alloc::AllocError;
 use std::{env, fs, io};
 
+/// What an object is prepared with: the file of a kernel's types, the lines of its symbols, and those with descriptors.
+#[derive(Clone, Copy)]
+struct Given<'a> {
+    types: &'a str,
+    symbols: &'a [u8],
+    lines: &'a str,
+}
+
 /// What is printed of an object, or of why there is none.
 trait Shown {
     fn show(&self, rt: &HostRuntime) -> io::Result<()>;
@@ -63,6 +71,25 @@ fn show_in_place<E: Refusal + Drop>(
     match &answer {
         Ok(()) => slots::print_programs(rt, object),
         Err(error) => error.show_refusal(rt, object),
+    }
+}
+
+/// Why there is no object of a file, or no such variable in it.
+trait Fault: Drop {
+    fn show_fault(&self, rt: &HostRuntime, file: &[u8]) -> io::Result<()>;
+}
+
+impl Fault for ParseError {
+    fn show_fault(&self, rt: &HostRuntime, file: &[u8]) -> io::Result<()> {
+        refusals::print_unparsed(rt, file, self)
+    }
+}
+
+/// Prints why a file can't be parsed, where it can't.
+fn show_why<E: Fault>(rt: &HostRuntime, file: &[u8], why: Option<E>) -> io::Result<()> {
+    match why {
+        Some(error) => error.show_fault(rt, file),
+        None => println!(rt; "  parsed"),
     }
 }
 
@@ -174,10 +201,7 @@ fn why_unparsed(rt: &HostRuntime, file: &[u8]) -> Option<ParseError> {
 fn go_cut(rt: &HostRuntime, file: &[u8]) -> io::Result<()> {
     println!(rt; "a file without its end")?;
     let cut = file.get(..file.len() / 2).unwrap_or(file);
-    match why_unparsed(rt, cut) {
-        Some(error) => refusals::print_unparsed(rt, cut, &error),
-        None => println!(rt; "  parsed"),
-    }
+    show_why(rt, cut, why_unparsed(rt, cut))
 }
 
 /// Prepares the object in each way for a kernel whose types are known.
@@ -195,15 +219,9 @@ fn go_for_kernel(
 }
 
 /// Reads a kernel's types, and prepares the object for it.
-fn go_with_types(
-    rt: &HostRuntime,
-    object: &mut Object,
-    types: Vec<u8>,
-    symbols: &[u8],
-    lines: &str,
-) -> io::Result<()> {
-    match preparing::kernel_types(types) {
-        Ok(kernel) => go_for_kernel(rt, object, &kernel, symbols, lines),
+fn go_with_types(rt: &HostRuntime, object: &mut Object, given: &Given<'_>) -> io::Result<()> {
+    match preparing::kernel_types(fs::read(rt, given.types)?) {
+        Ok(kernel) => go_for_kernel(rt, object, &kernel, given.symbols, given.lines),
         Err(error) => println!(rt; "refused: {error}"),
     }
 }
@@ -215,52 +233,86 @@ fn print_file(rt: &HostRuntime, file: &[u8], object: &Object) -> io::Result<()> 
     listing::print_license(rt, object)
 }
 
-/// Sets a variable of the object, prints what the file has, and prepares the object in each way.
-fn go_with(
+/// Prints what the file has, and prepares the object in each way.
+fn go_with_file(
     rt: &HostRuntime,
     file: &[u8],
     object: &mut Object,
-    types: Vec<u8>,
-    symbols: &[u8],
-    lines: &str,
+    given: &Given<'_>,
 ) -> io::Result<()> {
-    match making::set_step(rt.alloc(), object, 2) {
-        Ok(()) => {
-            print_file(rt, file, object)?;
-            go_with_types(rt, object, types, symbols, lines)
-        }
-        Err(error) => refusals::print_unparsed(rt, file, &error),
+    print_file(rt, file, object)?;
+    go_with_types(rt, object, given)
+}
+
+/// The same, once a variable is set; else prints why it isn't.
+fn go_once_set<E: Fault>(
+    rt: &HostRuntime,
+    file: &[u8],
+    object: &mut Object,
+    given: &Given<'_>,
+    set: Result<(), E>,
+) -> io::Result<()> {
+    match set {
+        Ok(()) => go_with_file(rt, file, object, given),
+        Err(error) => error.show_fault(rt, file),
+    }
+}
+
+/// What a file is parsed to.
+trait Parsed: Drop {
+    /// Sets a variable, prints what the file has, and prepares it in each way.
+    fn go(&mut self, rt: &HostRuntime, file: &[u8], given: &Given<'_>) -> io::Result<()>;
+}
+
+impl Parsed for Object {
+    fn go(&mut self, rt: &HostRuntime, file: &[u8], given: &Given<'_>) -> io::Result<()> {
+        let set = making::set_step(rt.alloc(), self, 2);
+        go_once_set(rt, file, self, given, set)
+    }
+}
+
+/// Goes through the steps with what a file was parsed to, or prints why it can't be parsed. It knows neither type, so that
+/// its proof doesn't let go of each part of an object.
+fn go_parsed<T: Parsed, E: Fault>(
+    rt: &HostRuntime,
+    file: &[u8],
+    given: &Given<'_>,
+    parsed: Result<T, E>,
+) -> io::Result<()> {
+    match parsed {
+        Ok(mut object) => object.go(rt, file, given),
+        Err(error) => error.show_fault(rt, file),
     }
 }
 
 /// Parses the file, and goes through the steps with its object.
-fn go_through(
-    rt: &HostRuntime,
-    file: &[u8],
-    types: Vec<u8>,
-    symbols: &[u8],
-    lines: &str,
-) -> io::Result<()> {
-    match preparing::parsed(rt.alloc(), file) {
-        Ok(mut object) => go_with(rt, file, &mut object, types, symbols, lines),
-        Err(error) => refusals::print_unparsed(rt, file, &error),
-    }
+fn go_through(rt: &HostRuntime, file: &[u8], given: &Given<'_>) -> io::Result<()> {
+    go_parsed(rt, file, given, preparing::parsed(rt.alloc(), file))
+}
+
+/// Goes through the steps with the file, and with the file cut.
+fn go(rt: &HostRuntime, file: &[u8], given: &Given<'_>) -> io::Result<()> {
+    go_through(rt, file, given)?;
+    go_cut(rt, file)
+}
+
+/// Reads the files but that of the types, and goes through the steps.
+fn go_with_words(rt: &HostRuntime, words: &[String]) -> io::Result<()> {
+    let [file, types, symbols, lines] = words else {
+        return println!(rt; "usage: example_library FILE TYPES SYMBOLS DESCRIPTORS");
+    };
+    let file = fs::read(rt, file.as_str())?;
+    let symbols = fs::read(rt, symbols.as_str())?;
+    let lines = fs::read_to_string(rt, lines.as_str())?;
+    let given = Given {
+        types: types.as_str(),
+        symbols: symbols.as_slice(),
+        lines: lines.as_str(),
+    };
+    go(rt, &file, &given)
 }
 
 fn main(rt: HostRuntime) -> io::Result<()> {
-    let mut words = env::args(&rt)?.skip(1);
-    let (Some(file), Some(types), Some(symbols), Some(lines)) = (
-        words.next(),
-        words.next(),
-        words.next(),
-        words.next(),
-    ) else {
-        return println!(rt; "usage: example_library FILE TYPES SYMBOLS DESCRIPTORS");
-    };
-    let file = fs::read(&rt, file.as_str())?;
-    let types = fs::read(&rt, types.as_str())?;
-    let symbols = fs::read(&rt, symbols.as_str())?;
-    let lines = fs::read_to_string(&rt, lines.as_str())?;
-    go_through(&rt, &file, types, &symbols, lines.as_str())?;
-    go_cut(&rt, &file)
+    let words: Vec<String> = env::args(&rt)?.skip(1).collect(rt.alloc())?;
+    go_with_words(&rt, words.as_slice())
 }

@@ -1,7 +1,8 @@
 //! What the names of an object or a file add to errors.
 
+use crate::lines::Lines;
 use crate::prepare::{in_p, without_map};
-use crate::sample::{Sample, show};
+use crate::sample::Sample;
 use crate::small_object::{empty_object, put_names};
 use ebpf_elf::ElfReadError;
 use ebpf_ksyms::KsymsError;
@@ -9,7 +10,7 @@ use ebpf_model::RelocationError;
 use ebpf_object::Object;
 use ebpf_object::obj::{ExplainedParse, ParseError};
 use ebpf_object::prepare::{Explained, PrepareError};
-use std::io;
+use std::alloc::Global;
 
 impl Sample for Explained<'_> {
     const TYPE: &'static str = "prepare::Explained";
@@ -27,120 +28,155 @@ impl Sample for ExplainedParse<'_> {
     }
 }
 
-/// Prints an error as an object explains it.
-fn show_explained(rt: &HostRuntime, object: &Object, error: &PrepareError) -> io::Result<()> {
-    show(rt, object.explain(error))
+/// Adds an error as an object explains it.
+fn show_explained(lines: &mut Lines, object: &Object, error: &PrepareError) {
+    lines.show(object.explain(error));
 }
 
-/// Prints an error beside an object, and lets go of it.
-fn show_beside(rt: &HostRuntime, object: &Object, error: PrepareError) -> io::Result<()> {
-    show_explained(rt, object, &error)
+/// What an object adds to.
+trait Explicable: Drop {
+    /// Adds the line, as the object explains it.
+    fn show(&self, lines: &mut Lines, object: &Object);
 }
 
-/// Prints the errors on maps.
-fn show_maps(rt: &HostRuntime, object: &Object) -> io::Result<()> {
-    show_beside(rt, object, without_map(rt, 5)?)?;
-    show_beside(rt, object, without_map(rt, 6)?)?;
-    let far = in_p(rt, RelocationError::MapAddressOverflow { offset: 0x18 })?;
-    show_beside(rt, object, PrepareError::Maps(far))
+impl Explicable for PrepareError {
+    fn show(&self, lines: &mut Lines, object: &Object) {
+        show_explained(lines, object, self);
+    }
 }
 
-/// Prints the errors on externs.
-fn show_externs(rt: &HostRuntime, object: &Object) -> io::Result<()> {
+/// Adds an error beside an object, and lets go of it. It doesn't know its type, so that its proof doesn't let go of each
+/// error in it.
+fn show_beside<E: Explicable>(lines: &mut Lines, object: &Object, error: E) {
+    error.show(lines, object);
+}
+
+/// Adds the errors on maps.
+fn show_maps(lines: &mut Lines, object: &Object) {
+    let known = without_map(lines, 5);
+    show_beside(lines, object, known);
+    let unknown = without_map(lines, 6);
+    show_beside(lines, object, unknown);
+    let far = in_p(lines, RelocationError::MapAddressOverflow { offset: 0x18 });
+    show_beside(lines, object, PrepareError::Maps(far));
+}
+
+/// Adds the errors on externs.
+fn show_externs(lines: &mut Lines, object: &Object) {
     let misplaced = RelocationError::InvalidRelocationOffset {
         offset: 0x1c,
         relocation_number: 2,
     };
     let error = KsymsError::TypedKsymRequiresKernelBtf;
-    show_beside(rt, object, PrepareError::Ksyms(error))?;
-    show_beside(rt, object, PrepareError::Externs(in_p(rt, misplaced)?))
+    show_beside(lines, object, PrepareError::Ksyms(error));
+    let error = in_p(lines, misplaced);
+    show_beside(lines, object, PrepareError::Externs(error));
 }
 
-/// Prints the errors on calls and variables.
-fn show_calls(rt: &HostRuntime, object: &Object) -> io::Result<()> {
+/// Adds the errors on calls and variables.
+fn show_calls(lines: &mut Lines, object: &Object) {
     let unknown = RelocationError::UnknownProgram {
         section_index: 5,
         address: 8,
     };
-    show_beside(rt, object, PrepareError::Calls(in_p(rt, unknown)?))?;
+    let error = in_p(lines, unknown);
+    show_beside(lines, object, PrepareError::Calls(error));
     let unsupported = RelocationError::UnsupportedTextSymbol { index: 12 };
-    show_beside(rt, object, PrepareError::Calls(in_p(rt, unsupported)?))?;
+    let error = in_p(lines, unsupported);
+    show_beside(lines, object, PrepareError::Calls(error));
     let error = ParseError::MapNotFound { index: 6 };
-    show_beside(rt, object, PrepareError::Parse(error))
+    show_beside(lines, object, PrepareError::Parse(error));
 }
 
-/// Prints a parse error beside its file.
-fn show_parse(rt: &HostRuntime, file: &[u8], error: ParseError) -> io::Result<()> {
-    show(rt, ExplainedParse::new(file, &error))
+/// Adds a parse error beside its file.
+fn show_parse(lines: &mut Lines, file: &[u8], error: ParseError) {
+    lines.show(ExplainedParse::new(file, &error));
 }
 
-/// Prints the errors that a file's names add to.
-fn show_parsing(rt: &HostRuntime, file: &[u8]) -> io::Result<()> {
+/// Adds the errors that a file's names add to.
+fn show_parsing(lines: &mut Lines, file: &[u8]) {
     let cut = ParseError::SectionError {
         index: 3,
         error: ElfReadError::BadSectionRange,
     };
-    show_parse(rt, file, cut)?;
+    show_parse(lines, file, cut);
     let twice = ParseError::SymbolTableConflict {
         section_index: 2,
         address: 0x40,
     };
-    show_parse(rt, file, twice)?;
+    show_parse(lines, file, twice);
     let unknown = ParseError::UnknownSymbol {
         section_index: 2,
         address: 0x40,
     };
-    show_parse(rt, file, unknown)
+    show_parse(lines, file, unknown);
 }
 
 /// Why a file is refused, where it is.
-fn refusal(rt: &HostRuntime, file: &[u8]) -> Option<ParseError> {
-    Object::parse(rt.alloc(), file).err()
+fn refusal(alloc: Global, file: &[u8]) -> Option<ParseError> {
+    Object::parse(alloc, file).err()
 }
 
-/// Prints why a file is refused.
-fn show_refusal(rt: &HostRuntime, file: &[u8]) -> io::Result<()> {
-    match refusal(rt, file) {
-        Some(error) => show_parse(rt, file, error),
-        None => Ok(()),
+/// Adds why a file is refused.
+fn show_refusal(lines: &mut Lines, file: &[u8]) {
+    if let Some(error) = refusal(lines.alloc(), file) {
+        show_parse(lines, file, error);
     }
 }
 
-/// Prints why a file is refused in which a byte is another.
-fn show_changed(rt: &HostRuntime, file: &[u8], place: usize, byte: u8) -> io::Result<()> {
-    let mut changed = Vec::from_slice(rt.alloc(), file)?;
+/// Adds why a file is refused in which a byte is another.
+fn show_changed(lines: &mut Lines, file: &[u8], place: usize, byte: u8) {
+    let mut changed = lines.bytes(file);
     if let Some(old) = changed.get_mut(place) {
         *old = byte;
     }
-    show_refusal(rt, changed.as_slice())
+    show_refusal(lines, changed.as_slice());
 }
 
-/// Prints the errors that tell no place: of call.o with a relocation of symbol 0, with a program of 12 bytes, with a
+/// Adds the errors that tell no place: of call.o with a relocation of symbol 0, with a program of 12 bytes, with a
 /// function of 4, and with a symbol whose name is past the names.
-fn show_places(rt: &HostRuntime, file: &[u8]) -> io::Result<()> {
-    show_changed(rt, file, 0xac, 0)?;
-    show_changed(rt, file, 0x80, 12)?;
-    show_changed(rt, file, 0x98, 4)?;
-    show_changed(rt, file, 0x88, 0xff)
+fn show_places(lines: &mut Lines, file: &[u8]) {
+    show_changed(lines, file, 0xac, 0);
+    show_changed(lines, file, 0x80, 12);
+    show_changed(lines, file, 0x98, 4);
+    show_changed(lines, file, 0x88, 0xff);
 }
 
-/// Prints the errors that the names of an object add to, once it has them.
-fn show_with_names(rt: &HostRuntime, object: &mut Object) -> io::Result<()> {
-    put_names(rt, object)?;
-    show_maps(rt, object)?;
-    show_externs(rt, object)?;
-    show_calls(rt, object)
+/// Adds the errors that the names of an object add to, once it has them.
+fn show_with_names(lines: &mut Lines, object: &mut Object) {
+    let step = put_names(lines.alloc(), object);
+    lines.has_memory(step);
+    show_maps(lines, object);
+    show_externs(lines, object);
+    show_calls(lines, object);
 }
 
-/// Prints the errors that an object's names add to. It alone holds the object, and has one way out.
-fn show_object(rt: &HostRuntime) -> io::Result<()> {
-    let mut object = empty_object(rt);
-    show_with_names(rt, &mut object)
+/// What gets names.
+trait Named: Drop {
+    /// Adds the errors that the names add to.
+    fn show(&mut self, lines: &mut Lines);
 }
 
-/// Prints the errors that names add to.
-pub fn show_all(rt: &HostRuntime, file: &[u8]) -> io::Result<()> {
-    show_object(rt)?;
-    show_parsing(rt, file)?;
-    show_places(rt, file)
+impl Named for Object {
+    fn show(&mut self, lines: &mut Lines) {
+        show_with_names(lines, self);
+    }
+}
+
+/// Adds the errors that the names of an object add to, and lets go of it. It doesn't know its type, so that its proof
+/// doesn't let go of each part of an object.
+fn show_named<T: Named>(lines: &mut Lines, mut object: T) {
+    object.show(lines);
+}
+
+/// Adds the errors that an object's names add to.
+fn show_object(lines: &mut Lines) {
+    show_named(lines, empty_object(lines.alloc()));
+}
+
+/// Adds the errors that names add to.
+pub fn show_all(lines: &mut Lines, file: &[u8]) {
+    show_object(lines);
+    show_parsing(lines, file);
+    show_places(lines, file);
 }

@@ -1,6 +1,7 @@
 //! Why externs can't be resolved.
 
-use crate::sample::{Sample, show, text};
+use crate::lines::Lines;
+use crate::sample::Sample;
 use ebpf_btf::BtfError;
 use ebpf_ksyms::KsymsError;
 use ebpf_variants::variant_of_resolving;
@@ -14,43 +15,40 @@ impl Sample for KsymsError {
     }
 }
 
-/// Prints the errors on the kernel's types.
-fn show_typed(rt: &HostRuntime) -> io::Result<()> {
-    show(rt, KsymsError::TypedKsymRequiresKernelBtf)?;
-    let name = text(rt, "bpf_task_acquire")?;
-    show(rt, KsymsError::FunctionNotFound { name })?;
-    let name = text(rt, "bpf_prog_active")?;
-    show(rt, KsymsError::VariableNotFound { name })?;
-    let name = text(rt, "bpf_task_acquire")?;
-    show(rt, KsymsError::IncompatibleFunctionSignature { name })?;
-    let name = text(rt, "bpf_prog_active")?;
-    show(rt, KsymsError::IncompatibleVariableType { name })?;
-    let name = text(rt, "bpf_prog_active")?;
-    show(rt, KsymsError::InvalidExternType { name })?;
+/// Adds the errors on the kernel's types.
+fn show_typed(lines: &mut Lines) {
+    lines.show(KsymsError::TypedKsymRequiresKernelBtf);
+    let name = lines.text("bpf_task_acquire");
+    lines.show(KsymsError::FunctionNotFound { name });
+    let name = lines.text("bpf_prog_active");
+    lines.show(KsymsError::VariableNotFound { name });
+    let name = lines.text("bpf_task_acquire");
+    lines.show(KsymsError::IncompatibleFunctionSignature { name });
+    let name = lines.text("bpf_prog_active");
+    lines.show(KsymsError::IncompatibleVariableType { name });
+    let name = lines.text("bpf_prog_active");
+    lines.show(KsymsError::InvalidExternType { name });
     let unknown = BtfError::UnknownBtfType { type_id: 70 };
-    show(rt, KsymsError::BtfError(unknown))
+    lines.show(KsymsError::BtfError(unknown));
 }
 
-/// Prints the errors on the lines of the kernel's symbols.
-fn show_lines(rt: &HostRuntime) -> io::Result<()> {
-    let name = text(rt, "init_task")?;
-    show(
-        rt,
-        KsymsError::AmbiguousResolution {
-            name,
-            first_addr: 0x1000,
-            second_addr: 0x2000,
-        },
-    )?;
+/// Adds the errors on the lines of the kernel's symbols.
+fn show_lines(lines: &mut Lines) {
+    let name = lines.text("init_task");
+    lines.show(KsymsError::AmbiguousResolution {
+        name,
+        first_addr: 0x1000,
+        second_addr: 0x2000,
+    });
     let denied = io::Error::from(ErrorKind::PermissionDenied);
-    show(rt, KsymsError::KallsymsAccessError(denied))?;
-    let words = text(rt, "invalid address: not_hex")?;
-    show(rt, KsymsError::KallsymsParseError(words))?;
-    show(rt, KsymsError::OutOfMemory)
+    lines.show(KsymsError::KallsymsAccessError(denied));
+    let words = lines.text("invalid address: not_hex");
+    lines.show(KsymsError::KallsymsParseError(words));
+    lines.show(KsymsError::OutOfMemory);
 }
 
-/// Prints each error of resolving externs.
-pub fn show_all(rt: &HostRuntime) -> io::Result<()> {
-    show_typed(rt)?;
-    show_lines(rt)
+/// Adds each error of resolving externs.
+pub fn show_all(lines: &mut Lines) {
+    show_typed(lines);
+    show_lines(lines);
 }

@@ -1,8 +1,8 @@
 //! Why a file can't be read.
 
-use crate::sample::{Sample, show};
+use crate::lines::Lines;
+use crate::sample::Sample;
 use ebpf_elf::ElfReadError;
-use std::io;
 
 impl Sample for ElfReadError {
     const TYPE: &'static str = "elf::ElfReadError";
@@ -23,16 +23,16 @@ impl Sample for ElfReadError {
     }
 }
 
-/// Prints each error of reading a file.
-pub fn show_all(rt: &HostRuntime) -> io::Result<()> {
-    show(rt, ElfReadError::TooShort)?;
-    show(rt, ElfReadError::BadMagic)?;
-    show(rt, ElfReadError::NotElf64)?;
-    show(rt, ElfReadError::BadByteOrder)?;
-    show(rt, ElfReadError::BadSectionTable)?;
-    show(rt, ElfReadError::BadSectionRange)?;
-    show(rt, ElfReadError::BadStringTable)?;
-    show(rt, ElfReadError::BadSymbolTable)?;
-    show(rt, ElfReadError::BadRelocationTable)?;
-    show(rt, ElfReadError::ExtendedNumbering)
+/// Adds each error of reading a file.
+pub fn show_all(lines: &mut Lines) {
+    lines.show(ElfReadError::TooShort);
+    lines.show(ElfReadError::BadMagic);
+    lines.show(ElfReadError::NotElf64);
+    lines.show(ElfReadError::BadByteOrder);
+    lines.show(ElfReadError::BadSectionTable);
+    lines.show(ElfReadError::BadSectionRange);
+    lines.show(ElfReadError::BadStringTable);
+    lines.show(ElfReadError::BadSymbolTable);
+    lines.show(ElfReadError::BadRelocationTable);
+    lines.show(ElfReadError::ExtendedNumbering);
 }

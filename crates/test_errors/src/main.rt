@@ -7,6 +7,7 @@ mod externs;
 mod file;
 mod initial_slots;
 mod kernel_types;
+mod lines;
 mod object;
 mod prepare;
 mod records;
@@ -16,27 +17,41 @@ mod slots;
 mod small_object;
 mod types;
 
+use crate::lines::Lines;
 use std::{env, fs, io};
 
-/// Prints all errors; of a file those that its names add to.
-fn show_all(rt: &HostRuntime, file: &[u8]) -> io::Result<()> {
-    prepare::show_all(rt)?;
-    explained::show_all(rt, file)?;
-    file::show_all(rt)?;
-    types::show_all(rt)?;
-    object::show_all(rt)?;
-    records::show_all(rt)?;
-    slots::show_all(rt)?;
-    externs::show_all(rt)?;
-    settings::show_all(rt)?;
-    initial_slots::show_all(rt)?;
-    kernel_types::show_all(rt)
+/// Adds all errors; of a file those that its names add to.
+fn show_all(lines: &mut Lines, file: &[u8]) {
+    prepare::show_all(lines);
+    explained::show_all(lines, file);
+    file::show_all(lines);
+    types::show_all(lines);
+    object::show_all(lines);
+    records::show_all(lines);
+    slots::show_all(lines);
+    externs::show_all(lines);
+    settings::show_all(lines);
+    initial_slots::show_all(lines);
+    kernel_types::show_all(lines);
+}
+
+/// Prints lines.
+fn print(rt: &HostRuntime, lines: &Lines) -> io::Result<()> {
+    let text = lines.whole()?;
+    print!(rt; "{text}")
+}
+
+/// Prints all errors, with what the names of a file add.
+fn print_all(rt: &HostRuntime, file: &[u8]) -> io::Result<()> {
+    let mut lines = Lines::new(rt.alloc());
+    show_all(&mut lines, file);
+    print(rt, &lines)
 }
 
 fn main(rt: HostRuntime) -> io::Result<()> {
     for path in env::args(&rt)?.skip(1) {
         let file = fs::read(&rt, path.as_str())?;
-        show_all(&rt, &file)?;
+        print_all(&rt, &file)?;
     }
     Ok(())
 }

@@ -1,14 +1,14 @@
 //! Why CO-RE relocations can't be applied.
 
-use crate::sample::{Sample, show, text};
+use crate::lines::Lines;
+use crate::sample::Sample;
 use ebpf_base::{Items, Text};
 use ebpf_btf::BtfError;
 use ebpf_core::RelocationError;
 use ebpf_core_relo::BtfRelocationError;
 use ebpf_ext::RelocationKind;
 use ebpf_variants::variant_of_type_relocation;
-use std::alloc::AllocError;
-use std::io;
+use std::alloc::{AllocError, Global};
 
 impl Sample for RelocationError {
     const TYPE: &'static str = "core_relo::RelocationError";
@@ -26,109 +26,97 @@ impl Sample for BtfRelocationError {
     }
 }
 
+/// Adds two names.
+fn put_names(alloc: Global, names: &mut Items<Text>) -> Result<(), AllocError> {
+    for name in ["s___old", "s___new"] {
+        names.push(Text::from_str(alloc, name)?)?;
+    }
+    Ok(())
+}
+
 /// Two names.
-fn names(rt: &HostRuntime) -> Result<Items<Text>, AllocError> {
-    let mut names = Items::new(rt.alloc());
-    names.push(text(rt, "s___old")?)?;
-    names.push(text(rt, "s___new")?)?;
-    Ok(names)
+fn names(lines: &mut Lines) -> Items<Text> {
+    let mut names = Items::new(lines.alloc());
+    let step = put_names(lines.alloc(), &mut names);
+    lines.has_memory(step);
+    names
 }
 
-/// Prints the errors on where a relocation is and what it names.
-fn show_places(rt: &HostRuntime) -> io::Result<()> {
-    show(rt, RelocationError::SectionNotFound)?;
-    show(rt, RelocationError::FunctionNotFound)?;
-    let access_str = text(rt, "0:x")?;
-    show(rt, RelocationError::InvalidAccessString { access_str })?;
-    show(
-        rt,
-        RelocationError::InvalidInstructionIndex {
-            index: 2,
-            num_instructions: 2,
-            relocation_number: 0,
-        },
-    )?;
-    let type_name = text(rt, "s")?;
-    let candidates = names(rt)?;
-    show(
-        rt,
-        RelocationError::ConflictingCandidates {
-            type_name,
-            candidates,
-        },
-    )?;
-    let type_name = text(rt, "s")?;
-    show(
-        rt,
-        RelocationError::MaximumNestingLevelReached { type_name },
-    )
+/// Adds the errors on where a relocation is and what it names.
+fn show_places(lines: &mut Lines) {
+    lines.show(RelocationError::SectionNotFound);
+    lines.show(RelocationError::FunctionNotFound);
+    let access_str = lines.text("0:x");
+    lines.show(RelocationError::InvalidAccessString { access_str });
+    lines.show(RelocationError::InvalidInstructionIndex {
+        index: 2,
+        num_instructions: 2,
+        relocation_number: 0,
+    });
+    let type_name = lines.text("s");
+    let candidates = names(lines);
+    lines.show(RelocationError::ConflictingCandidates {
+        type_name,
+        candidates,
+    });
+    let type_name = lines.text("s");
+    lines.show(RelocationError::MaximumNestingLevelReached { type_name });
 }
 
-/// Prints the error of an access string whose part is past what its type has.
-fn show_access(rt: &HostRuntime) -> io::Result<()> {
-    let access_path = text(rt, "s[0]")?;
-    let spec = text(rt, "0:3")?;
-    let error = text(rt, "members count from 0")?;
-    show(
-        rt,
-        RelocationError::InvalidAccessIndex {
-            access_path,
-            spec,
-            index: 3,
-            len: 3,
-            error,
-        },
-    )
+/// Adds the error of an access string whose part is past what its type has.
+fn show_access(lines: &mut Lines) {
+    let access_path = lines.text("s[0]");
+    let spec = lines.text("0:3");
+    let error = lines.text("members count from 0");
+    lines.show(RelocationError::InvalidAccessIndex {
+        access_path,
+        spec,
+        index: 3,
+        len: 3,
+        error,
+    });
 }
 
-/// Prints the error of a question that can't be asked.
-fn show_kind(rt: &HostRuntime) -> io::Result<()> {
-    let relocation_kind = text(rt, "the sign of a field")?;
-    let type_kind = text(rt, "an element")?;
-    let error = text(rt, "s[0].values[1]")?;
-    show(
-        rt,
-        RelocationError::InvalidRelocationKindForType {
-            relocation_number: 0,
-            relocation_kind,
-            type_kind,
-            error,
-        },
-    )
+/// Adds the error of a question that can't be asked.
+fn show_kind(lines: &mut Lines) {
+    let relocation_kind = lines.text("the sign of a field");
+    let type_kind = lines.text("an element");
+    let error = lines.text("s[0].values[1]");
+    lines.show(RelocationError::InvalidRelocationKindForType {
+        relocation_number: 0,
+        relocation_kind,
+        type_kind,
+        error,
+    });
 }
 
-/// Prints the errors on instructions and types.
-fn show_instructions(rt: &HostRuntime) -> io::Result<()> {
-    let error = text(rt, "code 0x95 can't carry 8")?;
-    show(
-        rt,
-        RelocationError::InvalidInstruction {
-            relocation_number: 0,
-            index: 4,
-            error,
-        },
-    )?;
-    show(
-        rt,
-        RelocationError::MissingTargetDefinition {
-            kind: RelocationKind::TypeSize,
-            type_id: 7,
-            ins_index: 4,
-        },
-    )?;
+/// Adds the errors on instructions and types.
+fn show_instructions(lines: &mut Lines) {
+    let error = lines.text("code 0x95 can't carry 8");
+    lines.show(RelocationError::InvalidInstruction {
+        relocation_number: 0,
+        index: 4,
+        error,
+    });
+    lines.show(RelocationError::MissingTargetDefinition {
+        kind: RelocationKind::TypeSize,
+        type_id: 7,
+        ins_index: 4,
+    });
     let unknown = BtfError::UnknownBtfType { type_id: 70 };
-    show(rt, RelocationError::BtfError(unknown))?;
-    show(rt, RelocationError::OutOfMemory)
+    lines.show(RelocationError::BtfError(unknown));
+    lines.show(RelocationError::OutOfMemory);
 }
 
-/// Prints each error of CO-RE relocations, and what stands before it.
-pub fn show_all(rt: &HostRuntime) -> io::Result<()> {
-    show_places(rt)?;
-    show_access(rt)?;
-    show_kind(rt)?;
-    show_instructions(rt)?;
-    let section = text(rt, "kprobe/p")?;
+/// Adds each error of CO-RE relocations, and what stands before it.
+pub fn show_all(lines: &mut Lines) {
+    show_places(lines);
+    show_access(lines);
+    show_kind(lines);
+    show_instructions(lines);
+    let section = lines.text("kprobe/p");
     let error = RelocationError::FunctionNotFound;
-    show(rt, BtfRelocationError { section, error })?;
-    show(rt, BtfRelocationError::memory(rt.alloc()))
+    lines.show(BtfRelocationError { section, error });
+    let error = BtfRelocationError::memory(lines.alloc());
+    lines.show(error);
 }

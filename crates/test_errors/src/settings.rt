@@ -1,8 +1,8 @@
 //! Why externs of the kernel's configuration can't be listed or defined.
 
-use crate::sample::{Sample, show, text};
+use crate::lines::Lines;
+use crate::sample::Sample;
 use ebpf_kconfig::KconfigError;
-use std::io;
 
 impl Sample for KconfigError {
     const TYPE: &'static str = "ebpf_kconfig::KconfigError";
@@ -12,39 +12,36 @@ impl Sample for KconfigError {
     }
 }
 
-/// Prints the errors on the object.
-fn show_externs(rt: &HostRuntime) -> io::Result<()> {
-    show(rt, KconfigError::NotAVariable { type_id: 70 })?;
-    show(rt, KconfigError::UnreadableName { offset: 0x1000 })?;
-    let name = text(rt, "HZ")?;
-    show(rt, KconfigError::UnknownName { name })?;
-    let name = text(rt, "CONFIG_HZ")?;
-    show(rt, KconfigError::UnsupportedType { name })
+/// Adds the errors on the object.
+fn show_externs(lines: &mut Lines) {
+    lines.show(KconfigError::NotAVariable { type_id: 70 });
+    lines.show(KconfigError::UnreadableName { offset: 0x1000 });
+    let name = lines.text("HZ");
+    lines.show(KconfigError::UnknownName { name });
+    let name = lines.text("CONFIG_HZ");
+    lines.show(KconfigError::UnsupportedType { name });
 }
 
-/// Prints the errors on values.
-fn show_values(rt: &HostRuntime) -> io::Result<()> {
-    let name = text(rt, "CONFIG_HZ")?;
-    show(rt, KconfigError::NoValue { name })?;
-    let name = text(rt, "CONFIG_HZ")?;
-    show(
-        rt,
-        KconfigError::WrongSize {
-            name,
-            size: 4,
-            length: 8,
-        },
-    )?;
-    show(rt, KconfigError::TooLarge)?;
-    let name = text(rt, "CONFIG_BPF_SYSCALL")?;
-    show(rt, KconfigError::UnsuitedValue { name })?;
-    let name = text(rt, "CONFIG_HZ")?;
-    show(rt, KconfigError::ValueOutOfRange { name })?;
-    show(rt, KconfigError::OutOfMemory)
+/// Adds the errors on values.
+fn show_values(lines: &mut Lines) {
+    let name = lines.text("CONFIG_HZ");
+    lines.show(KconfigError::NoValue { name });
+    let name = lines.text("CONFIG_HZ");
+    lines.show(KconfigError::WrongSize {
+        name,
+        size: 4,
+        length: 8,
+    });
+    lines.show(KconfigError::TooLarge);
+    let name = lines.text("CONFIG_BPF_SYSCALL");
+    lines.show(KconfigError::UnsuitedValue { name });
+    let name = lines.text("CONFIG_HZ");
+    lines.show(KconfigError::ValueOutOfRange { name });
+    lines.show(KconfigError::OutOfMemory);
 }
 
-/// Prints each error of externs of the kernel's configuration.
-pub fn show_all(rt: &HostRuntime) -> io::Result<()> {
-    show_externs(rt)?;
-    show_values(rt)
+/// Adds each error of externs of the kernel's configuration.
+pub fn show_all(lines: &mut Lines) {
+    show_externs(lines);
+    show_values(lines);
 }

@@ -1,9 +1,9 @@
 //! Why descriptors, externs and calls can't be written.
 
-use crate::sample::{Sample, show, text};
+use crate::lines::Lines;
+use crate::sample::Sample;
 use ebpf_model::{EbpfRelocationError, RelocationError};
 use ebpf_variants::variant_of_relocation;
-use std::io;
 
 impl Sample for RelocationError {
     const TYPE: &'static str = "relocation::RelocationError";
@@ -21,70 +21,59 @@ impl Sample for EbpfRelocationError {
     }
 }
 
-/// Prints the errors of the passes for maps and externs.
-fn show_written(rt: &HostRuntime) -> io::Result<()> {
-    show(rt, RelocationError::UnknownSymbol { index: 12 })?;
-    let symbol_name = Some(text(rt, "total")?);
-    show(
-        rt,
-        RelocationError::SectionNotFound {
-            section_index: 5,
-            symbol_index: 12,
-            symbol_name,
-        },
-    )?;
-    show(
-        rt,
-        RelocationError::InvalidRelocationOffset {
-            offset: 0x1c,
-            relocation_number: 2,
-        },
-    )?;
-    let name = text(rt, "bpf_task_acquire")?;
-    show(rt, RelocationError::ExternNotFound { name })?;
-    let name = text(rt, "bpf_task_acquire")?;
-    show(rt, RelocationError::UnresolvableSymbol { name })?;
-    show(rt, RelocationError::MapAddressOverflow { offset: 0x18 })
+/// Adds the errors of the passes for maps and externs.
+fn show_written(lines: &mut Lines) {
+    lines.show(RelocationError::UnknownSymbol { index: 12 });
+    let symbol_name = Some(lines.text("total"));
+    lines.show(RelocationError::SectionNotFound {
+        section_index: 5,
+        symbol_index: 12,
+        symbol_name,
+    });
+    lines.show(RelocationError::InvalidRelocationOffset {
+        offset: 0x1c,
+        relocation_number: 2,
+    });
+    let name = lines.text("bpf_task_acquire");
+    lines.show(RelocationError::ExternNotFound { name });
+    let name = lines.text("bpf_task_acquire");
+    lines.show(RelocationError::UnresolvableSymbol { name });
+    lines.show(RelocationError::MapAddressOverflow { offset: 0x18 });
 }
 
-/// Prints the errors on where a call leads.
-fn show_targets(rt: &HostRuntime) -> io::Result<()> {
-    let caller_name = text(rt, "f")?;
-    show(
-        rt,
-        RelocationError::UnknownFunction {
-            address: 0x48,
-            caller_name,
-        },
-    )?;
-    show(
-        rt,
-        RelocationError::UnknownProgram {
-            section_index: 3,
-            address: 0,
-        },
-    )?;
-    show(rt, RelocationError::UnsupportedTextSymbol { index: 12 })
+/// Adds the errors on where a call leads.
+fn show_targets(lines: &mut Lines) {
+    let caller_name = lines.text("f");
+    lines.show(RelocationError::UnknownFunction {
+        address: 0x48,
+        caller_name,
+    });
+    lines.show(RelocationError::UnknownProgram {
+        section_index: 3,
+        address: 0,
+    });
+    lines.show(RelocationError::UnsupportedTextSymbol { index: 12 });
 }
 
-/// Prints the errors of functions that can't be appended.
-fn show_appended(rt: &HostRuntime) -> io::Result<()> {
-    let name = text(rt, "f")?;
-    show(rt, RelocationError::FunctionInfoMismatch { name })?;
-    let name = text(rt, "f")?;
-    show(rt, RelocationError::InvalidLineInfo { name })?;
-    let name = text(rt, "f")?;
-    show(rt, RelocationError::ProgramTooLong { name })?;
-    show(rt, RelocationError::OutOfMemory)
+/// Adds the errors of functions that can't be appended.
+fn show_appended(lines: &mut Lines) {
+    let name = lines.text("f");
+    lines.show(RelocationError::FunctionInfoMismatch { name });
+    let name = lines.text("f");
+    lines.show(RelocationError::InvalidLineInfo { name });
+    let name = lines.text("f");
+    lines.show(RelocationError::ProgramTooLong { name });
+    lines.show(RelocationError::OutOfMemory);
 }
 
-/// Prints each error of the passes for maps, externs and calls, and what stands before it.
-pub fn show_all(rt: &HostRuntime) -> io::Result<()> {
-    show_written(rt)?;
-    show_targets(rt)?;
-    show_appended(rt)?;
-    let function = text(rt, "p")?;
+/// Adds each error of the passes for maps, externs and calls, and what stands before it.
+pub fn show_all(lines: &mut Lines) {
+    show_written(lines);
+    show_targets(lines);
+    show_appended(lines);
+    let function = lines.text("p");
     let error = RelocationError::UnknownSymbol { index: 12 };
-    show(rt, EbpfRelocationError { function, error })?;
-    show(rt, EbpfRelocationError::memory(rt.alloc()))
+    lines.show(EbpfRelocationError { function, error });
+    let error = EbpfRelocationError::memory(lines.alloc());
+    lines.show(error);
 }

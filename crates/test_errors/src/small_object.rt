@@ -1,16 +1,15 @@
 //! An object, and what it is given: a map, sections, an extern, a symbol and a function.
 
-use crate::sample::text;
-use ebpf_base::{ByIndex, ByKey, ByName, BySection, Items};
+use ebpf_base::{ByIndex, ByKey, ByName, BySection, Items, Text};
 use ebpf_elf::{SectionIndex, SymbolKind};
 use ebpf_ext::{FuncSecInfo, LineSecInfo};
 use ebpf_object::Object;
 use ebpf_object::maps::{LegacyMap, Map, PinningType, bpf_map_def};
 use ebpf_object::obj::{EbpfSectionKind, Endianness, ExternDesc, Function, Symbol};
-use std::alloc::AllocError;
+use std::alloc::{AllocError, Global};
 
 /// The map of the variables of section 5.
-fn map_of_variables(rt: &HostRuntime) -> Map {
+fn map_of_variables(alloc: Global) -> Map {
     Map::Legacy(LegacyMap {
         def: bpf_map_def {
             map_type: 2,
@@ -25,30 +24,30 @@ fn map_of_variables(rt: &HostRuntime) -> Map {
         section_index: 5,
         section_kind: EbpfSectionKind::Bss,
         symbol_index: None,
-        bytes: Items::new(rt.alloc()),
+        bytes: Items::new(alloc),
     })
 }
 
 /// Adds the map by its name.
-fn put_map(rt: &HostRuntime, maps: &mut ByName<Map>) -> Result<(), AllocError> {
-    let name = String::from_str(rt.alloc(), ".bss")?;
-    maps.insert(name, map_of_variables(rt))?;
+fn put_map(alloc: Global, maps: &mut ByName<Map>) -> Result<(), AllocError> {
+    let name = String::from_str(alloc, ".bss")?;
+    maps.insert(name, map_of_variables(alloc))?;
     Ok(())
 }
 
 /// Adds the numbers of three sections.
-fn put_sections(rt: &HostRuntime, sections: &mut ByName<SectionIndex>) -> Result<(), AllocError> {
+fn put_sections(alloc: Global, sections: &mut ByName<SectionIndex>) -> Result<(), AllocError> {
     let names = [".bss", ".debug_str", "kprobe/p"];
     for (number, name) in names.iter().enumerate() {
-        let name = String::from_str(rt.alloc(), name)?;
+        let name = String::from_str(alloc, name)?;
         sections.insert(name, SectionIndex(5 + number))?;
     }
     Ok(())
 }
 
 /// Adds an extern whose type needs the kernel's.
-fn put_extern(rt: &HostRuntime, externs: &mut ByName<ExternDesc>) -> Result<(), AllocError> {
-    let name = String::from_str(rt.alloc(), "bpf_task_acquire")?;
+fn put_extern(alloc: Global, externs: &mut ByName<ExternDesc>) -> Result<(), AllocError> {
+    let name = String::from_str(alloc, "bpf_task_acquire")?;
     let desc = ExternDesc {
         btf_id: 3,
         is_typed: true,
@@ -62,11 +61,11 @@ fn put_extern(rt: &HostRuntime, externs: &mut ByName<ExternDesc>) -> Result<(), 
 }
 
 /// Adds the symbol of a variable of section 5.
-fn put_symbol(rt: &HostRuntime, symbols: &mut ByIndex<Symbol>) -> Result<(), AllocError> {
+fn put_symbol(alloc: Global, symbols: &mut ByIndex<Symbol>) -> Result<(), AllocError> {
     let symbol = Symbol {
         index: 12,
         section_index: Some(5),
-        name: Some(text(rt, "total")?),
+        name: Some(Text::from_str(alloc, "total")?),
         address: 0,
         size: 4,
         kind: SymbolKind::Data,
@@ -78,11 +77,10 @@ fn put_symbol(rt: &HostRuntime, symbols: &mut ByIndex<Symbol>) -> Result<(), All
 }
 
 /// The function `p` of section 7.
-fn function(rt: &HostRuntime) -> Result<Function, AllocError> {
-    let alloc = rt.alloc();
+fn function(alloc: Global) -> Result<Function, AllocError> {
     Ok(Function {
         address: 0,
-        name: text(rt, "p")?,
+        name: Text::from_str(alloc, "p")?,
         section_index: SectionIndex(7),
         section_offset: 0,
         instructions: Items::new(alloc),
@@ -102,14 +100,13 @@ fn function(rt: &HostRuntime) -> Result<Function, AllocError> {
 }
 
 /// Adds the function by its key.
-fn put_function(rt: &HostRuntime, functions: &mut ByKey<Function>) -> Result<(), AllocError> {
-    functions.insert((7, 0), function(rt)?)?;
+fn put_function(alloc: Global, functions: &mut ByKey<Function>) -> Result<(), AllocError> {
+    functions.insert((7, 0), function(alloc)?)?;
     Ok(())
 }
 
 /// An object without anything.
-pub fn empty_object(rt: &HostRuntime) -> Object {
-    let alloc = rt.alloc();
+pub fn empty_object(alloc: Global) -> Object {
     Object {
         endianness: Endianness::Little,
         license: Items::new(alloc),
@@ -127,10 +124,10 @@ pub fn empty_object(rt: &HostRuntime) -> Object {
 }
 
 /// Gives an object what has names.
-pub fn put_names(rt: &HostRuntime, object: &mut Object) -> Result<(), AllocError> {
-    put_map(rt, &mut object.maps)?;
-    put_sections(rt, &mut object.section_infos)?;
-    put_extern(rt, &mut object.externs)?;
-    put_symbol(rt, &mut object.symbol_table)?;
-    put_function(rt, &mut object.functions)
+pub fn put_names(alloc: Global, object: &mut Object) -> Result<(), AllocError> {
+    put_map(alloc, &mut object.maps)?;
+    put_sections(alloc, &mut object.section_infos)?;
+    put_extern(alloc, &mut object.externs)?;
+    put_symbol(alloc, &mut object.symbol_table)?;
+    put_function(alloc, &mut object.functions)
 }

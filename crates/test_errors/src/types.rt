@@ -1,9 +1,9 @@
 //! Why type information can't be read.
 
-use crate::sample::{Sample, show, text};
+use crate::lines::Lines;
+use crate::sample::Sample;
 use ebpf_btf::BtfError;
 use ebpf_variants::variant_of_types;
-use std::io;
 
 impl Sample for BtfError {
     const TYPE: &'static str = "obj::BtfError";
@@ -13,36 +13,36 @@ impl Sample for BtfError {
     }
 }
 
-/// Prints the errors on types and strings.
-fn show_types(rt: &HostRuntime) -> io::Result<()> {
-    show(rt, BtfError::InvalidHeader)?;
-    show(rt, BtfError::InvalidTypeInfo)?;
-    show(rt, BtfError::InvalidInfo)?;
-    show(rt, BtfError::InvalidStringOffset { offset: 0x4d2 })?;
-    show(rt, BtfError::InvalidRelocationKind { kind: 12 })?;
-    show(rt, BtfError::UnexpectedBtfType { type_id: 7 })?;
-    show(rt, BtfError::UnknownBtfType { type_id: 70 })?;
-    let type_name = text(rt, "task_struct")?;
-    show(rt, BtfError::UnknownBtfTypeName { type_name })?;
-    show(rt, BtfError::MaximumTypeDepth { type_id: 7 })
+/// Adds the errors on types and strings.
+fn show_types(lines: &mut Lines) {
+    lines.show(BtfError::InvalidHeader);
+    lines.show(BtfError::InvalidTypeInfo);
+    lines.show(BtfError::InvalidInfo);
+    lines.show(BtfError::InvalidStringOffset { offset: 0x4d2 });
+    lines.show(BtfError::InvalidRelocationKind { kind: 12 });
+    lines.show(BtfError::UnexpectedBtfType { type_id: 7 });
+    lines.show(BtfError::UnknownBtfType { type_id: 70 });
+    let type_name = lines.text("task_struct");
+    lines.show(BtfError::UnknownBtfTypeName { type_name });
+    lines.show(BtfError::MaximumTypeDepth { type_id: 7 });
 }
 
-/// Prints the errors on extern declarations and BTF-defined maps.
-fn show_declared(rt: &HostRuntime) -> io::Result<()> {
-    show(rt, BtfError::InvalidDatasec)?;
-    show(rt, BtfError::InvalidSymbolName)?;
-    let name = text(rt, "outer")?;
-    show(rt, BtfError::InnerMapCannotBePinned { name })?;
-    let name = text(rt, "outer")?;
-    show(rt, BtfError::MultiLevelMapInMapNotSupported { name })?;
-    let name = text(rt, "outer")?;
-    show(rt, BtfError::InvalidValuesSpec { name })?;
-    show(rt, BtfError::TooLarge)?;
-    show(rt, BtfError::OutOfMemory)
+/// Adds the errors on extern declarations and BTF-defined maps.
+fn show_declared(lines: &mut Lines) {
+    lines.show(BtfError::InvalidDatasec);
+    lines.show(BtfError::InvalidSymbolName);
+    let name = lines.text("outer");
+    lines.show(BtfError::InnerMapCannotBePinned { name });
+    let name = lines.text("outer");
+    lines.show(BtfError::MultiLevelMapInMapNotSupported { name });
+    let name = lines.text("outer");
+    lines.show(BtfError::InvalidValuesSpec { name });
+    lines.show(BtfError::TooLarge);
+    lines.show(BtfError::OutOfMemory);
 }
 
-/// Prints each error of type information.
-pub fn show_all(rt: &HostRuntime) -> io::Result<()> {
-    show_types(rt)?;
-    show_declared(rt)
+/// Adds each error of type information.
+pub fn show_all(lines: &mut Lines) {
+    show_types(lines);
+    show_declared(lines);
 }

@@ -6,4 +6,6 @@ mod initial_slots;
 #[cfg(test)]
 mod kconfig;
 #[cfg(test)]
+mod limits;
+#[cfg(test)]
 mod same;

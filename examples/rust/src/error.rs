@@ -2,13 +2,45 @@
 use crate::raw;
 use std::fmt;
 
-/// What a stage refuses: the number, its name (the stage and the fault), and the name of the function, the map, the
-/// symbol or the like that it is about, where it is about one.
+/// What a stage refuses: the number, its name (the stage and the fault), the name of the function, the map, the symbol or
+/// the like that it is about, where it is about one, and the numbers that its error states.
 #[derive(Clone, Debug, PartialEq, Eq)]
 pub struct Refusal {
     pub number: u32,
     pub name: String,
     pub about: Option<String>,
+    pub details: Details,
+}
+
+/// The numbers that an error states, each where it does.
+#[derive(Clone, Copy, Debug, Default, PartialEq, Eq)]
+pub struct Details {
+    /// The index of an instruction slot in its function.
+    pub slot: Option<u64>,
+    /// An offset in bytes: of a relocation in its section, or of a string in .BTF's strings.
+    pub offset: Option<u64>,
+    /// The index of a symbol in the file's table.
+    pub symbol: Option<u64>,
+    /// An address in a section, or in the kernel.
+    pub address: Option<u64>,
+    /// The second one, where two differ.
+    pub other_address: Option<u64>,
+    /// The index of a section in the file.
+    pub section: Option<u64>,
+    /// A size in bytes: of what is there or wanted.
+    pub size: Option<u64>,
+    /// The second one, where two differ: of the value that is given.
+    pub other_size: Option<u64>,
+    /// The id of a type.
+    pub type_id: Option<u64>,
+    /// The index of a relocation, or of a CO-RE record, among those of its section.
+    pub relocation: Option<u64>,
+    /// The number of a member, an element or a variant that is asked for.
+    pub index: Option<u64>,
+    /// How many of them there are, or how many slots.
+    pub count: Option<u64>,
+    /// The number of a kind of map or of CO-RE record.
+    pub kind: Option<u64>,
 }
 
 /// Why a call refuses.
@@ -48,8 +80,55 @@ pub enum Error {
     Other(Refusal),
 }
 
+impl Details {
+    pub(crate) fn of(refusal: &raw::Refusal) -> Details {
+        let detail = |bit: u32, number: u64| (refusal.has & bit != 0).then_some(number);
+        Details {
+            slot: detail(1, refusal.slot),
+            offset: detail(2, refusal.offset),
+            symbol: detail(4, refusal.symbol),
+            address: detail(8, refusal.address),
+            other_address: detail(16, refusal.other_address),
+            section: detail(32, refusal.section),
+            size: detail(64, refusal.size),
+            other_size: detail(128, refusal.other_size),
+            type_id: detail(256, refusal.type_id),
+            relocation: detail(512, refusal.relocation),
+            index: detail(1024, refusal.index),
+            count: detail(2048, refusal.count),
+            kind: detail(4096, refusal.kind),
+        }
+    }
+}
+
+impl fmt::Display for Details {
+    fn fmt(&self, out: &mut fmt::Formatter<'_>) -> fmt::Result {
+        let all = [
+            ("section", self.section),
+            ("symbol", self.symbol),
+            ("address", self.address),
+            ("and address", self.other_address),
+            ("slot", self.slot),
+            ("offset", self.offset),
+            ("relocation", self.relocation),
+            ("type", self.type_id),
+            ("kind", self.kind),
+            ("number", self.index),
+            ("of", self.count),
+            ("size", self.size),
+            ("and size", self.other_size),
+        ];
+        for (name, number) in all {
+            if let Some(number) = number {
+                write!(out, ", {name} {number}")?;
+            }
+        }
+        Ok(())
+    }
+}
+
 /// The stage and the fault of a number.
-fn name_of(number: u32) -> String {
+pub(crate) fn name_of(number: u32) -> String {
     let (mut text, mut len) = ([0u8; 64], 0);
     // SAFETY: the buffer is ours.
     unsafe { raw::ebpf_number_name(number, text.as_mut_ptr(), text.len(), &mut len) };
@@ -57,11 +136,12 @@ fn name_of(number: u32) -> String {
 }
 
 impl Error {
-    pub(crate) fn of(number: u32, about: Option<String>) -> Error {
+    pub(crate) fn of(number: u32, about: Option<String>, details: Details) -> Error {
         let refusal = Refusal {
             number,
             name: name_of(number),
             about,
+            details,
         };
         match number {
             2 => Error::Memory,
@@ -98,10 +178,10 @@ impl fmt::Display for Error {
             Error::InitialSlots(refusal) | Error::Kconfig(refusal) | Error::Other(refusal) => refusal,
         };
         write!(out, "{} ({})", refusal.name, refusal.number)?;
-        match &refusal.about {
-            Some(about) => write!(out, " {about}"),
-            None => Ok(()),
+        if let Some(about) = &refusal.about {
+            write!(out, " {about}")?;
         }
+        write!(out, "{}", refusal.details)
     }
 }
 

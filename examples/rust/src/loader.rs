@@ -60,48 +60,48 @@ pub struct Variable {
 }
 
 /// The rows of a list, and the text that they point into.
-type Listed<R> = (Vec<R>, Vec<u8>);
+pub(crate) type Listed<R> = (Vec<R>, Vec<u8>);
 
-fn text_at(text: &[u8], at: usize, len: usize) -> String {
+pub(crate) fn text_at(text: &[u8], at: usize, len: usize) -> String {
     String::from_utf8_lossy(&text[at..at + len]).into_owned()
 }
 
-/// A call that writes so many bytes, asked again until there is room.
-fn bytes(
-    mut call: impl FnMut(*mut u8, usize, *mut usize, (*mut u8, usize, *mut usize)) -> u32,
-) -> Result<Vec<u8>, Error> {
-    let mut bytes = Vec::new();
+/// A call that writes so many values, asked again until there is room.
+pub(crate) fn filled<T: Copy + Default>(
+    mut call: impl FnMut(*mut T, usize, *mut usize, (*mut u8, usize, *mut raw::Refusal)) -> u32,
+) -> Result<Vec<T>, Error> {
+    let mut values = Vec::new();
     loop {
-        let mut len = 0;
+        let mut count = 0;
         let mut number = 0;
-        let answer = telling(|about, about_room, about_len| {
+        let answer = telling(|about, about_room, refusal| {
             number = call(
-                bytes.as_mut_ptr(),
-                bytes.len(),
-                &mut len,
-                (about, about_room, about_len),
+                values.as_mut_ptr(),
+                values.len(),
+                &mut count,
+                (about, about_room, refusal),
             );
             number
         });
         if number != 1 {
             answer?;
-            bytes.truncate(len);
-            return Ok(bytes);
+            values.truncate(count);
+            return Ok(values);
         }
-        bytes.resize(len, 0);
+        values.resize(count, T::default());
     }
 }
 
 /// A call that lists, asked again until there is room.
-fn listed<R: Copy + Default>(
-    mut call: impl FnMut(*mut R, usize, *mut u8, usize, *mut Counts, (*mut u8, usize, *mut usize)) -> u32,
+pub(crate) fn listed<R: Copy + Default>(
+    mut call: impl FnMut(*mut R, usize, *mut u8, usize, *mut Counts, (*mut u8, usize, *mut raw::Refusal)) -> u32,
 ) -> Result<Listed<R>, Error> {
     let (mut rows, mut text): Listed<R> = (Vec::new(), Vec::new());
     loop {
         let mut counts = Counts::default();
         let mut number = 0;
-        let answer = telling(|about, about_room, about_len| {
-            let told = (about, about_room, about_len);
+        let answer = telling(|about, about_room, refusal| {
+            let told = (about, about_room, refusal);
             let (rows_room, text_room) = (rows.len(), text.len());
             number = call(
                 rows.as_mut_ptr(),
@@ -126,17 +126,8 @@ fn listed<R: Copy + Default>(
 /// The types of a file as the kernel takes them (`BPF_BTF_LOAD`): empty where it has no section .BTF.
 pub fn kernel_types(file: &[u8]) -> Result<Vec<u8>, Error> {
     // SAFETY: the file is borrowed for the call, and the buffers are ours.
-    bytes(|types, room, len, (about, about_room, about_len)| unsafe {
-        raw::ebpf_kernel_types(
-            file.as_ptr(),
-            file.len(),
-            types,
-            room,
-            len,
-            about,
-            about_room,
-            about_len,
-        )
+    filled(|types, room, len, (about, about_room, refusal)| unsafe {
+        raw::ebpf_kernel_types(file.as_ptr(), file.len(), types, room, len, about, about_room, refusal)
     })
 }
 
@@ -179,7 +170,7 @@ impl Object {
     pub fn initial_slots(&self, file: &[u8]) -> Result<Vec<InitialSlot>, Error> {
         // SAFETY: an `Object` is open, the file is borrowed for the call, and the buffers are ours.
         let (rows, text) = listed(
-            |rows, room, text, text_room, counts, (about, about_room, about_len)| unsafe {
+            |rows, room, text, text_room, counts, (about, about_room, refusal)| unsafe {
                 raw::ebpf_initial_slots(
                     file.as_ptr(),
                     file.len(),
@@ -191,7 +182,7 @@ impl Object {
                     counts,
                     about,
                     about_room,
-                    about_len,
+                    refusal,
                 )
             },
         )?;
@@ -222,7 +213,7 @@ impl Object {
     /// The bytes of a variable as they stand.
     pub fn value(&self, variable: &str) -> Result<Vec<u8>, Error> {
         // SAFETY: an `Object` is open, the name is borrowed for the call, and the buffer is ours.
-        bytes(|value, room, len, _| unsafe {
+        filled(|value, room, len, _| unsafe {
             raw::ebpf_value(self.handle.get(), variable.as_ptr(), variable.len(), value, room, len)
         })
     }
@@ -245,7 +236,7 @@ impl Object {
     pub fn kconfig(&self) -> Result<Vec<KconfigExtern>, Error> {
         // SAFETY: an `Object` is open, and the buffers are ours.
         let (rows, text) = listed(
-            |rows, room, text, text_room, counts, (about, about_room, about_len)| unsafe {
+            |rows, room, text, text_room, counts, (about, about_room, refusal)| unsafe {
                 raw::ebpf_kconfig(
                     self.handle.get(),
                     rows,
@@ -255,7 +246,7 @@ impl Object {
                     counts,
                     about,
                     about_room,
-                    about_len,
+                    refusal,
                 )
             },
         )?;
@@ -273,7 +264,7 @@ impl Object {
     pub fn kconfig_value(&self, name: &str, config: &[u8]) -> Result<Option<Vec<u8>>, Error> {
         let mut is_found = 0;
         // SAFETY: an `Object` is open, the slices are borrowed for the call, and the buffers are ours.
-        let value = bytes(|value, room, len, (about, about_room, about_len)| unsafe {
+        let value = filled(|value, room, len, (about, about_room, refusal)| unsafe {
             raw::ebpf_kconfig_value(
                 self.handle.get(),
                 name.as_ptr(),
@@ -286,7 +277,7 @@ impl Object {
                 &mut is_found,
                 about,
                 about_room,
-                about_len,
+                refusal,
             )
         })?;
         Ok((is_found != 0).then_some(value))
@@ -295,7 +286,7 @@ impl Object {
     /// The value of such an extern that is a number: what a loader knows, as of `LINUX_KERNEL_VERSION`.
     pub fn kconfig_number(&self, name: &str, number: u64) -> Result<Vec<u8>, Error> {
         // SAFETY: an `Object` is open, the name is borrowed for the call, and the buffers are ours.
-        bytes(|value, room, len, (about, about_room, about_len)| unsafe {
+        filled(|value, room, len, (about, about_room, refusal)| unsafe {
             raw::ebpf_kconfig_number(
                 self.handle.get(),
                 name.as_ptr(),
@@ -306,7 +297,7 @@ impl Object {
                 len,
                 about,
                 about_room,
-                about_len,
+                refusal,
             )
         })
     }
@@ -317,7 +308,7 @@ impl Object {
         let given: Vec<(&str, &[u8], bool)> = values.iter().map(|(name, value)| (*name, *value, false)).collect();
         let (rows, text, bytes) = value_rows(&given);
         let handle = self.handle.get_mut();
-        telling(|about, room, len| {
+        telling(|about, room, refusal| {
             // SAFETY: an `Object` is open, and the slices are borrowed for the call.
             unsafe {
                 raw::ebpf_define_kconfig(
@@ -330,7 +321,7 @@ impl Object {
                     bytes.len(),
                     about,
                     room,
-                    len,
+                    refusal,
                 )
             }
         })

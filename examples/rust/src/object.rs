@@ -1,5 +1,5 @@
 //! An object.
-use crate::error::Error;
+use crate::error::{Details, Error};
 use crate::raw::{self, Counts, Descriptor, FuncInfo, Handle, Insn, LineInfo, Value};
 use crate::rows::{Extern, Map, Program, Row, Section};
 use std::cell::UnsafeCell;
@@ -72,14 +72,15 @@ pub fn version() -> (u32, u32, u32) {
     (number / 1_000_000, number / 1_000 % 1_000, number % 1_000)
 }
 
-/// A call that may say what its refusal is about.
-pub(crate) fn telling(call: impl FnOnce(*mut u8, usize, *mut usize) -> u32) -> Result<(), Error> {
-    let (mut about, mut len) = ([0u8; ABOUT], 0);
-    match call(about.as_mut_ptr(), about.len(), &mut len) {
+/// A call that may say what its refusal is about, and the numbers that its error states.
+pub(crate) fn telling(call: impl FnOnce(*mut u8, usize, *mut raw::Refusal) -> u32) -> Result<(), Error> {
+    let (mut about, mut refusal) = ([0u8; ABOUT], raw::Refusal::default());
+    match call(about.as_mut_ptr(), about.len(), &mut refusal) {
         0 => Ok(()),
         number => {
-            let name = String::from_utf8_lossy(&about[..len.min(ABOUT)]).into_owned();
-            Err(Error::of(number, (len > 0).then_some(name)))
+            let len = refusal.name_len.min(ABOUT);
+            let name = String::from_utf8_lossy(&about[..len]).into_owned();
+            Err(Error::of(number, (len > 0).then_some(name), Details::of(&refusal)))
         }
     }
 }
@@ -87,7 +88,7 @@ pub(crate) fn telling(call: impl FnOnce(*mut u8, usize, *mut usize) -> u32) -> R
 pub(crate) fn plain(number: u32) -> Result<(), Error> {
     match number {
         0 => Ok(()),
-        number => Err(Error::of(number, None)),
+        number => Err(Error::of(number, None, Details::default())),
     }
 }
 
@@ -102,7 +103,7 @@ fn filled<T: Copy + Default>(mut call: impl FnMut(*mut T, usize, *mut usize) -> 
                 return Ok(values);
             }
             1 => values.resize(count, T::default()),
-            number => return Err(Error::of(number, None)),
+            number => return Err(Error::of(number, None, Details::default())),
         }
     }
 }
@@ -115,9 +116,9 @@ impl Object {
         let mut handle = Handle {
             at: std::ptr::null_mut(),
         };
-        telling(|about, room, len| {
+        telling(|about, room, refusal| {
             // SAFETY: the slices are borrowed for the call, and a handle of zeros is a closed one.
-            unsafe { raw::ebpf_open(file.as_ptr(), file.len(), &mut handle, about, room, len) }
+            unsafe { raw::ebpf_open(file.as_ptr(), file.len(), &mut handle, about, room, refusal) }
         })?;
         Ok(Object {
             handle: UnsafeCell::new(handle),
@@ -130,9 +131,26 @@ impl Object {
         let mut handle = Handle {
             at: std::ptr::null_mut(),
         };
-        telling(|about, room, len| {
+        telling(|about, room, refusal| {
             // SAFETY: the slices are borrowed for the call, and a handle of zeros is a closed one.
-            unsafe { raw::ebpf_open_broad(file.as_ptr(), file.len(), &mut handle, about, room, len) }
+            unsafe { raw::ebpf_open_broad(file.as_ptr(), file.len(), &mut handle, about, room, refusal) }
+        })?;
+        Ok(Object {
+            handle: UnsafeCell::new(handle),
+        })
+    }
+
+    /// The object of a file that is read broadly, where what is made of it owns at most so many bytes. That is counted before
+    /// it is made.
+    pub fn open_within(file: &[u8], most_bytes: u64) -> Result<Object, Error> {
+        let mut handle = Handle {
+            at: std::ptr::null_mut(),
+        };
+        telling(|about, room, refusal| {
+            // SAFETY: the slices are borrowed for the call, and a handle of zeros is a closed one.
+            unsafe {
+                raw::ebpf_open_within(file.as_ptr(), file.len(), 1, most_bytes, &mut handle, about, room, refusal)
+            }
         })?;
         Ok(Object {
             handle: UnsafeCell::new(handle),
@@ -146,7 +164,7 @@ impl Object {
         };
         let (rows, text) = map_fds(target.maps);
         let (types, symbols) = (target.types, target.symbols);
-        telling(|about, room, len| {
+        telling(|about, room, refusal| {
             // SAFETY: the slices are borrowed for the call, and a handle of zeros is a closed one.
             unsafe {
                 raw::ebpf_prepare(
@@ -163,7 +181,7 @@ impl Object {
                     &mut handle,
                     about,
                     room,
-                    len,
+                    refusal,
                 )
             }
         })?;
@@ -177,7 +195,7 @@ impl Object {
         let handle = self.handle.get_mut();
         let (rows, text) = map_fds(target.maps);
         let (types, symbols) = (target.types, target.symbols);
-        telling(|about, room, len| {
+        telling(|about, room, refusal| {
             // SAFETY: an `Object` is open, and the slices are borrowed for the call.
             unsafe {
                 raw::ebpf_prepare_handle(
@@ -192,7 +210,7 @@ impl Object {
                     symbols.len(),
                     about,
                     room,
-                    len,
+                    refusal,
                 )
             }
         })
@@ -260,7 +278,7 @@ impl Object {
                     rows.resize(counts.rows, R::default());
                     text.resize(counts.text, 0);
                 }
-                number => return Err(Error::of(number, None)),
+                number => return Err(Error::of(number, None, Details::default())),
             }
         }
         let value = |row: &R| {
@@ -333,7 +351,7 @@ impl Object {
     /// Writes the value of a variable. Where the object has none of the name and `must_exist` is false, all stays.
     pub fn set_value(&mut self, variable: &str, value: &[u8], must_exist: bool) -> Result<(), Error> {
         let handle = self.handle.get_mut();
-        telling(|about, room, len| {
+        telling(|about, room, refusal| {
             // SAFETY: an `Object` is open, and the slices are borrowed for the call.
             unsafe {
                 raw::ebpf_set_value(
@@ -345,7 +363,7 @@ impl Object {
                     must_exist.into(),
                     about,
                     room,
-                    len,
+                    refusal,
                 )
             }
         })
@@ -356,7 +374,7 @@ impl Object {
     pub fn set_values(&mut self, values: &[(&str, &[u8], bool)]) -> Result<(), Error> {
         let handle = self.handle.get_mut();
         let (rows, text, bytes) = value_rows(values);
-        telling(|about, room, len| {
+        telling(|about, room, refusal| {
             // SAFETY: an `Object` is open, and the slices are borrowed for the call.
             unsafe {
                 raw::ebpf_set_values(
@@ -369,7 +387,7 @@ impl Object {
                     bytes.len(),
                     about,
                     room,
-                    len,
+                    refusal,
                 )
             }
         })
@@ -396,9 +414,9 @@ impl Object {
     /// Relocates the functions to a kernel's types.
     pub fn relocate_types(&mut self, types: &[u8]) -> Result<(), Error> {
         let handle = self.handle.get_mut();
-        telling(|about, room, len| {
+        telling(|about, room, refusal| {
             // SAFETY: an `Object` is open, and the slice is borrowed for the call.
-            unsafe { raw::ebpf_relocate_types(handle, types.as_ptr(), types.len(), about, room, len) }
+            unsafe { raw::ebpf_relocate_types(handle, types.as_ptr(), types.len(), about, room, refusal) }
         })
     }
 
@@ -406,7 +424,7 @@ impl Object {
     pub fn relocate_maps(&mut self, maps: &[(&str, i32)]) -> Result<(), Error> {
         let handle = self.handle.get_mut();
         let (rows, text) = map_fds(maps);
-        telling(|about, room, len| {
+        telling(|about, room, refusal| {
             // SAFETY: an `Object` is open, and the slices are borrowed for the call.
             unsafe {
                 raw::ebpf_relocate_maps(
@@ -417,7 +435,7 @@ impl Object {
                     text.len(),
                     about,
                     room,
-                    len,
+                    refusal,
                 )
             }
         })
@@ -426,7 +444,7 @@ impl Object {
     /// Finds the externs in a kernel's types (empty: it isn't asked) and in its symbols.
     pub fn resolve_externs(&mut self, types: &[u8], symbols: &[u8]) -> Result<(), Error> {
         let handle = self.handle.get_mut();
-        telling(|about, room, len| {
+        telling(|about, room, refusal| {
             // SAFETY: an `Object` is open, and the slices are borrowed for the call.
             unsafe {
                 raw::ebpf_resolve_externs(
@@ -437,7 +455,7 @@ impl Object {
                     symbols.len(),
                     about,
                     room,
-                    len,
+                    refusal,
                 )
             }
         })
@@ -447,14 +465,14 @@ impl Object {
     pub fn relocate_externs(&mut self) -> Result<(), Error> {
         let handle = self.handle.get_mut();
         // SAFETY: an `Object` is open.
-        telling(|about, room, len| unsafe { raw::ebpf_relocate_externs(handle, about, room, len) })
+        telling(|about, room, refusal| unsafe { raw::ebpf_relocate_externs(handle, about, room, refusal) })
     }
 
     /// Links each program with the functions that it reaches.
     pub fn relocate_calls(&mut self) -> Result<(), Error> {
         let handle = self.handle.get_mut();
         // SAFETY: an `Object` is open.
-        telling(|about, room, len| unsafe { raw::ebpf_relocate_calls(handle, about, room, len) })
+        telling(|about, room, refusal| unsafe { raw::ebpf_relocate_calls(handle, about, room, refusal) })
     }
 }
 

@@ -6,6 +6,28 @@ pub struct Handle {
     pub at: *mut u8,
 }
 
+/// `struct ebpf_refusal`.
+#[repr(C)]
+#[derive(Clone, Copy, Default)]
+pub struct Refusal {
+    pub number: u32,
+    pub has: u32,
+    pub slot: u64,
+    pub offset: u64,
+    pub symbol: u64,
+    pub address: u64,
+    pub other_address: u64,
+    pub section: u64,
+    pub size: u64,
+    pub other_size: u64,
+    pub type_id: u64,
+    pub relocation: u64,
+    pub index: u64,
+    pub count: u64,
+    pub kind: u64,
+    pub name_len: usize,
+}
+
 /// `struct ebpf_counts`.
 #[repr(C)]
 #[derive(Clone, Copy, Default)]
@@ -186,7 +208,7 @@ extern "C" {
         handle: *mut Handle,
         about: *mut u8,
         about_room: usize,
-        about_len: *mut usize,
+        refusal: *mut Refusal,
     ) -> u32;
     pub fn ebpf_open_broad(
         file: *const u8,
@@ -194,7 +216,17 @@ extern "C" {
         handle: *mut Handle,
         about: *mut u8,
         about_room: usize,
-        about_len: *mut usize,
+        refusal: *mut Refusal,
+    ) -> u32;
+    pub fn ebpf_open_within(
+        file: *const u8,
+        file_len: usize,
+        broad: u32,
+        most_bytes: u64,
+        handle: *mut Handle,
+        about: *mut u8,
+        about_room: usize,
+        refusal: *mut Refusal,
     ) -> u32;
     pub fn ebpf_clone(handle: *mut Handle, copy: *mut Handle) -> u32;
     pub fn ebpf_close(handle: *mut Handle);
@@ -281,7 +313,7 @@ extern "C" {
         len: *mut usize,
         about: *mut u8,
         about_room: usize,
-        about_len: *mut usize,
+        refusal: *mut Refusal,
     ) -> u32;
     pub fn ebpf_attach_target(
         section_name: *const u8,
@@ -302,7 +334,7 @@ extern "C" {
         counts: *mut Counts,
         about: *mut u8,
         about_room: usize,
-        about_len: *mut usize,
+        refusal: *mut Refusal,
     ) -> u32;
     pub fn ebpf_kconfig(
         handle: *mut Handle,
@@ -313,7 +345,7 @@ extern "C" {
         counts: *mut Counts,
         about: *mut u8,
         about_room: usize,
-        about_len: *mut usize,
+        refusal: *mut Refusal,
     ) -> u32;
     pub fn ebpf_kconfig_value(
         handle: *mut Handle,
@@ -327,7 +359,7 @@ extern "C" {
         is_found: *mut u32,
         about: *mut u8,
         about_room: usize,
-        about_len: *mut usize,
+        refusal: *mut Refusal,
     ) -> u32;
     pub fn ebpf_kconfig_number(
         handle: *mut Handle,
@@ -339,7 +371,7 @@ extern "C" {
         len: *mut usize,
         about: *mut u8,
         about_room: usize,
-        about_len: *mut usize,
+        refusal: *mut Refusal,
     ) -> u32;
     pub fn ebpf_define_kconfig(
         handle: *mut Handle,
@@ -351,7 +383,7 @@ extern "C" {
         bytes_len: usize,
         about: *mut u8,
         about_room: usize,
-        about_len: *mut usize,
+        refusal: *mut Refusal,
     ) -> u32;
     pub fn ebpf_set_value(
         handle: *mut Handle,
@@ -362,7 +394,7 @@ extern "C" {
         must_exist: u32,
         about: *mut u8,
         about_room: usize,
-        about_len: *mut usize,
+        refusal: *mut Refusal,
     ) -> u32;
     pub fn ebpf_set_values(
         handle: *mut Handle,
@@ -374,7 +406,7 @@ extern "C" {
         bytes_len: usize,
         about: *mut u8,
         about_room: usize,
-        about_len: *mut usize,
+        refusal: *mut Refusal,
     ) -> u32;
     pub fn ebpf_variables(
         handle: *mut Handle,
@@ -408,7 +440,7 @@ extern "C" {
         types_len: usize,
         about: *mut u8,
         about_room: usize,
-        about_len: *mut usize,
+        refusal: *mut Refusal,
     ) -> u32;
     pub fn ebpf_relocate_maps(
         handle: *mut Handle,
@@ -418,7 +450,7 @@ extern "C" {
         text_len: usize,
         about: *mut u8,
         about_room: usize,
-        about_len: *mut usize,
+        refusal: *mut Refusal,
     ) -> u32;
     pub fn ebpf_resolve_externs(
         handle: *mut Handle,
@@ -428,10 +460,10 @@ extern "C" {
         symbols_len: usize,
         about: *mut u8,
         about_room: usize,
-        about_len: *mut usize,
+        refusal: *mut Refusal,
     ) -> u32;
-    pub fn ebpf_relocate_externs(handle: *mut Handle, about: *mut u8, about_room: usize, about_len: *mut usize) -> u32;
-    pub fn ebpf_relocate_calls(handle: *mut Handle, about: *mut u8, about_room: usize, about_len: *mut usize) -> u32;
+    pub fn ebpf_relocate_externs(handle: *mut Handle, about: *mut u8, about_room: usize, refusal: *mut Refusal) -> u32;
+    pub fn ebpf_relocate_calls(handle: *mut Handle, about: *mut u8, about_room: usize, refusal: *mut Refusal) -> u32;
     pub fn ebpf_prepare(
         file: *const u8,
         file_len: usize,
@@ -446,7 +478,7 @@ extern "C" {
         handle: *mut Handle,
         about: *mut u8,
         about_room: usize,
-        about_len: *mut usize,
+        refusal: *mut Refusal,
     ) -> u32;
     pub fn ebpf_prepare_handle(
         handle: *mut Handle,
@@ -460,6 +492,6 @@ extern "C" {
         symbols_len: usize,
         about: *mut u8,
         about_room: usize,
-        about_len: *mut usize,
+        refusal: *mut Refusal,
     ) -> u32;
 }

@@ -1,5 +1,5 @@
 //! The wrapper over files of the repository.
-use ebpf_c_wrapper::{version, Error, Object, Target};
+use ebpf_c_wrapper::{version, Details, Error, Object, Target};
 use std::path::PathBuf;
 
 fn file(name: &str) -> Vec<u8> {
@@ -23,6 +23,16 @@ fn programs_are_linked() {
     assert_eq!((slots.len(), slots[0].imm), (3, 1));
     assert_eq!(copy.slots("p").expect("slots").len(), 2);
     assert_eq!(object.programs().expect("programs")[0].slots, 3);
+}
+
+#[test]
+fn a_limit_is_kept() {
+    let bytes = file("ebpf_link/data/call.o");
+    assert!(Object::open_within(&bytes, 972).is_ok());
+    let Err(Error::Parse(refusal)) = Object::open_within(&bytes, 971) else {
+        panic!("more than 971 bytes");
+    };
+    assert_eq!((refusal.number, refusal.details.size), (157, Some(971)));
 }
 
 #[test]
@@ -62,7 +72,7 @@ fn an_object_is_prepared_with_its_values() {
 
 #[test]
 fn the_version_is_told() {
-    assert_eq!(version(), (0, 2, 0));
+    assert_eq!(version(), (0, 3, 0));
     let object = Object::open(&file("test_rows/data/counter.o")).expect("an object");
     assert!(object.states_license().expect("a section license"));
 }
@@ -127,4 +137,36 @@ fn refusals_have_names() {
     let refused = object.set_value("none", &[1], true).expect_err("no variable");
     assert!(matches!(&refused, Error::Parse(refusal) if refusal.about.as_deref() == Some("none")));
     assert!(!refused.to_string().is_empty());
+}
+
+#[test]
+fn refusals_have_the_numbers_of_their_errors() {
+    let mut object = Object::open(&file("test_rows/data/counter.o")).expect("an object");
+    // the variable has 4 bytes
+    let refused = object.set_value("wanted", &[1], true).expect_err("another size");
+    let Error::Parse(refusal) = &refused else {
+        panic!("{refused}");
+    };
+    let sizes = Details {
+        size: Some(4),
+        other_size: Some(1),
+        ..Details::default()
+    };
+    assert_eq!((refusal.number, refusal.details), (150, sizes));
+    assert!(refused.to_string().ends_with(" wanted, size 4, and size 1"));
+    let refused = object.set_value("none", &[1], true).expect_err("no variable");
+    assert!(matches!(&refused, Error::Parse(refusal) if refusal.details == Details::default()));
+}
+
+#[test]
+fn a_map_without_a_descriptor_is_told_by_its_symbol() {
+    let mut object = Object::open(&file("test_rows/data/counter.o")).expect("an object");
+    // the first reference of `count` is to symbol 11 in section 9, the map `counts`
+    let refused = object.relocate_maps(&[]).expect_err("no descriptor");
+    let place = Details {
+        symbol: Some(11),
+        section: Some(9),
+        ..Details::default()
+    };
+    assert!(matches!(&refused, Error::Maps(refusal) if refusal.number == 301 && refusal.details == place));
 }

@@ -1,0 +1,72 @@
+//! The calls that tell what a linked program is made of.
+
+ghost use Rattle.std.specs.Prelude.{◌≡◌, List, Result};
+ghost use Rattle.ebpf_c.specs.Answers.{Listed};
+ghost use Rattle.ebpf_c.specs.Handles.{FindsHeld};
+ghost use Rattle.ebpf_c.specs.LinkMapCalls.{CannotMap, IsCopyList, IsReferenceList};
+ghost use Rattle.ebpf_c.specs.Told.{LeavesListing};
+ghost use Rattle.ebpf_c.specs.ToldRows.{LeavesRows};
+ghost use Rattle.ebpf_c.specs.declared.link_map_rows.ebpf_code_copy.{ebpf_code_copy};
+ghost use Rattle.ebpf_c.specs.declared.link_map_rows.ebpf_code_reference.{ebpf_code_reference};
+ghost use Rattle.ebpf_c.specs.declared.refusal.Refusal.{Refusal};
+
+use crate::buffers::ebpf_counts;
+use crate::handle::ebpf_handle;
+use crate::link_map_rows::{ebpf_code_copy, ebpf_code_reference};
+use crate::link_maps::{copies_held, references_held};
+use crate::refusal_row::ebpf_refusal;
+use crate::told::tell_listing;
+use crate::told_rows::tell_rows;
+use std::alloc::Global;
+
+/// Lists what the program with a name is made of once it is linked: a row for each copy of a function, in their order, the
+/// program's own at slot 0, and then each function that its references reach; and the functions' names in `text`, a zero
+/// byte behind each. Nothing is linked, and the handle holds what it held.
+///
+/// # Answers
+///
+/// 0; 1 where not all fits; 2; 3 where the handle is closed; 4 where no program has the name; 600 to 611 where the program
+/// can't be linked, about it, as `ebpf_relocate_calls` refuses it. The buffers are then as they were, and `counts` too but
+/// for 1.
+#[unsafe(no_mangle)]
+pub extern "C" fn ebpf_link_map(
+    alloc: Global,
+    handle: &mut ebpf_handle,
+    name: &[u8],
+    rows: &mut [ebpf_code_copy],
+    text: &mut [u8],
+    counts: &mut ebpf_counts,
+    about: &mut [u8],
+    report: &mut ebpf_refusal,
+) -> u32
+    ensures stays { handle.new.object ≡ handle.old.object }
+    ensures listed { (found : Result (Listed ebpf_code_copy) Refusal) × FindsHeld (IsCopyList name.now) (CannotMap name.now) handle.old.object found × LeavesListing found result rows.old rows.new text.old text.new counts.old counts.new about.old about.new report.old report.new }
+{
+    let found = copies_held(alloc, handle, name);
+    tell_listing(found, rows, text, counts, about, report)
+}
+
+/// Lists the slots of the linked program with a name that refer to its copies, in their order: a row for each, which says
+/// at which slot the copy begins that it refers to; and how many they are. Nothing is linked, and the handle holds what it
+/// held.
+///
+/// # Answers
+///
+/// 0; 1 where they don't fit; 2; 3 where the handle is closed; 4 where no program has the name; 600 to 611 where the program
+/// can't be linked, about it, as `ebpf_relocate_calls` refuses it. The buffer is then as it was, and `count` too but for 1.
+#[unsafe(no_mangle)]
+pub extern "C" fn ebpf_link_references(
+    alloc: Global,
+    handle: &mut ebpf_handle,
+    name: &[u8],
+    rows: &mut [ebpf_code_reference],
+    count: &mut usize,
+    about: &mut [u8],
+    report: &mut ebpf_refusal,
+) -> u32
+    ensures stays { handle.new.object ≡ handle.old.object }
+    ensures listed { (found : Result (List ebpf_code_reference) Refusal) × FindsHeld (IsReferenceList name.now) (CannotMap name.now) handle.old.object found × LeavesRows found result rows.old rows.new count.old count.new about.old about.new report.old report.new }
+{
+    let found = references_held(alloc, handle, name);
+    tell_rows(found, rows, count, about, report)
+}

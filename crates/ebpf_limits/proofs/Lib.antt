@@ -1,0 +1,17 @@
+pub mod Counts
+pub mod NoRecords
+pub mod Covered
+pub mod Lists
+pub mod OwnedTables
+pub mod OwnedParts
+pub mod OwnedCode
+pub mod OwnedPrograms
+pub mod OwnedFunctions
+pub mod OwnedMaps
+pub mod OwnedExterns
+pub mod OwnedTypes
+pub mod OwnedRelocations
+pub mod OwnedRecords
+pub mod OwnedExt
+pub mod OwnedObjects
+pub mod PlainFaults

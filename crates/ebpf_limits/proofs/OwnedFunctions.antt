@@ -1,0 +1,154 @@
+-- The functions of a file, by its symbols.
+use Rattle.std.proofs.Common.{◌≡◌, ℕ, zero, suc, ◌+◌, ◌-◌, ◌%◌, ◌^◌, ◌<◌, ◌≤◌, Bool, true, false, cond, List, [], ◌∷◌, map, filter, length, Option, Some, None, refl, sym, ap, subst, ◌∙◌, arith, eqb-true}
+use Rattle.std.specs.Prelude.{unwrap_or, nat_lt}
+use Rattle.std.specs.FinMap.{entries}
+use Rattle.std.specs.List.{AllByRecursion}
+use Rattle.std.proofs.lemmas.Bool.Decides.{nat_tests}
+use Rattle.std.proofs.lemmas.List.{length-map}
+use Rattle.ebpf_base.specs.Keys.{key_total}
+use Rattle.ebpf_base.proofs.Maps.{key_exact}
+use Rattle.ebpf_elf.specs.Sections.{SectionOf, header, data_of, sections}
+use Rattle.ebpf_elf.specs.Symbols.{SymbolOf, entry, symbols, symbol_name, symbol_kind, symbol_section_index}
+use Rattle.ebpf_ext.specs.ExtReading.{ExtInfo}
+use Rattle.ebpf_limits.specs.MadeBytes.{SectionFacts, facts_of, facts_at, func_count, line_count, first_slot, function_bytes}
+use Rattle.ebpf_limits.specs.OwnedBytes.{function_row}
+use Rattle.ebpf_limits.specs.Sums.{total}
+use Rattle.ebpf_limits.proofs.Counts.{both_hold}
+use Rattle.ebpf_limits.proofs.Covered.{Among, Counted, covered}
+use Rattle.ebpf_limits.proofs.Lists.{all_map, all_flat_map, all_filter, each_at, found_among, name_within}
+use Rattle.ebpf_limits.proofs.OwnedCode.{data_short, data_within, code_within, funcs_within, lines_within, place_in_code, place_in_text, row_within, function_here, text_here}
+use Rattle.ebpf_limits.proofs.OwnedParts.{its_facts, its_name, its_function}
+use Rattle.ebpf_limits.proofs.OwnedTables.{sections_all, symbols_all, facts_here, file_of}
+use Rattle.ebpf_model.specs.Keys.{FunctionKey}
+use Rattle.ebpf_model.specs.declared.function.Function.{Function}
+use Rattle.ebpf_parsing.specs.FileContents.{object_sections, own_symbols, functions, function_entries}
+use Rattle.ebpf_parsing.specs.FileSymbols.{symbol_of}
+use Rattle.ebpf_parsing.specs.FileTypes.{ext_of}
+use Rattle.ebpf_parsing.specs.OfSection.{functions_by, functions_in}
+use Rattle.ebpf_parsing.specs.Programs.{is_program_symbol, program_function, with_key}
+use Rattle.ebpf_parsing.specs.Records.{FuncAndLineInfo, func_and_line_info_of, funcs_at, lines_in, is_func_at, is_line_in, slot_of, func_from, line_from}
+use Rattle.ebpf_parsing.specs.Symbols.{SymbolValue, is_text_symbol}
+use Rattle.ebpf_parsing.specs.Texts.{address_at, function_at, text_function, text_function_of, symbol_at_offset, is_text_at, offsets_from, offsets, size_at}
+use Rattle.ebpf_parts.specs.Sections.{SectionValue, section_of, section_with}
+use Rattle.ebpf_parts.specs.declared.section_kind.EbpfSectionKind.{EbpfSectionKind}
+use Rattle.ebpf_parts.specs.declared.section_kind.EbpfSectionKind.TheVariants.{Text, Program as Programs}
+
+-- the offsets where functions begin are inside the data
+offsets_inside : (s : SectionValue) (ys : List SymbolValue) (left offset : ℕ) → AllByRecursion (λ o. o < length s.bytes) (offsets_from left s ys offset)
+unfolding offsets_from
+offsets_inside s ys zero offset = tt
+offsets_inside s ys (suc left) offset =
+    elim (nat_lt offset (length s.bytes)) as (λ b. nat_lt offset (length s.bytes) ≡ b → AllByRecursion (λ o. o < length s.bytes) (cond b (offset ∷ offsets_from left s ys (offset + size_at s ys offset)) [])) [
+      | true ↦ λ below. (grind (arith, nat_tests, below), offsets_inside s ys left (offset + size_at s ys offset))
+      | false ↦ λ past. tt
+    ] refl
+
+module _ (file : List ℕ) (license : ℕ) (ext : Option ExtInfo) where
+  abbrev all : List SectionFacts
+  all = map (facts_of ext) (sections file)
+
+  abbrev key_of : SymbolOf → ℕ × ℕ
+  key_of y = (unwrap_or (symbol_section_index (entry y)) 0, (entry y).st_value)
+
+  abbrev IsFunction : FunctionKey × Function → Type 0
+  IsFunction = Counted key_total key_exact key_of function_row (its_function file license all) (symbols file)
+
+  module _ (s : SectionOf) (of_file : Among s (sections file)) where
+    abbrev infos : FuncAndLineInfo
+    infos = func_and_line_info_of ext (section_of s).name
+
+    abbrev own : List SymbolValue
+    own = own_symbols file (section_of s)
+
+    one_key : (y : SymbolOf) → symbol_section_index (entry y) ≡ Some s.index → key_of y ≡ (s.index, (entry y).st_value)
+    one_key y inside = ap (λ (o : Option ℕ). (unwrap_or o 0, (entry y).st_value)) inside
+
+    -- ---- programs
+
+    one_program : (y : SymbolOf) → Among y (symbols file) → symbol_section_index (entry y) ≡ Some s.index → (section_of s).kind ≡ Programs
+        → is_text_symbol (symbol_of y).kind ≡ true → IsFunction (with_key (program_function infos (section_of s) (symbol_of y)))
+    unfolding symbol_of section_of section_with facts_of program_function funcs_at lines_in
+    one_program y here inside code is_text =
+        let f = facts_of ext s in
+        let e = entry y in
+        let facts : its_facts file license all y ≡ Some f = ap (facts_at all) inside ∙ facts_here file ext s of_file in
+        let counts : its_function file license all y ≡ function_bytes (its_name file license all y) f e = function_here (its_facts file license all y) f _ (its_name file license all y) e facts is_text code in
+        let place : first_slot f e ≡ slot_of (e.st_value - f.address) = ap slot_of (place_in_code f.kind f.address e.st_value code) in
+        let named = name_within file (symbol_name y) in
+        let funcs : length (map (func_from (slot_of (e.st_value - f.address))) (filter (is_func_at (slot_of (e.st_value - f.address))) f.funcs)) ≤ func_count f (first_slot f e) =
+        (let few = funcs_within f (slot_of (e.st_value - f.address)) in rw (length-map (filter (is_func_at (slot_of (e.st_value - f.address))) f.funcs) (func_from (slot_of (e.st_value - f.address))), place) few) in
+        let lines : length (map (line_from (slot_of (e.st_value - f.address))) (filter (is_line_in (slot_of (e.st_value - f.address)) (slot_of e.st_size)) f.lines)) ≤ line_count f (first_slot f e) (slot_of e.st_size) =
+        (let few = lines_within f (slot_of (e.st_value - f.address)) (slot_of e.st_size) in rw (length-map (filter (is_line_in (slot_of (e.st_value - f.address)) (slot_of e.st_size)) f.lines) (line_from (slot_of (e.st_value - f.address))), place) few) in
+        let row = row_within (its_name file license all y) (length (unwrap_or (symbol_name y) [])) f e _ _ _ (omega (arith, named)) (code_within f e (data_of s) e.st_value (data_short s)) funcs lines in
+        (y, here, one_key y inside, omega (arith, counts, row))
+
+    -- ---- functions of a text section
+
+    one_text : length file < 2 ^ 64 → (offset : ℕ) → offset < length (data_of s) → (y : SymbolOf) → Among y (symbols file) → symbol_section_index (entry y) ≡ Some s.index → (section_of s).kind ≡ Text
+        → is_text_at (address_at (section_of s) offset) (symbol_of y) ≡ true → IsFunction (with_key (text_function infos (section_of s) offset (symbol_of y)))
+    unfolding symbol_of section_of section_with facts_of text_function funcs_at lines_in
+    one_text short offset below y here inside code found =
+        let f = facts_of ext s in
+        let e = entry y in
+        let tests = both_hold _ _ found in
+        let is_text : is_text_symbol (symbol_kind e) ≡ true = (both_hold _ _ tests.0).0 in
+        let at : e.st_value ≡ (f.address + offset) % 2 ^ 64 = eqb-true e.st_value _ tests.1 in
+        let facts : its_facts file license all y ≡ Some f = ap (facts_at all) inside ∙ facts_here file ext s of_file in
+        let counts : its_function file license all y ≡ function_bytes (its_name file license all y) f e = text_here (its_facts file license all y) f _ (its_name file license all y) e facts is_text code in
+        let whole : length (data_of s) ≤ length file = subst (λ b. length (data_of s) ≤ length b) (file_of file s of_file) (data_within s) in
+        let place : first_slot f e ≡ slot_of offset = ap slot_of (place_in_text f.kind f.address e.st_value offset code at (omega (arith, whole, below, short))) in
+        let named = name_within file (symbol_name y) in
+        let funcs : length (map (func_from 0) (filter (is_func_at (slot_of offset)) f.funcs)) ≤ func_count f (first_slot f e) =
+        (let few = funcs_within f (slot_of offset) in rw (length-map (filter (is_func_at (slot_of offset)) f.funcs) (func_from 0), place) few) in
+        let lines : length (map (line_from 0) (filter (is_line_in (slot_of offset) (slot_of e.st_size)) f.lines)) ≤ line_count f (first_slot f e) (slot_of e.st_size) =
+        (let few = lines_within f (slot_of offset) (slot_of e.st_size) in rw (length-map (filter (is_line_in (slot_of offset) (slot_of e.st_size)) f.lines) (line_from 0), place) few) in
+        let row = row_within (its_name file license all y) (length (unwrap_or (symbol_name y) [])) f e _ _ _ (omega (arith, named)) (code_within f e (data_of s) offset (data_short s)) funcs lines in
+        (y, here, one_key y inside, omega (arith, counts, row))
+
+    -- ---- both kinds
+
+    programs_counted : (section_of s).kind ≡ Programs → AllByRecursion IsFunction (map with_key (map (program_function infos (section_of s)) (filter is_program_symbol own)))
+    unfolding section_of section_with
+    programs_counted code =
+        let row : SymbolValue → Function = program_function infos (section_of s) in
+        all_map IsFunction with_key (map row (filter is_program_symbol own)) (all_map (λ g. IsFunction (with_key g)) row (filter is_program_symbol own)
+        (all_filter (λ y. IsFunction (with_key (row y))) is_program_symbol own
+        (symbols_all file (λ y. is_program_symbol y ≡ true → IsFunction (with_key (row y))) s.index (λ y here inside passes. one_program y here inside code (both_hold _ _ passes).0))))
+
+    text_found : length file < 2 ^ 64 → (section_of s).kind ≡ Text → (offset : ℕ) → offset < length (data_of s) → (o : Option SymbolValue) → symbol_at_offset (section_of s) own offset ≡ o
+        → AllByRecursion (λ g. IsFunction (with_key g)) (text_function_of infos (section_of s) offset o)
+    unfolding section_of section_with symbol_at_offset
+    text_found short code offset below None e = tt
+    text_found short code offset below (Some y) e =
+        let found = found_among (is_text_at (address_at (section_of s) offset)) own y e in
+        let each = symbols_all file (λ y. is_text_at (address_at (section_of s) offset) y ≡ true → IsFunction (with_key (text_function infos (section_of s) offset y))) s.index (λ y here inside passes. one_text short offset below y here inside code passes) in
+        (each_at _ own each y found.0 found.1, tt)
+
+    texts_counted : length file < 2 ^ 64 → (section_of s).kind ≡ Text → (os : List ℕ) → AllByRecursion (λ o. o < length (data_of s)) os → AllByRecursion (λ o. AllByRecursion (λ g. IsFunction (with_key g)) (function_at infos (section_of s) own o)) os
+    unfolding function_at
+    texts_counted short code [] below = tt
+    texts_counted short code (o ∷ os) below = (text_found short code o below.0 (symbol_at_offset (section_of s) own o) refl, texts_counted short code os below.1)
+
+    text_counted : length file < 2 ^ 64 → (section_of s).kind ≡ Text → AllByRecursion IsFunction (map with_key (functions_by Text infos (section_of s) own))
+    unfolding section_of section_with
+    text_counted short code =
+        all_map IsFunction with_key _ (all_flat_map (λ g. IsFunction (with_key g)) (function_at infos (section_of s) own) (offsets (section_of s) own)
+        (texts_counted short code (offsets (section_of s) own) (offsets_inside (section_of s) own (length (section_of s).bytes) 0)))
+
+    of_kind : length file < 2 ^ 64 → (kind : EbpfSectionKind) → (section_of s).kind ≡ kind → AllByRecursion IsFunction (map with_key (functions_by kind infos (section_of s) own))
+    of_kind short Programs code = programs_counted code
+    of_kind short Text code = text_counted short code
+    of_kind short _ other = tt
+
+module _ (file : List ℕ) (license : ℕ) where
+  with_records : length file < 2 ^ 64 → total function_row (entries (functions file)) ≤ total (its_function file license (map (facts_of (ext_of file)) (sections file))) (symbols file)
+  unfolding functions function_entries functions_in
+  with_records short =
+      let ext = ext_of file in
+      covered key_total key_exact (key_of file license ext) function_row (its_function file license (map (facts_of ext) (sections file))) (function_entries ext file) (symbols file)
+      (all_flat_map (IsFunction file license ext) (λ s. functions_in ext s (own_symbols file s)) (object_sections file)
+      (sections_all file (λ s. AllByRecursion (IsFunction file license ext) (functions_in ext s (own_symbols file s))) (λ s here. of_kind file license ext s here short (section_of s).kind refl)))
+
+  pub functions_owned : (ext : Option ExtInfo) → ext ≡ ext_of file → length file < 2 ^ 64 → total function_row (entries (functions file)) ≤ total (its_function file license (map (facts_of ext) (sections file))) (symbols file)
+  functions_owned ext same short =
+      subst (λ x. total function_row (entries (functions file)) ≤ total (its_function file license (map (facts_of x) (sections file))) (symbols file)) (sym same) (with_records short)

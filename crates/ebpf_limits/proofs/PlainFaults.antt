@@ -1,0 +1,284 @@
+-- No fault of parsing is that a file is too large for a limit.
+use Rattle.std.proofs.Common.{◌≡◌, ◌≢◌, ℕ, Bool, true, false, List, [], ◌∷◌, length, filter, Option, Some, None, Result, Ok, Err, option_map, refl, sym, ap, ◌∙◌}
+use Rattle.std.specs.Prelude.{◌+◌, ◌^◌, ◌||◌, ◌==◌, not, nat_lt, is_some, if◌then◌else◌}
+use Rattle.std.specs.List.{list_any, AllByRecursion}
+use Rattle.ebpf_base.specs.Faults.{or_else, first_of, first_in, first_some, fault_of}
+use Rattle.ebpf_btf.specs.Next.{if_some}
+use Rattle.ebpf_btf.specs.TypeInfo.{TypeInfo}
+use Rattle.ebpf_base.specs.declared.endianness.Endianness.{Endianness}
+use Rattle.ebpf_btf.specs.declared.error.BtfError.{BtfError as TypeError}
+use Rattle.ebpf_btf.specs.declared.error.BtfError.TheVariants.{InvalidSymbolName}
+use Rattle.ebpf_declarations.specs.DataSections.{DatasecMatch, Named, UnreadableName, datasec_match}
+use Rattle.ebpf_declarations.specs.TypesInReading.{TypesInReading, types_in_reading}
+use Rattle.ebpf_declarations.specs.Maps.{declared, map_with_symbol, map_at, entry_map, matched_maps_fault as fault_of_entries, type_maps_fault, btf_maps_fault}
+use Rattle.ebpf_declarations.specs.declared.definitions.MapDefinitions.{MapDefinitions}
+use Rattle.ebpf_elf.specs.Faults.{faults}
+use Rattle.ebpf_elf.specs.File.{ei_data}
+use Rattle.ebpf_elf.specs.Relocations.{relocations}
+use Rattle.ebpf_elf.specs.declared.error.ElfReadError.TheVariants.{BadStringTable}
+use Rattle.ebpf_elf.specs.Sections.{SectionOf, section_name, data_faults}
+use Rattle.ebpf_elf.specs.Symbols.{SymbolOf, symbol_name, symbols}
+use Rattle.ebpf_limits.specs.Within.{ParsingHasNoLimit}
+use Rattle.ebpf_parsing.specs.CodeOrder.{has_big_endian_code, order_fault_as}
+use Rattle.ebpf_parsing.specs.FileContents.{read_fault, sections_fault, parse_fault_as, other_sections}
+use Rattle.ebpf_parsing.specs.DataMaps.{data_map_fault}
+use Rattle.ebpf_parsing.specs.BtfDefinedMaps.{btf_defined_maps_fault}
+use Rattle.ebpf_parsing.specs.FileExterns.{types_of_file, externs_fault_beside, file_externs_fault}
+use Rattle.ebpf_parsing.specs.FileSymbols.{file_symbols, symbol_fault, symbols_fault}
+use Rattle.ebpf_parsing.specs.FileTypes.{btf_of, types_fault_in, btf_fault, ext_fault_in, ext_fault_beside, ext_fault, file_types_fault, types_section, ext_section}
+use Rattle.ebpf_parsing.specs.LegacyMaps.{struct_bytes, word_at, legacy_fault, legacy_maps_fault}
+use Rattle.ebpf_parsing.specs.OfSection.{fault_by, fault_in, program_section_faults}
+use Rattle.ebpf_parsing.specs.Programs.{is_program_symbol, program_bytes, range_faults, program_fault, programs_fault}
+use Rattle.ebpf_parsing.specs.Symbols.{SymbolValue, section_symbols}
+use Rattle.ebpf_parsing.specs.LicenseAndVersion.{stated_text_fault, license_text_fault, license_fault_in, license_fault_as, version_number_fault, version_fault_in, version_fault, has_zero, front_of}
+use Rattle.ebpf_parsing.specs.Texts.{text_function_bytes, conflict_fault_at, conflict_fault, repeated, text_fault_of, text_fault_at, symbol_at_offset, offsets, text_fault}
+use Rattle.ebpf_parts.specs.Readings.{section_as}
+use Rattle.ebpf_parts.specs.ProgramSections.{no_section}
+use Rattle.ebpf_parts.specs.Sections.{SectionValue, section_of, section_name_fault, data_fault, section_fault, section_fault_with}
+use Rattle.ebpf_parts.specs.Slots.{code_faults}
+use Rattle.ebpf_parts.specs.declared.error.ParseError.{ParseError}
+use Rattle.ebpf_parts.specs.declared.error.ParseError.TheVariants.{ElfError, BtfError, MissingLicenseNullTerminator, InvalidLicense, InvalidKernelVersion, SectionError, UnsupportedRelocationTarget, InvalidProgramSection, InvalidMapDefinition, InvalidSymbol, SymbolNotFound, NoSymbolsForSection, BigEndianCode, TooLarge}
+use Rattle.ebpf_parts.specs.declared.maps.either.Map.{Map}
+use Rattle.ebpf_parts.specs.declared.program_section.ProgramSection.{ProgramSection}
+use Rattle.ebpf_parts.specs.declared.reading.Reading.{Reading}
+use Rattle.ebpf_parts.specs.declared.reading.Reading.TheVariants.{Stated, Broad}
+use Rattle.ebpf_parts.specs.declared.section_kind.EbpfSectionKind.{EbpfSectionKind}
+use Rattle.ebpf_parts.specs.declared.section_kind.EbpfSectionKind.TheVariants.{Maps, BtfMaps, Data, Rodata, Bss, Text, Program as Programs}
+
+-- whether a fault is that of a limit
+is_told : ParseError → Bool
+is_told (TooLarge _) = true
+is_told _ = false
+
+told : Option ParseError → Bool
+told None = false
+told (Some e) = is_told e
+
+abbrev Plain : Option ParseError → Type 0
+Plain o = told o ≡ false
+
+-- ---- faults one after the other
+
+module _ (test : Option ParseError → Bool) where
+  either : (a b : Option ParseError) → test a ≡ false → test b ≡ false → test (or_else a b) ≡ false
+  either None b first later = later
+  either (Some e) b first later = first
+
+  all_of : {A : Type 0} → test None ≡ false → (f : A → Option ParseError) → ((x : A) → test (f x) ≡ false) → (xs : List A) → test (first_some f xs) ≡ false
+  all_of none f each [] = none
+  all_of none f each (x ∷ xs) = either (f x) (first_some f xs) (each x) (all_of none f each xs)
+
+plain_all : {A : Type 0} (f : A → Option ParseError) → ((x : A) → Plain (f x)) → (xs : List A) → Plain (first_some f xs)
+unfolding told
+plain_all f each xs = all_of told refl f each xs
+
+rows_plain : (rows : List (Bool × ParseError)) → AllByRecursion (λ row. is_told row.1 ≡ false) rows → Plain (first_of rows)
+unfolding told
+rows_plain [] all = refl
+rows_plain (row ∷ rows) all = by_test row.0 (rows_plain rows all.1)
+  where
+    by_test : (b : Bool) → Plain (first_of rows) → Plain (if b then Some row.1 else first_of rows)
+    by_test true later = all.0
+    by_test false later = later
+
+made_plain : {A : Type 0} (g : A → ParseError) → ((x : A) → is_told (g x) ≡ false) → (o : Option A) → Plain (option_map g o)
+unfolding told
+made_plain g each None = refl
+made_plain g each (Some x) = each x
+
+if_plain : (b : Bool) (e : ParseError) → is_told e ≡ false → Plain (if b then Some e else None)
+unfolding told
+if_plain true e is = is
+if_plain false e is = refl
+
+unless_plain : (b : Bool) (o : Option ParseError) → Plain o → Plain (if b then None else o)
+unfolding told
+unless_plain true o is = refl
+unless_plain false o is = is
+
+-- ---- sections
+
+section_plain : (s : SectionOf) → Plain (section_fault s)
+unfolding section_fault section_fault_with is_told told
+section_plain s =
+    either told (section_name_fault s) _ (unless_plain (is_some (section_name s)) (Some (SectionError s.index BadStringTable)) refl)
+    (either told (data_fault s) _ (made_plain (SectionError s.index) (λ e. refl) (first_of (data_faults s)))
+    (if_plain (list_any (λ r. r.symbol_index == 0) (relocations s)) UnsupportedRelocationTarget refl))
+
+stated_plain : (bytes : List ℕ) → Plain (stated_text_fault bytes)
+unfolding stated_text_fault is_told told
+stated_plain bytes = rows_plain ((nat_lt (length bytes) 2, InvalidLicense bytes) ∷ (not (has_zero bytes), MissingLicenseNullTerminator bytes) ∷ (has_zero (front_of bytes), InvalidLicense bytes) ∷ []) (refl, (refl, (refl, tt)))
+
+license_text_plain : (reading : Reading) (bytes : List ℕ) → Plain (license_text_fault reading bytes)
+unfolding license_text_fault
+license_text_plain Stated bytes = stated_plain bytes
+license_text_plain Broad bytes = unless_plain _ (stated_text_fault bytes) (stated_plain bytes)
+
+license_in_plain : (reading : Reading) (s : Option SectionOf) → Plain (license_fault_in reading s)
+unfolding told
+license_in_plain reading None = refl
+license_in_plain reading (Some s) = either told (section_fault s) _ (section_plain s) (license_text_plain reading (section_of s).bytes)
+
+license_plain : (reading : Reading) (bytes : List ℕ) → Plain (license_fault_as reading bytes)
+unfolding license_fault_as
+license_plain reading bytes = license_in_plain reading _
+
+version_in_plain : (s : Option SectionOf) → Plain (version_fault_in s)
+unfolding told version_number_fault is_told
+version_in_plain None = refl
+version_in_plain (Some s) = either told (section_fault s) _ (section_plain s) (rows_plain ((not (length (section_of s).bytes == 4), InvalidKernelVersion (section_of s).bytes) ∷ []) (refl, tt))
+
+version_plain : (bytes : List ℕ) → Plain (version_fault bytes)
+unfolding version_fault
+version_plain bytes = version_in_plain _
+
+symbol_plain : (s : SymbolOf) → Plain (symbol_fault s)
+unfolding is_told told
+symbol_plain s = unless_plain (is_some (symbol_name s)) (Some (BtfError InvalidSymbolName)) refl
+
+types_in_plain : (o : Endianness) (s : Option SectionOf) → Plain (types_fault_in o s)
+unfolding told is_told
+types_in_plain o None = refl
+types_in_plain o (Some s) = either told (section_fault s) _ (section_plain s) (made_plain BtfError (λ e. refl) _)
+
+ext_in_plain : (o : Endianness) (types : TypeInfo) (s : Option SectionOf) → Plain (ext_fault_in o types s)
+unfolding told is_told
+ext_in_plain o types None = refl
+ext_in_plain o types (Some s) = either told (section_fault s) _ (section_plain s) (made_plain BtfError (λ e. refl) _)
+
+ext_plain : (bytes : List ℕ) (types : Option TypeInfo) → Plain (ext_fault_beside bytes types)
+unfolding told
+ext_plain bytes None = refl
+ext_plain bytes (Some types) = ext_in_plain (ei_data bytes) types (ext_section bytes)
+
+file_types_plain : (bytes : List ℕ) → Plain (file_types_fault bytes)
+unfolding file_types_fault btf_fault ext_fault
+file_types_plain bytes = either told _ _ (types_in_plain (ei_data bytes) (types_section bytes)) (ext_plain bytes (btf_of bytes))
+
+beside_plain : (ys : List SymbolValue) (types : Option TypeInfo) → Plain (externs_fault_beside ys types)
+unfolding told is_told
+beside_plain ys None = refl
+beside_plain ys (Some types) = made_plain BtfError (λ e. refl) _
+
+externs_plain : (bytes : List ℕ) → Plain (file_externs_fault bytes)
+unfolding file_externs_fault
+externs_plain bytes = beside_plain (file_symbols bytes) (btf_of bytes)
+
+-- ---- what sections hold
+
+conflict_plain : (section : ℕ) (o : Option ℕ) → Plain (conflict_fault_at section o)
+unfolding told is_told
+conflict_plain section None = refl
+conflict_plain section (Some a) = refl
+
+begins_plain : (s : SectionValue) (offset : ℕ) (o : Option SymbolValue) → Plain (text_fault_of s offset o)
+unfolding told is_told code_faults
+begins_plain s offset None = refl
+begins_plain s offset (Some y) =
+    either told _ _ (rows_plain ((y.size == 0 || nat_lt (length s.bytes) (offset + y.size), InvalidSymbol y.index (Some y.name)) ∷ []) (refl, tt))
+    (either told _ _ (rows_plain (code_faults (text_function_bytes s offset y)) (refl, tt)) refl)
+
+text_plain : (s : SectionValue) (ys : List SymbolValue) → Plain (text_fault s ys)
+unfolding text_fault conflict_fault text_fault_at
+text_plain s ys =
+    either told _ _ (conflict_plain s.index.0 (repeated ys)) (plain_all (text_fault_at s ys) (λ offset. begins_plain s offset (symbol_at_offset s ys offset)) (offsets s ys))
+
+program_plain : (s : SectionValue) (y : SymbolValue) → Plain (program_fault s y)
+unfolding program_fault told is_told code_faults
+program_plain s y =
+    either told _ _ (rows_plain (range_faults s y) (refl, tt)) (either told _ _ (rows_plain (code_faults (program_bytes s y)) (refl, tt)) refl)
+
+behind_name : (s : SectionValue) (ys : List SymbolValue) → Plain (or_else (first_of ((length ys == 0, NoSymbolsForSection s.name) ∷ [])) (programs_fault s ys))
+unfolding is_told told
+behind_name s ys = either told _ _ (rows_plain ((length ys == 0, NoSymbolsForSection s.name) ∷ []) (refl, tt)) (plain_all (program_fault s) (program_plain s) (filter is_program_symbol ys))
+
+data_plain : (s : SectionValue) → Plain (data_map_fault s)
+unfolding data_map_fault is_told told
+data_plain s = rows_plain ((not (nat_lt s.size (2 ^ 32)), InvalidMapDefinition s.name) ∷ []) (refl, tt)
+
+struct_plain : (s : SectionValue) (y : SymbolValue) → Plain (legacy_fault s y)
+unfolding legacy_fault is_told told
+struct_plain s y =
+    rows_plain ((nat_lt (length s.bytes) (y.address + y.size), InvalidSymbol y.index (Some y.name)) ∷ (nat_lt y.size 20, InvalidMapDefinition y.name) ∷ (nat_lt 1 (word_at (struct_bytes s y) 24), InvalidMapDefinition y.name) ∷ [])
+    (refl, (refl, (refl, tt)))
+
+structs_plain : (s : SectionValue) (ys : List SymbolValue) → Plain (legacy_maps_fault s ys)
+unfolding legacy_maps_fault is_told told
+structs_plain s ys = either told _ _ (rows_plain ((length ys == 0, NoSymbolsForSection s.name) ∷ []) (refl, tt)) (plain_all (legacy_fault s) (struct_plain s) ys)
+
+module _ (numbers : List ℕ → Option ℕ) (section : ℕ) where
+  numbered_plain : (d : List ℕ × MapDefinitions) (o : Option ℕ) → Plain (fault_of {X = List ℕ × Map} (if_some o (λ y. Ok (d.0, map_at d.1 section y)) (Err (SymbolNotFound d.0))))
+  unfolding told is_told
+  numbered_plain d None = refl
+  numbered_plain d (Some y) = refl
+
+  placed_plain : (r : Result (List ℕ × MapDefinitions) TypeError) → Plain (fault_of (map_with_symbol numbers section r))
+  unfolding told is_told
+  placed_plain (Err e) = refl
+  placed_plain (Ok d) = numbered_plain d (numbers d.0)
+
+  met_plain : (reading : Reading) (info : TypeInfo) (met : Option DatasecMatch) → Plain (fault_of_entries reading info numbers section met)
+  unfolding told is_told entry_map
+  met_plain reading info None = refl
+  met_plain reading info (Some (UnreadableName e)) = refl
+  met_plain reading info (Some (Named entries)) = plain_all (λ entry. fault_of (entry_map reading info numbers section entry)) (λ entry. placed_plain (declared reading info entry)) entries
+
+  types_plain : (reading : Reading) (info : TypeInfo) (name : List ℕ) → Plain (btf_maps_fault reading info numbers section name)
+  unfolding type_maps_fault
+  types_plain reading info name = plain_all (type_maps_fault reading info numbers section name) (λ t. met_plain reading info (datasec_match info name t)) info.types
+
+declared_plain : (types : Option TypesInReading) (s : SectionValue) (ys : List SymbolValue) → Plain (btf_defined_maps_fault types s ys)
+unfolding btf_defined_maps_fault told is_told
+declared_plain None s ys = refl
+declared_plain (Some d) s ys = either told _ _ (rows_plain ((length ys == 0, NoSymbolsForSection s.name) ∷ []) (refl, tt)) (types_plain _ s.index.0 d.reading d.types s.name)
+
+name_plain : (name : List ℕ) (kind : Option ProgramSection) → Plain (no_section name kind)
+unfolding told is_told
+name_plain name None = refl
+name_plain name (Some kind) = refl
+
+programs_plain : (reading : Reading) (s : SectionValue) (ys : List SymbolValue) → Plain (program_section_faults reading s ys)
+unfolding program_section_faults
+programs_plain reading s ys = either told _ _ (name_plain s.name (section_as reading s.name)) (behind_name s ys)
+
+kind_plain : (reading : Reading) (types : Option TypeInfo) (s : SectionValue) (ys : List SymbolValue) (kind : EbpfSectionKind) → Plain (fault_by kind reading types s ys)
+unfolding told
+kind_plain reading types s ys Programs = programs_plain reading s ys
+kind_plain reading types s ys Text = text_plain s ys
+kind_plain reading types s ys Data = data_plain s
+kind_plain reading types s ys Rodata = data_plain s
+kind_plain reading types s ys Bss = data_plain s
+kind_plain reading types s ys Maps = structs_plain s ys
+kind_plain reading types s ys BtfMaps = declared_plain (types_in_reading reading types) s ys
+kind_plain reading types s ys _ = refl
+
+-- ---- the whole
+
+sections_plain : (reading : Reading) (types : Option TypeInfo) (bytes : List ℕ) → Plain (sections_fault reading types bytes)
+unfolding sections_fault fault_in
+sections_plain reading types bytes = plain_all (read_fault reading types bytes)
+    (λ s. either told (section_fault s) _ (section_plain s) (kind_plain reading types (section_of s) (section_symbols (file_symbols bytes) s.index) (section_of s).kind))
+    (other_sections bytes)
+
+order_plain : (reading : Reading) (bytes : List ℕ) → Plain (order_fault_as reading bytes)
+unfolding told is_told
+order_plain Stated bytes = refl
+order_plain Broad bytes = if_plain (has_big_endian_code bytes) BigEndianCode refl
+
+file_plain : (bytes : List ℕ) → Plain (option_map ElfError (first_in (faults bytes)))
+unfolding is_told told
+file_plain bytes = made_plain ElfError (λ e. refl) _
+
+parse_plain : (reading : Reading) (bytes : List ℕ) → Plain (parse_fault_as reading bytes)
+parse_plain reading bytes =
+    either told _ _ (file_plain bytes)
+    (either told _ _ (order_plain reading bytes)
+    (either told _ _ (license_plain reading bytes)
+    (either told _ _ (version_plain bytes)
+    (either told _ _ (plain_all symbol_fault symbol_plain (symbols bytes))
+    (either told _ _ (file_types_plain bytes)
+    (either told _ _ (externs_plain bytes) (sections_plain reading (types_of_file bytes) bytes)))))))
+
+pub parsing_has_no_limit : ParsingHasNoLimit
+unfolding told is_told
+parsing_has_no_limit reading bytes most is = let no : true ≡ false = sym (ap told is) ∙ parse_plain reading bytes in cc

@@ -1,0 +1,166 @@
+//! What a section has for its symbols.
+
+ghost use Rattle.std.specs.Prelude.{◌≡◌, ◌<◌, ◌^◌};
+ghost use Rattle.ebpf_elf.specs.Sections.{header};
+ghost use Rattle.ebpf_elf.specs.Symbols.{entry, symbol_kind};
+ghost use Rattle.ebpf_limits.specs.MadeBytes.{contents_by, func_count, line_count, first_slot, offset_by, code_bytes, function_bytes, placed_by, record_bytes, rises_from};
+ghost use Rattle.ebpf_parsing.specs.Records.{slot_of_func, slot_of_line};
+ghost use Rattle.ebpf_parsing.specs.Symbols.{is_text_symbol};
+
+use crate::by_slot::{count_among, is_in_order};
+use ebpf_elf::{ElfSection, ElfSymbol, SymbolKind};
+use ebpf_ext::{bpf_func_info, bpf_line_info};
+use ebpf_parts::EbpfSectionKind;
+use std::marker::Model;
+
+/// The length of a slot in bytes.
+const SLOT: u64 = 8;
+
+/// What a section has for its symbols: its place, and the records of its name, lent.
+#[derive(Drop)]
+pub struct Facts<'e> {
+    pub kind: EbpfSectionKind,
+    address: u64,
+    size: u64,
+    funcs: &'e [bpf_func_info],
+    lines: &'e [bpf_line_info],
+    funcs_rise: bool,
+    lines_rise: bool,
+    ghost funcs_order: { funcs_rise ≡ rises_from slot_of_func 0 funcs.now },
+    ghost lines_order: { lines_rise ≡ rises_from slot_of_line 0 lines.now },
+}
+
+impl<'e> Model for Facts<'e> {
+    ghost use Rattle.ebpf_limits.specs.MadeBytes.{SectionFacts};
+
+    ghost Value = { SectionFacts };
+
+    ghost view = { λ f. record { kind = f.kind; address = f.address; size = f.size; funcs = f.funcs.now; lines = f.lines.now } };
+}
+
+/// Where a symbol of an address stands in a section of a kind, in bytes.
+fn offset_by(kind: EbpfSectionKind, start: u64, address: u64) -> u64
+    ensures { result ≡ offset_by kind start address }
+{
+    match kind {
+        EbpfSectionKind::Text => address.wrapping_sub(start),
+        _ => address.saturating_sub(start),
+    }
+}
+
+impl<'e> Facts<'e> {
+    /// Those of a section of a kind with some records.
+    pub fn new(
+        kind: EbpfSectionKind,
+        section: &ElfSection<'_>,
+        funcs: &'e [bpf_func_info],
+        lines: &'e [bpf_line_info],
+    ) -> Facts<'e>
+        ensures kind { result.kind ≡ kind }
+        ensures address { result.address ≡ (header section.now).sh_addr }
+        ensures size { result.size ≡ (header section.now).sh_size }
+        ensures funcs { result.funcs ≡ funcs.now }
+        ensures lines { result.lines ≡ lines.now }
+    {
+        Facts {
+            kind,
+            address: section.address(),
+            size: section.size(),
+            funcs,
+            lines,
+            funcs_rise: is_in_order(funcs),
+            lines_rise: is_in_order(lines),
+        }
+    }
+
+    /// How many func records a function has that begins at a slot of the section.
+    #[tactic(auto, using(crate::proofs::Counts::of_one_slot))]
+    fn func_count(&self, first: u64) -> usize
+        ensures { result ≡ func_count self.now first }
+    {
+        if self.funcs_rise {
+            return count_among(self.funcs, first, 1);
+        }
+        self.funcs.len()
+    }
+
+    /// How many line records a function of so many slots has.
+    fn line_count(&self, first: u64, count: u64) -> usize
+        ensures { result ≡ line_count self.now first count }
+    {
+        if self.lines_rise {
+            return count_among(self.lines, first, count);
+        }
+        self.lines.len()
+    }
+
+    /// The slot of the section that a symbol stands at.
+    fn first_slot(&self, symbol: &ElfSymbol<'_>) -> u64
+        ensures { result ≡ first_slot self.now (entry symbol.now) }
+    {
+        offset_by(self.kind, self.address, symbol.address()) / SLOT
+    }
+
+    /// The bytes of a symbol's function.
+    #[tactic(auto, unfolding(crate::specs::MadeBytes::function_bytes))]
+    fn function_bytes(&self, named: u128, symbol: &ElfSymbol<'_>) -> u128
+        requires { named < 2 ^ 65 }
+        ensures exact { result ≡ function_bytes named self.now (entry symbol.now) }
+        ensures few { result < 2 ^ 80 }
+    {
+        let first = self.first_slot(symbol);
+        let funcs = self.func_count(first) as u128;
+        let lines = self.line_count(first, symbol.size() / SLOT) as u128;
+        let code = u128::from(self.size.min(symbol.size()));
+        named + code + record_bytes(funcs, lines)
+    }
+
+    /// What a symbol gives that stands in the section, beside its own entry.
+    pub fn placed_bytes(&self, license: usize, named: u128, symbol: &ElfSymbol<'_>) -> u128
+        requires { named < 2 ^ 65 }
+        ensures exact { result ≡ placed_by self.now.kind (is_text_symbol (symbol_kind (entry symbol.now))) license named self.now (entry symbol.now) }
+        ensures few { result < 2 ^ 90 }
+    {
+        let is_text = matches!(symbol.kind(), SymbolKind::Text);
+        match self.kind {
+            EbpfSectionKind::Text if is_text => self.function_bytes(named, symbol),
+            EbpfSectionKind::Program if is_text => {
+                self.function_bytes(named, symbol) + named + license as u128
+            }
+            EbpfSectionKind::Maps | EbpfSectionKind::BtfMaps => named,
+            _ => 0,
+        }
+    }
+}
+
+/// The bytes of records: 8 each of func info, 16 each of line info.
+fn record_bytes(funcs: u128, lines: u128) -> u128
+    requires few_funcs { funcs < 2 ^ 64 }
+    requires few_lines { lines < 2 ^ 64 }
+    ensures exact { result ≡ record_bytes funcs lines }
+    ensures few { result < 2 ^ 70 }
+{
+    8 * funcs + 16 * lines
+}
+
+/// The bytes of what a section gives itself, before its records are looked at.
+pub fn contents_bytes(
+    kind: EbpfSectionKind,
+    named: u128,
+    section: &ElfSection<'_>,
+    funcs: &[bpf_func_info],
+    lines: &[bpf_line_info],
+) -> u128
+    requires { named < 2 ^ 65 }
+    ensures { result ≡ contents_by kind named (record { kind = kind; address = (header section.now).sh_addr; size = (header section.now).sh_size; funcs = funcs.now; lines = lines.now }) }
+{
+    match kind {
+        EbpfSectionKind::Data | EbpfSectionKind::Rodata | EbpfSectionKind::Bss => {
+            named + u128::from(section.size())
+        }
+        EbpfSectionKind::Text | EbpfSectionKind::Program => {
+            record_bytes(funcs.len() as u128, lines.len() as u128)
+        }
+        _ => 0,
+    }
+}
