@@ -136,12 +136,6 @@ impl Clock {
         self.begin(rt);
     }
 
-    /// Ends the phase that gave a value, and begins the next.
-    pub fn ended<T: Drop>(&mut self, rt: &HostRuntime, name: &'static str, value: T) -> T {
-        self.end(rt, name);
-        value
-    }
-
     /// Ends a phase that is a part of another one, and begins the next.
     pub fn end_inner(&mut self, rt: &HostRuntime, name: &'static str) {
         if self.note(rt, name, false).is_err() {

@@ -2,7 +2,7 @@
 //! from its file to finished programs.
 //!
 //! `types FILE` is run on the `.BTF` of a file, `types --generated` on one that it makes of a kernel's size; `types` may
-//! be left out. `prepare FILE` is run on an object; `phases FILE` too, and says how long each part of the way takes.
+//! be left out. `prepare FILE` is run on an object.
 #![tactic(auto)]
 
 mod clock;
@@ -11,14 +11,12 @@ mod files;
 mod found;
 mod many_types;
 mod peak;
-mod phases;
 mod preparing;
 mod timed;
 mod types;
 mod words;
 
 use crate::error::BenchError;
-use crate::phases::measure_phases;
 use crate::preparing::measure_preparing;
 use crate::types::measure_types;
 use crate::words::{Task, read_words};
@@ -29,7 +27,6 @@ use std::{env, io};
 fn usage(rt: &HostRuntime) -> Result<u8, BenchError> {
     eprintln!(rt; "usage: bench_prepare types FILE, or bench_prepare types --generated")?;
     eprintln!(rt; "       bench_prepare prepare FILE [--btf FILE] [--kallsyms FILE] [--runs N]")?;
-    eprintln!(rt; "       bench_prepare phases FILE [--btf FILE] [--kallsyms FILE] [--runs N]")?;
     Ok(2)
 }
 
@@ -48,7 +45,6 @@ fn run(rt: &HostRuntime) -> Result<u8, BenchError> {
     match read_words(words.as_slice()) {
         Some(Task::Types(word)) => measure_types(rt, word)?,
         Some(Task::Prepare(sources)) => measure_preparing(rt, &sources)?,
-        Some(Task::Phases(sources)) => measure_phases(rt, &sources)?,
         None => return usage(rt),
     }
     Ok(0)

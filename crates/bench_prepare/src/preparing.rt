@@ -38,7 +38,7 @@ fn types_for(
 }
 
 /// The lines of the kernel's symbols, which are read where the object needs them; none where they are not given.
-pub fn symbols(rt: &HostRuntime, sources: &Sources<'_>) -> Result<BufReader<File>, BenchError> {
+fn symbols(rt: &HostRuntime, sources: &Sources<'_>) -> Result<BufReader<File>, BenchError> {
     let path = sources.kallsyms.unwrap_or("/dev/null");
     Ok(BufReader::new(rt.alloc(), fs::open(rt, path)?)?)
 }

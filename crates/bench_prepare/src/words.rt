@@ -20,8 +20,6 @@ pub enum Task<'a> {
     Types(&'a str),
     /// Preparing an object.
     Prepare(Sources<'a>),
-    /// Each phase of preparing an object.
-    Phases(Sources<'a>),
 }
 
 /// The word behind an option.
@@ -61,9 +59,6 @@ pub fn read_words<'a>(words: &'a [String]) -> Option<Task<'a>> {
         [verb, file] if verb.as_str() == "types" => Some(Task::Types(file.as_str())),
         [verb, file, rest @ ..] if verb.as_str() == "prepare" => {
             Some(Task::Prepare(read_sources(file.as_str(), rest)?))
-        }
-        [verb, file, rest @ ..] if verb.as_str() == "phases" => {
-            Some(Task::Phases(read_sources(file.as_str(), rest)?))
         }
         _ => None,
     }

@@ -1,11 +1,13 @@
 //! The initial values of maps of an object that clang 14 made, and what is said of it where it is changed.
 
+use super::hex::bytes_of;
 use super::same::same;
 use ebpf_base::Items;
 use ebpf_initial_slots::{InitialSlot, InitialSlotError, InitialTarget, initial_slots};
 use ebpf_object::Object;
 use ebpf_parts::{ParseError, Reading};
 use std::alloc::{AllocError, Global};
+use std::fmt::Debug;
 use std::test::Fail;
 
 /// The object of this text, by `clang -target bpf -g -O2 -c`, without what debuggers read, `.BTF.ext` and `.rel.BTF`:
@@ -104,25 +106,6 @@ const VALUES: usize = 1034;
 /// The offset of the name of the symbol `call`.
 const CALL_NAME: u64 = 33;
 
-/// The value of a hexadecimal digit.
-fn digit(byte: u8) -> u8 {
-    match byte {
-        b'0'..=b'9' => byte - b'0',
-        b'a'..=b'f' => byte - b'a' + 10,
-        _ => 0,
-    }
-}
-
-/// Appends the bytes that digits say.
-fn push_hex(bytes: &mut Vec<u8>, digits: &str) -> Result<(), AllocError> {
-    for pair in digits.as_bytes().chunks(2) {
-        if let [high, low] = pair {
-            bytes.push((digit(*high) << 4) | digit(*low))?;
-        }
-    }
-    Ok(())
-}
-
 /// Writes a field.
 fn write(bytes: &mut [u8], field: &Field) {
     let (offset, width, value) = *field;
@@ -142,18 +125,9 @@ fn write_all(bytes: &mut [u8], fields: &[Field]) {
     }
 }
 
-/// The bytes of the object.
-fn parts(alloc: Global) -> Result<Vec<u8>, AllocError> {
-    let mut bytes = Vec::new(alloc);
-    for digits in OBJECT.iter() {
-        push_hex(&mut bytes, *digits)?;
-    }
-    Ok(bytes)
-}
-
-/// The same with some fields changed.
+/// The bytes of the object with some fields changed.
 fn object_bytes(alloc: Global, changes: &[Field]) -> Result<Vec<u8>, AllocError> {
-    let mut bytes = parts(alloc)?;
+    let mut bytes = bytes_of(alloc, &OBJECT)?;
     write_all(&mut bytes, changes);
     Ok(bytes)
 }
@@ -202,12 +176,34 @@ fn shown(
     }
 }
 
-/// The values of the object of these bytes, by those of a file.
-fn outcome(alloc: Global, bytes: &[u8], file: &[u8]) -> Result<String, AllocError> {
-    match parsed(alloc, bytes) {
-        Ok(object) => shown(alloc, slots_of(alloc, file, &object)),
+/// What has initial values in its maps.
+trait HasSlots: Drop {
+    /// The initial values, by the bytes of a file.
+    fn slots(&self, alloc: Global, file: &[u8]) -> Result<String, AllocError>;
+}
+
+impl HasSlots for Object {
+    fn slots(&self, alloc: Global, file: &[u8]) -> Result<String, AllocError> {
+        shown(alloc, slots_of(alloc, file, self))
+    }
+}
+
+/// The initial values of what was parsed, or why nothing was. It knows neither type, so that its proof doesn't let go of each
+/// part of an object.
+fn slots_of_parsed<T: HasSlots, E: Debug + Drop>(
+    alloc: Global,
+    parsed: Result<T, E>,
+    file: &[u8],
+) -> Result<String, AllocError> {
+    match parsed {
+        Ok(object) => object.slots(alloc, file),
         Err(error) => format!(in alloc; "{error:?}"),
     }
+}
+
+/// The values of the object of these bytes, by those of a file.
+fn outcome(alloc: Global, bytes: &[u8], file: &[u8]) -> Result<String, AllocError> {
+    slots_of_parsed(alloc, parsed(alloc, bytes), file)
 }
 
 /// Fails where the values of the object with some fields changed aren't these.

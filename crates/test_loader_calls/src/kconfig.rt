@@ -1,5 +1,6 @@
 //! Externs that the kernel's configuration gives, in small objects.
 
+mod asked;
 mod configured;
 mod defined;
 mod listed;

@@ -2,6 +2,8 @@
 #![tactic(auto)]
 
 #[cfg(test)]
+mod hex;
+#[cfg(test)]
 mod initial_slots;
 #[cfg(test)]
 mod kconfig;

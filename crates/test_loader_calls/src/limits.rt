@@ -2,6 +2,7 @@
 
 mod objects;
 
+use super::hex::bytes_of;
 use super::same::{same, same_number};
 use ebpf_limits::{Limits, parse_within};
 use ebpf_parts::{ParseError, Reading};
@@ -12,43 +13,39 @@ use objects::{
 use std::alloc::{AllocError, Global};
 use std::test::Fail;
 
-/// The value of a hexadecimal digit.
-fn digit(byte: u8) -> u8 {
-    match byte {
-        b'0'..=b'9' => byte - b'0',
-        b'a'..=b'f' => byte - b'a' + 10,
-        _ => 0,
-    }
+/// What has a word for it where a file is refused.
+trait Refusal: Drop {
+    /// What is said of it, and the limit that it names, or this one.
+    fn said(&self, most_bytes: u64) -> (&'static str, u64);
 }
 
-/// Appends the bytes that digits say.
-fn push_hex(bytes: &mut Vec<u8>, digits: &str) -> Result<(), AllocError> {
-    for pair in digits.as_bytes().chunks(2) {
-        if let [high, low] = pair {
-            bytes.push((digit(*high) << 4) | digit(*low))?;
+impl Refusal for ParseError {
+    fn said(&self, most_bytes: u64) -> (&'static str, u64) {
+        match self {
+            ParseError::TooLarge { most_bytes } => ("too large", *most_bytes),
+            ParseError::ElfError(_) => ("no file", most_bytes),
+            ParseError::InvalidMapDefinition { .. } => ("a map's fault", most_bytes),
+            _ => ("another refusal", most_bytes),
         }
     }
-    Ok(())
 }
 
-/// The bytes of an object.
-fn bytes_of(alloc: Global, lines: &[&str]) -> Result<Vec<u8>, AllocError> {
-    let mut bytes = Vec::new(alloc);
-    for line in lines {
-        push_hex(&mut bytes, *line)?;
+/// What is said of what was parsed within a limit, or of why nothing was. It knows neither type, so that its proof doesn't
+/// let go of each part of an object.
+fn said_of<T: Drop, E: Refusal>(parsed: Result<T, E>, most_bytes: u64) -> (&'static str, u64) {
+    match parsed {
+        Ok(_) => ("an object", most_bytes),
+        Err(error) => error.said(most_bytes),
     }
-    Ok(bytes)
 }
 
 /// What a file answers within a limit, and the limit that a refusal names.
 fn answer(alloc: Global, bytes: &[u8], most_bytes: u64) -> (&'static str, u64) {
-    match parse_within(alloc, bytes, Reading::Stated, Limits { most_bytes }) {
-        Ok(_) => ("an object", most_bytes),
-        Err(ParseError::TooLarge { most_bytes }) => ("too large", most_bytes),
-        Err(ParseError::ElfError(_)) => ("no file", most_bytes),
-        Err(ParseError::InvalidMapDefinition { .. }) => ("a map's fault", most_bytes),
-        Err(_) => ("another refusal", most_bytes),
-    }
+    let limits = Limits { most_bytes };
+    said_of(
+        parse_within(alloc, bytes, Reading::Stated, limits),
+        most_bytes,
+    )
 }
 
 /// Fails where a file doesn't answer so within a limit.

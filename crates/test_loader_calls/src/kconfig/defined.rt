@@ -1,6 +1,7 @@
 //! The map of externs, and their symbols.
 
 use super::super::same::{same, same_number};
+use super::asked::{Question, ask};
 use super::objects::kconfig_object;
 use super::types::Extern;
 use ebpf_base::{ByName, Items};
@@ -183,7 +184,7 @@ fn has_map(alloc: Global, object: &Object) -> Result<(), Fail> {
 }
 
 /// Fails where the externs aren't defined as libbpf defines them.
-fn is_as_libbpf(alloc: Global, object: &mut Object) -> Result<(), Fail> {
+pub fn is_as_libbpf(alloc: Global, object: &mut Object) -> Result<(), Fail> {
     defines(alloc, object, &[("CONFIG_HZ", &[250, 0, 0, 0])], "Ok(())")?;
     has_symbols(alloc, object, PLACES)?;
     has_map(alloc, object)
@@ -191,27 +192,32 @@ fn is_as_libbpf(alloc: Global, object: &mut Object) -> Result<(), Fail> {
 
 #[test]
 fn places_externs_as_libbpf_does(rt: HostRuntime) -> Result<(), Fail> {
-    let mut object = kconfig_object(rt.alloc(), &COMPILED)?;
-    is_as_libbpf(rt.alloc(), &mut object)
+    let made = kconfig_object(rt.alloc(), &COMPILED);
+    ask(rt.alloc(), made, Question::AsLibbpf)
 }
 
 /// Two weak externs of 2 GB each.
 const HUGE: [Extern; 2] = [("CONFIG_A", 16, true), ("CONFIG_B", 16, true)];
 
+/// Fails where an object isn't refused as too large.
+pub fn is_too_large(alloc: Global, object: &mut Object) -> Result<(), Fail> {
+    defines(alloc, object, &[], "Err(TooLarge)")
+}
+
 #[test]
 fn refuses_too_much_data(rt: HostRuntime) -> Result<(), Fail> {
-    let mut object = kconfig_object(rt.alloc(), &HUGE)?;
-    defines(rt.alloc(), &mut object, &[], "Err(TooLarge)")
+    let made = kconfig_object(rt.alloc(), &HUGE);
+    ask(rt.alloc(), made, Question::TooLarge)
 }
 
 /// Fails where an object without externs isn't left as it was.
-fn is_left(alloc: Global, object: &mut Object) -> Result<(), Fail> {
+pub fn is_left(alloc: Global, object: &mut Object) -> Result<(), Fail> {
     defines(alloc, object, &[], "Ok(())")?;
     has_maps(object, 0)
 }
 
 #[test]
 fn nothing_changes_without_externs(rt: HostRuntime) -> Result<(), Fail> {
-    let mut object = kconfig_object(rt.alloc(), &[])?;
-    is_left(rt.alloc(), &mut object)
+    let made = kconfig_object(rt.alloc(), &[]);
+    ask(rt.alloc(), made, Question::Left)
 }

@@ -8,6 +8,7 @@ use ebpf_btf::{Btf, BtfError};
 use ebpf_kconfig::{KconfigError, KconfigExtern, kconfig};
 use ebpf_object::Object;
 use std::alloc::{AllocError, Global};
+use std::fmt::Debug;
 use std::test::Fail;
 
 /// Externs of each type, in the order of their entries.
@@ -88,10 +89,32 @@ fn has(alloc: Global, object: &Object, want: &str) -> Result<(), Fail> {
     same(text.as_str(), want)
 }
 
-/// Fails where that of an object with these externs isn't.
+/// What has a list of externs.
+trait Listed: Drop {
+    /// Fails where it isn't this.
+    fn has(&self, alloc: Global, want: &str) -> Result<(), Fail>;
+}
+
+impl Listed for Object {
+    fn has(&self, alloc: Global, want: &str) -> Result<(), Fail> {
+        has(alloc, self, want)
+    }
+}
+
+/// Fails where nothing was made, or its list isn't this. It knows neither type, so that its proof doesn't let go of each part
+/// of an object.
+fn made_has<T: Listed, E: Debug + Drop>(
+    alloc: Global,
+    made: Result<T, E>,
+    want: &str,
+) -> Result<(), Fail> {
+    let subject = made?;
+    subject.has(alloc, want)
+}
+
+/// Fails where the list of an object with these externs isn't this.
 fn have(alloc: Global, externs: &[Extern], want: &str) -> Result<(), Fail> {
-    let object = kconfig_object(alloc, externs)?;
-    has(alloc, &object, want)
+    made_has(alloc, kconfig_object(alloc, externs), want)
 }
 
 #[test]
@@ -130,8 +153,8 @@ fn types_with_sections(alloc: Global) -> Result<Btf, BtfError> {
 
 /// Fails where the list of an object of types alone isn't this.
 fn types_have(alloc: Global, types: Option<Btf>, want: &str) -> Result<(), Fail> {
-    let object = object_with(alloc, types, ByIndex::new(alloc));
-    has(alloc, &object, want)
+    let made: Result<Object, BtfError> = Ok(object_with(alloc, types, ByIndex::new(alloc)));
+    made_has(alloc, made, want)
 }
 
 #[test]

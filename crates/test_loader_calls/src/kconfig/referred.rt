@@ -1,6 +1,7 @@
 //! Externs that a function loads.
 
 use super::super::same::{same, same_bytes};
+use super::asked::{Question, ask};
 use super::defined::{defines, has_maps, has_symbols};
 use super::objects::kconfig_object;
 use super::types::Extern;
@@ -187,7 +188,7 @@ fn has_slots(alloc: Global, object: &Object, want: &str) -> Result<(), Fail> {
 }
 
 /// Fails where the load doesn't refer to the map.
-fn refers(alloc: Global, object: &mut Object) -> Result<(), Fail> {
+pub fn refers(alloc: Global, object: &mut Object) -> Result<(), Fail> {
     let given: [(&str, &[u8]); 2] = [("CONFIG_SHORT", &[5, 6]), ("CONFIG_HZ", &[1, 2, 3, 4])];
     defines(alloc, object, &given, "Ok(())")?;
     same_bytes(data(object), &[1, 2, 3, 4, 5, 6])?;
@@ -197,12 +198,11 @@ fn refers(alloc: Global, object: &mut Object) -> Result<(), Fail> {
 
 #[test]
 fn loads_refer_to_the_map(rt: HostRuntime) -> Result<(), Fail> {
-    let mut object = referring(rt.alloc())?;
-    refers(rt.alloc(), &mut object)
+    ask(rt.alloc(), referring(rt.alloc()), Question::Refers)
 }
 
 /// Fails where a value that misses, or one of another size, isn't refused.
-fn is_refused(alloc: Global, object: &mut Object) -> Result<(), Fail> {
+fn refuses(alloc: Global, object: &mut Object) -> Result<(), Fail> {
     let missing = "Err(NoValue { name: \"CONFIG_HZ\" })";
     defines(alloc, object, &[("CONFIG_SHORT", &[5])], missing)?;
     let given: [(&str, &[u8]); 2] = [("CONFIG_SHORT", &[5]), ("CONFIG_HZ", &[1, 2, 3, 4])];
@@ -210,9 +210,9 @@ fn is_refused(alloc: Global, object: &mut Object) -> Result<(), Fail> {
     defines(alloc, object, &given, wrong)
 }
 
-/// Fails where that changes the object.
-fn is_left(alloc: Global, object: &mut Object) -> Result<(), Fail> {
-    is_refused(alloc, object)?;
+/// Fails where it isn't refused, or where that changes the object.
+pub fn is_refused(alloc: Global, object: &mut Object) -> Result<(), Fail> {
+    refuses(alloc, object)?;
     has_maps(object, 0)?;
     let symbols = "Some(\"CONFIG_HZ\") None 0 false\nSome(\"CONFIG_SHORT\") None 0 false\n";
     has_symbols(alloc, object, symbols)
@@ -220,6 +220,5 @@ fn is_left(alloc: Global, object: &mut Object) -> Result<(), Fail> {
 
 #[test]
 fn refuses_missing_and_wrong_values(rt: HostRuntime) -> Result<(), Fail> {
-    let mut object = referring(rt.alloc())?;
-    is_left(rt.alloc(), &mut object)
+    ask(rt.alloc(), referring(rt.alloc()), Question::Refused)
 }
