@@ -28,7 +28,7 @@ from together import one_crate  # noqa: E402
 # What a program may take, in seconds: built with checks it takes many times as long as else.
 SECONDS = 2700
 # Programs whose rows take as long as building them does: each of their words is run by itself, these beside all others.
-LONG = {"test_rows": ["core_limits.txt"], "test_btf_rows": ["cases.txt"]}
+LONG = {"test_rows": ["core_limits.txt"]}
 
 
 @dataclass
@@ -66,15 +66,19 @@ def last_lines(ran):
     return "\n".join([*ran.stdout.splitlines(), *ran.stderr.splitlines()][-6:])
 
 
-def run_tests(crate):
-    """The tests of a crate."""
-    ran = rt_try(CRATES / crate, "--test")
+def run_tests(crates):
+    """The tests of these crates, which are built together."""
+    with tempfile.TemporaryDirectory() as made:
+        ran = rt_try(one_crate(TOP, Path(made) / "repository", "quick_tests", crates), "--test")
     results = re.findall(r"^test (\S+) \.\.\. (\w+)", ran.stdout + ran.stderr, re.MULTILINE)
-    outcome = Outcome(sum(result == "ok" for _, result in results))
-    outcome.failures = [f"{crate}: test {name}: {result}" for name, result in results if result != "ok"]
-    if not results or (ran.returncode and not outcome.failures):
-        outcome.failures.append(f"{crate}: its tests ended with status {ran.returncode}:\n{last_lines(ran)}")
-    return {crate: outcome}
+    outcomes = {}
+    for crate in crates:
+        own = [(name, result) for name, result in results if name.split("::")[0] == crate]
+        outcome = outcomes[crate] = Outcome(sum(result == "ok" for _, result in own))
+        outcome.failures = [f"{crate}: test {name}: {result}" for name, result in own if result != "ok"]
+        if not own or (ran.returncode and not outcome.failures):
+            outcome.failures.append(f"{crate}: its tests ended with status {ran.returncode}:\n{last_lines(ran)}")
+    return outcomes
 
 
 def rows_of(text):
@@ -175,7 +179,7 @@ def tasks(names):
     others = [run for run in runs if run not in long]
     parts = [(run_programs, [run]) for run in long] + [(run_programs, others)] * bool(others)
     tests = [folder.name for folder in crates if any("#[test]" in file.read_text() for file in folder.glob("src/**/*.rt"))]
-    return runs, parts + [(run_tests, name) for name in tests]
+    return runs, parts + [(run_tests, tests)] * bool(tests)
 
 
 def ran(names):
