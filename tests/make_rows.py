@@ -78,7 +78,7 @@ def cases_of(modules):
 
 if __name__ == "__main__":
     objects = cases_of(OBJECTS)
-    core = {"core_relo": cases_of(CORE), "core_limits": core_limits.cases()}
+    core = {"core_relo": cases_of(CORE), "core_limits": core_limits.cases(), "core_searches": core_limits.searched()}
     for held in [objects, *core.values()]:
         printed.add_to(held)
     write_cases(CRATES / "test_rows", objects, **core)

@@ -28,7 +28,7 @@ from together import one_crate  # noqa: E402
 # What a program may take, in seconds: built with checks it takes many times as long as else.
 SECONDS = 2700
 # Programs whose rows take as long as building them does: each of their words is run by itself, these beside all others.
-LONG = {"test_rows": ["core_limits.txt"], "test_btf_rows": ["cases.txt"]}
+LONG = {"test_rows": ["core_limits.txt", "core_searches.txt"], "test_btf_rows": ["cases.txt"]}
 
 
 @dataclass

@@ -93,17 +93,9 @@ def behind_pairs(structs, *members):
     return [INT_4, *pairs(structs - 1), struct_of("s", 8, ("", structs + 1, 0), ("", structs + 1, 0), *members)]
 
 
-def entries():
+def searched():
     """1,048,576 members that one step looks at. 19 structs of pairs have 2^20 - 2 entries."""
     x, b = ("x", 1, 0), ("b", 1, 64)
-    # `struct s { struct i i; }`, where `i` is `struct i { int b; }`: the kernel has as many entries before both.
-    local = [INT_4, struct_of("i", 4, ("b", 1, 0)), struct_of("s", 4, ("i", 2, 0))]
-    first = behind_pairs(19, x, b)[:-1]
-    twice = lambda *members: [
-        *first,
-        struct_of("i", 8, ("", 20, 0), ("", 20, 0), *members),
-        struct_of("s", 16, ("", 20, 0), ("", 20, 0), x, ("i", 21, 64)),
-    ]
     nested = refused(too_nested("s"))
     return [
         beside(
@@ -119,12 +111,26 @@ def entries():
                 ("all", behind_pairs(19, x, x), numbers(None)),
                 ("one_more", behind_pairs(19, x, x, x), nested),
             ],
-        ),
-        # Each step counts anew.
+        )
+    ]
+
+
+def searched_twice():
+    """As many members that each of two steps looks at: each counts anew."""
+    x, b = ("x", 1, 0), ("b", 1, 64)
+    # `struct s { struct i i; }`, where `i` is `struct i { int b; }`: the kernel has as many entries before both.
+    local = [INT_4, struct_of("i", 4, ("b", 1, 0)), struct_of("s", 4, ("i", 2, 0))]
+    first = behind_pairs(19, x, b)[:-1]
+    twice = lambda *members: [
+        *first,
+        struct_of("i", 8, ("", 20, 0), ("", 20, 0), *members),
+        struct_of("s", 16, ("", 20, 0), ("", 20, 0), x, ("i", 21, 64)),
+    ]
+    return [
         beside(
             "two steps through many structs",
             one_of(local, OFFSET, 3, "0:0:0"),
-            [("last", twice(x, b), numbers(16)), ("past", twice(x, x, b), nested)],
+            [("last", twice(x, b), numbers(16)), ("past", twice(x, x, b), refused(too_nested("s")))],
         ),
     ]
 
@@ -190,4 +196,4 @@ def steps():
 
 
 def cases():
-    return parts() + levels() + entries() + bits() + steps()
+    return parts() + levels() + searched_twice() + bits() + steps()
