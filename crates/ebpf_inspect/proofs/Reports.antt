@@ -1,7 +1,7 @@
 -- The reports of programs, from their maps and the linked object.
 use Rattle.std.proofs.Common.{◌≡◌, ◌⊎◌, inl, inr, ℕ, Bool, true, false, ◌||◌, List, [], ◌∷◌, ◌++◌, map, All, refl, sym, ap, ◌∙◌, subst, Some, None, Option}
 use Rattle.std.proofs.lemmas.List.{append_assoc}
-use Rattle.std.specs.Prelude.{MatchBool, MatchOption}
+use Rattle.std.specs.Prelude.{MatchBool}
 use Rattle.std.specs.Cmp.{eq_by_cmp_equiv}
 use Rattle.std.specs.FinMap.{FinMap, get}
 use Rattle.std.specs.List.{list_any}
@@ -10,20 +10,16 @@ use Rattle.ebpf_base.specs.Keys.{key_cmp, key_total}
 use Rattle.ebpf_inspect.specs.Inspected.{link_map_of, IsReport, AreReports}
 use Rattle.ebpf_inspect.specs.Named.{IsNamedMap, AreMaps, OneRefused, function_slots, function_slots_at, report_of}
 use Rattle.ebpf_inspect.specs.declared.maps.NamedMap.{NamedMap}
-use Rattle.ebpf_linker.specs.Faults.{LeastFault, checked_references}
 use Rattle.ebpf_object.specs.Headline.{linkable}
 use Rattle.ebpf_object.specs.LinkedPrograms.{programs_in_order, is_program_key, ProgramsAreLinked}
 use Rattle.ebpf_object.specs.Stages.{LinksPrograms}
 use Rattle.ebpf_object.specs.declared.object.Object.{Object}
 use Rattle.ebpf_reloc.proofs.OneLinkMap.{link_maps_match}
+use Rattle.ebpf_reloc.proofs.OneResult.{not_refused}
 use Rattle.ebpf_reloc.specs.LinkMaps.{IsLinkMapAt}
-use Rattle.ebpf_reloc.specs.Linking.{ProgramValue, key_of, IsLinked, IsProgramRefusal, IsProgramFault}
-use Rattle.ebpf_reloc.specs.SlotTargets.{LinkableValue}
+use Rattle.ebpf_reloc.specs.Linking.{ProgramValue, key_of, IsLinked, IsProgramRefusal}
 use Rattle.ebpf_model.specs.Keys.{FunctionKey}
-use Rattle.ebpf_reloc.specs.References.{functions_of}
 use Rattle.ebpf_model.specs.declared.error.EbpfRelocationError.{EbpfRelocationError}
-use Rattle.ebpf_model.specs.declared.error.RelocationError.{RelocationError}
-use Rattle.ebpf_model.specs.declared.error.RelocationError.TheVariants.{UnknownProgram}
 use Rattle.ebpf_model.specs.declared.function.Function.{Function}
 
 -- ---- each program is linked
@@ -82,14 +78,7 @@ module _ (o linked : Object) where
 
 -- ---- no refusal where all are linked
 
-no_fault : (parts : LinkableValue) (key : FunctionKey) (g : Function) → IsLinked parts key g → (e : RelocationError) → IsProgramFault parts key e → ⊥
-no_fault parts key g is_linked e fault =
-    let least : LeastFault (functions_of parts) (checked_references (functions_of parts) key) key e =
-    subst (λ f. MatchOption f (e ≡ UnknownProgram key.0 key.1) (λ _. LeastFault (functions_of parts) (checked_references (functions_of parts) key) key e)) is_linked.stands fault
-    in
-    is_linked.program.faultless least.path least.slot e least.stands
-
 pub none_refused : (o linked : Object) (e : EbpfRelocationError) (ps : List ProgramValue) → EachLinked o linked ps → OneRefused o ps e → ⊥
 none_refused o linked e [] each refused = refused
-none_refused o linked e (p ∷ ps) each (inl refused) = no_fault (linkable o) (key_of p) each.0.0 each.0.2 e.error refused.1
+none_refused o linked e (p ∷ ps) each (inl refused) = not_refused (linkable o) (key_of p) each.0.0 e.error each.0.2 refused.1
 none_refused o linked e (p ∷ ps) each (inr refused) = none_refused o linked e ps each.1 refused

@@ -1,5 +1,5 @@
 -- What linking gives, from functions by their numbers to functions by their keys.
-use Rattle.std.proofs.Common.{◌≡◌, ◌≢◌, ℕ, ◌+◌, ◌<◌, Bool, true, false, List, [], ◌∷◌, ◌++◌, map, length, Option, Some, None, refl, sym, ap, ◌∙◌, subst, inl, inr, arith}
+use Rattle.std.proofs.Common.{◌≡◌, ◌≢◌, ℕ, ◌+◌, Bool, true, false, List, [], ◌∷◌, ◌++◌, map, length, Option, Some, None, refl, sym, ap, ◌∙◌, subst, inl, inr, arith}
 use Rattle.std.specs.Prelude.{slice_get, pos, ◌-ℤ◌, Result, Ok, Err, if◌then◌else◌, ◌||◌}
 use Rattle.ebpf_base.specs.Faults.{first_of}
 use Rattle.ebpf_ext.specs.declared.ext_infos.bpf_func_info.{bpf_func_info}
@@ -12,10 +12,11 @@ use Rattle.ebpf_linker.specs.Order.{KeyPath}
 use Rattle.ebpf_linker.specs.Faults.{same, has_some, func_info_agrees, checked, checked_references, append_fault, Base, FaultStandsAt, Faultless, LeastFault, first_line}
 use Rattle.ebpf_linker.specs.Faults.{content_fault}
 use Rattle.ebpf_linker.specs.Records.{func_moved, line_moved, func_records, line_records, linked_func_info, linked_line_info, has_lines, count_if}
+use Rattle.ebpf_linker.specs.Answer.{IsOrder, IsLayout}
 use Rattle.ebpf_linker.specs.Result.{IsProgram, IsLinking}
 use Rattle.ebpf_linker.specs.Renaming.{answer_named}
 use Rattle.ebpf_linker.proofs.Numbering.{renamed, Numbers}
-use Rattle.ebpf_linker.proofs.OneBase.{total_le}
+use Rattle.ebpf_linker.proofs.OneBase.{no_longer}
 use Rattle.ebpf_linker.proofs.Renamed.{SameReferences, AllNumbers, number_at, all_numbers, among_to, among_from, last_to, last_number, numbers_of, distinct_from, faulty_from, distinct_to, walk_numbers, reached_number, walk_to, walk_from, simple_to, simple_from, end_from, key_path_to, key_path_from, key_path_number, in_order_to}
 
 some_map : {D E : Type 0} → (D → E) → Option D → Option E
@@ -40,7 +41,7 @@ some_to name o d h = ap (some_map name) h
 module _ {M D K E : Type 0} (G : Functions M D) (F : Functions K E) (IsNumber : M → Type 0) (key : M → K) (name : D → E) (num : Numbers G F IsNumber key name) where
   -- references as they stand, and where a program is linked
 
-  pub references_same : SameReferences G.reference F.reference IsNumber key name
+  references_same : SameReferences G.reference F.reference IsNumber key name
   references_same = record { reference = num.reference; closed = num.closed; apart = num.apart }
 
   content_to : (m : M) → IsNumber m → content_at F (key m) ≡ content_at G m
@@ -71,7 +72,7 @@ module _ {M D K E : Type 0} (G : Functions M D) (F : Functions K E) (IsNumber : 
   checked_names p (Faulty d) m e = cc
   checked_names p (Names k) m e = named_if (func_info_agrees G p k) (G.mismatch k) k m e
 
-  pub linking_same : (p : M) → IsNumber p → SameReferences (checked_references G p) (checked_references F (key p)) IsNumber key name
+  linking_same : (p : M) → IsNumber p → SameReferences (checked_references G p) (checked_references F (key p)) IsNumber key name
   linking_same p is =
       record {
         reference = λ m i im. ap (checked F (key p)) (num.reference m i im) ∙ checked_to p (G.reference m i) is (λ k e. num.closed m k i im e);
@@ -171,7 +172,7 @@ module _ {M D K E : Type 0} (G : Functions M D) (F : Functions K E) (IsNumber : 
           }),
         )
 
-    pub faultless_to : Faultless G R p → Faultless F S (key p)
+    faultless_to : Faultless G R p → Faultless F S (key p)
     faultless_to h path x e s = let (d, t) = stands_from path x e s in h path x d t
 
     least_to : (d : D) → LeastFault G R p d → LeastFault F S (key p) (name d)
@@ -181,6 +182,45 @@ module _ {M D K E : Type 0} (G : Functions M D) (F : Functions K E) (IsNumber : 
       stands = stands_to h.path h.slot d h.stands;
       none_before = λ other y e t b. let (f, u) = stands_from other y e t in h.none_before other y f u b;
     }
+
+  -- the functions that a program is linked with
+
+  order_to : (p : M) (ms : List M) → IsNumber p → AllNumbers IsNumber ms → IsOrder G.reference p ms → IsOrder F.reference (key p) (map key ms)
+  order_to p ms is all h =
+      record {
+        once = distinct_to G.reference F.reference IsNumber key name references_same ms all h.once;
+        reached = λ k a.
+            let (m, b, e) = among_from IsNumber key ms k a in
+            let (x, q, ns, w, end) = h.reached m b in
+            (x, q, map key ns, walk_to G.reference F.reference IsNumber key name references_same p (x ∷ q) ns is w, last_to IsNumber key p ns ∙ ap key end ∙ e);
+        complete = λ k (x, q, ks, w, end).
+            let (ns, are, v) = walk_from G.reference F.reference IsNumber key name references_same p (x ∷ q) ks is w in
+            let e : key (last_key_or p ns) ≡ k = sym (last_to IsNumber key p ns) ∙ ap (last_key_or (key p)) are ∙ end in
+            subst (Among (map key ms)) e (among_to IsNumber key ms (last_key_or p ns) (h.complete (last_key_or p ns) (x, q, ns, v, refl)));
+        resolved = λ k i a ne.
+            let (m, b, e) = among_from IsNumber key (p ∷ ms) k a in
+            let im = number_at IsNumber key (p ∷ ms) m (is, all) b in
+            let e' : F.reference k i ≡ renamed key name (G.reference m i) = ap (λ (u : K). F.reference u i) (sym e) ∙ num.reference m i im in
+            let ne' : G.reference m i ≢ Nothing = λ (z : G.reference m i ≡ Nothing). ne (e' ∙ ap (renamed key name) z) in
+            let (n, names, c) = h.resolved m i b ne' in
+            (key n, e' ∙ ap (renamed key name) names, among_to IsNumber key ms n c);
+        order = in_order_to G.reference F.reference IsNumber key name references_same p ms is all h.order;
+      }
+
+  pub layout_numbers : (p : M) (ms : List M) → IsNumber p → IsLayout G p ms → AllNumbers IsNumber ms
+  layout_numbers p ms is h = all_numbers IsNumber key ms (λ m a. reached_number G.reference F.reference IsNumber key name references_same p m is (h.order.reached m a))
+
+  pub layout_to : (p : M) (ms : List M) → IsNumber p → IsLayout G p ms → IsLayout F (key p) (map key ms)
+  layout_to p ms is h =
+      let all = layout_numbers p ms is h in
+      record {
+        order = order_to p ms is all h.order;
+        functions = λ k a.
+            let (m, b, e) = among_from IsNumber key ms k a in
+            let (c, there) = h.functions m b in
+            (c, ap F.content (sym e) ∙ num.content m (number_at IsNumber key ms m all b) ∙ there);
+        faultless = faultless_to (checked_references G p) (checked_references F (key p)) (linking_same p is) p is h.faultless;
+      }
 
   -- the linked program
 
@@ -204,24 +244,6 @@ module _ {M D K E : Type 0} (G : Functions M D) (F : Functions K E) (IsNumber : 
   linked_to : (p : M) (ms : List M) (out : List bpf_insn) → IsNumber p → AllNumbers IsNumber ms → Linked G p ms out → Linked F (key p) (map key ms) out
   linked_to p ms out is all h =
       record {
-        once = distinct_to G.reference F.reference IsNumber key name references_same ms all h.once;
-        reached = λ k a.
-            let (m, b, e) = among_from IsNumber key ms k a in
-            let (x, q, ns, w, end) = h.reached m b in
-            (x, q, map key ns, walk_to G.reference F.reference IsNumber key name references_same p (x ∷ q) ns is w, last_to IsNumber key p ns ∙ ap key end ∙ e);
-        complete = λ k (x, q, ks, w, end).
-            let (ns, are, v) = walk_from G.reference F.reference IsNumber key name references_same p (x ∷ q) ks is w in
-            let e : key (last_key_or p ns) ≡ k = sym (last_to IsNumber key p ns) ∙ ap (last_key_or (key p)) are ∙ end in
-            subst (Among (map key ms)) e (among_to IsNumber key ms (last_key_or p ns) (h.complete (last_key_or p ns) (x, q, ns, v, refl)));
-        resolved = λ k i a lt ne.
-            let (m, b, e) = among_from IsNumber key (p ∷ ms) k a in
-            let im = number_at IsNumber key (p ∷ ms) m (is, all) b in
-            let r = num.reference m i im in
-            let e' : F.reference k i ≡ renamed key name (G.reference m i) = ap (λ (u : K). F.reference u i) (sym e) ∙ r in
-            let ne' : G.reference m i ≢ Nothing = λ (z : G.reference m i ≡ Nothing). ne (e' ∙ ap (renamed key name) z) in
-            let lt' : i < length (body G m) = let z = ap length (body_to m im) in let y = ap (λ (u : K). length (body F u)) e in omega (arith, z, y) in
-            let (n, names, c) = h.resolved m i b lt' ne' in
-            (key n, e' ∙ ap (renamed key name) names, among_to IsNumber key ms n c);
         size = h.size ∙ sym (total_to (p ∷ ms) (is, all));
         slots = λ k b i s begins at.
             let (m, im, e, g) = begins_from (p ∷ ms) k b (is, all) begins in
@@ -267,25 +289,17 @@ module _ {M D K E : Type 0} (G : Functions M D) (F : Functions K E) (IsNumber : 
 
   program_to : (p : M) (ms : List M) (l : LinkedProgram) → IsNumber p → IsProgram G p ms l → IsProgram F (key p) (map key ms) l
   program_to p ms l is h =
-      let all = all_numbers IsNumber key ms (λ m a. reached_number G.reference F.reference IsNumber key name references_same p m is (h.linked.reached m a)) in
+      let all = layout_numbers p ms is h.layout in
+      let layout = layout_to p ms is h.layout in
       let linked = linked_to p ms l.slots is all h.linked in
-      let functions : (k : K) → Among (map key ms) k → (c : FunctionContent) × (F.content k ≡ Some c) = λ k a.
-      let (m, b, e) = among_from IsNumber key ms k a in
-      let (c, there) = h.functions m b in
-      (c, ap F.content (sym e) ∙ num.content m (number_at IsNumber key ms m all b) ∙ there) in
       record {
+        layout = layout;
         linked = linked;
-        order = in_order_to G.reference F.reference IsNumber key name references_same p ms is all h.order;
         func_info = h.func_info ∙ sym (func_info_to p ms is all);
         line_info = h.line_info ∙ sym (line_info_to p ms is all);
         func_count = h.func_count ∙ ap (λ (b : Bool). count_if b l.func_info) (sym (has_some_to ms));
         line_count = h.line_count ∙ ap (λ (b : Bool). count_if b l.line_info) (sym (has_lines_to ms all));
-        functions = functions;
-        bound = λ every covers.
-            let le = total_le F F.reference (map key ms) every linked.once (λ k a. let (c, there) = functions k a in covers k c there) in
-            let size = linked.size in
-            omega (arith, le, size);
-        faultless = faultless_to (checked_references G p) (checked_references F (key p)) (linking_same p is) p is h.faultless;
+        bound = λ every covers. no_longer F (key p) (map key ms) every _ layout linked.size covers;
       }
 
   -- what holds of linking by numbers holds by keys

@@ -14,7 +14,6 @@ use Rattle.ebpf_linker.specs.declared.reference.Target.{Target}
 use Rattle.ebpf_linker.specs.declared.reference.Target.TheVariants.{Function, Nowhere}
 use Rattle.ebpf_parts.specs.Slots.{is_pseudo_call}
 use Rattle.ebpf_linker.specs.Functions.{SlotReference, Nothing, Names, Among, BeginsAt}
-use Rattle.ebpf_linker.specs.Answer.{IsOrder}
 use Rattle.ebpf_linker.specs.LinkedSlots.{body_at, with_bases}
 use Rattle.ebpf_linker.specs.LinkMap.{CopyOf, copies_from, IsReference, AreReferences, IsLinkMap, numbered_copy}
 use Rattle.ebpf_linker.specs.LinkMap.{PlacesRise}
@@ -23,9 +22,8 @@ use Rattle.ebpf_linker.specs.Numbered.{of_target, referred, calls_at, functions_
 use Rattle.ebpf_linker.specs.Ready.{IsReady}
 use Rattle.ebpf_linker.proofs.Held.{at_index}
 use Rattle.ebpf_linker.proofs.OneResult.{one_begin}
-use Rattle.ebpf_linker.proofs.Plain.{plain}
 use Rattle.ebpf_linker.proofs.Visits.{begins_among}
-use Rattle.ebpf_linker.proofs.Readying.{all_in, content_some}
+use Rattle.ebpf_linker.proofs.Readying.{all_in}
 use Rattle.ebpf_linker.proofs.Whole.{base_of_index}
 
 -- ---- lists of references
@@ -212,16 +210,13 @@ module _ (B : List Body) (C : List (Vec Call Global)) where
     begins_there : (m : ℕ) → Among ks m → (c : ℕ) × BeginsAt (functions_by_number B C) ks m c × (slice_index bases m ≡ length (body_at B p) + c)
     begins_there m a =
         let within : (n : ℕ) → Among ks n → n < length before = λ n b. let lt = all_in B C p ks n ready.copies b in omega (arith, lt, count) in
-        let (c, begins, e) = base_of_index B C (length (body_at B p)) before ks m ready.found.order.once within a in
+        let (c, begins, e) = base_of_index B C (length (body_at B p)) before ks m ready.layout.order.once within a in
         (c, begins, ap (λ (u : List ℕ). slice_index u m) places ∙ e)
-
-    order : IsOrder (functions_by_number B C).reference p ks
-    order = plain (functions_by_number B C) p ks ready.found.order
 
     is_reference : (r : Reference) → From B C bases sound.rises 0 (p ∷ ks) r → IsReference (functions_by_number B C) p ks r
     is_reference r h =
         let some : referred (calls_at C h.k) h.i ≢ Nothing = λ (z : referred (calls_at C h.k) h.i ≡ Nothing). let names = h.names in cc in
-        let (m, names, a) = order.resolved h.k h.i (begins_among (functions_by_number B C) (p ∷ ks) h.k h.b h.begins) some in
+        let (m, names, a) = ready.layout.order.resolved h.k h.i (begins_among (functions_by_number B C) (p ∷ ks) h.k h.b h.begins) some in
         let same : m ≡ h.m = same_name (referred (calls_at C h.k) h.i) m h.m names h.names in
         let (c, reaches, e) = begins_there h.m (subst (Among ks) same a) in
         record {
@@ -243,7 +238,7 @@ module _ (B : List Body) (C : List (Vec Call Global)) where
     is_linked_reference : (r : Reference) → IsReference (functions_by_number B C) p ks r → Among (references_of_copies B C bases 0 (p ∷ ks)) r
     is_linked_reference r h =
         let (c, reaches, e) = begins_there h.m (begins_among (functions_by_number B C) ks h.m h.c h.reaches) in
-        let same : c ≡ h.c = one_begin (functions_by_number B C) ks h.m c h.c order.once reaches h.reaches in
+        let same : c ≡ h.c = one_begin (functions_by_number B C) ks h.m c h.c ready.layout.order.once reaches h.reaches in
         let place : 0 + h.b + h.i ≡ r.place = omega (arith, h.place) in
         let base : slice_index bases h.m ≡ r.base = e ∙ ap (λ (n : ℕ). length (body_at B p) + n) same ∙ sym h.base in
         let is : record { place = 0 + h.b + h.i; base = slice_index bases h.m; is_call = is_pseudo_call h.s } ≡ r = λ j. record { place = place j; base = base j; is_call = sym h.is_call j } in
@@ -262,11 +257,9 @@ module _ (B : List Body) (C : List (Vec Call Global)) where
       ks,
       copies_from (functions_by_number B C) 0 (p ∷ ks),
       record {
-        order = order;
-        functions = λ k a. content_some B C p k (all_in B C p ks k ready.copies a);
+        layout = ready.layout;
         copies = refl;
         references = subst (AreReferences (functions_by_number B C) p ks) (sym are_linked_references) are_references;
-        faultless = ready.found.faultless;
       },
       are_copies ∙ ap (map numbered_copy) (same_copies 0 (p ∷ ks)),
     )

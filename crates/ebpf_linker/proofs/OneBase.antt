@@ -2,8 +2,9 @@
 use Rattle.std.proofs.Common.{◌≡◌, ℕ, zero, suc, ◌+◌, ◌<◌, ◌≤◌, List, [], ◌∷◌, length, take, Some, refl, sym, ap, ◌∙◌, subst, inl, inr, arith}
 use Rattle.std.specs.Prelude.{slice_get}
 use Rattle.std.proofs.lemmas.Bool.{cases_eq, cases_lt}
-use Rattle.ebpf_linker.specs.Functions.{References, Functions, Among, Distinct, total, body}
+use Rattle.ebpf_linker.specs.Functions.{References, Functions, FunctionContent, Among, Distinct, total, body}
 use Rattle.ebpf_linker.specs.Order.{Before, KeyPath, InKeyPathOrder}
+use Rattle.ebpf_linker.specs.Answer.{IsLayout}
 use Rattle.ebpf_linker.specs.Faults.{Base}
 use Rattle.ebpf_linker.proofs.Paths.{before_cases, before_trans}
 
@@ -107,3 +108,9 @@ module _ {K E : Type 0} (F : Functions K E) (R : References K E) where
             ];
         size = refl;
       }
+
+-- a linked program is no longer than it and all functions together
+pub no_longer : {K E : Type 0} (F : Functions K E) (p : K) (ks all : List K) (n : ℕ) → IsLayout F p ks → n ≡ total F (p ∷ ks) → ((k : K) (c : FunctionContent) → F.content k ≡ Some c → Among all k) → n ≤ length (body F p) + total F all
+no_longer F p ks all n h size covers =
+    let le = total_le F F.reference ks all h.order.once (λ k a. let (c, there) = h.functions k a in covers k c there) in
+    omega (arith, le, size)

@@ -9,7 +9,7 @@ use Rattle.ebpf_linker.specs.LinkMap.{CopyOf, copies_from, AreReferences, IsLink
 use Rattle.ebpf_linker.specs.LinkMap.{PlacesRise}
 use Rattle.ebpf_linker.specs.LinkMapLaws.{Lands, copied_slot_count}
 use Rattle.ebpf_linker.specs.Result.{IsProgram}
-use Rattle.ebpf_linker.proofs.OneResult.{one_order, one_begin}
+use Rattle.ebpf_linker.proofs.OneResult.{one_layout, one_begin}
 
 -- ---- one list of references
 
@@ -50,7 +50,7 @@ module _ {K E : Type 0} (F : Functions K E) (p : K) where
   -- a program has one map
   pub one_link_map : (ks ms : List K) (cs ds : List (CopyOf K)) (rs ss : List Reference) → IsLinkMap F p ks cs rs → IsLinkMap F p ms ds ss → (ks ≡ ms) × (cs ≡ ds) × (rs ≡ ss)
   one_link_map ks ms cs ds rs ss h g =
-      let order : ks ≡ ms = one_order F.reference p ks ms h.order.once g.order.once h.order.order g.order.order (λ k a. g.order.complete k (h.order.reached k a)) (λ k a. h.order.complete k (g.order.reached k a)) in (
+      let order : ks ≡ ms = one_layout F p ks ms h.layout g.layout in (
         order,
         h.copies ∙ ap (λ (os : List K). copies_from F 0 (p ∷ os)) order ∙ sym g.copies,
         one_references ms rs ss (subst (λ (os : List K). AreReferences F p os rs) order h.references) g.references,
@@ -58,16 +58,13 @@ module _ {K E : Type 0} (F : Functions K E) (p : K) where
 
   -- ---- the linked program
 
-  pub same_order : (ks ms : List K) (cs : List (CopyOf K)) (rs : List Reference) (l : LinkedProgram) → IsLinkMap F p ks cs rs → IsProgram F p ms l → ks ≡ ms
-  same_order ks ms cs rs l h g = one_order F.reference p ks ms h.order.once g.linked.once h.order.order g.order (λ k a. g.linked.complete k (h.order.reached k a)) (λ k a. h.order.complete k (g.linked.reached k a))
-
   count_slots : (base : ℕ) (ks : List K) → copied_slot_count (copies_from F base ks) ≡ total F ks
   count_slots base [] = refl
   count_slots base (k ∷ ks) = ap (λ (n : ℕ). length (body F k) + n) (count_slots (base + length (body F k)) ks)
 
   -- the copies have the slots of the linked program
   pub same_size : (ks ms : List K) (cs : List (CopyOf K)) (rs : List Reference) (l : LinkedProgram) → IsLinkMap F p ks cs rs → IsProgram F p ms l → copied_slot_count cs ≡ length l.slots
-  same_size ks ms cs rs l h g = ap copied_slot_count h.copies ∙ count_slots 0 (p ∷ ks) ∙ ap (λ (os : List K). total F (p ∷ os)) (same_order ks ms cs rs l h g) ∙ sym g.linked.size
+  same_size ks ms cs rs l h g = ap copied_slot_count h.copies ∙ count_slots 0 (p ∷ ks) ∙ ap (λ (os : List K). total F (p ∷ os)) (one_layout F p ks ms h.layout g.layout) ∙ sym g.linked.size
 
   -- a copy that begins somewhere is listed
   copy_listed : (low base : ℕ) (ks : List K) (k : K) (b : ℕ) → BeginsAt F ks k b → base ≡ low + b → Among (copies_from F low ks) (record { key = k; base = base; slots = length (body F k) })
@@ -81,10 +78,10 @@ module _ {K E : Type 0} (F : Functions K E) (p : K) where
   pub lands : (ks ms : List K) (cs : List (CopyOf K)) (rs : List Reference) (l : LinkedProgram) → IsLinkMap F p ks cs rs → IsProgram F p ms l → (r : Reference) → Among rs r → Lands F cs l.slots r
   lands ks ms cs rs l h g r a =
       let n = h.references.sound r a in
-      let linked = subst (λ (os : List K). IsProgram F p os l) (sym (same_order ks ms cs rs l h g)) g in
+      let linked = subst (λ (os : List K). IsProgram F p os l) (sym (one_layout F p ks ms h.layout g.layout)) g in
       let (t, stands, becomes) = linked.linked.slots n.k n.b n.i n.s n.begins n.slot in
       let (c, reaches, is) = subst (λ (u : Refers K E). Becomes F p ks (n.b + n.i) u n.s t) n.names becomes in
-      let same : c ≡ n.c = one_begin F ks n.m c n.c h.order.once reaches n.reaches in
+      let same : c ≡ n.c = one_begin F ks n.m c n.c h.layout.order.once reaches n.reaches in
       let base : length (body F p) + c ≡ r.base = ap (λ (x : ℕ). length (body F p) + x) same ∙ sym n.base in
       record {
         from = record { key = n.k; base = n.b; slots = length (body F n.k) };

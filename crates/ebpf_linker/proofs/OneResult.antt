@@ -7,6 +7,7 @@ use Rattle.ebpf_parts.specs.declared.insn.bpf_insn.{bpf_insn}
 use Rattle.ebpf_linker.specs.declared.body.LinkedProgram.{LinkedProgram}
 use Rattle.ebpf_linker.specs.Slots.{relinked}
 use Rattle.ebpf_linker.specs.Functions.{SlotReference, Nothing, Faulty, Names, References, Functions, body, Among, Distinct, BeginsAt, Becomes, Linked, Walk, last_key_or, total}
+use Rattle.ebpf_linker.specs.Answer.{IsLayout}
 use Rattle.ebpf_linker.specs.Order.{Before, HasReferenceFault, InKeyPathOrder}
 use Rattle.ebpf_linker.specs.Faults.{FaultStandsAt, LeastFault, append_fault, checked_references}
 use Rattle.ebpf_linker.specs.Records.{has_lines, count_if}
@@ -47,7 +48,7 @@ module _ {K E : Type 0} (R : References K E) (p : K) where
       absurd (not_both x y (h.1 0 (suc i) k m x y (omega arith) refl at kx my) (g.1 0 (suc j) m k y x (omega arith) refl at' my kx))
 
   -- one list has these keys in the order of their key paths
-  pub one_order : (ks ms : List K) → Distinct ks → Distinct ms → InKeyPathOrder R p ks → InKeyPathOrder R p ms → ((k : K) → Among ks k → Among ms k) → ((k : K) → Among ms k → Among ks k) → ks ≡ ms
+  one_order : (ks ms : List K) → Distinct ks → Distinct ms → InKeyPathOrder R p ks → InKeyPathOrder R p ms → ((k : K) → Among ks k → Among ms k) → ((k : K) → Among ms k → Among ks k) → ks ≡ ms
   one_order [] [] a b h g to from = refl
   one_order [] (m ∷ ms) a b h g to from = absurd (from m (inl refl))
   one_order (k ∷ ks) [] a b h g to from = absurd (to k (inl refl))
@@ -107,13 +108,13 @@ module _ {K E : Type 0} (F : Functions K E) where
       h.2 ∙ ap (λ n. relinked s (pos (length (body F p) + n) -ℤ pos (place + 1))) (one_begin ks k h.0 g.0 once h.1 g.1) ∙ sym g.2
 
   -- one list of slots has these functions, one after the other
-  pub one_body : (p : K) (ks : List K) (xs ys : List bpf_insn) → Linked F p ks xs → Linked F p ks ys → xs ≡ ys
-  one_body p ks xs ys h g = same_slots xs ys (h.size ∙ sym g.size) (λ x lt.
+  pub one_body : (p : K) (ks : List K) (xs ys : List bpf_insn) → Distinct ks → Linked F p ks xs → Linked F p ks ys → xs ≡ ys
+  one_body p ks xs ys once h g = same_slots xs ys (h.size ∙ sym g.size) (λ x lt.
       let n = inside (p ∷ ks) x (let size = h.size in omega arith) in
       let s = there_is (body F n.key) n.slot n.within in
       let t = h.slots n.key n.base n.slot s.0 n.begins s.1 in
       let u = g.slots n.key n.base n.slot s.0 n.begins s.1 in
-      let same = becomes_one p ks (n.base + n.slot) (F.reference n.key n.slot) s.0 t.0 u.0 h.once t.2 u.2 in
+      let same = becomes_one p ks (n.base + n.slot) (F.reference n.key n.slot) s.0 t.0 u.0 once t.2 u.2 in
       ap (slice_get xs) n.is ∙ t.1 ∙ ap Some same ∙ sym u.1 ∙ ap (slice_get ys) (sym n.is))
 
   -- a slot that is no reference stands as it is in each copy of its function
@@ -124,12 +125,12 @@ module _ {K E : Type 0} (F : Functions K E) where
 
   -- ---- the program
 
-  pub same_order : (p : K) (ks ms : List K) (l n : LinkedProgram) → IsProgram F p ks l → IsProgram F p ms n → ks ≡ ms
-  same_order p ks ms l n h g = one_order F.reference p ks ms h.linked.once g.linked.once h.order g.order (λ k a. g.linked.complete k (h.linked.reached k a)) (λ k a. h.linked.complete k (g.linked.reached k a))
+  pub one_layout : (p : K) (ks ms : List K) → IsLayout F p ks → IsLayout F p ms → ks ≡ ms
+  one_layout p ks ms h g = one_order F.reference p ks ms h.order.once g.order.once h.order.order g.order.order (λ k a. g.order.complete k (h.order.reached k a)) (λ k a. h.order.complete k (g.order.reached k a))
 
   same_made : (p : K) (ks : List K) (l n : LinkedProgram) → IsProgram F p ks l → IsProgram F p ks n → l ≡ n
   same_made p ks l n h g =
-      let slots : l.slots ≡ n.slots = one_body p ks l.slots n.slots h.linked g.linked in
+      let slots : l.slots ≡ n.slots = one_body p ks l.slots n.slots h.layout.order.once h.linked g.linked in
       let funcs : l.func_info ≡ n.func_info = h.func_info ∙ sym g.func_info in
       let lines : l.line_info ≡ n.line_info = h.line_info ∙ sym g.line_info in
       let func_count : l.func_count ≡ n.func_count = h.func_count ∙ ap (count_if (has_some ks)) funcs ∙ sym g.func_count in
@@ -137,7 +138,7 @@ module _ {K E : Type 0} (F : Functions K E) where
       λ i. record { slots = slots i; func_info = funcs i; line_info = lines i; func_count = func_count i; line_count = line_count i }
 
   pub one_program : (p : K) (ks ms : List K) (l n : LinkedProgram) → IsProgram F p ks l → IsProgram F p ms n → l ≡ n
-  one_program p ks ms l n h g = same_made p ms l n (subst (λ (os : List K). IsProgram F p os l) (same_order p ks ms l n h g) h) g
+  one_program p ks ms l n h g = same_made p ms l n (subst (λ (os : List K). IsProgram F p os l) (one_layout p ks ms h.layout g.layout) h) g
 
 -- ---- the least fault
 
@@ -180,6 +181,6 @@ module _ {K E : Type 0} (F : Functions K E) (R : References K E) (p : K) where
     | inr (inr b) ↦ absurd (h.none_before g.path g.slot e g.stands b)
   ]
 
--- a program is linked, or has a least fault, but not both
-pub not_linked : {K E : Type 0} (F : Functions K E) (p : K) (ks : List K) (l : LinkedProgram) (e : E) → IsProgram F p ks l → LeastFault F (checked_references F p) p e → ⊥
-not_linked F p ks l e h g = h.faultless g.path g.slot e g.stands
+-- a program can be linked, or has a least fault, but not both
+pub not_linked : {K E : Type 0} (F : Functions K E) (p : K) (ks : List K) (e : E) → IsLayout F p ks → LeastFault F (checked_references F p) p e → ⊥
+not_linked F p ks e h g = h.faultless g.path g.slot e g.stands

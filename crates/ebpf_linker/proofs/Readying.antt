@@ -22,7 +22,7 @@ use Rattle.ebpf_linker.proofs.Paths.{walk_last, last_of_last}
 use Rattle.ebpf_linker.proofs.Held.{at_index, indexed}
 use Rattle.ebpf_linker.proofs.Plain.{plain}
 use Rattle.ebpf_linker.proofs.Checked.{all_at}
-use Rattle.ebpf_linker.proofs.OneBase.{total_le}
+use Rattle.ebpf_linker.proofs.OneBase.{no_longer}
 use Rattle.ebpf_linker.proofs.Whole.{is_linked, size_same}
 
 target_within : (n : ℕ) (t : Target) (k : ℕ) → IsWithin n t → of_target t ≡ Names k → k < n
@@ -57,6 +57,14 @@ pub tail_is : (l : List ℕ) (p : ℕ) (ks : List ℕ) → l ≡ p ∷ ks → ta
 tail_is l p ks e = rw e (take_whole (length (p ∷ ks) - 1) ks (omega arith))
 
 module _ (B : List Body) (C : List (Vec Call Global)) (p : ℕ) where
+  pub all_in : (ks : List ℕ) (k : ℕ) → All (λ m. m < length B) ks → Among ks k → k < length B
+  all_in [] k h a = absurd a
+  all_in (m ∷ ks) k h (inl e) = subst (λ (u : ℕ). u < length B) e (All-get_or (λ (u : ℕ). u < length B) (m ∷ ks) 0 0 (omega arith) h)
+  all_in (m ∷ ks) k h (inr a) = all_in ks k (λ i d lt. h (suc i) d (omega arith)) a
+
+  content_some : (k : ℕ) → k < length B → (c : FunctionContent) × ((functions_by_number B C).content k ≡ Some c)
+  content_some k lt = let (b, at) = get_body B k lt in (_, ap option_content at)
+
   -- the functions of an order are functions
   order_within : (ks : List ℕ) → Sound (length B) C → p < length B → IsOrder (functions_by_number B C).reference p ks → (k : ℕ) → Among (p ∷ ks) k → k < length B
   order_within ks sound lt order k (inl e) = subst (λ (u : ℕ). u < length B) e lt
@@ -95,7 +103,7 @@ module _ (B : List Body) (C : List (Vec Call Global)) (p : ℕ) where
       let order = plain (functions_by_number B C) p ks found.order in
       let within = order_within ks sound lt order in
       record {
-        found = found;
+        layout = record { order = order; functions = λ k a. content_some k (within k (inr a)); faultless = found.faultless };
         start = lt;
         copies = all_within (length B) ks (λ k a. within k (inr a));
         order = all_within (length B) (p ∷ ks) within;
@@ -103,34 +111,18 @@ module _ (B : List Body) (C : List (Vec Call Global)) (p : ℕ) where
         short = short ks sound found;
       }
 
-  pub all_in : (ks : List ℕ) (k : ℕ) → All (λ m. m < length B) ks → Among ks k → k < length B
-  all_in [] k h a = absurd a
-  all_in (m ∷ ks) k h (inl e) = subst (λ (u : ℕ). u < length B) e (All-get_or (λ (u : ℕ). u < length B) (m ∷ ks) 0 0 (omega arith) h)
-  all_in (m ∷ ks) k h (inr a) = all_in ks k (λ i d lt. h (suc i) d (omega arith)) a
-
-  pub content_some : (k : ℕ) → k < length B → (c : FunctionContent) × ((functions_by_number B C).content k ≡ Some c)
-  content_some k lt = let (b, at) = get_body B k lt in (_, ap option_content at)
-
   -- the program that was written
   pub is_program : (ks : List ℕ) (bases : List ℕ) (l : LinkedProgram) → IsReady B C p ks → (before : List ℕ) → length before ≡ length B → bases ≡ with_bases B (length (body_at B p)) before ks → l.slots ≡ linked_copies B C bases 0 (p ∷ ks) → l.func_info ≡ linked_func_info (functions_by_number B C) p ks → l.line_info ≡ linked_line_info (functions_by_number B C) p ks → l.func_count ≡ count_if (has_some ks) l.func_info → l.line_count ≡ count_if (has_lines (functions_by_number B C) ks) l.line_info → IsProgram (functions_by_number B C) p ks l
   is_program ks bases l h before count places slots funcs lines func_count line_count =
-      let F = functions_by_number B C in
-      let order = plain F p ks h.found.order in
-      let within : (m : ℕ) → Among ks m → m < length B = λ m a. all_in ks m h.copies a in
-      let linked = is_linked B C p ks l.slots bases order within before count places slots in
+      let linked = is_linked B C p ks l.slots bases h.layout.order (λ m a. all_in ks m h.copies a) before count places slots in
       record {
+        layout = h.layout;
         linked = linked;
-        order = order.order;
         func_info = funcs;
         line_info = lines;
         func_count = func_count;
         line_count = line_count;
-        functions = λ k a. content_some k (within k a);
-        bound = λ all covers.
-            let le = total_le F F.reference ks all order.once (λ k a. let (c, is) = content_some k (within k a) in covers k c is) in
-            let size = linked.size in
-            omega (arith, le, size);
-        faultless = h.found.faultless;
+        bound = λ all covers. no_longer (functions_by_number B C) p ks all _ h.layout linked.size covers;
       }
 
 -- the functions that were found, as the search answers them

@@ -91,10 +91,6 @@ module _ (B : List Body) (C : List (Vec Call Global)) where
   pub is_linked : (p : ℕ) (ks : List ℕ) (out : List bpf_insn) (bases : List ℕ) → IsOrder (functions_by_number B C).reference p ks → ((m : ℕ) → Among ks m → m < length B) → (before : List ℕ) → length before ≡ length B → bases ≡ with_bases B (length (body_at B p)) before ks → out ≡ linked_copies B C bases 0 (p ∷ ks) → Linked (functions_by_number B C) p ks out
   is_linked p ks out bases order within before count places is =
       record {
-        once = order.once;
-        reached = order.reached;
-        complete = order.complete;
-        resolved = λ k i a lt some. order.resolved k i a some;
         size = ap length is ∙ length-linked_copies bases 0 (p ∷ ks) ∙ sym (size_same (p ∷ ks));
         slots = λ k b i s begins at.
             let at' = at in

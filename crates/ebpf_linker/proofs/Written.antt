@@ -11,7 +11,7 @@ use Rattle.ebpf_linker.specs.Faults.{has_some}
 use Rattle.ebpf_linker.specs.LinkMap.{CopyOf, IsLinkMap}
 use Rattle.ebpf_linker.specs.Records.{linked_func_info, linked_line_info, has_lines, count_if}
 use Rattle.ebpf_linker.specs.Result.{IsProgram}
-use Rattle.ebpf_linker.proofs.OneBase.{total_le}
+use Rattle.ebpf_linker.proofs.OneBase.{no_longer}
 use Rattle.ebpf_linker.proofs.Whole.{get_left, get_right}
 
 module _ {K E : Type 0} (F : Functions K E) (p : K) (ks : List K) (order : IsOrder F.reference p ks) where
@@ -86,10 +86,6 @@ module _ {K E : Type 0} (F : Functions K E) (p : K) (ks : List K) (order : IsOrd
 
   is_linked : (w : Written 0 (p ∷ ks)) → Linked F p ks w.out
   is_linked w = record {
-    once = order.once;
-    reached = order.reached;
-    complete = order.complete;
-    resolved = λ k i a lt some. order.resolved k i a some;
     size = w.size;
     slots = λ k b i s begins at. w.at k b i (b + i) s begins at (omega arith);
   }
@@ -97,8 +93,8 @@ module _ {K E : Type 0} (F : Functions K E) (p : K) (ks : List K) (order : IsOrd
 -- the linked program
 pub can_be_linked : {K E : Type 0} (F : Functions K E) (p : K) (ks : List K) (cs : List (CopyOf K)) (rs : List Reference) → IsLinkMap F p ks cs rs → (l : LinkedProgram) × IsProgram F p ks l
 can_be_linked F p ks cs rs h =
-    let w = written F p ks h.order 0 (p ∷ ks) (λ k a. a) in
-    let linked = is_linked F p ks h.order w in (
+    let w = written F p ks h.layout.order 0 (p ∷ ks) (λ k a. a) in
+    let linked = is_linked F p ks h.layout.order w in (
       record {
         slots = w.out;
         func_info = linked_func_info F p ks;
@@ -107,17 +103,12 @@ can_be_linked F p ks cs rs h =
         line_count = count_if (has_lines F ks) (linked_line_info F p ks);
       },
       record {
+        layout = h.layout;
         linked = linked;
-        order = h.order.order;
         func_info = refl;
         line_info = refl;
         func_count = refl;
         line_count = refl;
-        functions = h.functions;
-        bound = λ all covers.
-            let le = total_le F F.reference ks all h.order.once (λ k a. let (c, there) = h.functions k a in covers k c there) in
-            let size = linked.size in
-            omega (arith, le, size);
-        faultless = h.faultless;
+        bound = λ all covers. no_longer F p ks all _ h.layout linked.size covers;
       },
     )

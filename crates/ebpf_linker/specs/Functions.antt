@@ -1,5 +1,5 @@
 -- Functions by their keys, what their slots refer to, and what a linked program is.
-use Rattle.std.specs.Prelude.{◌≡◌, ◌≢◌, ℕ, ◌+◌, ◌<◌, pos, ◌-ℤ◌, ◌⊎◌, List, [], ◌∷◌, length, Option, Some, None, slice_get}
+use Rattle.std.specs.Prelude.{◌≡◌, ℕ, ◌+◌, pos, ◌-ℤ◌, ◌⊎◌, List, [], ◌∷◌, length, Option, Some, None, slice_get}
 use Rattle.ebpf_ext.specs.declared.ext_infos.bpf_func_info.{bpf_func_info}
 use Rattle.ebpf_ext.specs.declared.ext_infos.bpf_line_info.{bpf_line_info}
 use Rattle.ebpf_parts.specs.declared.insn.bpf_insn.{bpf_insn}
@@ -82,11 +82,7 @@ Becomes F p ks place Nothing s t = t ≡ s
 Becomes F p ks place (Faulty e) s t = ⊥
 Becomes F p ks place (Names k) s t = (c : ℕ) × BeginsAt F ks k c × (t ≡ relinked s (pos (length (body F p) + c) -ℤ pos (place + 1)))
 
--- out is p and then each function that its references reach, once
+-- out is p and then each of the functions ks, with what their slots have become
 pub record Linked {K E : Type 0} (F : Functions K E) (p : K) (ks : List K) (out : List bpf_insn) : Type 0 where
-  pub once : Distinct ks
-  pub reached : (k : K) → Among ks k → Reached F.reference p k
-  pub complete : (k : K) → Reached F.reference p k → Among ks k
-  pub resolved : (k : K) (i : ℕ) → Among (p ∷ ks) k → i < length (body F k) → F.reference k i ≢ Nothing → (m : K) × (F.reference k i ≡ Names m) × Among ks m
   pub size : length out ≡ total F (p ∷ ks)
   pub slots : (k : K) (b i : ℕ) (s : bpf_insn) → BeginsAt F (p ∷ ks) k b → slice_get (body F k) i ≡ Some s → (t : bpf_insn) × (slice_get out (b + i) ≡ Some t) × Becomes F p ks (b + i) (F.reference k i) s t

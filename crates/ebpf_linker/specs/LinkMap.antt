@@ -2,9 +2,9 @@
 use Rattle.std.specs.Prelude.{◌≡◌, ℕ, ◌+◌, ◌≤◌, List, [], ◌∷◌, length, map, Some, slice_get, Result, Ok, Err}
 use Rattle.ebpf_parts.specs.declared.insn.bpf_insn.{bpf_insn}
 use Rattle.ebpf_parts.specs.Slots.{is_pseudo_call}
-use Rattle.ebpf_linker.specs.Functions.{Names, FunctionContent, Functions, body, Among, BeginsAt}
-use Rattle.ebpf_linker.specs.Faults.{checked_references, Faultless, LeastFault}
-use Rattle.ebpf_linker.specs.Answer.{IsOrder}
+use Rattle.ebpf_linker.specs.Functions.{Names, Functions, body, Among, BeginsAt}
+use Rattle.ebpf_linker.specs.Faults.{checked_references, LeastFault}
+use Rattle.ebpf_linker.specs.Answer.{IsLayout}
 use Rattle.ebpf_linker.specs.declared.link_map.NumberedCopy.{NumberedCopy}
 use Rattle.ebpf_linker.specs.declared.link_map.NumberedLinkMap.{NumberedLinkMap}
 use Rattle.ebpf_linker.specs.declared.link_map.Reference.{Reference}
@@ -50,13 +50,11 @@ module _ {K E : Type 0} where
     pub rises : PlacesRise 0 rs
 
   -- p and each function ks that its references reach, in the order of their key paths, have these copies and these
-  -- references; no fault stands
+  -- references
   pub record IsLinkMap (F : Functions K E) (p : K) (ks : List K) (cs : List (CopyOf K)) (rs : List Reference) : Type 0 where
-    pub order : IsOrder F.reference p ks
-    pub functions : (k : K) → Among ks k → (c : FunctionContent) × (F.content k ≡ Some c)
+    pub layout : IsLayout F p ks
     pub copies : cs ≡ copies_from F 0 (p ∷ ks)
     pub references : AreReferences F p ks rs
-    pub faultless : Faultless F (checked_references F p) p
 
 -- a copy with the number of its function
 abbrev pub numbered_copy : CopyOf ℕ → NumberedCopy

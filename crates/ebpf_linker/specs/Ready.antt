@@ -4,13 +4,12 @@ use Rattle.std.specs.declared.alloc.Global.{Global}
 use Rattle.ebpf_linker.specs.declared.body.Body.{Body}
 use Rattle.ebpf_linker.specs.declared.reference.Call.{Call}
 use Rattle.ebpf_linker.specs.Functions.{Among}
-use Rattle.ebpf_linker.specs.Faults.{checked_references}
-use Rattle.ebpf_linker.specs.Found.{IsFound}
+use Rattle.ebpf_linker.specs.Answer.{IsLayout}
 use Rattle.ebpf_linker.specs.LinkedSlots.{Fit, body_at, bodies_slot_count}
 use Rattle.ebpf_linker.specs.Numbered.{calls_at, functions_by_number}
 
 pub record IsReady (B : List Body) (C : List (Vec Call Global)) (p : ℕ) (ks : List ℕ) : Type 0 where
-  pub found : IsFound (functions_by_number B C) (checked_references (functions_by_number B C) p) p ks
+  pub layout : IsLayout (functions_by_number B C) p ks
   pub start : p < length B
   pub copies : All (λ k. k < length B) ks
   pub order : All (λ k. k < length B) (p ∷ ks)

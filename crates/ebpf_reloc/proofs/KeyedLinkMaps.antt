@@ -14,9 +14,9 @@ use Rattle.ebpf_linker.specs.Functions.{body}
 use Rattle.ebpf_linker.specs.LinkMap.{CopyOf, copies_from, numbered_copy, IsLinkMap, IsLinkMapAnswer}
 use Rattle.ebpf_linker.specs.PrivateContracts.{key_copy}
 use Rattle.ebpf_linker.specs.Numbered.{body_content, functions_by_number}
-use Rattle.ebpf_linker.proofs.Carry.{carried, references_same}
+use Rattle.ebpf_linker.proofs.Carry.{carried, layout_numbers}
 use Rattle.ebpf_linker.proofs.CarryLinkMap.{map_to}
-use Rattle.ebpf_linker.proofs.Renamed.{AllNumbers, all_numbers, reached_number}
+use Rattle.ebpf_linker.proofs.Renamed.{AllNumbers}
 use Rattle.ebpf_reloc.proofs.Keys.{count_keys, function_at}
 use Rattle.ebpf_reloc.proofs.NumberedKeys.{name_here, numbered}
 use Rattle.ebpf_model.specs.declared.function.Function.{Function}
@@ -68,8 +68,7 @@ module _ (parts : LinkableValue) where
     keyed_link_map : (number : ℕ) (m : NumberedLinkMap) → number < length keys → IsLinkMapAnswer {E = Fault} (functions_by_number B C) number (Ok m) → IsKeyedLinkMap parts number m
     keyed_link_map number m lt (ks, cs, h, are) =
         let num = numbered parts B C bodies calls in
-        let same = references_same (functions_by_number B C) (functions_of parts) IsNumber (key_in keys) (with_function_names fs) num in
-        let all = all_numbers IsNumber (key_in keys) ks (λ k a. reached_number (functions_by_number B C).reference (functions_of parts).reference IsNumber (key_in keys) (with_function_names fs) same number k lt (h.order.reached k a)) in
+        let all = layout_numbers (functions_by_number B C) (functions_of parts) IsNumber (key_in keys) (with_function_names fs) num number ks lt h.layout in
         record {
           order = map (key_in keys) ks;
           copies = map (key_copy (key_in keys)) cs;

@@ -1,21 +1,20 @@
 -- A program has one link map, which is that of the linked program, and is refused as linking it is.
 use Rattle.std.proofs.Common.{◌≡◌, ℕ, zero, suc, true, false, List, [], ◌∷◌, length, map, Option, Some, None, Ok, Err, refl, sym, ap, subst, ◌∙◌}
-use Rattle.std.specs.Prelude.{slice_get, is_some, MatchOption, ◌||◌}
+use Rattle.std.specs.Prelude.{slice_get, is_some, ◌||◌}
 use Rattle.std.specs.FinMap.{FinMap, get}
 use Rattle.std.specs.Cmp.{eq_by_cmp_equiv}
 use Rattle.ebpf_base.specs.Keys.{key_cmp, key_total}
-use Rattle.ebpf_linker.specs.Faults.{LeastFault, checked_references}
 use Rattle.ebpf_linker.specs.LinkMap.{CopyOf}
 use Rattle.ebpf_linker.specs.LinkMapLaws.{Lands, copied_slot_count}
-use Rattle.ebpf_linker.proofs.OneLinkMap.{one_link_map, same_order, same_size, lands}
+use Rattle.ebpf_linker.proofs.OneLinkMap.{one_link_map, same_size, lands}
+use Rattle.ebpf_linker.proofs.OneResult.{one_layout}
 use Rattle.ebpf_linker.proofs.Visits.{same_visits}
 use Rattle.ebpf_linker.proofs.Written.{can_be_linked}
 use Rattle.ebpf_parts.specs.declared.insn.bpf_insn.{bpf_insn}
 use Rattle.ebpf_reloc.proofs.CallsRefer.{calls_refer}
-use Rattle.ebpf_reloc.proofs.OneResult.{one_refusal, not_refused}
+use Rattle.ebpf_reloc.proofs.OneResult.{one_refusal, not_faulty, not_refused}
 use Rattle.ebpf_model.specs.declared.error.EbpfRelocationError.{EbpfRelocationError}
 use Rattle.ebpf_model.specs.declared.error.RelocationError.{RelocationError}
-use Rattle.ebpf_model.specs.declared.error.RelocationError.TheVariants.{UnknownProgram}
 use Rattle.ebpf_model.specs.declared.function.Function.{Function}
 use Rattle.ebpf_reloc.specs.declared.link_map.LinkMap.{LinkMap}
 use Rattle.ebpf_reloc.specs.LinkMaps.{code_copy, IsLinkMapAt}
@@ -33,9 +32,7 @@ one parts key m n a b =
 
 -- a program with a map is not refused
 not_mapped : (parts : LinkableValue) (key : FunctionKey) (m : LinkMap) (e : RelocationError) → IsLinkMapAt parts key m → IsProgramFault parts key e → ⊥
-not_mapped parts key m e a h =
-    let fault : LeastFault (functions_of parts) (checked_references (functions_of parts) key) key e = subst (λ (o : Option Function). MatchOption o (e ≡ UnknownProgram key.0 key.1) (λ _. LeastFault (functions_of parts) (checked_references (functions_of parts) key) key e)) a.stands h in
-    a.program.faultless fault.path fault.slot e fault.stands
+not_mapped parts key m e a h = not_faulty parts key a.function a.order e a.stands a.program.layout h
 
 pub one_answer : OneLinkMapAnswer
 one_answer parts program (Ok m) (Ok n) a b = ap Ok (one parts (key_of program) m n a b).0
@@ -76,7 +73,7 @@ link_maps_match parts key m linked a b =
     let copies : a.copies ≡ map copy_of m.copies = sym (ap (map copy_of) a.named ∙ without_names parts a.copies) in
     let slots : b.made.slots ≡ linked.instructions = sym (ap (λ (f : Function). f.instructions) b.is) in
     record {
-      order = same_order (functions_of parts) key a.order b.order a.copies m.references b.made a.program b.program;
+      order = one_layout (functions_of parts) key a.order b.order a.program.layout b.program.layout;
       size = ap copied_slot_count (sym copies) ∙ same_size (functions_of parts) key a.order b.order a.copies m.references b.made a.program b.program ∙ ap length slots;
       lands = λ r listed.
           let here = lands (functions_of parts) key a.order b.order a.copies m.references b.made a.program b.program r listed in

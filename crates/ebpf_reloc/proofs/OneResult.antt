@@ -8,8 +8,9 @@ use Rattle.std.specs.Cmp.{eq_by_cmp_equiv}
 use Rattle.std.proofs.lemmas.Bool.{cases_lt}
 use Rattle.ebpf_base.proofs.Maps.{key_exact}
 use Rattle.ebpf_base.specs.Keys.{key_cmp, key_total}
+use Rattle.ebpf_linker.specs.Answer.{IsLayout}
 use Rattle.ebpf_linker.specs.Faults.{LeastFault, checked_references}
-use Rattle.ebpf_linker.proofs.OneResult.{same_order, one_program, one_fault, not_linked, plain_stays}
+use Rattle.ebpf_linker.proofs.OneResult.{one_layout, one_program, one_fault, not_linked, plain_stays}
 use Rattle.ebpf_model.specs.declared.error.EbpfRelocationError.{EbpfRelocationError}
 use Rattle.ebpf_model.specs.declared.error.RelocationError.{RelocationError}
 use Rattle.ebpf_model.specs.declared.error.RelocationError.TheVariants.{UnknownProgram}
@@ -35,7 +36,7 @@ one_way parts key f g a b =
     a.is ∙ (λ i. with_linked (function i) (made i)) ∙ sym b.is
 
 pub one_program_each : OneProgram
-one_program_each parts key f g a b = (one_way parts key f g a b, same_order (functions_of parts) key a.order b.order a.made b.made a.program b.program)
+one_program_each parts key f g a b = (one_way parts key f g a b, one_layout (functions_of parts) key a.order b.order a.program.layout b.program.layout)
 
 -- ---- faults
 
@@ -53,10 +54,13 @@ one_refusal parts program d e a b =
     λ i. record { function = name i; error = error i }
 
 -- a program that is linked is not refused
+pub not_faulty : (parts : LinkableValue) (key : FunctionKey) (f : Function) (order : List FunctionKey) (e : RelocationError) → get parts.functions key ≡ Some f → IsLayout (functions_of parts) key order → IsProgramFault parts key e → ⊥
+not_faulty parts key f order e stands layout h =
+    let fault : LeastFault (functions_of parts) (checked_references (functions_of parts) key) key e = subst (λ (o : Option Function). MatchOption o (e ≡ UnknownProgram key.0 key.1) (λ _. LeastFault (functions_of parts) (checked_references (functions_of parts) key) key e)) stands h in
+    not_linked (functions_of parts) key order e layout fault
+
 pub not_refused : (parts : LinkableValue) (key : FunctionKey) (f : Function) (e : RelocationError) → IsLinked parts key f → IsProgramFault parts key e → ⊥
-not_refused parts key f e a h =
-    let fault : LeastFault (functions_of parts) (checked_references (functions_of parts) key) key e = subst (λ (o : Option Function). MatchOption o (e ≡ UnknownProgram key.0 key.1) (λ _. LeastFault (functions_of parts) (checked_references (functions_of parts) key) key e)) a.stands h in
-    not_linked (functions_of parts) key a.order a.made e a.program fault
+not_refused parts key f e a h = not_faulty parts key a.function a.order e a.stands a.program.layout h
 
 -- ---- all programs
 
