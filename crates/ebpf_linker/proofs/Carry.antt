@@ -1,6 +1,6 @@
 -- What linking gives, from functions by their numbers to functions by their keys.
 use Rattle.std.proofs.Common.{◌≡◌, ◌≢◌, ℕ, ◌+◌, Bool, true, false, List, [], ◌∷◌, ◌++◌, map, length, Option, Some, None, refl, sym, ap, ◌∙◌, subst, inl, inr, arith}
-use Rattle.std.specs.Prelude.{slice_get, pos, ◌-ℤ◌, Result, Ok, Err, if◌then◌else◌, ◌||◌}
+use Rattle.std.specs.Prelude.{slice_get, pos, ◌-ℤ◌, if◌then◌else◌, ◌||◌}
 use Rattle.ebpf_base.specs.Faults.{first_of}
 use Rattle.ebpf_ext.specs.declared.ext_infos.bpf_func_info.{bpf_func_info}
 use Rattle.ebpf_ext.specs.declared.ext_infos.bpf_line_info.{bpf_line_info}
@@ -13,8 +13,7 @@ use Rattle.ebpf_linker.specs.Faults.{same, has_some, func_info_agrees, checked, 
 use Rattle.ebpf_linker.specs.Faults.{content_fault}
 use Rattle.ebpf_linker.specs.Records.{func_moved, line_moved, func_records, line_records, linked_func_info, linked_line_info, has_lines, count_if}
 use Rattle.ebpf_linker.specs.Answer.{IsOrder, IsLayout}
-use Rattle.ebpf_linker.specs.Result.{IsProgram, IsLinking}
-use Rattle.ebpf_linker.specs.Renaming.{answer_named}
+use Rattle.ebpf_linker.specs.Result.{IsProgram}
 use Rattle.ebpf_linker.proofs.Numbering.{renamed, Numbers}
 use Rattle.ebpf_linker.proofs.OneBase.{no_longer}
 use Rattle.ebpf_linker.proofs.Renamed.{SameReferences, AllNumbers, number_at, all_numbers, among_to, among_from, last_to, last_number, numbers_of, distinct_from, faulty_from, distinct_to, walk_numbers, reached_number, walk_to, walk_from, simple_to, simple_from, end_from, key_path_to, key_path_from, key_path_number, in_order_to}
@@ -175,13 +174,17 @@ module _ {M D K E : Type 0} (G : Functions M D) (F : Functions K E) (IsNumber : 
     faultless_to : Faultless G R p → Faultless F S (key p)
     faultless_to h path x e s = let (d, t) = stands_from path x e s in h path x d t
 
-    least_to : (d : D) → LeastFault G R p d → LeastFault F S (key p) (name d)
-    least_to d h = record {
+    least_fault_to : (d : D) → LeastFault G R p d → LeastFault F S (key p) (name d)
+    least_fault_to d h = record {
       path = h.path;
       slot = h.slot;
       stands = stands_to h.path h.slot d h.stands;
       none_before = λ other y e t b. let (f, u) = stands_from other y e t in h.none_before other y f u b;
     }
+
+  -- what is wrong with linking by numbers is wrong by keys
+  pub least_to : (p : M) (d : D) → IsNumber p → LeastFault G (checked_references G p) p d → LeastFault F (checked_references F (key p)) (key p) (name d)
+  least_to p d is h = least_fault_to (checked_references G p) (checked_references F (key p)) (linking_same p is) p is d h
 
   -- the functions that a program is linked with
 
@@ -287,7 +290,8 @@ module _ {M D K E : Type 0} (G : Functions M D) (F : Functions K E) (IsNumber : 
       ap (λ (c : FunctionContent). has_some c.line_info || has_lines F (map key ms)) (content_to m all.0)
       ∙ ap (λ (b : Bool). has_some (content_at G m).line_info || b) (has_lines_to ms all.1)
 
-  program_to : (p : M) (ms : List M) (l : LinkedProgram) → IsNumber p → IsProgram G p ms l → IsProgram F (key p) (map key ms) l
+  -- what holds of a program by numbers holds by keys
+  pub program_to : (p : M) (ms : List M) (l : LinkedProgram) → IsNumber p → IsProgram G p ms l → IsProgram F (key p) (map key ms) l
   program_to p ms l is h =
       let all = layout_numbers p ms is h.layout in
       let layout = layout_to p ms is h.layout in
@@ -301,8 +305,3 @@ module _ {M D K E : Type 0} (G : Functions M D) (F : Functions K E) (IsNumber : 
         line_count = h.line_count ∙ ap (λ (b : Bool). count_if b l.line_info) (sym (has_lines_to ms all));
         bound = λ every covers. no_longer F (key p) (map key ms) every _ layout linked.size covers;
       }
-
-  -- what holds of linking by numbers holds by keys
-  pub carried : (p : M) → IsNumber p → (answer : Result LinkedProgram D) → IsLinking G p answer → IsLinking F (key p) (answer_named name answer)
-  carried p is (Ok l) (ms, h) = (map key ms, program_to p ms l is h)
-  carried p is (Err d) h = least_to (checked_references G p) (checked_references F (key p)) (linking_same p is) p is d h

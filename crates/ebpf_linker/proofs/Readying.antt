@@ -53,7 +53,7 @@ take_whole zero (k ∷ ks) e = absurd (omega arith)
 take_whole (suc n) (k ∷ ks) e = let f : n ≡ length ks = omega arith in ap (λ (u : List ℕ). k ∷ u) (take_whole n ks f)
 
 -- a list without its first number
-pub tail_is : (l : List ℕ) (p : ℕ) (ks : List ℕ) → l ≡ p ∷ ks → take (length l - 1) (drop 1 l) ≡ ks
+tail_is : (l : List ℕ) (p : ℕ) (ks : List ℕ) → l ≡ p ∷ ks → take (length l - 1) (drop 1 l) ≡ ks
 tail_is l p ks e = rw e (take_whole (length (p ∷ ks) - 1) ks (omega arith))
 
 module _ (B : List Body) (C : List (Vec Call Global)) (p : ℕ) where
@@ -98,7 +98,7 @@ module _ (B : List Body) (C : List (Vec Call Global)) (p : ℕ) where
       let size = size_same B C (p ∷ ks) in
       omega (arith, room, size)
 
-  pub ready : (ks : List ℕ) → Sound (length B) C → p < length B → IsFound (functions_by_number B C) (checked_references (functions_by_number B C) p) p ks → IsReady B C p ks
+  ready : (ks : List ℕ) → Sound (length B) C → p < length B → IsFound (functions_by_number B C) (checked_references (functions_by_number B C) p) p ks → IsReady B C p ks
   ready ks sound lt found =
       let order = plain (functions_by_number B C) p ks found.order in
       let within = order_within ks sound lt order in
@@ -126,8 +126,13 @@ module _ (B : List Body) (C : List (Vec Call Global)) (p : ℕ) where
       }
 
 -- the functions that were found, as the search answers them
-pub ready_of : (B : List Body) (C : List (Vec Call Global)) (p : ℕ) (answer : Result (Vec ℕ Global) Fault) (v : Vec ℕ Global) (o : List ℕ) → Sound (length B) C → p < length B → Finds (functions_by_number B C) (checked_references (functions_by_number B C) p) p answer → answer ≡ Ok v → o ≡ v.items → IsReady B C p (take (length o - 1) (drop 1 o)) × (o ≡ p ∷ take (length o - 1) (drop 1 o))
-ready_of B C p answer v o sound lt found is same =
+pub laid_out : (B : List Body) (C : List (Vec Call Global)) (p : ℕ) (answer : Result (Vec ℕ Global) Fault) (v : Vec ℕ Global) → Sound (length B) C → p < length B → Finds (functions_by_number B C) (checked_references (functions_by_number B C) p) p answer → answer ≡ Ok v → (ks : List ℕ) × (v.items ≡ p ∷ ks) × IsReady B C p ks
+laid_out B C p answer v sound lt found is =
     let (ks, e, h) = subst (Finds (functions_by_number B C) (checked_references (functions_by_number B C) p) p) is found in
+    (ks, e, ready B C p ks sound lt h)
+
+-- those after the program
+pub ready_of : (B : List Body) (C : List (Vec Call Global)) (p : ℕ) (order o : List ℕ) → (ks : List ℕ) × (order ≡ p ∷ ks) × IsReady B C p ks → o ≡ order → IsReady B C p (take (length o - 1) (drop 1 o)) × (o ≡ p ∷ take (length o - 1) (drop 1 o))
+ready_of B C p order o (ks, e, h) same =
     let t = tail_is o p ks (same ∙ e) in
-    (subst (IsReady B C p) (sym t) (ready B C p ks sound lt h), same ∙ e ∙ ap (λ (u : List ℕ). p ∷ u) (sym t))
+    (subst (IsReady B C p) (sym t) h, same ∙ e ∙ ap (λ (u : List ℕ). p ∷ u) (sym t))

@@ -5,15 +5,14 @@ pub mod Faults
 pub mod Machine
 pub mod Records
 pub mod Numbered
+pub mod Ready
 pub mod Result
-pub mod Renaming
 pub mod LinkMap
 pub mod LinkMapLaws
 pub mod Answer
 -- What only private contracts and proofs name.
 pub mod Found
 pub mod LinkedSlots
-pub mod Ready
 pub mod Steps
 pub mod LinkedReferences
 pub mod PrivateContracts

@@ -1,9 +1,8 @@
 -- What a linked program is made of: the copies of functions, and the references between them.
-use Rattle.std.specs.Prelude.{◌≡◌, ℕ, ◌+◌, ◌≤◌, List, [], ◌∷◌, length, map, Some, slice_get, Result, Ok, Err}
+use Rattle.std.specs.Prelude.{◌≡◌, ℕ, ◌+◌, ◌≤◌, List, [], ◌∷◌, length, map, Some, slice_get}
 use Rattle.ebpf_parts.specs.declared.insn.bpf_insn.{bpf_insn}
 use Rattle.ebpf_parts.specs.Slots.{is_pseudo_call}
 use Rattle.ebpf_linker.specs.Functions.{Names, Functions, body, Among, BeginsAt}
-use Rattle.ebpf_linker.specs.Faults.{checked_references, LeastFault}
 use Rattle.ebpf_linker.specs.Answer.{IsLayout}
 use Rattle.ebpf_linker.specs.declared.link_map.NumberedCopy.{NumberedCopy}
 use Rattle.ebpf_linker.specs.declared.link_map.NumberedLinkMap.{NumberedLinkMap}
@@ -63,8 +62,3 @@ numbered_copy c = record { function = c.key; base = c.base; slots = c.slots }
 -- the link map of the program p, of functions by their numbers
 abbrev pub IsNumberedLinkMap : {E : Type 0} → Functions ℕ E → ℕ → NumberedLinkMap → Type 0
 IsNumberedLinkMap F p m = (ks : List ℕ) × (cs : List (CopyOf ℕ)) × IsLinkMap F p ks cs m.references × (m.copies ≡ map numbered_copy cs)
-
--- the link map, or the least fault
-abbrev pub IsLinkMapAnswer : {E : Type 0} → Functions ℕ E → ℕ → Result NumberedLinkMap E → Type 0
-IsLinkMapAnswer F p (Ok m) = IsNumberedLinkMap F p m
-IsLinkMapAnswer F p (Err e) = LeastFault F (checked_references F p) p e

@@ -1,9 +1,9 @@
 -- What linking gives.
-use Rattle.std.specs.Prelude.{◌≡◌, ◌+◌, ◌≤◌, List, length, Some, Result, Ok, Err}
+use Rattle.std.specs.Prelude.{◌≡◌, ◌+◌, ◌≤◌, List, length, Some}
 use Rattle.ebpf_linker.specs.declared.body.LinkedProgram.{LinkedProgram}
 use Rattle.ebpf_linker.specs.Functions.{Functions, FunctionContent, Linked, Among, body, total}
 use Rattle.ebpf_linker.specs.Answer.{IsLayout}
-use Rattle.ebpf_linker.specs.Faults.{checked_references, LeastFault, has_some}
+use Rattle.ebpf_linker.specs.Faults.{has_some}
 use Rattle.ebpf_linker.specs.Records.{linked_func_info, linked_line_info, has_lines, count_if}
 
 -- l is the program and each function that its references reach, in the order of their key paths; it has their
@@ -16,8 +16,3 @@ pub record IsProgram {K E : Type 0} (F : Functions K E) (p : K) (ks : List K) (l
   pub func_count : l.func_count ≡ count_if (has_some ks) l.func_info
   pub line_count : l.line_count ≡ count_if (has_lines F ks) l.line_info
   pub bound : (all : List K) → ((k : K) (c : FunctionContent) → F.content k ≡ Some c → Among all k) → length l.slots ≤ length (body F p) + total F all
-
--- the linked program, or the least fault
-abbrev pub IsLinking : {K E : Type 0} → Functions K E → K → Result LinkedProgram E → Type 0
-IsLinking F p (Ok l) = (ks : _) × IsProgram F p ks l
-IsLinking F p (Err e) = LeastFault F (checked_references F p) p e

@@ -4,6 +4,7 @@
 mod bases;
 mod body;
 mod copies;
+mod layout;
 pub mod link_map;
 mod program;
 mod records;
@@ -14,6 +15,7 @@ mod soundness;
 mod tables;
 
 pub use body::{Body, LinkedProgram};
+pub use layout::{Layout, lay_out};
 pub use program::link;
 pub use reference::{Call, Fault, Target};
 pub use soundness::is_sound;

@@ -2,15 +2,15 @@
 
 ghost use Rattle.std.specs.Prelude.{◌≡◌, ℕ, ◌+◌, ◌<◌, ◌≤◌, ◌^◌, [], ◌∷◌, ◌++◌, length, map, IfOk, OnOk, All};
 ghost use Rattle.ebpf_linker.specs.LinkedSlots.{Fit, body_at};
-ghost use Rattle.ebpf_linker.specs.LinkMap.{copies_from, numbered_copy, IsLinkMapAnswer, IsNumberedLinkMap};
+ghost use Rattle.ebpf_linker.specs.LinkMap.{copies_from, numbered_copy, IsNumberedLinkMap};
 ghost use Rattle.ebpf_linker.specs.LinkedReferences.{linked_reference, references_of_copy, references_of_copies};
 ghost use Rattle.ebpf_linker.specs.Numbered.{IsWithin, Sound, functions_by_number};
-ghost use Rattle.ebpf_linker.specs.Ready.{IsReady};
+ghost use Rattle.ebpf_linker.specs.Ready.{IsReady, IsLaidOut};
 
 use crate::bases::copy_bases;
 use crate::body::Body;
-use crate::reference::{Call, Fault, Target};
-use crate::search::search;
+use crate::layout::Layout;
+use crate::reference::{Call, Target};
 use crate::tables::Tables;
 use ebpf_base::Items;
 use ebpf_parts::insn::bpf_insn;
@@ -175,28 +175,20 @@ fn link_map_of(
     })
 }
 
-/// What the program `start` is made of once it is linked: where its copies begin, and its references with the places
-/// that they lead to. The program is linked as `link` does, but no slot and no record is written. `tables` are kept for
-/// the next program of these functions.
-///
-/// # Errors
-///
-/// Those of `link`.
+/// What the program of a layout is made of once it is linked: where its copies begin, and its references with the places
+/// that they lead to. No slot and no record is written. `tables` are kept for the next program of these functions.
 pub fn link_map(
     alloc: Global,
     tables: &Tables,
     bodies: &[Body<'_>],
     calls: &[Vec<Call>],
-    start: usize,
-) -> Result<Result<NumberedLinkMap, Fault>, AllocError>
-    requires start { start < length bodies.now }
+    layout: &Layout,
+) -> Result<NumberedLinkMap, AllocError>
     requires calls { length calls.now ≡ length bodies.now }
     requires sound { Sound (length bodies.now) calls.now }
-    ensures { IfOk result (λ answer. IsLinkMapAnswer (functions_by_number bodies.now calls.now) start answer) }
+    requires laid_out { IsLaidOut bodies.now calls.now layout.now }
+    ensures { IfOk result (λ m. IsNumberedLinkMap (functions_by_number bodies.now calls.now) layout.now.start m) }
 {
-    let order = match search(alloc, tables, bodies, calls, start)? {
-        Ok(order) => order,
-        Err(fault) => return Ok(Err(fault)),
-    };
-    Ok(Ok(link_map_of(alloc, tables, bodies, calls, start, &order[1..])?))
+    let reached = &layout.order[1..];
+    link_map_of(alloc, tables, bodies, calls, layout.start, reached)
 }

@@ -1,16 +1,16 @@
 //! Linking a program.
 
-ghost use Rattle.std.specs.Prelude.{◌≡◌, ℕ, ◌+◌, ◌<◌, ◌∷◌, length, IfOk, All};
+ghost use Rattle.std.specs.Prelude.{◌≡◌, ℕ, ◌+◌, ◌<◌, ◌∷◌, List, length, IfOk, All};
 ghost use Rattle.ebpf_linker.specs.Numbered.{Sound, functions_by_number};
-ghost use Rattle.ebpf_linker.specs.Ready.{IsReady};
-ghost use Rattle.ebpf_linker.specs.Result.{IsLinking, IsProgram};
+ghost use Rattle.ebpf_linker.specs.Ready.{IsReady, IsLaidOut};
+ghost use Rattle.ebpf_linker.specs.Result.{IsProgram};
 
 use crate::bases::copy_bases;
 use crate::body::{Body, LinkedProgram};
 use crate::copies::write_copies;
+use crate::layout::Layout;
 use crate::records::{count_if, func_records, has_lines, line_records};
-use crate::reference::{Call, Fault};
-use crate::search::search;
+use crate::reference::Call;
 use crate::tables::Tables;
 use ebpf_base::Items;
 use std::alloc::{AllocError, Global};
@@ -60,31 +60,29 @@ fn assemble(
     })
 }
 
-/// The program `start`, followed by a copy of each function that its references reach, once. The copies stand in
-/// the order in which a walk comes to them that follows the references of each function slot by slot, and those of
-/// a function that is copied at once. A slot that refers names the distance from the slot after it to the copy;
-/// where it is no call its source register becomes 4. `tables` are kept for the next program of these functions.
-///
-/// # Errors
-///
-/// The first fault on that walk: a reference that leads nowhere, `FunctionInfoMismatch`, `ProgramTooLong`,
-/// `InvalidLineInfo`.
+/// The program of a layout, followed by a copy of each function that it is linked with, in their order. A slot that refers
+/// names the distance from the slot after it to the copy; where it is no call its source register becomes 4. `tables` are
+/// kept for the next program of these functions.
 pub fn link(
     alloc: Global,
     tables: &Tables,
     bodies: &[Body<'_>],
     calls: &[Vec<Call>],
-    start: usize,
-) -> Result<Result<LinkedProgram, Fault>, AllocError>
-    requires start { start < length bodies.now }
+    layout: &Layout,
+) -> Result<LinkedProgram, AllocError>
     requires calls { length calls.now ≡ length bodies.now }
     requires sound { Sound (length bodies.now) calls.now }
-    ensures { IfOk result (λ answer. IsLinking (functions_by_number bodies.now calls.now) start answer) }
+    requires laid_out { IsLaidOut bodies.now calls.now layout.now }
+    ensures { IfOk result (λ program. (ks : List ℕ) × IsProgram (functions_by_number bodies.now calls.now) layout.now.start ks program) }
 {
-    let order = match search(alloc, tables, bodies, calls, start)? {
-        Ok(order) => order,
-        Err(fault) => return Ok(Err(fault)),
-    };
-    let program = assemble(alloc, tables, bodies, calls, start, &order, &order[1..])?;
-    Ok(Ok(program))
+    let order = layout.order.as_slice();
+    assemble(
+        alloc,
+        tables,
+        bodies,
+        calls,
+        layout.start,
+        order,
+        &order[1..],
+    )
 }

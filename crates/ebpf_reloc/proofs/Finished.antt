@@ -1,12 +1,13 @@
 -- What linking one program gives, by its key.
 use Rattle.std.proofs.Common.{◌≡◌, ◌<◌, ℕ, Bool, true, false, List, length, Option, Some, None, Ok, Err, refl, sym, ap, subst, ◌∙◌, ⊎_elim, arith}
-use Rattle.std.specs.Prelude.{slice_get, is_some, MatchBool, MatchOption, ⊤}
+use Rattle.std.specs.Prelude.{slice_get, is_some, MatchBool, MatchOption, ⊤, Result, IfOk}
+use Rattle.std.specs.declared.alloc.AllocError.{AllocError}
 use Rattle.std.specs.FinMap.{get, entries}
 use Rattle.std.proofs.lemmas.List.{length-map}
 use Rattle.std.proofs.lemmas.Option.{slice_get_cases}
 use Rattle.ebpf_linker.specs.declared.body.LinkedProgram.{LinkedProgram}
 use Rattle.ebpf_linker.specs.Faults.{LeastFault, checked_references}
-use Rattle.ebpf_linker.specs.Result.{IsLinking}
+use Rattle.ebpf_linker.specs.Result.{IsProgram}
 use Rattle.ebpf_linker.proofs.Visits.{same_visits}
 use Rattle.ebpf_reloc.proofs.CallsRefer.{calls_refer}
 use Rattle.ebpf_reloc.proofs.Keys.{count_keys, function_at, has_number}
@@ -34,16 +35,17 @@ module _ (parts : LinkableValue) where
   abbrev fs : List Function
   fs = function_list parts.functions
 
-  pub is_linked : (number : ℕ) (f : Function) (l : LinkedProgram) (g : Function) → number < length keys → slice_get fs number ≡ Some f → IsLinking (functions_of parts) (key_in keys number) (Ok l) → g ≡ with_linked f l
-      → IsLinked parts (key_in keys number) g
-  is_linked number f l g lt at h e = record {
+  pub is_linked : (number : ℕ) (f : Function) (order : List FunctionKey) (l : LinkedProgram) (r : Result Function AllocError) → number < length keys → slice_get fs number ≡ Some f → IsProgram (functions_of parts) (key_in keys number) order l → IfOk r (λ g. g ≡ with_linked f l)
+      → IfOk r (λ g. IsLinked parts (key_in keys number) g)
+  is_linked number f order l (Err x) lt at h e = tt
+  is_linked number f order l (Ok g) lt at h e = record {
     function = f;
     stands = function_at parts.functions number lt ∙ at;
     made = l;
     is = e;
-    order = h.0;
-    program = h.1;
-    visits = λ on. same_visits (functions_of parts) (key_in keys number) h.0 l.slots h.1.linked (calls_refer parts) on;
+    order = order;
+    program = h;
+    visits = λ on. same_visits (functions_of parts) (key_in keys number) order l.slots h.linked (calls_refer parts) on;
   }
 
   fault_where : (key : FunctionKey) (e : RelocationError) (o : Option Function) → (o ≡ None → ⊥) → LeastFault (functions_of parts) (checked_references (functions_of parts) key) key e
@@ -51,7 +53,7 @@ module _ (parts : LinkableValue) where
   fault_where key e None there h = absurd (there refl)
   fault_where key e (Some f) there h = h
 
-  pub is_fault : (number : ℕ) (e : RelocationError) → number < length keys → IsLinking (functions_of parts) (key_in keys number) (Err e) → IsProgramFault parts (key_in keys number) e
+  pub is_fault : (number : ℕ) (e : RelocationError) → number < length keys → LeastFault (functions_of parts) (checked_references (functions_of parts) (key_in keys number)) (key_in keys number) e → IsProgramFault parts (key_in keys number) e
   is_fault number e lt h = fault_where (key_in keys number) e (get parts.functions (key_in keys number)) there h
     where
       there : get parts.functions (key_in keys number) ≡ None → ⊥

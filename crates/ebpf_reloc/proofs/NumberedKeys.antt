@@ -1,7 +1,6 @@
 -- The functions by number are the functions by key.
 use Rattle.std.proofs.Common.{◌≡◌, ◌<◌, ◌+◌, ℕ, zero, suc, Bool, true, false, List, [], ◌∷◌, length, map, Option, Some, None, refl, sym, ap, subst, ◌∙◌, arith}
-use Rattle.std.specs.Prelude.{is_some, slice_get, ◌==◌, option_map, if◌then◌else◌, Vec, All, Result, Ok, Err, IfOk}
-use Rattle.std.specs.declared.alloc.AllocError.{AllocError}
+use Rattle.std.specs.Prelude.{is_some, slice_get, ◌==◌, option_map, if◌then◌else◌, Vec, All}
 use Rattle.std.specs.declared.alloc.Global.{Global}
 use Rattle.std.specs.FinMap.{get, contains_key, entries}
 use Rattle.std.proofs.lemmas.List.{length-map}
@@ -16,11 +15,11 @@ use Rattle.ebpf_linker.specs.declared.reference.Target.TheVariants.{Function as 
 use Rattle.ebpf_linker.specs.Functions.{Names}
 use Rattle.ebpf_linker.specs.Numbered.{of_target, referred, calls_or_empty, calls_at, body_content, option_content, functions_by_number, Rises, IsWithin, Sound}
 use Rattle.ebpf_linker.specs.declared.body.LinkedProgram.{LinkedProgram}
-use Rattle.ebpf_linker.specs.Renaming.{answer_named}
+use Rattle.ebpf_linker.specs.Faults.{LeastFault, checked_references}
 use Rattle.ebpf_linker.proofs.Numbering.{renamed, Numbers}
-use Rattle.ebpf_linker.specs.Result.{IsLinking}
+use Rattle.ebpf_linker.specs.Result.{IsProgram}
 use Rattle.ebpf_parts.specs.declared.insn.bpf_insn.{bpf_insn}
-use Rattle.ebpf_linker.proofs.Carry.{carried}
+use Rattle.ebpf_linker.proofs.Carry.{least_to, program_to}
 use Rattle.ebpf_reloc.proofs.ByNumber.{of_option, led, referred_at, calls_rise}
 use Rattle.ebpf_reloc.proofs.Keys.{count_keys, function_at, has_number, number_names, one_number}
 use Rattle.ebpf_model.specs.declared.error.RelocationError.TheVariants.{FunctionInfoMismatch, ProgramTooLong, InvalidLineInfo}
@@ -160,8 +159,12 @@ module _ (parts : LinkableValue) where
     pub count_calls : length C ≡ length B
     count_calls = sym (length-map C (λ (v : Vec Call Global). v.items)) ∙ ap length calls ∙ length_calls fs 0 ∙ count_functions ∙ sym count_bodies
 
-    -- what linking gives by number, it gives by key
-    pub linked_by_key : (number : ℕ) → number < length keys → (r : Result (Result LinkedProgram Fault) AllocError) → IfOk r (λ answer. IsLinking (functions_by_number B C) number answer)
-        → IfOk r (λ answer. IsLinking (functions_of parts) (key_in keys number) (answer_named (with_function_names fs) answer))
-    linked_by_key number lt (Ok answer) h = carried (functions_by_number B C) (functions_of parts) (λ m. m < length keys) (key_in keys) (with_function_names fs) numbered number lt answer h
-    linked_by_key number lt (Err e) h = tt
+    -- what is wrong with a program by number, is wrong by key
+    pub fault_by_key : (number : ℕ) (e : Fault) → number < length keys → LeastFault (functions_by_number B C) (checked_references (functions_by_number B C) number) number e
+        → LeastFault (functions_of parts) (checked_references (functions_of parts) (key_in keys number)) (key_in keys number) (with_function_names fs e)
+    fault_by_key number e lt h = least_to (functions_by_number B C) (functions_of parts) (λ m. m < length keys) (key_in keys) (with_function_names fs) numbered number e lt h
+
+    -- what holds of a linked program by number, holds by key
+    pub program_by_key : (number : ℕ) (ks : List ℕ) (l : LinkedProgram) → number < length keys → IsProgram (functions_by_number B C) number ks l
+        → IsProgram (functions_of parts) (key_in keys number) (map (key_in keys) ks) l
+    program_by_key number ks l lt h = program_to (functions_by_number B C) (functions_of parts) (λ m. m < length keys) (key_in keys) (with_function_names fs) numbered number ks l lt h

@@ -1,17 +1,15 @@
 -- What contracts of private functions name and no public one.
-use Rattle.std.specs.Prelude.{◌≡◌, ℕ, List, map, Result, Ok, Err, ◌+◌, [], ◌∷◌, Option, Some, None}
+use Rattle.std.specs.Prelude.{◌≡◌, ℕ, ◌<◌, List, length, Vec, ◌+◌, [], ◌∷◌, Option, Some, None}
+use Rattle.std.specs.declared.alloc.Global.{Global}
 use Rattle.ebpf_linker.specs.declared.link_map.NumberedCopy.{NumberedCopy}
-use Rattle.ebpf_linker.specs.declared.link_map.NumberedLinkMap.{NumberedLinkMap}
-use Rattle.ebpf_linker.specs.declared.reference.Fault.{Fault}
-use Rattle.ebpf_linker.specs.Faults.{LeastFault, checked_references}
-use Rattle.ebpf_linker.specs.LinkMap.{CopyOf, IsLinkMap}
+use Rattle.ebpf_linker.specs.declared.body.Body.{Body}
+use Rattle.ebpf_linker.specs.declared.layout.Layout.{Layout}
+use Rattle.ebpf_linker.specs.Ready.{IsLaidOut}
 use Rattle.ebpf_model.specs.declared.function.Function.{Function}
 use Rattle.ebpf_reloc.specs.declared.link_map.CodeCopy.{CodeCopy}
-use Rattle.ebpf_reloc.specs.Numbers.{function_keys, function_list, key_in, function_name, with_function_names}
+use Rattle.ebpf_reloc.specs.Numbers.{function_keys, key_in, function_name}
 use Rattle.ebpf_reloc.specs.SlotTargets.{LinkableValue, slot_target_of}
 use Rattle.ebpf_model.specs.Keys.{FunctionKey}
-use Rattle.ebpf_reloc.specs.References.{functions_of}
-use Rattle.ebpf_reloc.specs.LinkMaps.{code_copy}
 use Rattle.std.specs.List.{position_from}
 use Rattle.std.specs.Ordering.{eq_by_cmp}
 use Rattle.ebpf_base.specs.Keys.{key_cmp}
@@ -27,18 +25,11 @@ use Rattle.ebpf_reloc.specs.declared.slot_target.SlotTarget.TheVariants.{Absent,
 abbrev pub named_copy : List FunctionKey → List Function → NumberedCopy → CodeCopy
 named_copy keys functions c = record { key = key_in keys c.function; name = function_name functions c.function; base = c.base; slots = c.slots }
 
--- the link map of the program with a number, by keys
-pub record IsKeyedLinkMap (parts : LinkableValue) (number : ℕ) (m : NumberedLinkMap) : Type 0 where
-  pub order : List FunctionKey
-  pub copies : List (CopyOf FunctionKey)
-  pub program : IsLinkMap (functions_of parts) (key_in (function_keys parts.functions) number) order copies m.references
-  pub named : map (named_copy (function_keys parts.functions) (function_list parts.functions)) m.copies ≡ map (code_copy parts.functions) copies
-
--- that link map, or the least fault
-abbrev pub IsKeyedLinkMapAnswer : LinkableValue → ℕ → Result NumberedLinkMap Fault → Type 0
-IsKeyedLinkMapAnswer parts number (Ok m) = IsKeyedLinkMap parts number m
-IsKeyedLinkMapAnswer parts number (Err e) =
-    LeastFault (functions_of parts) (checked_references (functions_of parts) (key_in (function_keys parts.functions) number)) (key_in (function_keys parts.functions) number) (with_function_names (function_list parts.functions) e)
+-- the layout of the program at a key, of the functions by numbers
+pub record IsLaidOutAt (parts : LinkableValue) (B : List Body) (C : List (Vec Call Global)) (key : FunctionKey) (l : Layout) : Type 0 where
+  pub start : l.start < length (function_keys parts.functions)
+  pub key_is : key_in (function_keys parts.functions) l.start ≡ key
+  pub laid_out : IsLaidOut B C l
 
 -- the number of a key
 abbrev pub number_of_key : List FunctionKey → FunctionKey → Option ℕ

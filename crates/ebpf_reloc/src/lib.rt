@@ -4,6 +4,7 @@
 mod calls;
 mod key_numbers;
 pub mod laws;
+mod layout;
 mod link_map;
 mod linkable;
 mod linking;

@@ -1,22 +1,21 @@
 //! What the linked program of a program is made of.
 
 ghost use Rattle.std.specs.Prelude.{◌≡◌, ◌<◌, length, map, IfOk, IfErr, ⊤, MatchBool};
+ghost use Rattle.ebpf_linker.specs.Ready.{IsLaidOut};
 ghost use Rattle.ebpf_reloc.specs.LinkMaps.{IsLinkMapAt};
-ghost use Rattle.ebpf_reloc.specs.PrivateContracts.{named_copy, IsKeyedLinkMapAnswer};
-ghost use Rattle.ebpf_reloc.specs.Linking.{key_of, IsProgramFault, IsProgramRefusal};
-ghost use Rattle.ebpf_model.specs.Memory.{is_slot_memory, is_memory_at, NamesNoneForMemory};
-ghost use Rattle.ebpf_reloc.specs.Numbers.{function_keys, function_list, key_in};
+ghost use Rattle.ebpf_reloc.specs.PrivateContracts.{named_copy};
+ghost use Rattle.ebpf_reloc.specs.Linking.{key_of, IsProgramRefusal};
+ghost use Rattle.ebpf_model.specs.Memory.{is_memory_at, NamesNoneForMemory};
+ghost use Rattle.ebpf_reloc.specs.Numbers.{function_keys, key_in};
 ghost use Rattle.ebpf_reloc.specs.SlotTargets.{read};
 
-use crate::linkable::Linkable;
-use crate::linking::{ProgramKey, numbered};
-use crate::numbered::{NumberedFunctions, function_name, with_function_names};
-use crate::numbers::number_of_key;
+use crate::linking::ProgramKey;
+use crate::numbered::{NumberedFunctions, function_name};
 use ebpf_base::{Items, Text};
-use ebpf_linker::Fault;
+use ebpf_linker::Layout;
 pub use ebpf_linker::link_map::Reference;
-use ebpf_linker::link_map::{NumberedCopy, NumberedLinkMap, link_map};
-use ebpf_model::{EbpfRelocationError, Function, RelocationError};
+use ebpf_linker::link_map::{NumberedCopy, link_map};
+use ebpf_model::{EbpfRelocationError, Function};
 use std::alloc::{AllocError, Global};
 
 /// A copy of a function in a linked program.
@@ -85,70 +84,22 @@ fn named_copies(
 }
 
 impl<'a> NumberedFunctions<'a> {
-    /// What the program with a number is made of, by numbers.
-    fn link_map_by_number(
-        &self,
-        alloc: Global,
-        number: usize,
-    ) -> Result<Result<NumberedLinkMap, Fault>, AllocError>
-        requires { number < length (function_keys (read self.now.parts).functions) }
-        ensures { IfOk result (λ answer. IsKeyedLinkMapAnswer (read self.now.parts) number answer) }
+    /// What a layout's program is made of.
+    fn mapped(&self, alloc: Global, layout: &Layout) -> Result<LinkMap, AllocError>
+        requires start { layout.now.start < length (function_keys (read self.now.parts).functions) }
+        requires laid_out { IsLaidOut self.now.bodies.items self.now.calls.items layout.now }
+        ensures { IfOk result (λ m. IsLinkMapAt (read self.now.parts) (key_in (function_keys (read self.now.parts).functions) layout.now.start) m) }
     {
-        link_map(
-            alloc,
-            &self.tables,
-            self.bodies.as_slice(),
-            self.calls.as_slice(),
-            number,
-        )
-    }
-
-    /// What the program with a number is made of, by what was found by numbers.
-    fn keyed_link_map(
-        &self,
-        alloc: Global,
-        number: usize,
-        answer: Result<NumberedLinkMap, Fault>,
-    ) -> Result<LinkMap, RelocationError>
-        requires number { number < length (function_keys (read self.now.parts).functions) }
-        requires answer { IsKeyedLinkMapAnswer (read self.now.parts) number answer }
-        ensures mapped { IfOk result (λ m. IsLinkMapAt (read self.now.parts) (key_in (function_keys (read self.now.parts).functions) number) m) }
-        ensures fault { IfErr result (λ e. MatchBool (is_slot_memory e) ⊤ (IsProgramFault (read self.now.parts) (key_in (function_keys (read self.now.parts).functions) number) e)) }
-    {
+        let bodies = self.bodies.as_slice();
+        let calls = self.calls.as_slice();
+        let map = link_map(alloc, &self.tables, bodies, calls, layout)?;
+        let keys = self.keys.as_slice();
         let functions = self.functions.as_slice();
-        match answer {
-            Ok(map) => {
-                let keys = self.keys.as_slice();
-                let copies = named_copies(alloc, keys, functions, map.copies.as_slice())?;
-                Ok(LinkMap {
-                    copies: Items::from_vec(copies),
-                    references: map.references,
-                })
-            }
-            Err(fault) => Err(with_function_names(alloc, functions, fault)?),
-        }
-    }
-
-    /// What the program at a key is made of.
-    fn link_map_at(
-        &self,
-        alloc: Global,
-        section: usize,
-        address: u64,
-    ) -> Result<LinkMap, RelocationError>
-        ensures mapped { IfOk result (λ m. IsLinkMapAt (read self.now.parts) (section, address) m) }
-        ensures fault { IfErr result (λ e. MatchBool (is_slot_memory e) ⊤ (IsProgramFault (read self.now.parts) (section, address) e)) }
-    {
-        match number_of_key(self.keys.as_slice(), section, address) {
-            Some(number) => {
-                let answer = self.link_map_by_number(alloc, number)?;
-                self.keyed_link_map(alloc, number, answer)
-            }
-            None => Err(RelocationError::UnknownProgram {
-                section_index: section,
-                address,
-            }),
-        }
+        let copies = named_copies(alloc, keys, functions, map.copies.as_slice())?;
+        Ok(LinkMap {
+            copies: Items::from_vec(copies),
+            references: map.references,
+        })
     }
 }
 
@@ -160,7 +111,6 @@ impl NumberedFunctions<'_> {
     /// # Errors
     ///
     /// Those of `relocate_calls` for this program alone.
-    #[tactic(auto, using(crate::proofs::Finished::with_name))]
     pub fn program_link_map(
         &self,
         alloc: Global,
@@ -170,9 +120,13 @@ impl NumberedFunctions<'_> {
         ensures fault { IfErr result (λ e. MatchBool (is_memory_at e) ⊤ (IsProgramRefusal (read self.now.parts) program.now e)) }
         ensures memory { IfErr result NamesNoneForMemory }
     {
-        match self.link_map_at(alloc, program.section_index, program.address) {
+        let layout = match self.layout(alloc, program) {
+            Ok(layout) => layout,
+            Err(error) => return Err(error),
+        };
+        match self.mapped(alloc, &layout) {
             Ok(map) => Ok(map),
-            Err(error) => Err(EbpfRelocationError::named(alloc, program.name, error)),
+            Err(_) => Err(EbpfRelocationError::memory(alloc)),
         }
     }
 }

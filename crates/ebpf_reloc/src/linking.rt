@@ -2,21 +2,18 @@
 
 ghost use Rattle.std.specs.Prelude.{◌≡◌, ◌<◌, length, true, IfOk, OnOk, IfErr, Some, ⊤, MatchBool, slice_get};
 ghost use Rattle.std.specs.FinMap as map;
-ghost use Rattle.ebpf_linker.specs.Renaming.{answer_named};
-ghost use Rattle.ebpf_linker.specs.Result.{IsLinking};
-ghost use Rattle.ebpf_reloc.specs.Linking.{ProgramValue, key_of, with_linked, IsLinked, IsProgramFault, IsProgramRefusal, AreLinked, IsFirstRefusal};
-ghost use Rattle.ebpf_model.specs.Memory.{is_slot_memory, is_memory_at, NamesNoneForMemory};
-ghost use Rattle.ebpf_reloc.specs.Numbers.{function_keys, function_list, key_in, with_function_names};
+ghost use Rattle.ebpf_linker.specs.Ready.{IsLaidOut};
+ghost use Rattle.ebpf_reloc.specs.Linking.{ProgramValue, key_of, with_linked, IsLinked, IsProgramRefusal, AreLinked, IsFirstRefusal};
+ghost use Rattle.ebpf_model.specs.Memory.{is_memory_at, NamesNoneForMemory};
+ghost use Rattle.ebpf_reloc.specs.Numbers.{function_keys, function_list, key_in};
 ghost use Rattle.ebpf_reloc.specs.SlotTargets.{read};
-ghost use Rattle.ebpf_reloc.specs.References.{functions_of};
 
 use crate::linkable::Linkable;
-use crate::numbered::{NumberedFunctions, with_function_names};
-use crate::numbers::number_of_key;
+use crate::numbered::NumberedFunctions;
 use ebpf_base::ByKey;
 use ebpf_ext::{FuncSecInfo, LineSecInfo};
-use ebpf_linker::{Fault, LinkedProgram};
-use ebpf_model::{EbpfRelocationError, Function, RelocationError};
+use ebpf_linker::{Layout, LinkedProgram, link};
+use ebpf_model::{EbpfRelocationError, Function};
 use std::alloc::{AllocError, Global};
 use std::marker::Model;
 
@@ -82,50 +79,21 @@ impl<'a> NumberedFunctions<'a> {
         self.functions.as_slice()[number]
     }
 
-    /// The function with a number, by what linking it gave.
-    fn finished(
-        &self,
-        alloc: Global,
-        number: usize,
-        answer: Result<LinkedProgram, Fault>,
-    ) -> Result<Function, RelocationError>
-        requires number { number < length (function_keys (read self.now.parts).functions) }
-        requires answer { IsLinking (functions_of (read self.now.parts)) (key_in (function_keys (read self.now.parts).functions) number) (answer_named (with_function_names (function_list (read self.now.parts).functions)) answer) }
-        ensures linked { IfOk result (λ f. IsLinked (read self.now.parts) (key_in (function_keys (read self.now.parts).functions) number) f) }
-        ensures fault { IfErr result (λ e. MatchBool (is_slot_memory e) ⊤ (IsProgramFault (read self.now.parts) (key_in (function_keys (read self.now.parts).functions) number) e)) }
+    /// The function of a layout's program, linked.
+    fn linked(&self, alloc: Global, layout: &Layout) -> Result<Function, AllocError>
+        requires start { layout.now.start < length (function_keys (read self.now.parts).functions) }
+        requires laid_out { IsLaidOut self.now.bodies.items self.now.calls.items layout.now }
+        ensures { IfOk result (λ f. IsLinked (read self.now.parts) (key_in (function_keys (read self.now.parts).functions) layout.now.start) f) }
     {
-        match answer {
-            Ok(linked) => Ok(with_linked(self.function(number), linked)?),
-            Err(fault) => Err(with_function_names(alloc, self.functions.as_slice(), fault)?),
-        }
-    }
-
-    /// The function at a key, linked.
-    fn linked_at(
-        &self,
-        alloc: Global,
-        section: usize,
-        address: u64,
-    ) -> Result<Function, RelocationError>
-        ensures linked { IfOk result (λ f. IsLinked (read self.now.parts) (section, address) f) }
-        ensures fault { IfErr result (λ e. MatchBool (is_slot_memory e) ⊤ (IsProgramFault (read self.now.parts) (section, address) e)) }
-    {
-        match number_of_key(self.keys.as_slice(), section, address) {
-            Some(number) => {
-                let answer = self.link(alloc, number)?;
-                self.finished(alloc, number, answer)
-            }
-            None => Err(RelocationError::UnknownProgram {
-                section_index: section,
-                address,
-            }),
-        }
+        let bodies = self.bodies.as_slice();
+        let calls = self.calls.as_slice();
+        let linked = link(alloc, &self.tables, bodies, calls, layout)?;
+        with_linked(self.function(layout.start), linked)
     }
 }
 
 impl NumberedFunctions<'_> {
     /// A program's function, linked.
-    #[tactic(auto, using(crate::proofs::Finished::with_name))]
     fn linked_program(
         &self,
         alloc: Global,
@@ -135,9 +103,13 @@ impl NumberedFunctions<'_> {
         ensures fault { IfErr result (λ e. MatchBool (is_memory_at e) ⊤ (IsProgramRefusal (read self.now.parts) program.now e)) }
         ensures memory { IfErr result NamesNoneForMemory }
     {
-        match self.linked_at(alloc, program.section_index, program.address) {
+        let layout = match self.layout(alloc, program) {
+            Ok(layout) => layout,
+            Err(error) => return Err(error),
+        };
+        match self.linked(alloc, &layout) {
             Ok(function) => Ok(function),
-            Err(error) => Err(EbpfRelocationError::named(alloc, program.name, error)),
+            Err(_) => Err(EbpfRelocationError::memory(alloc)),
         }
     }
 }

@@ -1,19 +1,17 @@
 //! The functions of an object as linking needs them: numbered, with their calls.
 
-ghost use Rattle.std.specs.Prelude.{◌≡◌, ◌<◌, length, map, IfOk};
+ghost use Rattle.std.specs.Prelude.{◌≡◌, map, IfOk};
 ghost use Rattle.ebpf_linker.specs.Numbered.{body_content};
-ghost use Rattle.ebpf_linker.specs.Renaming.{answer_named};
-ghost use Rattle.ebpf_linker.specs.Result.{IsLinking};
-ghost use Rattle.ebpf_reloc.specs.Numbers.{function_keys, function_list, key_in, function_name, with_function_names};
+ghost use Rattle.ebpf_reloc.specs.Numbers.{function_keys, function_list, function_name, with_function_names};
 ghost use Rattle.ebpf_reloc.specs.PrivateContracts.{calls_from};
 ghost use Rattle.ebpf_reloc.specs.SlotTargets.{read};
-ghost use Rattle.ebpf_reloc.specs.References.{content_of, functions_of};
+ghost use Rattle.ebpf_reloc.specs.References.{content_of};
 
 use crate::calls::all_calls;
 use crate::linkable::Linkable;
 use crate::numbers::{function_keys, function_list};
 use ebpf_base::Text;
-use ebpf_linker::{Body, Call, Fault, LinkedProgram, Tables, link};
+use ebpf_linker::{Body, Call, Fault, Tables};
 use ebpf_model::{Function, RelocationError};
 use std::alloc::{AllocError, Global};
 
@@ -78,24 +76,6 @@ impl<'a> NumberedFunctions<'a> {
             calls,
             tables: Tables::new(),
         })
-    }
-
-    /// The program with a number, followed by each function that it reaches.
-    pub fn link(
-        &self,
-        alloc: Global,
-        number: usize,
-    ) -> Result<Result<LinkedProgram, Fault>, AllocError>
-        requires { number < length (function_keys (read self.now.parts).functions) }
-        ensures { IfOk result (λ answer. IsLinking (functions_of (read self.now.parts)) (key_in (function_keys (read self.now.parts).functions) number) (answer_named (with_function_names (function_list (read self.now.parts).functions)) answer)) }
-    {
-        link(
-            alloc,
-            &self.tables,
-            self.bodies.as_slice(),
-            self.calls.as_slice(),
-            number,
-        )
     }
 }
 

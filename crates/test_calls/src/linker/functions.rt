@@ -1,7 +1,7 @@
 //! Functions and references for tests.
 
 use ebpf_linker::link_map::{NumberedLinkMap, link_map};
-use ebpf_linker::{Body, Call, Fault, LinkedProgram, Tables, Target, is_sound, link};
+use ebpf_linker::{Body, Call, Fault, LinkedProgram, Tables, Target, is_sound, lay_out, link};
 use ebpf_parts::insn::{bpf_insn, opcodes};
 use std::alloc::{AllocError, Global};
 
@@ -114,7 +114,10 @@ pub fn linked_at(
     if start >= bodies.len() || calls.len() != bodies.len() || !is_sound(calls, bodies.len()) {
         return Ok(None);
     }
-    Ok(Some(link(alloc, tables, bodies, calls, start)?))
+    match lay_out(alloc, tables, bodies, calls, start)? {
+        Ok(layout) => Ok(Some(Ok(link(alloc, tables, bodies, calls, &layout)?))),
+        Err(fault) => Ok(Some(Err(fault))),
+    }
 }
 
 /// The first function linked, with tables of its own.
@@ -135,5 +138,9 @@ pub fn link_map_of(
     if bodies.is_empty() || calls.len() != bodies.len() || !is_sound(calls, bodies.len()) {
         return Ok(None);
     }
-    Ok(Some(link_map(alloc, &Tables::new(), bodies, calls, 0)?))
+    let tables = Tables::new();
+    match lay_out(alloc, &tables, bodies, calls, 0)? {
+        Ok(layout) => Ok(Some(Ok(link_map(alloc, &tables, bodies, calls, &layout)?))),
+        Err(fault) => Ok(Some(Err(fault))),
+    }
 }
