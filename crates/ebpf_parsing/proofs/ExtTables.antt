@@ -10,63 +10,37 @@ use Rattle.ebpf_ext.specs.ExtInfos.{func_info_at, line_info_at, no_func_info, no
 use Rattle.ebpf_ext.specs.ExtReading.{ExtInfo}
 use Rattle.ebpf_ext.specs.declared.ext_infos.FuncSecInfo.{FuncSecInfo}
 use Rattle.ebpf_ext.specs.declared.ext_infos.LineSecInfo.{LineSecInfo}
-use Rattle.ebpf_parsing.specs.Records.{func_and_line_info_of}
-use Rattle.ebpf_parsing.specs.PrivateContracts.{AreFuncsOf, AreLinesOf}
+use Rattle.ebpf_parsing.specs.Records.{FuncAndLineInfo, func_and_line_info_of}
+use Rattle.ebpf_parsing.specs.PrivateContracts.{AreRecordsOf}
 
-module _ {X : Type 0} (d : X) (M : FinMap text_cmp X) where
-  abbrev there : List ℕ → X
-  there name = unwrap_or (get M name) d
-
-  abbrev Are : FinMap text_cmp X → Type 0
-  Are table = (name : List ℕ) (x : X) → get table name ≡ Some x → x ≡ there name
-
-  none_are : Are empty
-  none_are name x is = by_none (get {R = text_cmp} empty name) (get-empty text_cmp name) is
+module _ (ext : Option ExtInfo) where
+  pub none_are : (table : FinMap text_cmp FuncAndLineInfo) → table ≡ empty → AreRecordsOf ext table
+  none_are table none = record { are = λ name records is. by_none name records (get table name) (ap (λ m. get m name) none ∙ get-empty text_cmp name) is }
     where
-      by_none : (o : Option X) → o ≡ None → o ≡ Some x → x ≡ there name
-      by_none None gone there_is = cc
-      by_none (Some y) gone there_is = cc
+      by_none : (name : List ℕ) (records : FuncAndLineInfo) (o : Option FuncAndLineInfo) → o ≡ None → o ≡ Some records → records ≡ func_and_line_info_of ext name
+      by_none name records None gone there_is = cc
+      by_none name records (Some y) gone there_is = cc
 
-  put_are : (table : FinMap text_cmp X) → Are table → (n : List ℕ) → Are (insert table n (there n))
-  put_are table are n name x is = by_same (eq_by_cmp text_cmp name n) refl (sym (get-insert text_total table n (there n) name) ∙ is)
+  pub put_are : (table after : FinMap text_cmp FuncAndLineInfo) (n : List ℕ) (records : FuncAndLineInfo)
+      → AreRecordsOf ext table → records ≡ func_and_line_info_of ext n → after ≡ insert table n records → AreRecordsOf ext after
+  put_are table after n records before there put = record { are = λ name found is. by_same name found (eq_by_cmp text_cmp name n) refl (sym (ap (λ m. get m name) put ∙ get-insert text_total table n records name) ∙ is) }
     where
-      by_same : (b : Bool) → eq_by_cmp text_cmp name n ≡ b → cond b (Some (there n)) (get table name) ≡ Some x → x ≡ there name
-      by_same true same some =
-          let there_is : there n ≡ x = some_is some in
-          sym there_is ∙ ap there (sym (tells_apart text_exact name n same))
-        where
-          some_is : {a b : X} → Some a ≡ Some b → a ≡ b
-          some_is e = cc
-      by_same false same some = are name x some
+      by_same : (name : List ℕ) (found : FuncAndLineInfo) (b : Bool) → eq_by_cmp text_cmp name n ≡ b → cond b (Some records) (get table name) ≡ Some found → found ≡ func_and_line_info_of ext name
+      by_same name found true same some =
+          let there_is : records ≡ found = cc in
+          sym there_is ∙ there ∙ ap (func_and_line_info_of ext) (sym (tells_apart text_exact name n same))
+      by_same name found false same some = before.are name found some
 
--- what was found with a name in the same table
-pub funcs_found : (infos found : FinMap text_cmp FuncSecInfo) (name : List ℕ) (o : Option FuncSecInfo) (funcs : FuncSecInfo)
-    → funcs ≡ unwrap_or o no_func_info → o ≡ get found name → found ≡ infos → funcs ≡ func_info_at infos name
-funcs_found infos found name o funcs is here same = is ∙ ap (λ o. unwrap_or o no_func_info) (here ∙ ap (λ m. get m name) same)
-
-pub no_funcs : (infos table : FinMap text_cmp FuncSecInfo) → table ≡ empty → AreFuncsOf infos table
-no_funcs infos table none = rw none (record { are = none_are no_func_info infos })
-
-pub funcs_put : (infos table after : FinMap text_cmp FuncSecInfo) (name : List ℕ) (funcs : FuncSecInfo)
-    → AreFuncsOf infos table → funcs ≡ func_info_at infos name → after ≡ insert table name funcs → AreFuncsOf infos after
-funcs_put infos table after name funcs before are put = rw (put, are) (record { are = put_are no_func_info infos table before.are name })
-
--- what was found with a name in the same table
-pub lines_found : (infos found : FinMap text_cmp LineSecInfo) (name : List ℕ) (o : Option LineSecInfo) (lines : LineSecInfo)
-    → lines ≡ unwrap_or o no_line_info → o ≡ get found name → found ≡ infos → lines ≡ line_info_at infos name
-lines_found infos found name o lines is here same = is ∙ ap (λ o. unwrap_or o no_line_info) (here ∙ ap (λ m. get m name) same)
-
-pub no_lines : (infos table : FinMap text_cmp LineSecInfo) → table ≡ empty → AreLinesOf infos table
-no_lines infos table none = rw none (record { are = none_are no_line_info infos })
-
-pub lines_put : (infos table after : FinMap text_cmp LineSecInfo) (name : List ℕ) (lines : LineSecInfo)
-    → AreLinesOf infos table → lines ≡ line_info_at infos name → after ≡ insert table name lines → AreLinesOf infos after
-lines_put infos table after name lines before are put = rw (put, are) (record { are = put_are no_line_info infos table before.are name })
+-- what was found with a name in the same tables
+pub found_are : (ext : ExtInfo) (funcs : FinMap text_cmp FuncSecInfo) (lines : FinMap text_cmp LineSecInfo) (name : List ℕ) (f : Option FuncSecInfo) (l : Option LineSecInfo) (records : FuncAndLineInfo) (func_size line_size : ℕ)
+    → records ≡ record { funcs = unwrap_or f no_func_info; lines = unwrap_or l no_line_info; func_size = func_size; line_size = line_size }
+    → f ≡ get funcs name → l ≡ get lines name → funcs ≡ ext.func_info → lines ≡ ext.line_info → func_size ≡ ext.func_record_size → line_size ≡ ext.line_record_size
+    → records ≡ func_and_line_info_of (Some ext) name
+found_are ext funcs lines name f l records func_size line_size is at_f at_l same_f same_l size_f size_l = is ∙ rw (at_f, at_l, same_f, same_l, size_f, size_l) refl
 
 -- a file without `.BTF.ext` says nothing of any section
-pub no_ext : (ext : Option ExtInfo) (name : List ℕ) (funcs : FuncSecInfo) (lines : LineSecInfo) → ext ≡ None → funcs ≡ no_func_info → lines ≡ no_line_info
-    → record { funcs = funcs; lines = lines; func_size = 0; line_size = 0 } ≡ func_and_line_info_of ext name
-no_ext ext name funcs lines none no_funcs no_lines =
+pub no_ext : (ext : Option ExtInfo) (name : List ℕ) → ext ≡ None → record { funcs = no_func_info; lines = no_line_info; func_size = 0; line_size = 0 } ≡ func_and_line_info_of ext name
+no_ext ext name none =
     let funcs_are : func_info_at empty name ≡ no_func_info = ap (λ o. unwrap_or o no_func_info) (get-empty text_cmp name) in
     let lines_are : line_info_at empty name ≡ no_line_info = ap (λ o. unwrap_or o no_line_info) (get-empty text_cmp name) in
-    rw (none, no_funcs, no_lines, funcs_are, lines_are) refl
+    rw (none, funcs_are, lines_are) refl

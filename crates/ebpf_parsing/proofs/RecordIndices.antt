@@ -10,15 +10,12 @@ use Rattle.std.specs.declared.cmp.Ordering.TheVariants.{Less}
 use Rattle.std.proofs.lemmas.Bool.{cases_lt}
 use Rattle.std.proofs.lemmas.Bool.Decides.{nat_tests}
 use Rattle.std.proofs.lemmas.List.{map-id}
-use Rattle.std.proofs.lemmas.List.Elements.{filter_agree, All-filter, All-map}
+use Rattle.std.proofs.lemmas.List.Elements.{filter_agree, All-filter}
 use Rattle.std.proofs.lemmas.List.FromFn.{length-range_with_len, get_or-range_with_len}
 use Rattle.std.proofs.lemmas.List.Kept.{IsStrictlySortedBy-filter}
 use Rattle.std.proofs.lemmas.List.Sorted.{IsPermutation-refl, IsPermutation-sym, IsPermutation-map, IsPermutation-filter_both, IsPermutation-trans, IsPermutation-append_right, list_any-IsPermutation}
 use Rattle.std.proofs.lemmas.Map.Keys.{IsDistinct-from_sorted, IsDistinct-IsPermutation}
-use Rattle.ebpf_ext.specs.declared.ext_infos.bpf_func_info.{bpf_func_info}
-use Rattle.ebpf_ext.specs.declared.ext_infos.bpf_line_info.{bpf_line_info}
-use Rattle.ebpf_parsing.specs.Records.{is_func_at, func_from, is_line_in, line_from}
-use Rattle.ebpf_parsing.specs.PrivateContracts.{func_at, func_slot, line_at, line_slot}
+use Rattle.ebpf_parsing.specs.PrivateContracts.{slot_at}
 use Rattle.ebpf_parsing.specs.RecordsBySlot.{is_at_slot, is_slot_among, is_among_slots, indices_with, RowsBeginAt}
 use Rattle.ebpf_parsing.specs.declared.records_by_slot.RecordIndex.{RecordIndex}
 use Rattle.ebpf_base.proofs.Sorted.{strictly_sorted, same_keys}
@@ -162,9 +159,6 @@ module _ {X : Type 0} (slot : X → ℕ) where
   pub of_one_slot : (s : ℕ) (xs : List X) → filter (is_among_slots slot s 1) xs ≡ filter (λ x. slot x == s) xs
   of_one_slot s xs = filter_agree _ _ (one_slot s) xs
 
-pub at_one_slot : (s : ℕ) (xs : List RecordIndex) → filter (is_slot_among s 1) xs ≡ filter (is_at_slot s) xs
-at_one_slot s xs = of_one_slot (λ p. p.slot) s xs
-
 -- ---- gathered slot by slot, they only stand in another order
 
 module _ {X : Type 0} (slot : X → ℕ) where
@@ -254,54 +248,27 @@ module _ {X Y : Type 0} (g : X → Y) (p : X → Bool) where
   pub rows_at_indices : (xs : List X) (d : X) → map (λ i. g (get_or xs i d)) (filter (λ i. p (get_or xs i d)) (range_with_len 0 (length xs))) ≡ map g (filter p xs)
   rows_at_indices xs d = by_entry_range (λ i. get_or xs i d) 0 xs d (λ k below. let same : 0 + k ≡ k = omega arith in ap (λ n. get_or xs n d) same)
 
--- ---- line info records
+-- ---- the records of some slots
 
-module _ (first count : ℕ) (rows : List bpf_line_info) (indices : List RecordIndex) (sorted : List ℕ) where
-  pub lines_found : (base : ℕ) → ((q : ℕ) → filter (is_at_slot q) indices ≡ filter (is_at_slot q) (indices_with (line_slot rows) (length rows)))
+module _ {X : Type 0} (slot : X → ℕ) (zero_row : X) (first count : ℕ) (rows : List X) (indices : List RecordIndex) (sorted : List ℕ) where
+  pub records_found : (from : X → X) → ((q : ℕ) → filter (is_at_slot q) indices ≡ filter (is_at_slot q) (indices_with (slot_at slot zero_row rows) (length rows)))
       → IsPermutation (map (λ p. p.index) (filter (is_slot_among first count) indices)) sorted → IsSorted nat_cmp sorted
-      → map (λ i. line_from base (line_at rows i)) sorted ≡ map (line_from base) (filter (is_line_in first count) rows)
-  lines_found base by_slot moved up =
-      ap (map (λ i. line_from base (line_at rows i))) (in_order (line_slot rows) (length rows) first count indices sorted by_slot moved up)
-      ∙ rows_at_indices (line_from base) (is_line_in first count) rows _
+      → map (λ i. from (get_or rows i zero_row)) sorted ≡ map from (filter (is_among_slots slot first count) rows)
+  records_found from by_slot moved up =
+      ap (map (λ i. from (get_or rows i zero_row))) (in_order (slot_at slot zero_row rows) (length rows) first count indices sorted by_slot moved up)
+      ∙ rows_at_indices from (is_among_slots slot first count) rows zero_row
 
-  pub lines_inside : ((q : ℕ) → filter (is_at_slot q) indices ≡ filter (is_at_slot q) (indices_with (line_slot rows) (length rows)))
+  pub records_inside : ((q : ℕ) → filter (is_at_slot q) indices ≡ filter (is_at_slot q) (indices_with (slot_at slot zero_row rows) (length rows)))
       → IsPermutation (map (λ p. p.index) (filter (is_slot_among first count) indices)) sorted → IsSorted nat_cmp sorted
       → All (λ i. i < length rows) sorted
-  lines_inside by_slot moved up =
-      subst (All (λ i. i < length rows)) (sym (in_order (line_slot rows) (length rows) first count indices sorted by_slot moved up))
-      (All-filter (stands_in (line_slot rows) first count) (λ i. i < length rows) (range_with_len 0 (length rows)) (below_end (length rows)))
+  records_inside by_slot moved up =
+      subst (All (λ i. i < length rows)) (sym (in_order (slot_at slot zero_row rows) (length rows) first count indices sorted by_slot moved up))
+      (All-filter (stands_in (slot_at slot zero_row rows) first count) (λ i. i < length rows) (range_with_len 0 (length rows)) (below_end (length rows)))
 
 -- slots that are counted from the first one
-pub lines_kept : (rows : List bpf_line_info) → map (line_from 0) rows ≡ rows
-lines_kept [] = refl
-lines_kept (r ∷ rows) =
-    let same : r.insn_off - 0 ≡ r.insn_off = omega arith in
-    let here : line_from 0 r ≡ r = ap (λ n. record r { insn_off = n }) same in
-    ap (λ x. x ∷ map (line_from 0) rows) here ∙ ap (λ l. r ∷ l) (lines_kept rows)
-
--- ---- func info records
-
-module _ (first : ℕ) (rows : List bpf_func_info) (indices part : List RecordIndex) where
-  pub funcs_found : (base : ℕ) → part ≡ filter (is_at_slot first) indices → filter (is_at_slot first) indices ≡ filter (is_at_slot first) (indices_with (func_slot rows) (length rows))
-      → map (λ p. func_from base (func_at rows p.index)) part ≡ map (func_from base) (filter (is_func_at first) rows)
-  funcs_found base here same =
-      ap (map (λ p. func_from base (func_at rows p.index))) (here ∙ same)
-      ∙ kept_of (is_at_slot first) (λ p. func_from base (func_at rows p.index)) (λ i. record { slot = func_slot rows i; index = i }) (range_with_len 0 (length rows))
-      ∙ rows_at_indices (func_from base) (is_func_at first) rows _
-
-  pub funcs_inside : part ≡ filter (is_at_slot first) indices → filter (is_at_slot first) indices ≡ filter (is_at_slot first) (indices_with (func_slot rows) (length rows))
-      → All (λ p. p.index < length rows) part
-  funcs_inside here same =
-      subst (All (λ p. p.index < length rows)) (sym (here ∙ same))
-      (All-filter (is_at_slot first) (λ p. p.index < length rows) (indices_with (func_slot rows) (length rows))
-      (All-map (λ p. p.index < length rows) (λ i. record { slot = func_slot rows i; index = i }) (range_with_len 0 (length rows)) (below_end (length rows))))
-
-pub funcs_kept : (rows : List bpf_func_info) → map (func_from 0) rows ≡ rows
-funcs_kept [] = refl
-funcs_kept (r ∷ rows) =
-    let same : r.insn_off - 0 ≡ r.insn_off = omega arith in
-    let here : func_from 0 r ≡ r = ap (λ n. record r { insn_off = n }) same in
-    ap (λ x. x ∷ map (func_from 0) rows) here ∙ ap (λ l. r ∷ l) (funcs_kept rows)
+pub records_kept : {X : Type 0} (f : X → X) → ((x : X) → f x ≡ x) → (rows : List X) → map f rows ≡ rows
+records_kept f same [] = refl
+records_kept f same (r ∷ rows) = ap (λ x. x ∷ map f rows) (same r) ∙ ap (λ l. r ∷ l) (records_kept f same rows)
 
 -- ---- indices one after the other
 

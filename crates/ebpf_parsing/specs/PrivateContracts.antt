@@ -1,5 +1,5 @@
 -- What contracts of private functions name and no public one.
-use Rattle.std.specs.Prelude.{◌≡◌, ℕ, ◌+◌, ◌*◌, Bool, ◌==◌, List, [], ◌∷◌, map, Some, ◌-◌, if◌then◌else◌, slice_index_or}
+use Rattle.std.specs.Prelude.{◌≡◌, ℕ, ◌+◌, ◌*◌, Bool, ◌==◌, List, [], ◌∷◌, map, Option, Some, if◌then◌else◌, slice_index_or}
 use Rattle.std.specs.Cmp.{IsTotalOrder, nat_cmp_total, then_total, on_total}
 use Rattle.std.specs.FinMap.{FinMap, get, empty}
 use Rattle.std.specs.List.{list_any, flat_map, range_with_len}
@@ -15,11 +15,8 @@ use Rattle.ebpf_elf.specs.Symbols.{symbols}
 use Rattle.ebpf_parsing.specs.Symbols.{SymbolValue}
 use Rattle.std.specs.Ordering.{nat_cmp}
 use Rattle.ebpf_parsing.specs.Programs.{is_program_symbol}
-use Rattle.ebpf_ext.specs.ExtInfos.{func_info_at, line_info_at}
-use Rattle.ebpf_ext.specs.declared.ext_infos.bpf_func_info.{bpf_func_info}
-use Rattle.ebpf_ext.specs.declared.ext_infos.bpf_line_info.{bpf_line_info}
-use Rattle.ebpf_ext.specs.declared.ext_infos.FuncSecInfo.{FuncSecInfo}
-use Rattle.ebpf_ext.specs.declared.ext_infos.LineSecInfo.{LineSecInfo}
+use Rattle.ebpf_ext.specs.ExtReading.{ExtInfo}
+use Rattle.ebpf_parsing.specs.Records.{FuncAndLineInfo, func_and_line_info_of}
 use Rattle.ebpf_parts.specs.Sections.{SectionValue}
 
 abbrev pub EntryRange : Type 0
@@ -75,26 +72,13 @@ program_symbol_row y = if is_program_symbol y then (y.address, y.index) ∷ [] e
 abbrev pub last_programs : List SymbolValue → FinMap nat_cmp ℕ
 last_programs symbols = put_all empty (flat_map program_symbol_row symbols)
 
--- a table has at its names the func info or line info of the sections of these names
-pub record AreFuncsOf (infos : FinMap text_cmp FuncSecInfo) (table : FinMap text_cmp FuncSecInfo) : Type 0 where
-  pub are : (name : List ℕ) (funcs : FuncSecInfo) → get table name ≡ Some funcs → funcs ≡ func_info_at infos name
+-- a table has at its names the func info and line info of the sections of these names
+pub record AreRecordsOf (ext : Option ExtInfo) (table : FinMap text_cmp FuncAndLineInfo) : Type 0 where
+  pub are : (name : List ℕ) (records : FuncAndLineInfo) → get table name ≡ Some records → records ≡ func_and_line_info_of ext name
 
-pub record AreLinesOf (infos : FinMap text_cmp LineSecInfo) (table : FinMap text_cmp LineSecInfo) : Type 0 where
-  pub are : (name : List ℕ) (lines : LineSecInfo) → get table name ≡ Some lines → lines ≡ line_info_at infos name
-
--- a record of a list, by its index, and the slot that it names
-abbrev pub func_at : List bpf_func_info → ℕ → bpf_func_info
-func_at rows i = slice_index_or rows i (record { insn_off = 0; type_id = 0 })
-
-abbrev pub func_slot : List bpf_func_info → ℕ → ℕ
-func_slot rows i = (func_at rows i).insn_off
-
--- a record of a list, by its index, and the slot that it names
-abbrev pub line_at : List bpf_line_info → ℕ → bpf_line_info
-line_at rows i = slice_index_or rows i (record { insn_off = 0; file_name_off = 0; line_off = 0; line_col = 0 })
-
-abbrev pub line_slot : List bpf_line_info → ℕ → ℕ
-line_slot rows i = (line_at rows i).insn_off
+-- the slot that a record of a list names
+abbrev pub slot_at : {X : Type 0} → (X → ℕ) → X → List X → ℕ → ℕ
+slot_at slot zero rows i = slot (slice_index_or rows i zero)
 
 -- a section with these relocations
 abbrev pub with_relocations : List ElfRelocation → SectionValue → SectionValue

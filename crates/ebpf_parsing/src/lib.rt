@@ -10,6 +10,7 @@ mod externs;
 mod file_contents;
 mod file_types;
 mod groups;
+mod info_records;
 mod last_data;
 pub mod laws;
 mod legacy_maps;

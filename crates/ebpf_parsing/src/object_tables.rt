@@ -121,10 +121,10 @@ impl ObjectTables {
         ensures fault { Refuses is_parse_memory result (programs_fault section.now symbols.now) }
     {
         if let Some(records) = inputs.records.of(section.name) {
-            return put_functions(alloc, &mut self.functions, &records, section, symbols);
+            return put_functions(alloc, &mut self.functions, records, section, symbols);
         }
         let read = inputs.records.read(alloc, section.name)?;
-        put_functions(alloc, &mut self.functions, &read.lent(), section, symbols)
+        put_functions(alloc, &mut self.functions, &read, section, symbols)
     }
 
     /// Adds the programs of a Program section.
@@ -168,10 +168,10 @@ impl ObjectTables {
         ensures fault { Refuses is_parse_memory result (text_fault section.now symbols.now) }
     {
         if let Some(records) = inputs.records.of(section.name) {
-            return put_text_functions(alloc, &mut self.functions, &records, section, symbols);
+            return put_text_functions(alloc, &mut self.functions, records, section, symbols);
         }
         let read = inputs.records.read(alloc, section.name)?;
-        put_text_functions(alloc, &mut self.functions, &read.lent(), section, symbols)
+        put_text_functions(alloc, &mut self.functions, &read, section, symbols)
     }
 
     /// Adds a section by its kind, but for its relocations and its name.

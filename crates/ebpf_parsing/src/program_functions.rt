@@ -54,7 +54,7 @@ fn bytes_of<'a>(
 #[tactic(auto, unfolding(crate::specs::Programs::program_function, crate::specs::Programs::program_fault))]
 fn function_of(
     alloc: Global,
-    records: &SectionRecords<'_, '_>,
+    records: &SectionRecords<'_>,
     section: &Section<'_>,
     symbol: &NamedSymbol<'_>,
 ) -> Result<Function, ParseError>
@@ -116,7 +116,7 @@ fn last_programs(alloc: Global, symbols: &[NamedSymbol<'_>]) -> Result<ByOffset<
 fn put_last_functions(
     alloc: Global,
     functions: &mut ByKey<Function>,
-    records: &SectionRecords<'_, '_>,
+    records: &SectionRecords<'_>,
     section: &Section<'_>,
     symbols: &[NamedSymbol<'_>],
     last: &ByOffset<usize>,
@@ -143,7 +143,7 @@ fn put_last_functions(
 pub fn put_functions(
     alloc: Global,
     functions: &mut ByKey<Function>,
-    records: &SectionRecords<'_, '_>,
+    records: &SectionRecords<'_>,
     section: &Section<'_>,
     symbols: &[NamedSymbol<'_>],
 ) -> Result<(), ParseError>

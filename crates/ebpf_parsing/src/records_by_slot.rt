@@ -6,12 +6,12 @@
 ghost use Rattle.std.specs.Prelude.{◌≡◌, ℕ, IfOk, IfErr, true, filter, map, length};
 ghost use Rattle.std.specs.List.Sorted.{IsNonDecreasingBy, IsPermutation, IsSorted};
 ghost use Rattle.std.specs.Ordering.{nat_cmp};
-ghost use Rattle.ebpf_parsing.specs.PrivateContracts.{func_slot, line_slot};
+ghost use Rattle.ebpf_parsing.specs.PrivateContracts.{slot_at};
 ghost use Rattle.ebpf_parsing.specs.RecordsBySlot.{is_at_slot, is_slot_among, indices_with};
 ghost use Rattle.ebpf_parts.specs.Memory.{is_parse_memory};
 
 use crate::by_slot::{NamesSlot, rows_among};
-use ebpf_ext::{bpf_func_info, bpf_line_info};
+use crate::info_records::InfoRecord;
 use ebpf_parts::ParseError;
 use std::alloc::Global;
 use std::cell::Cell;
@@ -50,14 +50,6 @@ impl Model for RecordsBySlot {
 }
 
 impl RecordsBySlot {
-    /// No records, without memory.
-    pub fn none(alloc: Global) -> RecordsBySlot {
-        RecordsBySlot {
-            indices: Vec::new(alloc),
-            next: Cell::new(0),
-        }
-    }
-
     /// Indices, sorted by their slots.
     pub fn sorted(mut indices: Vec<RecordIndex>) -> Result<RecordsBySlot, ParseError>
         ensures grouped { IfOk result (λ s. (q : ℕ) → filter (is_at_slot q) s ≡ filter (is_at_slot q) indices.items) }
@@ -66,14 +58,6 @@ impl RecordsBySlot {
         indices.sort_by_key(|index| index.slot)?;
         let next = Cell::new(0);
         Ok(RecordsBySlot { indices, next })
-    }
-
-    /// The indices of the records at a slot.
-    #[tactic(auto, using(crate::proofs::RecordIndices::at_one_slot))]
-    pub fn at(&self, slot: usize) -> &[RecordIndex]
-        ensures { result.now ≡ filter (is_at_slot slot) self.now }
-    {
-        rows_among(self.indices.as_slice(), &self.next, slot, 1)
     }
 
     /// The indices of the records at so many slots from a slot on, in the order of the list.
@@ -106,35 +90,18 @@ fn indices_of(alloc: Global, indices: &[RecordIndex]) -> Result<Vec<usize>, Pars
     Ok(numbers)
 }
 
-/// The indices of func info records.
+/// The indices of records, each with the slot that the record names.
 #[tactic(auto, using(crate::proofs::RecordIndices::indices_start, crate::proofs::RecordIndices::indices_none))]
-pub fn func_indices(
+pub fn slot_indices<R: InfoRecord>(
     alloc: Global,
-    records: &[bpf_func_info],
+    records: &[R],
 ) -> Result<Vec<RecordIndex>, ParseError>
-    ensures indices { IfOk result (λ indices. indices.items ≡ indices_with (func_slot records.now) (length records.now)) }
+    ensures indices { IfOk result (λ indices. indices.items ≡ indices_with (slot_at R.slot_of R.zero records.now) (length records.now)) }
     ensures memory { IfErr result (λ e. is_parse_memory e ≡ true) }
 {
     let mut indices = Vec::with_capacity(alloc, records.len())?;
     for (index, row) in records.iter().enumerate() {
-        let slot = row.insn_off;
-        indices.push(RecordIndex { slot, index })?;
-    }
-    Ok(indices)
-}
-
-/// The indices of line info records.
-#[tactic(auto, using(crate::proofs::RecordIndices::indices_start, crate::proofs::RecordIndices::indices_none))]
-pub fn line_indices(
-    alloc: Global,
-    records: &[bpf_line_info],
-) -> Result<Vec<RecordIndex>, ParseError>
-    ensures indices { IfOk result (λ indices. indices.items ≡ indices_with (line_slot records.now) (length records.now)) }
-    ensures memory { IfErr result (λ e. is_parse_memory e ≡ true) }
-{
-    let mut indices = Vec::with_capacity(alloc, records.len())?;
-    for (index, row) in records.iter().enumerate() {
-        let slot = row.insn_off;
+        let slot = row.slot();
         indices.push(RecordIndex { slot, index })?;
     }
     Ok(indices)

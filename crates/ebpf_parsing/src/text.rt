@@ -21,7 +21,7 @@ use std::alloc::{AllocError, Global};
 #[tactic(auto, unfolding(crate::specs::Texts::text_function))]
 fn function_of(
     alloc: Global,
-    records: &SectionRecords<'_, '_>,
+    records: &SectionRecords<'_>,
     section: &Section<'_>,
     symbol: &NamedSymbol<'_>,
     offset: usize,
@@ -62,7 +62,7 @@ fn function_of(
 #[tactic(auto, unfolding(crate::specs::Texts::function_at, crate::specs::Texts::text_fault_at, crate::specs::Texts::size_at, crate::specs::Texts::symbol_at_offset))]
 fn function_at(
     alloc: Global,
-    records: &SectionRecords<'_, '_>,
+    records: &SectionRecords<'_>,
     section: &Section<'_>,
     symbols: &TextSymbols<'_, '_>,
     offset: usize,
@@ -88,7 +88,7 @@ fn function_at(
 #[tactic(auto, using(crate::proofs::Walked::start))]
 fn gather(
     alloc: Global,
-    records: &SectionRecords<'_, '_>,
+    records: &SectionRecords<'_>,
     section: &Section<'_>,
     symbols: &TextSymbols<'_, '_>,
 ) -> Result<Vec<((usize, u64), Function)>, ParseError>
@@ -138,7 +138,7 @@ fn put_entries(
 pub fn put_text_functions(
     alloc: Global,
     functions: &mut ByKey<Function>,
-    records: &SectionRecords<'_, '_>,
+    records: &SectionRecords<'_>,
     section: &Section<'_>,
     symbols: &[NamedSymbol<'_>],
 ) -> Result<(), ParseError>
