@@ -8,6 +8,10 @@ use Rattle.std.specs.FinMap.{FinMap, get, insert}
 use Rattle.ebpf_base.specs.Keys.{text_cmp}
 use Rattle.ebpf_btf.specs.Memory.{is_btf_memory}
 use Rattle.ebpf_btf.specs.Strings.{is_text, text_at}
+use Rattle.ebpf_base.specs.declared.endianness.Endianness.{Endianness}
+use Rattle.ebpf_btf.specs.Items.{items_at}
+use Rattle.ebpf_ext.specs.ExtFormat.{sec_name_off_at, num_info_at}
+use Rattle.ebpf_ext.specs.ExtReading.{checked_section}
 use Rattle.ebpf_ext.specs.SectionNames.{by_offsets}
 
 -- a list before another
@@ -44,3 +48,9 @@ with_index indices name index = if_some (get indices name) (λ _. insert indices
 pub record IsIndexSet (strings : List ℕ) (offset index : ℕ) (before after : FinMap text_cmp (Option ℕ)) : Type 0 where
   pub is : (name : List ℕ) (now : Option ℕ) → get after name ≡ Some now
       → (had : Option ℕ) × (get before name ≡ Some had) × (now ≡ (if is_text name (text_at strings offset) then Some index else had))
+
+-- a section with its name, its func info or line info made of its records, and the offset after it
+abbrev pub info_section : {R S : Type 0} → (ℕ → ℕ → List R → S) → (Endianness → List ℕ → ℕ → R) → ℕ → Endianness → List ℕ → List ℕ → ℕ → ℕ → ℕ → Result ((List ℕ × S) × ℕ) BtfError
+info_section info row least o bytes strings size end = checked_section o bytes least size end (λ offset.
+    if_ok (text_at strings (sec_name_off_at o bytes offset)) (λ name.
+    Ok (name, info (sec_name_off_at o bytes offset) (num_info_at o bytes offset) (items_at (row o bytes) size (offset + 8) (num_info_at o bytes offset)))))

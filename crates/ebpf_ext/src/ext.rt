@@ -79,14 +79,8 @@ fn read_parts(
     let core_relo_part = read_part(endianness, data, header, RELOCATION_PART)?;
     let relocations = read_relocation_sections(alloc, endianness, data, core_relo_part)?;
     Ok(BtfExt {
-        func_info: FuncInfo {
-            sections: funcs,
-            alloc,
-        },
-        line_info: LineInfo {
-            sections: lines,
-            alloc,
-        },
+        func_info: funcs,
+        line_info: lines,
         relocations,
         func_info_rec_size: func_part.record_size,
         line_info_rec_size: line_part.record_size,

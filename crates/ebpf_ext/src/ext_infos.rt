@@ -1,15 +1,10 @@
 //! Func info and line info of `.BTF.ext`.
 
-ghost use Rattle.std.specs.Prelude.{◌≡◌, IfOk};
-ghost use Rattle.std.specs.FinMap as map;
-ghost use Rattle.std.specs.Option.{option_copied};
-ghost use Rattle.ebpf_ext.specs.ExtInfos.{func_info_at, line_info_at};
+ghost use Rattle.std.specs.Prelude.{◌≡◌, ℕ, List};
 
-use crate::found_sections::FoundSections;
 use crate::sections_by_name::SectionsByName;
 use ebpf_base::Items;
-use std::alloc::{AllocError, Global};
-use std::marker::Model;
+use ebpf_btf::rows::Row;
 
 /// A func info record. It lies in memory as the kernel's `struct bpf_func_info`.
 #[repr(C)]
@@ -60,115 +55,59 @@ pub struct LineSecInfo {
 }
 
 /// Func info, by the names of their sections. Contracts see a finite map.
-#[derive(Debug, Drop)]
-pub struct FuncInfo {
-    pub(crate) sections: SectionsByName<FuncSecInfo>,
-    /// The memory that empty lists name.
-    pub(crate) alloc: Global,
-}
+pub type FuncInfo = SectionsByName<FuncSecInfo>;
 
 /// Line info, by the names of their sections. Contracts see a finite map.
-#[derive(Debug, Drop)]
-pub struct LineInfo {
-    pub(crate) sections: SectionsByName<LineSecInfo>,
-    /// The memory that empty lists name.
-    pub(crate) alloc: Global,
+pub type LineInfo = SectionsByName<LineSecInfo>;
+
+/// What a section has in a part of `.BTF.ext`: its func info or its line info.
+pub trait SectionInfo: Clone + Drop {
+    /// One of its records.
+    type Record: Row + Drop;
+
+    /// What a section has with the offset of its name, the number of its records and the records.
+    ghost info_with: { ℕ → ℕ → List Self.Record → Self };
+
+    /// What a section has with the offset of its name, the number of its records and the records.
+    fn with(sec_name_offset: u32, num_info: u32, records: Items<Self::Record>) -> Self
+        ensures { result ≡ info_with sec_name_offset num_info records };
+
+    /// A copy is the same.
+    ghost same_copy: { (info copy : Self) → Self.is_clone info copy → copy ≡ info };
 }
 
-impl Model for FuncInfo {
-    ghost use Rattle.std.specs.FinMap as map;
-    ghost use Rattle.ebpf_base.specs.Keys.{coded_text, text_cmp};
-    ghost use Rattle.ebpf_ext.specs.contracts.ext_infos.FuncSecInfo.{the_row};
-    ghost use Rattle.ebpf_ext.specs.declared.ext_infos.FuncSecInfo.{FuncSecInfo};
+impl SectionInfo for FuncSecInfo {
+    type Record = bpf_func_info;
 
-    ghost Value = { map.FinMap text_cmp FuncSecInfo };
+    ghost info_with = { λ offset count records. record { sec_name_offset = offset; num_info = count; func_info = records } };
 
-    ghost coded = { map.code {R = text_cmp} coded_text the_row.coded };
+    ghost same_copy = { λ info copy same. same };
 
-    ghost view = { λ f. f.sections };
-}
-
-impl Model for LineInfo {
-    ghost use Rattle.std.specs.FinMap as map;
-    ghost use Rattle.ebpf_base.specs.Keys.{coded_text, text_cmp};
-    ghost use Rattle.ebpf_ext.specs.contracts.ext_infos.LineSecInfo.{the_row};
-    ghost use Rattle.ebpf_ext.specs.declared.ext_infos.LineSecInfo.{LineSecInfo};
-
-    ghost Value = { map.FinMap text_cmp LineSecInfo };
-
-    ghost coded = { map.code {R = text_cmp} coded_text the_row.coded };
-
-    ghost view = { λ f. f.sections };
-}
-
-impl FuncInfo {
-    /// A copy of the func info of a section; where there is none an empty list, with the count
-    /// and the offset 0.
-    pub fn get(&self, name: &str) -> Result<FuncSecInfo, AllocError>
-        ensures { IfOk result (λ info. info ≡ func_info_at self.now name.now) }
+    fn with(sec_name_offset: u32, num_info: u32, records: Items<bpf_func_info>) -> FuncSecInfo
+        ensures { result ≡ record { sec_name_offset = sec_name_offset; num_info = num_info; func_info = records } }
     {
-        match self.section(name) {
-            Some(funcs) => funcs.clone(),
-            None => Ok(FuncSecInfo {
-                sec_name_offset: 0,
-                num_info: 0,
-                func_info: Items::new(self.alloc),
-            }),
+        FuncSecInfo {
+            sec_name_offset,
+            num_info,
+            func_info: records,
         }
     }
-
-    /// The func info of a section, lent.
-    pub fn section(&self, name: &str) -> Option<&FuncSecInfo>
-        ensures { option_copied result ≡ map.get self.now name.now }
-    {
-        self.sections.get(name)
-    }
-
-    /// The func info of all sections, where the sections of these names are found in one pass, in which of
-    /// each section's name no more is looked at than the longest of them has. `Err` where memory is refused.
-    pub fn found(
-        &self,
-        alloc: Global,
-        names: &[&str],
-    ) -> Result<FoundSections<'_, FuncSecInfo>, AllocError>
-        ensures { IfOk result (λ found. found ≡ self.now) }
-    {
-        self.sections.found(alloc, names)
-    }
 }
 
-impl LineInfo {
-    /// A copy of the line info of a section; where there is none an empty list, with the count and
-    /// the offset 0.
-    pub fn get(&self, name: &str) -> Result<LineSecInfo, AllocError>
-        ensures { IfOk result (λ info. info ≡ line_info_at self.now name.now) }
+impl SectionInfo for LineSecInfo {
+    type Record = bpf_line_info;
+
+    ghost info_with = { λ offset count records. record { sec_name_offset = offset; num_info = count; line_info = records } };
+
+    ghost same_copy = { λ info copy same. same };
+
+    fn with(sec_name_offset: u32, num_info: u32, records: Items<bpf_line_info>) -> LineSecInfo
+        ensures { result ≡ record { sec_name_offset = sec_name_offset; num_info = num_info; line_info = records } }
     {
-        match self.section(name) {
-            Some(lines) => lines.clone(),
-            None => Ok(LineSecInfo {
-                sec_name_offset: 0,
-                num_info: 0,
-                line_info: Items::new(self.alloc),
-            }),
+        LineSecInfo {
+            sec_name_offset,
+            num_info,
+            line_info: records,
         }
-    }
-
-    /// The line info of a section, lent.
-    pub fn section(&self, name: &str) -> Option<&LineSecInfo>
-        ensures { option_copied result ≡ map.get self.now name.now }
-    {
-        self.sections.get(name)
-    }
-
-    /// The line info of all sections, where the sections of these names are found in one pass, in which of
-    /// each section's name no more is looked at than the longest of them has. `Err` where memory is refused.
-    pub fn found(
-        &self,
-        alloc: Global,
-        names: &[&str],
-    ) -> Result<FoundSections<'_, LineSecInfo>, AllocError>
-        ensures { IfOk result (λ found. found ≡ self.now) }
-    {
-        self.sections.found(alloc, names)
     }
 }

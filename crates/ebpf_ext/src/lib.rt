@@ -14,6 +14,9 @@ mod relocation;
 mod sections_by_name;
 
 pub use ext::BtfExt;
-pub use ext_infos::{FuncInfo, FuncSecInfo, LineInfo, LineSecInfo, bpf_func_info, bpf_line_info};
+pub use ext_infos::{
+    FuncInfo, FuncSecInfo, LineInfo, LineSecInfo, SectionInfo, bpf_func_info, bpf_line_info,
+};
 pub use found_sections::FoundSections;
 pub use relocation::{Relocation, RelocationKind};
+pub use sections_by_name::SectionsByName;

@@ -1,11 +1,12 @@
 //! Sections by the names at their offsets in some strings.
 
-ghost use Rattle.std.specs.Prelude.{◌≡◌, IfOk};
+ghost use Rattle.std.specs.Prelude.{◌≡◌, [], IfOk, unwrap_or};
 ghost use Rattle.std.specs.FinMap as map;
 ghost use Rattle.std.specs.Option.{option_copied};
 ghost use Rattle.ebpf_ext.specs.SectionNames.{by_offsets};
 
 use crate::copied_names::{copy_names, with_offsets};
+use crate::ext_infos::SectionInfo;
 use crate::found_sections::FoundSections;
 use ebpf_base::Items;
 use ebpf_btf::strings::is_text_at;
@@ -30,8 +31,10 @@ pub fn last_named<'s, S>(strings: &[u8], sections: &'s [(u32, S)], name: &str) -
 /// Sections, each with the offset of its name in strings that they share. Contracts see a finite map, by their names.
 #[derive(Debug, Drop)]
 pub struct SectionsByName<S> {
-    pub strings: Items<u8>,
-    pub sections: Items<(u32, S)>,
+    strings: Items<u8>,
+    sections: Items<(u32, S)>,
+    /// The memory that empty lists name.
+    alloc: Global,
 }
 
 impl<S> Model for SectionsByName<S> {
@@ -50,7 +53,7 @@ impl<S: Drop> SectionsByName<S> {
     /// Sections whose names are at offsets of these strings. Of the strings the names alone are copied; all of them
     /// where the names together would be longer, or where one can't be read.
     #[tactic(auto, using(crate::proofs::CopiedNames::same_sections))]
-    pub fn new(
+    pub(crate) fn new(
         alloc: Global,
         strings: &[u8],
         sections: Items<(u32, S)>,
@@ -59,26 +62,44 @@ impl<S: Drop> SectionsByName<S> {
     {
         let Some(copied) = copy_names(alloc, strings, sections.as_slice())? else {
             let strings = Items::from_vec(Vec::from_slice(alloc, strings)?);
-            return Ok(SectionsByName { strings, sections });
+            return Ok(SectionsByName {
+                strings,
+                sections,
+                alloc,
+            });
         };
         Ok(SectionsByName {
             strings: copied.names,
             sections: with_offsets(sections, copied.offsets.as_slice()),
+            alloc,
         })
     }
 }
 
+impl<S: SectionInfo> SectionsByName<S> {
+    /// A copy of what a section has; where there is none an empty list, with the count and the offset 0.
+    pub fn get(&self, name: &str) -> Result<S, AllocError>
+        ensures { IfOk result (λ info. info ≡ unwrap_or (map.get self.now name.now) (S.info_with 0 0 [])) }
+    {
+        match self.section(name) {
+            Some(info) => info.clone(),
+            None => Ok(S::with(0, 0, Items::new(self.alloc))),
+        }
+    }
+}
+
 impl<S> SectionsByName<S> {
-    /// The section with a name.
-    pub fn get(&self, name: &str) -> Option<&S>
+    /// What a section has, lent.
+    pub fn section(&self, name: &str) -> Option<&S>
         ensures { option_copied result ≡ map.get self.now name.now }
     {
         last_named(self.strings.as_slice(), self.sections.as_slice(), name)
     }
 
-    /// A table that answers each name as this one does, and in which the sections of these names are found in one pass.
+    /// What all sections have, where the sections of these names are found in one pass, in which of each section's name
+    /// no more is looked at than the longest of them has. `Err` where memory is refused.
     pub fn found(&self, alloc: Global, names: &[&str]) -> Result<FoundSections<'_, S>, AllocError>
-        ensures { IfOk result (λ f. f ≡ self.now) }
+        ensures { IfOk result (λ found. found ≡ self.now) }
     {
         FoundSections::gather(
             alloc,
@@ -86,5 +107,25 @@ impl<S> SectionsByName<S> {
             self.sections.as_slice(),
             names,
         )
+    }
+}
+
+/// A copy of sections.
+#[tactic(auto, using(ebpf_btf::proofs::Copies::same_list))]
+fn copy_sections<S: SectionInfo>(sections: &Items<(u32, S)>) -> Result<Items<(u32, S)>, AllocError>
+    ensures { IfOk result (λ copy. copy ≡ sections.now) }
+{
+    sections.clone()
+}
+
+impl<S: SectionInfo> Clone for SectionsByName<S> {
+    ghost is_clone = { λ old copy. copy ≡ old };
+
+    fn clone(&self) -> Result<SectionsByName<S>, AllocError> {
+        Ok(SectionsByName {
+            strings: self.strings.copied()?,
+            sections: copy_sections(&self.sections)?,
+            alloc: self.alloc,
+        })
     }
 }
