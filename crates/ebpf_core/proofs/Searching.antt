@@ -1,6 +1,9 @@
 -- What a search answers, whose two sides are those of a record.
-use Rattle.std.proofs.Common.{◌≡◌, ℕ, List, true, false, Result, Ok, Err, refl, sym, subst, ◌∙◌}
+use Rattle.std.proofs.Common.{◌≡◌, ℕ, List, true, false, Result, Ok, Err, refl, sym, ap, subst, ◌∙◌}
 use Rattle.std.specs.Result.{IsErrAnd}
+use Rattle.ebpf_base.specs.Faults.{Gives}
+use Rattle.ebpf_btf.specs.Memory.{is_btf_memory}
+use Rattle.ebpf_btf.specs.declared.error.BtfError.{BtfError as TypeError}
 use Rattle.ebpf_btf.specs.declared.types.BtfType.{BtfType}
 use Rattle.ebpf_btf.specs.TypeInfo.{TypeInfo}
 use Rattle.ebpf_ext.specs.declared.relocation.Relocation.{Relocation}
@@ -50,12 +53,9 @@ module _ (local target : TypeInfo) (r : Relocation) where
         subst (λ (t : Sides). Tells answer (if_ok (of_types (candidates_for t.local t.target r.type_id)) (outcome_among t.local t.target r path))) (same ∙ sym view) given in
         subst (λ (t : Sides). Tells answer (stated t)) view (rw (over_ids path is other) here)
 
--- what an index of the kernel's types answers
+-- what an index of the kernel's types has
 pub over_index : (local target info : TypeInfo) (s : Sides) → record { local = local; target = target } ≡ s → info ≡ target
-    → (r : Relocation) (path : LocalPath) (t : BtfType) (name : List ℕ) (answer : Result Outcome RelocationError)
-    → Tells answer (if_ok (of_types (candidates_named info t name)) (outcome_among local info r path))
-    → Tells answer (if_ok (of_types (candidates_named s.target t name)) (outcome_among s.local s.target r path))
-over_index local target info s view same r path t name answer given =
-    let here : Tells answer (if_ok (of_types (candidates_named target t name)) (outcome_among local target r path)) =
-    subst (λ (i : TypeInfo). Tells answer (if_ok (of_types (candidates_named i t name)) (outcome_among local i r path))) same given in
-    subst (λ (u : Sides). Tells answer (if_ok (of_types (candidates_named u.target t name)) (outcome_among u.local u.target r path))) view here
+    → (t : BtfType) (name : List ℕ) (answer : Result (List ℕ) TypeError)
+    → Gives is_btf_memory answer (candidates_named info t name) → Gives is_btf_memory answer (candidates_named s.target t name)
+over_index local target info s view same t name answer given =
+    subst (λ (i : TypeInfo). Gives is_btf_memory answer (candidates_named i t name)) (same ∙ ap (λ (u : Sides). u.target) view) given

@@ -1,21 +1,19 @@
 -- What an access string means in a local type (the kernel's tools/lib/bpf/relo_core.c, bpf_core_parse_spec).
-use Rattle.std.specs.Prelude.{ℕ, ◌+◌, ◌*◌, ◌^◌, ◌==◌, ◌&&◌, ◌||◌, nat_lt, Bool, false, List, [], ◌∷◌, ◌++◌, length, fold, Option, Some, None, Result, Ok, Err, slice_get, if◌then◌else◌}
+use Rattle.std.specs.Prelude.{ℕ, ◌+◌, ◌==◌, ◌&&◌, ◌||◌, nat_lt, Bool, false, List, [], ◌∷◌, ◌++◌, length, fold, Option, Some, None, Result, Ok, Err, slice_get, if◌then◌else◌}
 use Rattle.std.specs.Result.{result_ok}
 use Rattle.ebpf_btf.specs.declared.array.BtfArray.{BtfArray}
-use Rattle.ebpf_btf.specs.declared.error.BtfError.TheVariants.{InvalidTypeInfo}
 use Rattle.ebpf_btf.specs.declared.members.BtfMember.{BtfMember}
 use Rattle.ebpf_ext.specs.declared.relocation.Relocation.{Relocation}
 use Rattle.ebpf_btf.specs.declared.types.BtfType.{BtfType}
-use Rattle.ebpf_btf.specs.declared.types.BtfType.TheVariants.{Struct}
 use Rattle.ebpf_btf.specs.declared.variants.BtfVariant.{BtfVariant}
 use Rattle.ebpf_btf.specs.Next.{if_some}
-use Rattle.ebpf_btf.specs.Steps.{resolved, resolved_type, size_of, type_at}
+use Rattle.ebpf_btf.specs.Steps.{resolved, resolved_type, type_at}
 use Rattle.ebpf_btf.specs.Strings.{text_at, type_name}
 use Rattle.ebpf_btf.specs.TypeInfo.{TypeInfo}
 use Rattle.ebpf_btf.specs.Types.{array_of, bit_offset, members_of}
 use Rattle.ebpf_btf.specs.Variants.{variants_of}
 use Rattle.ebpf_core.specs.declared.error.RelocationError.{RelocationError}
-use Rattle.ebpf_core.specs.declared.error.RelocationError.TheVariants.{InvalidAccessString, InvalidAccessIndex, InvalidRelocationKindForType, BtfError}
+use Rattle.ebpf_core.specs.declared.error.RelocationError.TheVariants.{InvalidAccessString, InvalidAccessIndex, InvalidRelocationKindForType}
 use Rattle.ebpf_core.specs.declared.paths.LocalPath.{LocalPath}
 use Rattle.ebpf_core.specs.declared.paths.NamedPath.{NamedPath}
 use Rattle.ebpf_core.specs.declared.paths.NamedPath.TheVariants as paths
@@ -26,6 +24,7 @@ use Rattle.ebpf_places.specs.declared.places.PlaceEnd.{PlaceEnd}
 use Rattle.ebpf_places.specs.declared.places.PlaceEnd.TheVariants.{Element, Member}
 use Rattle.ebpf_places.specs.declared.steps.Step.{Step}
 use Rattle.ebpf_places.specs.declared.steps.Step.TheVariants.{Name, Index}
+use Rattle.ebpf_places.specs.Places.{checked_place, element_place, is_last_of}
 use Rattle.ebpf_core.specs.AccessStrings.{accessors}
 use Rattle.ebpf_base.specs.Results.{if_ok}
 use Rattle.ebpf_core.specs.Answers.{of_types}
@@ -46,21 +45,10 @@ wrong_kind number = Err (InvalidRelocationKindForType number [] [] [])
 
 -- ---- a field: the steps to it
 
--- A path that has come so many bits from the root type's first. Bits are 32 bits wide.
-abbrev pub spot_reached : List Step → ℕ → PlaceEnd → ℕ → ℕ → Result LocalSpot RelocationError
-spot_reached steps bits end index type_id =
-    if nat_lt bits (2 ^ 32) then Ok (record { steps = steps; place = record { bits = bits; end = end }; index = index; type_id = type_id })
-    else Err (BtfError InvalidTypeInfo)
-
 -- to an element of a type, of which the first is at a bit
 abbrev pub spot_at_element : TypeInfo → List Step → ℕ → ℕ → ℕ → Result LocalSpot RelocationError
 spot_at_element info steps bits id index =
-    if_ok (of_types (size_of info.types id)) (λ size. spot_reached (steps ++ Index index ∷ []) (bits + index * size * 8) (Element id) index id)
-
--- whether a number is that of the last member of a STRUCT
-unfoldable pub ends_type : ℕ → BtfType → Bool
-ends_type index (Struct _ _ _ members) = index + 1 == length members
-ends_type index _ = false
+    if_ok (of_types (element_place info.types bits id index)) (λ place. Ok (record { steps = steps ++ Index index ∷ []; place = place; index = index; type_id = id }))
 
 -- the type of a step: the type of an element, or the one that a member stands in
 abbrev pub type_of_step : List BtfType → PlaceEnd → Option BtfType
@@ -69,7 +57,7 @@ type_of_step types (Member parent index) = slice_get types parent
 
 -- whether the last step led to the last member of a STRUCT
 abbrev pub ends_struct : List BtfType → LocalSpot → Bool
-ends_struct types from = if_some (type_of_step types from.place.end) (ends_type from.index) false
+ends_struct types from = if_some (type_of_step types from.place.end) (is_last_of from.index) false
 
 -- an index is below the number of elements, or there are none and the ARRAY ends a STRUCT
 abbrev pub is_element : List BtfType → LocalSpot → ℕ → ℕ → Bool
@@ -83,10 +71,12 @@ into_array info access from array index =
 -- a member without a name adds its bits and no step
 abbrev pub spot_at_member : TypeInfo → LocalSpot → ℕ → BtfType → ℕ → BtfMember → Result LocalSpot RelocationError
 spot_at_member info from parent t index member =
+    let bits = from.place.bits + bit_offset t member in
     if member.name_offset == 0
-    then spot_reached from.steps (from.place.bits + bit_offset t member) from.place.end from.index member.btf_type
+    then if_ok (of_types (checked_place bits from.place.end)) (λ place. Ok (record from { place = place; type_id = member.btf_type }))
     else if_ok (of_types (text_at info.strings member.name_offset)) (λ name.
-    spot_reached (from.steps ++ Name name member.btf_type ∷ []) (from.place.bits + bit_offset t member) (Member parent index) index member.btf_type)
+    if_ok (of_types (checked_place bits (Member parent index))) (λ place.
+    Ok (record { steps = from.steps ++ Name name member.btf_type ∷ []; place = place; index = index; type_id = member.btf_type })))
 
 abbrev pub into_members : TypeInfo → List ℕ → LocalSpot → ℕ → BtfType → List BtfMember → ℕ → Result LocalSpot RelocationError
 into_members info access from parent t members index =

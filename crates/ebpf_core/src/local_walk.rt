@@ -2,15 +2,15 @@
 
 ghost use Rattle.std.specs.Prelude.{◌≡◌, ◌∷◌, ◌++◌, [], IfOk, Ok};
 ghost use Rattle.ebpf_core.specs.Answers.{Tells};
-ghost use Rattle.ebpf_core.specs.LocalPaths.{ends_struct, field_path, into_array, into_members, is_element, ends_type, part_step, spot_reached, spot_at_element, spot_at_member, type_of_step, spot_after};
+ghost use Rattle.ebpf_core.specs.LocalPaths.{ends_struct, field_path, into_array, into_members, is_element, part_step, spot_at_element, spot_at_member, type_of_step, spot_after};
 
 use crate::error::RelocationError;
 use crate::faults::{invalid_access_index, invalid_access_string, invalid_kind};
 use crate::paths::NamedPath;
 use crate::wording::{Request, kind_words, path_words};
 use ebpf_base::{Items, Text};
-use ebpf_btf::{Btf, BtfArray, BtfError, BtfMember, BtfType, Rows};
-use ebpf_places::{Place, PlaceEnd, Step};
+use ebpf_btf::{Btf, BtfArray, BtfMember, BtfType, Rows};
+use ebpf_places::{Place, PlaceEnd, Step, checked_place, element_place, is_last_of};
 use std::alloc::Global;
 
 /// How far a path has come.
@@ -26,31 +26,6 @@ pub struct LocalSpot {
     pub type_id: u32,
 }
 
-/// A path that has come so far. `InvalidTypeInfo` where that is past 32 bits.
-fn spot_reached(
-    steps: Items<Step>,
-    bits: u128,
-    end: PlaceEnd,
-    index: usize,
-    type_id: u32,
-) -> Result<LocalSpot, RelocationError>
-    ensures { Tells result (spot_reached steps bits end index type_id) }
-{
-    if bits >= 0x1_0000_0000 {
-        return Err(RelocationError::BtfError(BtfError::InvalidTypeInfo));
-    }
-    let place = Place {
-        bits: bits as u32,
-        end,
-    };
-    Ok(LocalSpot {
-        steps,
-        place,
-        index,
-        type_id,
-    })
-}
-
 /// A path that goes on to an element of a type, of which the first is at a bit.
 fn spot_at_element(
     local: &Btf,
@@ -61,21 +36,14 @@ fn spot_at_element(
 ) -> Result<LocalSpot, RelocationError>
     ensures { Tells result (spot_at_element local.now steps bits type_id index) }
 {
-    let size = local.type_size(type_id)?;
+    let place = element_place(local, bits, type_id, index)?;
     steps.push(Step::Index { index })?;
-    let bits = u128::from(bits) + index as u128 * u128::from(size) * 8;
-    spot_reached(steps, bits, PlaceEnd::Element { type_id }, index, type_id)
-}
-
-/// Whether a number is that of the last member of a STRUCT.
-#[tactic(auto, unfolding(crate::specs::LocalPaths::ends_type))]
-fn ends_type(index: usize, ty: &BtfType<'_>) -> bool
-    ensures { result ≡ ends_type index ty.now }
-{
-    match ty {
-        BtfType::Struct { members, .. } => index < members.len() && index + 1 == members.len(),
-        _ => false,
-    }
+    Ok(LocalSpot {
+        steps,
+        place,
+        index,
+        type_id,
+    })
 }
 
 /// The type of a step: the type of an element, or the one that a member stands in.
@@ -93,7 +61,7 @@ fn ends_struct(local: &Btf, from: &LocalSpot) -> bool
     ensures { result ≡ ends_struct local.now.types from.now }
 {
     match type_of_step(local, from.place.end) {
-        Some(ty) => ends_type(from.index, &ty),
+        Some(ty) => is_last_of(from.index, &ty),
         None => false,
     }
 }
@@ -144,28 +112,27 @@ fn spot_at_member(
 {
     let bits = u128::from(from.place.bits) + u128::from(ty.member_bit_offset(member));
     if member.name_offset == 0 {
-        return spot_reached(
-            from.steps,
-            bits,
-            from.place.end,
-            from.index,
-            member.btf_type,
-        );
+        let place = checked_place(bits, from.place.end)?;
+        return Ok(LocalSpot {
+            place,
+            type_id: member.btf_type,
+            ..from
+        });
     }
     let name = local.string_at(member.name_offset)?;
     let name = Text::from_str(alloc, name.as_str())?;
+    let place = checked_place(bits, PlaceEnd::Member { parent, index })?;
     let mut steps = from.steps;
     steps.push(Step::Name {
         name,
         local_type: member.btf_type,
     })?;
-    spot_reached(
+    Ok(LocalSpot {
         steps,
-        bits,
-        PlaceEnd::Member { parent, index },
+        place,
         index,
-        member.btf_type,
-    )
+        type_id: member.btf_type,
+    })
 }
 
 /// A path that goes on into the members of a type.

@@ -2,7 +2,7 @@
 
 ghost use Rattle.std.specs.Prelude.{◌≡◌, All, IfErr, IfOk, MatchBool, Ok, true, ⊤};
 ghost use Rattle.std.specs.Option.{ForSome};
-ghost use Rattle.ebpf_base.specs.Faults.{Refuses, fault_of};
+ghost use Rattle.ebpf_base.specs.Faults.{Gives, Refuses, fault_of};
 ghost use Rattle.ebpf_base.specs.Results.{if_ok};
 ghost use Rattle.ebpf_btf.specs.Memory.{is_btf_memory};
 ghost use Rattle.ebpf_btf.specs.TypeInfo.{TypeInfo};
@@ -10,7 +10,6 @@ ghost use Rattle.ebpf_btf.specs.declared.error.BtfError.TheVariants.{OutOfMemory
 ghost use Rattle.ebpf_candidates.specs.Candidates.{candidates, candidates_fault, candidates_of_both, candidates_of_both_fault};
 ghost use Rattle.ebpf_candidates.specs.IndexedTypes.{has_named};
 ghost use Rattle.ebpf_core.specs.Answers.{Tells, of_types, without_texts};
-ghost use Rattle.ebpf_core.specs.Questions.{question_of};
 ghost use Rattle.ebpf_core.specs.Memory.{is_record_memory};
 ghost use Rattle.ebpf_core.specs.Outcomes.{outcome_among};
 ghost use Rattle.ebpf_core.specs.Refused.{OutcomeIsRefused};
@@ -20,6 +19,8 @@ ghost use Rattle.ebpf_core.specs.SearchedKinds.{searched_kinds, HasLocalNames, I
 use crate::error::RelocationError;
 use crate::outcome::{Outcome, outcome_among};
 use crate::paths::{LocalPath, local_path};
+use crate::question::{Question, question_of};
+use ebpf_base::Items;
 use ebpf_btf::{Btf, BtfError, BtfKind, BtfType};
 use ebpf_candidates::{KindsIndex, TypeIndex};
 use ebpf_ext::{Relocation, RelocationKind};
@@ -87,28 +88,24 @@ fn ids_of_both(
     }
 }
 
-/// What a record comes to over the target types of the kind and name of a local type. They are looked for in an index
-/// that has them.
+/// The target types of the kind and name of a local type, looked for in an index that has them.
 #[tactic(auto, unfolding(crate::specs::Searches::candidates_named))]
-fn outcome_named(
+fn ids_named(
     alloc: Global,
-    local: &Btf,
     index: &KindsIndex<'_>,
-    relocation: &Relocation,
-    path: &LocalPath,
     ty: &BtfType<'_>,
     name: &str,
-) -> Result<Outcome, RelocationError>
+) -> Result<Items<u32>, BtfError>
     requires first { has_named index.now (searched_kinds ty.now).0 name.now ≡ true }
     requires second { has_named index.now (searched_kinds ty.now).1 name.now ≡ true }
-    ensures { Tells result (if_ok (of_types (candidates_named index.now.info ty.now name.now)) (outcome_among local.now index.now.info relocation.now path.now)) }
+    ensures { Gives is_btf_memory result (candidates_named index.now.info ty.now name.now) }
 {
     if was_enum64(ty) {
         let ids = ids_of_both(alloc, index, BtfKind::Union, BtfKind::Enum64, name)?;
-        return outcome_among(alloc, local, index.btf(), relocation, path, ids.as_slice());
+        return Ok(Items::from_vec(ids));
     }
     let ids = ids_of_kind(index, ty.kind(), name)?;
-    outcome_among(alloc, local, index.btf(), relocation, path, ids)
+    Ok(Items::from_vec(Vec::from_slice(alloc, ids)?))
 }
 
 /// The index of the target types of two kinds that have names of local ones.
@@ -144,19 +141,6 @@ fn index_with<'a, 'b>(
         }
     }
     None
-}
-
-/// The question of a record, by which its outcome is cached: its type and its access string, and the number of its kind.
-type Question = ((u32, u32), u32);
-
-/// The question of a record.
-fn question_of(relocation: &Relocation) -> Question
-    ensures { result ≡ question_of relocation.now }
-{
-    (
-        (relocation.type_id, relocation.access_str_off),
-        relocation.kind.number(),
-    )
 }
 
 /// The types of an object, and those of a kernel in which they are looked for, record by record. The kernel's types of
@@ -198,6 +182,20 @@ impl<'a> CoreSearch<'a> {
         }
     }
 
+    /// The types of the object.
+    pub fn local(&self) -> &'a Btf
+        ensures { result.now ≡ self.now.local }
+    {
+        self.local
+    }
+
+    /// The kernel's types.
+    pub fn target(&self) -> &'a Btf
+        ensures { result.now ≡ self.now.target }
+    {
+        self.target
+    }
+
     /// Keeps an index of the kernel's types.
     fn keep(&mut self, index: KindsIndex<'a>) -> Result<(), AllocError>
         requires { index.info ≡ self.old.target }
@@ -207,27 +205,39 @@ impl<'a> CoreSearch<'a> {
         Ok(())
     }
 
-    /// What a record comes to over the kernel's types of the kind and name of a local type.
-    fn search_named(
+    /// The kernel's types of the kind and name of a local type.
+    fn candidates_named(
         &mut self,
         alloc: Global,
-        relocation: &Relocation,
-        path: &LocalPath,
         ty: &BtfType<'_>,
         name: &str,
-    ) -> Result<Outcome, RelocationError>
+    ) -> Result<Items<u32>, BtfError>
         requires { IsLocalType self.old.local ty.now name.now }
-        ensures outcome { Tells result (if_ok (of_types (candidates_named self.old.target ty.now name.now)) (outcome_among self.old.local self.old.target relocation.now path.now)) }
+        ensures ids { Gives is_btf_memory result (candidates_named self.old.target ty.now name.now) }
         ensures stays { self.new ≡ self.old }
     {
         let (first, second) = searched_kinds(ty);
         if let Some(index) = index_with(&self.indices, first, second, name) {
-            return outcome_named(alloc, self.local, index, relocation, path, ty, name);
+            return ids_named(alloc, index, ty, name);
         }
         let index = index_of(alloc, self.local, self.target, first, second)?;
-        let outcome = outcome_named(alloc, self.local, &index, relocation, path, ty, name);
+        let ids = ids_named(alloc, &index, ty, name);
         self.keep(index)?;
-        outcome
+        ids
+    }
+
+    /// The ids of the kernel's types that a local type may stand for, in increasing order: those of its kind and name.
+    ///
+    /// `UnknownBtfType` where there is no such local type; `InvalidStringOffset` where its name or that of a kernel's
+    /// type of its kind can't be read; `OutOfMemory` where memory is refused.
+    pub fn candidates(&mut self, alloc: Global, type_id: u32) -> Result<Items<u32>, BtfError>
+        ensures ids { Gives is_btf_memory result (candidates_for self.old.local self.old.target type_id) }
+        ensures stays { self.new ≡ self.old }
+    {
+        let local = self.local;
+        let ty = local.type_by_id(type_id)?;
+        let name = local.type_name(&ty)?;
+        self.candidates_named(alloc, &ty, name.as_str())
     }
 
     /// What a record comes to over the kernel's types that its local type may stand for.
@@ -240,10 +250,15 @@ impl<'a> CoreSearch<'a> {
         ensures outcome { Tells result (if_ok (of_types (candidates_for self.old.local self.old.target relocation.now.type_id)) (outcome_among self.old.local self.old.target relocation.now path.now)) }
         ensures stays { self.new ≡ self.old }
     {
-        let local = self.local;
-        let ty = local.type_by_id(relocation.type_id)?;
-        let name = local.type_name(&ty)?;
-        self.search_named(alloc, relocation, path, &ty, name.as_str())
+        let ids = self.candidates(alloc, relocation.type_id)?;
+        outcome_among(
+            alloc,
+            self.local,
+            self.target,
+            relocation,
+            path,
+            ids.as_slice(),
+        )
     }
 
     /// What a record comes to, whatever is cached.

@@ -1,6 +1,8 @@
 -- Where a named path leads in a target type (the kernel's tools/lib/bpf/relo_core.c, bpf_core_spec_match).
 use Rattle.std.specs.Prelude.{ℕ, ◌+◌, ◌*◌, ◌^◌, ◌==◌, ◌&&◌, ◌||◌, nat_lt, if◌then◌else◌, Bool, false, List, [], ◌∷◌, length, slice_get, Option, Some, None, Result, Ok, Err}
 use Rattle.std.specs.Prelude.{option_and_then}
+use Rattle.ebpf_base.specs.Results.{if_ok}
+use Rattle.ebpf_btf.specs.declared.error.BtfError.{BtfError}
 use Rattle.ebpf_btf.specs.declared.error.BtfError.TheVariants.{InvalidTypeInfo}
 use Rattle.ebpf_btf.specs.declared.array.BtfArray.{BtfArray}
 use Rattle.ebpf_btf.specs.declared.types.BtfType.{BtfType}
@@ -9,7 +11,7 @@ use Rattle.ebpf_btf.specs.Steps.{resolved, size_of}
 use Rattle.ebpf_btf.specs.TypeInfo.{TypeInfo}
 use Rattle.ebpf_btf.specs.Types.{array_of}
 use Rattle.ebpf_places.specs.declared.fault.PlaceFault.{PlaceFault}
-use Rattle.ebpf_places.specs.declared.fault.PlaceFault.TheVariants.{NestingLevel, Btf}
+use Rattle.ebpf_places.specs.declared.fault.PlaceFault.TheVariants.{NestingLevel}
 use Rattle.ebpf_places.specs.declared.places.Place.{Place}
 use Rattle.ebpf_places.specs.declared.places.PlaceEnd.{PlaceEnd}
 use Rattle.ebpf_places.specs.declared.places.PlaceEnd.TheVariants.{Element, Member}
@@ -24,13 +26,13 @@ use Rattle.ebpf_places.specs.Searches.{search_entries, first_fitting}
 abbrev pub path_parts : ℕ
 path_parts = 64
 
--- a spot, so many bits from the start of the root type, where a type begins, after so many parts
-abbrev pub spot : ℕ → PlaceEnd → ℕ → ℕ → Spot
-spot bits end type_id parts = record { place = record { bits = bits; end = end }; type_id = type_id; parts = parts }
+-- a place so many bits from the start of the root type, if they fit 32 bits
+abbrev pub checked_place : ℕ → PlaceEnd → Result Place BtfError
+checked_place bits end = if nat_lt bits (2 ^ 32) then Ok (record { bits = bits; end = end }) else Err InvalidTypeInfo
 
--- a spot whose bits fit 32 bits
-abbrev pub checked_spot : ℕ → PlaceEnd → ℕ → ℕ → Result Spot PlaceFault
-checked_spot bits end type_id parts = if nat_lt bits (2 ^ 32) then Ok (spot bits end type_id parts) else Err (Btf InvalidTypeInfo)
+-- a spot at a place, where a type begins, after so many parts
+abbrev pub spot_at : Result Place BtfError → ℕ → ℕ → Result Spot PlaceFault
+spot_at checked type_id parts = if_read checked (λ place. Ok (record { place = place; type_id = type_id; parts = parts }))
 
 -- what follows an answer that is no fault
 abbrev pub if_fine : {A X : Type 0} → Result A PlaceFault → (A → Result X PlaceFault) → Result X PlaceFault
@@ -63,9 +65,11 @@ abbrev pub is_accepted : List BtfType → PlaceEnd → ℕ → ℕ → Bool
 is_accepted types end count index = nat_lt index count || (count == 0 && ends_in_last_member types end)
 
 -- the element with an index, of a type of which the first begins so many bits from the start
+abbrev pub element_place : List BtfType → ℕ → ℕ → ℕ → Result Place BtfError
+element_place types bits type_id index = if_ok (size_of types type_id) (λ size. checked_place (bits + index * size * 8) (Element type_id))
+
 abbrev pub element_spot : TypeInfo → ℕ → ℕ → ℕ → ℕ → Result Spot PlaceFault
-element_spot target bits parts type_id index =
-    if_read (size_of target.types type_id) (λ size. checked_spot (bits + index * size * 8) (Element type_id) type_id parts)
+element_spot target bits parts type_id index = spot_at (element_place target.types bits type_id index) type_id parts
 
 abbrev pub by_array : TypeInfo → Spot → ℕ → Option BtfArray → Result (Option Spot) PlaceFault
 by_array target from index None = Ok None
@@ -81,7 +85,7 @@ by_index target from id index = by_array target from index (option_and_then arra
 -- ---- to a member
 
 abbrev pub member_spot : Spot → FoundMember → Result Spot PlaceFault
-member_spot from m = checked_spot (from.place.bits + m.bits) (Member m.parent m.index) m.type_id (from.parts + m.inside + 1)
+member_spot from m = spot_at (checked_place (from.place.bits + m.bits) (Member m.parent m.index)) m.type_id (from.parts + m.inside + 1)
 
 abbrev pub by_found : Spot → Option FoundMember → Result (Option Spot) PlaceFault
 by_found from None = Ok None

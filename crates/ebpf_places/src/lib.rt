@@ -14,7 +14,7 @@ mod types;
 mod walk;
 
 pub use fault::PlaceFault;
-pub use places::{Place, PlaceEnd};
+pub use places::{Place, PlaceEnd, checked_place, element_place, is_last_of};
 pub use search::{FoundMember, find_member};
 pub use steps::Step;
 pub use walk::place_in;

@@ -1,17 +1,17 @@
 //! The way along a path.
 
-ghost use Rattle.std.specs.Prelude.{◌≡◌, ◌+◌, ◌*◌, ◌<◌, ◌≤◌, ◌^◌, nat_lt, if◌then◌else◌, Some, None, Ok};
+ghost use Rattle.std.specs.Prelude.{◌≡◌, ◌<◌, ◌≤◌};
 ghost use Rattle.ebpf_base.specs.Faults.{Gives};
 ghost use Rattle.ebpf_places.specs.Memory.{MemoryAside, is_place_memory};
 ghost use Rattle.ebpf_places.specs.Paths.{PathLeads};
-ghost use Rattle.ebpf_places.specs.Places.{root_spot, by_index, by_name, followed, is_accepted, ends_in_last_member, is_last_of, place_of, stepped, element_spot, member_spot};
+ghost use Rattle.ebpf_places.specs.Places.{root_spot, by_index, by_name, followed, is_accepted, ends_in_last_member, place_of, stepped, element_spot, member_spot};
 
 use crate::fault::PlaceFault;
-use crate::places::{Place, PlaceEnd};
+use crate::places::{Place, PlaceEnd, checked_place, element_place, is_last_of};
 use crate::search::{FoundMember, find_member};
 use crate::steps::Step;
 use crate::types::type_at;
-use ebpf_btf::{Btf, BtfError, BtfType};
+use ebpf_btf::Btf;
 
 /// How many parts a path may have before a step.
 const PATH_PARTS: u32 = 64;
@@ -22,17 +22,6 @@ pub struct Spot {
     pub place: Place,
     pub type_id: u32,
     pub parts: u32,
-}
-
-/// Whether a member is the last one of a STRUCT.
-#[tactic(auto, unfolding(crate::specs::Places::is_last_of))]
-fn is_last_of(index: usize, ty: &BtfType<'_>) -> bool
-    ensures { result ≡ is_last_of index ty.now }
-{
-    match ty {
-        BtfType::Struct { members, .. } => index < members.len() && index + 1 == members.len(),
-        _ => false,
-    }
 }
 
 /// Whether a path ends in the last member of a STRUCT.
@@ -55,16 +44,6 @@ fn is_accepted(target: &Btf, end: PlaceEnd, count: u32, index: usize) -> bool
     index < count as usize || (count == 0 && ends_in_last_member(target, end))
 }
 
-/// The bits before an element of so many bytes, which follows so many bits. None where they are past 32 bits.
-fn bits_before(bits: u32, index: usize, size: u32) -> Option<u32>
-    ensures { result ≡ (if nat_lt (bits + index * size * 8) (2 ^ 32) then Some (bits + index * size * 8) else None) }
-{
-    let element_bits = u64::from(size) * 8;
-    let before = (index as u64).checked_mul(element_bits)?;
-    let sum = before.checked_add(u64::from(bits))?;
-    u32::try_from(sum).ok()
-}
-
 /// The element with an index, of a type of which the first begins so many bits from the start.
 fn element_spot(
     target: &Btf,
@@ -75,13 +54,9 @@ fn element_spot(
 ) -> Result<Spot, PlaceFault>
     ensures { result ≡ element_spot target.now bits parts type_id index }
 {
-    let size = target.type_size(type_id)?;
-    let Some(bits) = bits_before(bits, index, size) else {
-        return Err(PlaceFault::Btf(BtfError::InvalidTypeInfo));
-    };
-    let end = PlaceEnd::Element { type_id };
+    let place = element_place(target, bits, type_id, index)?;
     Ok(Spot {
-        place: Place { bits, end },
+        place,
         type_id,
         parts,
     })
@@ -119,19 +94,16 @@ fn by_index(
 /// The member that was found from a spot.
 fn member_spot(from: Spot, member: FoundMember) -> Result<Spot, PlaceFault>
     requires parts { from.parts < 64 }
-    requires near { member.bits < 2 ^ 39 }
     requires shallow { member.inside ≤ 64 }
     ensures { result ≡ member_spot from member }
 {
-    let Ok(bits) = u32::try_from(u64::from(from.place.bits) + member.bits) else {
-        return Err(PlaceFault::Btf(BtfError::InvalidTypeInfo));
-    };
+    let bits = u128::from(from.place.bits) + u128::from(member.bits);
     let end = PlaceEnd::Member {
         parent: member.parent,
         index: member.index,
     };
     Ok(Spot {
-        place: Place { bits, end },
+        place: checked_place(bits, end)?,
         type_id: member.type_id,
         parts: from.parts + member.inside + 1,
     })
