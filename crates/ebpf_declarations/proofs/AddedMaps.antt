@@ -241,17 +241,17 @@ unfolding declared
 by_type reading info entry = refl
 
 -- an entry whose name was read before
-pub known_declared : (reading : Reading) (info : TypeInfo) (entry : DataSecEntry) (t : BtfType) (held : ℕ) (name : List ℕ) (d : MapDefinitions) → type_at info.types entry.btf_type ≡ Ok t → variable t ≡ Some held
-    → text_at info.strings (name_off t) ≡ Ok name → type_definitions reading info name held ≡ Ok d → declared reading info entry ≡ Ok (name, d)
-known_declared reading info entry t held name d type is_variable named says =
+pub known_declared : (reading : Reading) (info : TypeInfo) (entry : DataSecEntry) (t : BtfType) (held : ℕ) (name : List ℕ) → type_at info.types entry.btf_type ≡ Ok t → variable t ≡ Some held
+    → text_at info.strings (name_off t) ≡ Ok name → declared reading info entry ≡ if_ok (type_definitions reading info name held) (λ d. named_with name d)
+known_declared reading info entry t held name type is_variable named =
     by_type reading info entry ∙ ap (λ r. if_ok r (from_type reading info)) type
     ∙ ap (λ o. if_some o (λ id. if_ok (type_name info t) (λ q. named_by reading info q id)) (Err (unexpected t))) is_variable
     ∙ ap (λ r. if_ok r (λ q. named_by reading info q held)) named
-    ∙ by_held (resolved info.types held) says
+    ∙ by_held (resolved info.types held)
   where
-    by_held : (r : Result ℕ BtfError) → if_ok r (λ held. struct_definitions reading info name held) ≡ Ok d → if_ok r (λ held. if_ok (struct_definitions reading info name held) (λ d. named_with name d)) ≡ Ok (name, d)
-    by_held (Err e) is = absurd (cc)
-    by_held (Ok h) is = ap (λ (r : Result MapDefinitions BtfError). if_ok r (λ d. named_with name d)) is
+    by_held : (r : Result ℕ BtfError) → if_ok r (λ held. if_ok (struct_definitions reading info name held) (λ d. named_with name d)) ≡ if_ok (if_ok r (λ held. struct_definitions reading info name held)) (λ d. named_with name d)
+    by_held (Err e) = refl
+    by_held (Ok h) = refl
 
 abbrev name_in : Result (List ℕ × MapDefinitions) BtfError → List ℕ
 name_in (Ok p) = p.0

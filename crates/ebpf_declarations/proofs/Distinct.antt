@@ -1,8 +1,9 @@
 -- Maps of which each name is put once, as its last map.
-use Rattle.std.proofs.Math.Seq.{take-suc}
+use Rattle.std.proofs.Math.Seq.{take-suc, drop-cons}
 use Rattle.std.proofs.lemmas.List.{take_all}
-use Rattle.std.proofs.Common.{◌≡◌, ℕ, ◌+◌, ◌<◌, ◌≤◌, suc, Bool, true, false, cond, List, [], ◌∷◌, ◌++◌, length, take, Option, Some, None, Ok, Err, refl, sym, subst, ap, ◌∙◌, append-nil, arith}
-use Rattle.std.specs.Prelude.{slice_get, slice_index_or, if◌then◌else◌}
+use Rattle.std.proofs.Common.{◌≡◌, ℕ, ◌+◌, ◌<◌, ◌≤◌, suc, Bool, true, false, cond, List, [], ◌∷◌, ◌++◌, length, take, drop, Option, Some, None, Result, Ok, Err, refl, sym, subst, ap, ◌∙◌, append-nil, arith}
+use Rattle.std.specs.Prelude.{⊤, slice_get, slice_index_or, if◌then◌else◌}
+use Rattle.std.specs.Bool.{MatchBool}
 use Rattle.std.specs.FinMap.{FinMap, get, insert, empty, get-insert, get-empty, same_map}
 use Rattle.std.specs.List.{flat_map}
 use Rattle.std.specs.Ordering.{eq_by_cmp}
@@ -11,18 +12,24 @@ use Rattle.ebpf_base.proofs.TextMaps.{text_exact}
 use Rattle.ebpf_base.specs.Faults.{first_some, or_else, fault_of}
 use Rattle.ebpf_base.specs.Keyed.{put_all, last_at}
 use Rattle.ebpf_base.specs.Keys.{text_cmp, text_total}
+use Rattle.ebpf_base.specs.Results.{if_ok}
+use Rattle.ebpf_btf.specs.Memory.{is_btf_memory}
 use Rattle.ebpf_btf.specs.Next.{if_some}
 use Rattle.ebpf_btf.specs.TypeInfo.{TypeInfo}
+use Rattle.ebpf_btf.specs.declared.error.BtfError.{BtfError}
 use Rattle.ebpf_btf.specs.declared.members.DataSecEntry.{DataSecEntry}
+use Rattle.ebpf_btf.specs.declared.types.BtfType.{BtfType}
 use Rattle.ebpf_declarations.specs.Attempts.{given}
-use Rattle.ebpf_declarations.specs.DistinctMaps.{is_name_among, AreNamed, IsWith, last_of, missing, last_map, distinct_maps, distinct_fault, Adds, AreSectionMaps}
-use Rattle.ebpf_declarations.specs.Maps.{declared, map_at, map_with_symbol, entry_map, entries_maps, entries_fault, btf_maps, btf_maps_fault}
+use Rattle.ebpf_declarations.specs.DataSections.{DatasecMatch, Named, UnreadableName, datasec_match}
+use Rattle.ebpf_declarations.specs.DistinctMaps.{is_name_among, AreNamed, IsWith, last_of, missing, last_map, distinct_maps, distinct_fault, Adds, AreMapsOf, AreSectionMaps}
+use Rattle.ebpf_declarations.specs.Maps.{declared, map_at, map_with_symbol, entry_map, entries_maps, entries_fault, matched_maps_fault, type_maps_fault, btf_maps_fault}
 use Rattle.ebpf_declarations.specs.NamedSections.{datasec_entries_at, ids_maps, ids_fault, unreadable_name_fault, AreFound}
 use Rattle.ebpf_declarations.specs.declared.definitions.MapDefinitions.{MapDefinitions}
 use Rattle.ebpf_declarations.specs.declared.distinct_maps.DistinctMaps.{DistinctMaps}
 use Rattle.ebpf_declarations.specs.declared.named_sections.NamedSections.{NamedSections}
-use Rattle.ebpf_declarations.proofs.AddedMaps.{IsSame, defined_name, numbered_name, same_named}
-use Rattle.ebpf_declarations.proofs.NamedSections.{equal, flat_map-append, or_none, or_other, first_some-append}
+use Rattle.ebpf_declarations.proofs.AddedMaps.{IsSame, named_with, defined_name, numbered_name, same_named}
+use Rattle.ebpf_declarations.proofs.NamedSections.{equal, flat_map-append, or_none, or_other, first_some-append, refused_first}
+use Rattle.ebpf_parts.specs.Memory.{is_parse_memory}
 use Rattle.ebpf_parts.specs.declared.error.ParseError.{ParseError}
 use Rattle.ebpf_parts.specs.declared.error.ParseError.TheVariants as errors
 use Rattle.ebpf_parts.specs.declared.maps.either.Map.{Map}
@@ -269,47 +276,109 @@ none_kept reading info kept is = record {
   fault = λ name k at symbols section. let wrong : None ≡ Some k = sym (get-empty text_cmp name) ∙ ap (λ x. get x name) (sym is) ∙ at in absurd (cc);
 }
 
-module _ (reading : Reading) (info : TypeInfo) (sections : NamedSections) (found : AreFound info sections) (readable : sections.unreadable ≡ None) (name ids : List ℕ) (there : get sections.by_name name ≡ Some ids)
-    (none k : DistinctMaps) (nameless : none.names ≡ []) (adds : Adds none k (λ symbols section. ids_maps reading info symbols section ids) (λ symbols section. ids_fault reading info symbols section ids)) where
-  all_maps : (symbols : List ℕ → Option ℕ) (section : ℕ) (m : FinMap text_cmp Map) → put_all m (distinct_maps symbols section k) ≡ put_all m (btf_maps reading info symbols section name)
-  all_maps symbols section m =
-      adds.maps symbols section m
-      ∙ ap (λ l. put_all (put_all m (flat_map (last_map symbols section (last_of none)) l)) (ids_maps reading info symbols section ids)) nameless
-      ∙ ap (put_all m) (found.maps reading name ids there readable symbols section)
-
-  all_fault : (symbols : List ℕ → Option ℕ) (section : ℕ) → distinct_fault symbols k ≡ btf_maps_fault reading info symbols section name
-  all_fault symbols section =
-      adds.fault symbols section
-      ∙ ap (λ l. or_else (first_some (missing symbols) l) (ids_fault reading info symbols section ids)) nameless
-      ∙ sym (or_none (ids_fault reading info symbols section ids))
-      ∙ ap (λ u. or_else (ids_fault reading info symbols section ids) (unreadable_name_fault u)) (sym readable)
-      ∙ found.fault reading name ids there symbols section
-
-  pub one_kept : (kept after : FinMap text_cmp DistinctMaps) → AreSectionMaps reading info kept → after ≡ insert kept name k → AreSectionMaps reading info after
-  one_kept kept after before put = record {
-    maps = λ q e at symbols section m r. maps_step q e symbols section m r (eq_by_cmp text_cmp q name) refl (looked q ∙ at);
-    fault = λ q e at symbols section. fault_step q e symbols section (eq_by_cmp text_cmp q name) refl (looked q ∙ at);
+module _ (reading : Reading) (info : TypeInfo) (sections : NamedSections) (found : AreFound info sections) (name ids : List ℕ) (there : get sections.by_name name ≡ Some ids) where
+  pub are_maps : sections.unreadable ≡ None → (none k : DistinctMaps) → none.names ≡ [] → Adds none k (λ symbols section. ids_maps reading info symbols section ids) (λ symbols section. ids_fault reading info symbols section ids)
+      → AreMapsOf reading info name k
+  are_maps readable none k nameless adds = record {
+    maps = λ symbols section m.
+        adds.maps symbols section m
+        ∙ ap (λ l. put_all (put_all m (flat_map (last_map symbols section (last_of none)) l)) (ids_maps reading info symbols section ids)) nameless
+        ∙ ap (put_all m) (found.maps reading name ids there readable symbols section);
+    fault = λ symbols section.
+        adds.fault symbols section
+        ∙ ap (λ l. or_else (first_some (missing symbols) l) (ids_fault reading info symbols section ids)) nameless
+        ∙ sym (or_none (ids_fault reading info symbols section ids))
+        ∙ ap (λ u. or_else (ids_fault reading info symbols section ids) (unreadable_name_fault u)) (sym readable)
+        ∙ found.fault reading name ids there symbols section;
   }
+
+  -- the fault of an entry comes first
+  pub entry_refused : (symbols : List ℕ → Option ℕ) (section : ℕ) (e : ParseError) → MatchBool (is_parse_memory e) ⊤ (ids_fault reading info symbols section ids ≡ Some e)
+      → MatchBool (is_parse_memory e) ⊤ (btf_maps_fault reading info symbols section name ≡ Some e)
+  entry_refused symbols section e h =
+      subst (λ x. MatchBool (is_parse_memory e) ⊤ (x ≡ Some e)) (found.fault reading name ids there symbols section)
+      (refused_first is_parse_memory e (ids_fault reading info symbols section ids) (unreadable_name_fault sections.unreadable) h)
+
+-- what is kept at a name
+pub kept_are : (reading : Reading) (info : TypeInfo) (kept : FinMap text_cmp DistinctMaps) (name : List ℕ) (k : DistinctMaps) → AreSectionMaps reading info kept → get kept name ≡ Some k → AreMapsOf reading info name k
+kept_are reading info kept name k are at = record {
+  maps = λ symbols section m. same_map text_total text_exact _ _ (are.maps name k at symbols section m);
+  fault = λ symbols section. are.fault name k at symbols section;
+}
+
+pub one_kept : (reading : Reading) (info : TypeInfo) (name : List ℕ) (k : DistinctMaps) → AreMapsOf reading info name k → (kept after : FinMap text_cmp DistinctMaps) → AreSectionMaps reading info kept → after ≡ insert kept name k → AreSectionMaps reading info after
+one_kept reading info name k one kept after before put = record {
+  maps = λ q e at symbols section m r. ap (λ x. get x r) ((at_each q e at).maps symbols section m);
+  fault = λ q e at symbols section. (at_each q e at).fault symbols section;
+}
+  where
+    by_test : (q : List ℕ) (e : DistinctMaps) (b : Bool) → eq_by_cmp text_cmp q name ≡ b → cond b (Some k) (get kept q) ≡ Some e → AreMapsOf reading info q e
+    by_test q e true here at = let same : k ≡ e = cc in subst (λ n. AreMapsOf reading info n e) (sym (at_name q name here)) (subst (AreMapsOf reading info name) same one)
+    by_test q e false here at = kept_are reading info kept q e before at
+
+    at_each : (q : List ℕ) (e : DistinctMaps) → get after q ≡ Some e → AreMapsOf reading info q e
+    at_each q e at = by_test q e (eq_by_cmp text_cmp q name) refl (sym (ap (λ x. get x q) put ∙ get-insert text_total kept name k q) ∙ at)
+
+-- ---- faults
+
+-- maps that were added without a fault leave no name without a symbol
+pub still_clear : (before after : DistinctMaps) (more : (List ℕ → Option ℕ) → ℕ → List (List ℕ × Map)) (wrong : (List ℕ → Option ℕ) → ℕ → Option ParseError) (symbols : List ℕ → Option ℕ)
+    → Adds before after more wrong → distinct_fault symbols before ≡ None → wrong symbols 0 ≡ None → distinct_fault symbols after ≡ None
+still_clear before after more wrong symbols adds clear none = adds.fault symbols 0 ∙ ap (λ o. or_else o (wrong symbols 0)) clear ∙ none
+
+-- an item without a fault
+pub rest_clear : {A E : Type 0} (f : A → Option E) (xs : List A) (i : ℕ) (x : A) → i < length xs → f (slice_index_or xs i x) ≡ None → first_some f (drop i xs) ≡ first_some f xs
+    → first_some f (drop (i + 1) xs) ≡ first_some f xs
+rest_clear f xs i x below none left =
+    let on : suc i ≡ i + 1 = omega arith in
+    sym (ap (first_some f) (drop-cons xs i x below ∙ ap (λ n. slice_index_or xs i x ∷ drop n xs) on) ∙ ap (λ o. or_else o (first_some f (drop (i + 1) xs))) none) ∙ left
+
+-- a name that has a number has a symbol
+pub numbered_symbol : (kept : DistinctMaps) → AreNamed kept → (symbols : List ℕ → Option ℕ) → distinct_fault symbols kept ≡ None → (name : List ℕ) (n : ℕ) → get kept.numbers name ≡ Some n → missing symbols name ≡ None
+numbered_symbol kept named symbols clear name n at =
+    sym (among_fault (missing symbols) name kept.names (numbered_name kept named name n at) ∙ ap (λ o. or_else o (missing symbols name)) clear) ∙ clear
+
+-- an entry whose name has a number has the fault of its definitions alone
+pub known_fault : (reading : Reading) (info : TypeInfo) (entry : DataSecEntry) (symbols : List ℕ → Option ℕ) (name : List ℕ) (r : Result MapDefinitions BtfError)
+    → declared reading info entry ≡ if_ok r (λ d. named_with name d) → missing symbols name ≡ None → fault_of (entry_map reading info symbols 0 entry) ≡ if_some (fault_of r) (λ e. Some (errors.BtfError e)) None
+unfolding entry_map
+known_fault reading info entry symbols name r is clear = ap (λ s. fault_of (map_with_symbol symbols 0 s)) is ∙ by_result r
+  where
+    by_result : (r : Result MapDefinitions BtfError) → fault_of (map_with_symbol symbols 0 (if_ok r (λ d. named_with name d))) ≡ if_some (fault_of r) (λ e. Some (errors.BtfError e)) None
+    by_result (Ok d) = missing_fault 0 name d (symbols name) ∙ clear
+    by_result (Err e) = refl
+
+-- a fault of types as a fault of parsing
+pub refused_parse : (p : ParseError) (e : BtfError) (f : Option BtfError) (g : Option ParseError) → g ≡ if_some f (λ e. Some (errors.BtfError e)) None → is_parse_memory p ≡ is_btf_memory e
+    → MatchBool (is_btf_memory e) ⊤ (p ≡ errors.BtfError e) → MatchBool (is_btf_memory e) ⊤ (f ≡ Some e) → MatchBool (is_parse_memory p) ⊤ (g ≡ Some p)
+refused_parse p e f g is memory made wrong = subst (λ b. MatchBool b ⊤ (g ≡ Some p)) (sym memory) (by_memory (is_btf_memory e) made wrong)
+  where
+    by_memory : (b : Bool) → MatchBool b ⊤ (p ≡ errors.BtfError e) → MatchBool b ⊤ (f ≡ Some e) → MatchBool b ⊤ (g ≡ Some p)
+    by_memory true made wrong = made
+    by_memory false made wrong = is ∙ ap (λ o. if_some o (λ e. Some (errors.BtfError e)) None) wrong ∙ ap Some (sym made)
+
+-- the fault is the same in all sections with the same symbols
+same_firsts : {A E : Type 0} (f g : A → Option E) → ((x : A) → f x ≡ g x) → (xs : List A) → first_some f xs ≡ first_some g xs
+same_firsts f g same [] = refl
+same_firsts f g same (x ∷ xs) = ap (λ o. or_else o (first_some f xs)) (same x) ∙ ap (or_else (g x)) (same_firsts f g same xs)
+
+module _ (reading : Reading) (info : TypeInfo) (symbols : List ℕ → Option ℕ) (section other : ℕ) where
+  same_entry : (entry : DataSecEntry) → fault_of (entry_map reading info symbols section entry) ≡ fault_of (entry_map reading info symbols other entry)
+  unfolding entry_map
+  same_entry entry = by_declared (declared reading info entry)
     where
-      looked : (q : List ℕ) → cond (eq_by_cmp text_cmp q name) (Some k) (get kept q) ≡ get after q
-      looked q = sym (ap (λ x. get x q) put ∙ get-insert text_total kept name k q)
+      by_declared : (r : Result (List ℕ × MapDefinitions) BtfError) → fault_of (map_with_symbol symbols section r) ≡ fault_of (map_with_symbol symbols other r)
+      by_declared (Err e) = refl
+      by_declared (Ok d) = missing_fault section d.0 d.1 (symbols d.0) ∙ sym (missing_fault other d.0 d.1 (symbols d.0))
 
-      maps_step : (q : List ℕ) (e : DistinctMaps) (symbols : List ℕ → Option ℕ) (section : ℕ) (m : FinMap text_cmp Map) (r : List ℕ) (b : Bool) → eq_by_cmp text_cmp q name ≡ b → cond (eq_by_cmp text_cmp q name) (Some k) (get kept q) ≡ Some e
-          → get (put_all m (distinct_maps symbols section e)) r ≡ get (put_all m (btf_maps reading info symbols section q)) r
-      maps_step q e symbols section m r true here at =
-          let value : Some k ≡ Some e = sym (ap (λ b. cond b (Some k) (get kept q)) here) ∙ at in
-          let same : k ≡ e = cc in
-          ap (λ (x : DistinctMaps). get (put_all m (distinct_maps symbols section x)) r) (sym same) ∙ ap (λ x. get x r) (all_maps symbols section m) ∙ ap (λ n. get (put_all m (btf_maps reading info symbols section n)) r) (sym (at_name q name here))
-      maps_step q e symbols section m r false here at = before.maps q e (sym (ap (λ b. cond b (Some k) (get kept q)) here) ∙ at) symbols section m r
+  same_type : (name : List ℕ) (t : BtfType) → type_maps_fault reading info symbols section name t ≡ type_maps_fault reading info symbols other name t
+  unfolding type_maps_fault
+  same_type name t = by_match (datasec_match info name t)
+    where
+      by_match : (m : Option DatasecMatch) → matched_maps_fault reading info symbols section m ≡ matched_maps_fault reading info symbols other m
+      by_match None = refl
+      by_match (Some (UnreadableName e)) = refl
+      by_match (Some (Named entries)) = same_firsts _ _ same_entry entries
 
-      fault_step : (q : List ℕ) (e : DistinctMaps) (symbols : List ℕ → Option ℕ) (section : ℕ) (b : Bool) → eq_by_cmp text_cmp q name ≡ b → cond (eq_by_cmp text_cmp q name) (Some k) (get kept q) ≡ Some e
-          → distinct_fault symbols e ≡ btf_maps_fault reading info symbols section q
-      fault_step q e symbols section true here at =
-          let value : Some k ≡ Some e = sym (ap (λ b. cond b (Some k) (get kept q)) here) ∙ at in
-          let same : k ≡ e = cc in
-          ap (λ (x : DistinctMaps). distinct_fault symbols x) (sym same) ∙ all_fault symbols section ∙ ap (btf_maps_fault reading info symbols section) (sym (at_name q name here))
-      fault_step q e symbols section false here at = before.fault q e (sym (ap (λ b. cond b (Some k) (get kept q)) here) ∙ at) symbols section
-
-pub kept_maps : (reading : Reading) (info : TypeInfo) (kept : FinMap text_cmp DistinctMaps) (name : List ℕ) (k : DistinctMaps) → AreSectionMaps reading info kept → get kept name ≡ Some k → (symbols : List ℕ → Option ℕ) (section : ℕ) (m : FinMap text_cmp Map)
-    → put_all m (distinct_maps symbols section k) ≡ put_all m (btf_maps reading info symbols section name)
-kept_maps reading info kept name k are at symbols section m = same_map text_total text_exact _ _ (are.maps name k at symbols section m)
+  pub same_fault : (name : List ℕ) → btf_maps_fault reading info symbols section name ≡ btf_maps_fault reading info symbols other name
+  same_fault name = same_firsts _ _ (same_type name) info.types

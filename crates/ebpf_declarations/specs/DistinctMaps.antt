@@ -86,6 +86,12 @@ pub record Adds (before after : DistinctMaps) (more : (List ℕ → Option ℕ) 
       → put_all m (distinct_maps symbols section after) ≡ put_all (put_all m (distinct_maps symbols section before)) (more symbols section)
   pub fault : (symbols : List ℕ → Option ℕ) (section : ℕ) → distinct_fault symbols after ≡ or_else (distinct_fault symbols before) (wrong symbols section)
 
+-- the BTF-defined maps of a section of the name
+pub record AreMapsOf (reading : Reading) (info : TypeInfo) (name : List ℕ) (distinct : DistinctMaps) : Type 0 where
+  pub maps : (symbols : List ℕ → Option ℕ) (section : ℕ) (m : FinMap text_cmp Map)
+      → put_all m (distinct_maps symbols section distinct) ≡ put_all m (btf_maps reading info symbols section name)
+  pub fault : (symbols : List ℕ → Option ℕ) (section : ℕ) → distinct_fault symbols distinct ≡ btf_maps_fault reading info symbols section name
+
 -- in one reading, of each of some names, key by key, the BTF-defined maps of a section of the name
 pub record AreSectionMaps (reading : Reading) (info : TypeInfo) (distinct : FinMap text_cmp DistinctMaps) : Type 0 where
   pub maps : (name : List ℕ) (k : DistinctMaps) → get distinct name ≡ Some k → (symbols : List ℕ → Option ℕ) (section : ℕ) (m : FinMap text_cmp Map) (q : List ℕ)

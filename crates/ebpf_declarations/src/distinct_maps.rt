@@ -7,7 +7,6 @@ ghost use Rattle.std.specs.Option.{option_copied};
 ghost use Rattle.std.specs.Ordering.{nat_cmp};
 ghost use Rattle.ebpf_base.specs.Faults.{Refuses};
 ghost use Rattle.ebpf_base.specs.Keyed.{put_all};
-ghost use Rattle.ebpf_btf.specs.Memory.{is_btf_memory};
 ghost use Rattle.ebpf_btf.specs.TypeInfo.{TypeInfo};
 ghost use Rattle.ebpf_declarations.specs.DistinctMaps.{missing, last_map, last_of, distinct_maps, distinct_fault, AreNamed, IsWith, RemembersNames};
 ghost use Rattle.ebpf_parts.specs.Memory.{is_parse_memory};
@@ -15,7 +14,6 @@ ghost use Rattle.ebpf_parts.specs.Memory.{is_parse_memory};
 use crate::definitions::MapDefinitions;
 use crate::maps::map_at;
 use ebpf_base::{ByName, Items, Text};
-use ebpf_btf::BtfError;
 use ebpf_parts::maps::Map;
 use ebpf_parts::{ParseError, Section};
 use std::alloc::Global;
@@ -62,12 +60,12 @@ impl DistinctMaps {
         alloc: Global,
         name: Text,
         definitions: MapDefinitions,
-    ) -> Result<usize, BtfError>
+    ) -> Result<usize, ParseError>
         requires named { AreNamed self.old }
         requires other { map.get self.old.numbers name ≡ None }
         ensures added { OnOk result (IsWith self.old name definitions self.new) }
         ensures number { IfOk result (λ n. map.get self.new.numbers name ≡ Some n) }
-        ensures memory { IfErr result (λ e. is_btf_memory e ≡ true) }
+        ensures memory { IfErr result (λ e. is_parse_memory e ≡ true) }
     {
         let number = self.names.len();
         self.names.push(Text::from_str(alloc, name.as_str())?)?;
@@ -82,11 +80,11 @@ impl DistinctMaps {
         alloc: Global,
         name: Text,
         definitions: MapDefinitions,
-    ) -> Result<usize, BtfError>
+    ) -> Result<usize, ParseError>
         requires named { AreNamed self.old }
         ensures added { OnOk result (IsWith self.old name definitions self.new) }
         ensures number { IfOk result (λ n. map.get self.new.numbers name ≡ Some n) }
-        ensures memory { IfErr result (λ e. is_btf_memory e ≡ true) }
+        ensures memory { IfErr result (λ e. is_parse_memory e ≡ true) }
     {
         let Some(number) = self.numbers.get(name.as_str()) else {
             return self.push(alloc, name, definitions);
@@ -97,12 +95,12 @@ impl DistinctMaps {
     }
 
     /// Remembers the number of the name at an offset.
-    pub fn remember(&mut self, offset: u32, number: usize) -> Result<(), BtfError>
+    pub fn remember(&mut self, offset: u32, number: usize) -> Result<(), ParseError>
         ensures names { self.new.names ≡ self.old.names }
         ensures last { self.new.last ≡ self.old.last }
         ensures numbers { self.new.numbers ≡ self.old.numbers }
         ensures remembered { OnOk result (Updates nat_cmp self.old.offsets self.new.offsets offset (Some number)) }
-        ensures memory { IfErr result (λ e. is_btf_memory e ≡ true) }
+        ensures memory { IfErr result (λ e. is_parse_memory e ≡ true) }
     {
         self.offsets.insert(offset, number)?;
         Ok(())

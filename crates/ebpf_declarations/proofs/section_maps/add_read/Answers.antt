@@ -16,15 +16,21 @@ always (Err e) q = tt
 pub returns-clause-remembers : goal.returns-clause-remembers
 returns-clause-remembers c =
     let info = c.args.btf.now in
-    let type : type_at info.types c.args.entry.now.btf_type ≡ Ok c.in_ok-type_by_id.field-0 = search rules in
-    let named : text_at info.strings c.name_offset-offset.result ≡ Ok c.in_ok-name.name =
-    ap (text_at info.strings) c.name_offset-offset.ensures ∙ declared_name c.args.reading info c.args.entry.now c.in_ok-type_by_id.field-0 c.in_ok-name.name c.in_ok-name.definitions c.in_ok-name.ensures.declared type in
-    let before = still_remembered info c.args.distinct.now c.add.new.self c.in_ok-name.name c.in_ok-name.definitions c.requires.remembers c.in_ok-number.ensures.added in
-    when_ok c.remember.result (one_remembered info c.add.new.self c.remember.new.self c.in_ok-name.name c.name_offset-offset.result c.in_ok-number.number before named c.in_ok-number.ensures.number
+    let name = c.in-Ok.declared.0 in
+    let definitions = c.in-Ok.declared.1 in
+    let type : type_at info.types c.args.entry.now.btf_type ≡ Ok c.in-Ok-type_by_id.ty = search rules in
+    let named : text_at info.strings c.name_offset.result ≡ Ok name =
+    ap (text_at info.strings) c.name_offset.ensures ∙ declared_name c.args.reading info c.args.entry.now c.in-Ok-type_by_id.ty name definitions c.in-Ok.ensures.declared type in
+    let before = still_remembered info c.args.distinct.now c.add.new.self name definitions c.requires.remembers c.in_ok-number.ensures.added in
+    when_ok c.remember.result (one_remembered info c.add.new.self c.remember.new.self name c.name_offset.result c.in_ok-number.number before named c.in_ok-number.ensures.number
     record { names = c.remember.ensures.names; last = c.remember.ensures.last; numbers = c.remember.ensures.numbers }) c.remember.ensures.remembered
 
 pub returns-clause-added : goal.returns-clause-added
 returns-clause-added c =
     let info = c.args.btf.now in
-    let adds = entry_added c.args.reading info c.args.entry.now c.args.distinct.now c.add.new.self c.in_ok-name.name c.in_ok-name.definitions c.requires.named c.in_ok-name.ensures.declared c.in_ok-number.ensures.added in
+    let adds = entry_added c.args.reading info c.args.entry.now c.args.distinct.now c.add.new.self c.in-Ok.declared.0 c.in-Ok.declared.1 c.requires.named c.in-Ok.ensures.declared c.in_ok-number.ensures.added in
     always c.remember.result (same_added c.args.distinct.now c.add.new.self c.remember.new.self _ _ adds record { names = c.remember.ensures.names; last = c.remember.ensures.last; numbers = c.remember.ensures.numbers })
+
+pub returns-in_default-type_by_id-clause-added : goal.returns-in_default-type_by_id-clause-added
+returns-in_default-type_by_id-clause-added c =
+    entry_added c.args.reading c.args.btf.now c.args.entry.now c.args.distinct.now c.add.new.self c.in-Ok.declared.0 c.in-Ok.declared.1 c.requires.named c.in-Ok.ensures.declared c.in_ok-number.ensures.added

@@ -1,9 +1,6 @@
 use Rattle.ebpf_declarations.proofs.Distinct.{none_kept}
 use Rattle.ebpf_declarations.proofs.section_maps.all_section_maps.Goals as goal
 
-pub returns-then-is_some-clause-by_name : goal.returns-then-is_some-clause-by_name
-returns-then-is_some-clause-by_name c = none_kept c.args.reading c.args.btf.now c.new-by_name.result c.new-by_name.ensures
-
 pub loop-name-init : goal.loop-name-init
 loop-name-init c = record {
   known = c.none-known.ensures c.args.reading c.args.btf.now;
