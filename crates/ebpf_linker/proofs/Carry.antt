@@ -16,6 +16,7 @@ use Rattle.ebpf_linker.specs.Answer.{IsOrder, IsLayout}
 use Rattle.ebpf_linker.specs.Result.{IsProgram}
 use Rattle.ebpf_linker.proofs.Numbering.{renamed, Numbers}
 use Rattle.ebpf_linker.proofs.OneBase.{no_longer}
+use Rattle.ebpf_linker.proofs.Plain.{checked_names}
 use Rattle.ebpf_linker.proofs.Renamed.{SameReferences, AllNumbers, number_at, all_numbers, among_to, among_from, last_to, last_number, numbers_of, distinct_from, faulty_from, distinct_to, walk_numbers, reached_number, walk_to, walk_from, simple_to, simple_from, end_from, key_path_to, key_path_from, key_path_number, in_order_to}
 
 some_map : {D E : Type 0} → (D → E) → Option D → Option E
@@ -62,20 +63,11 @@ module _ {M D K E : Type 0} (G : Functions M D) (F : Functions K E) (IsNumber : 
       ∙ ap (λ (e : E). if func_info_agrees G p k then Names (key k) else Faulty e) (num.mismatch k ik)
       ∙ renamed_if (func_info_agrees G p k) k (G.mismatch k)
 
-  named_if : (b : Bool) (d : D) (k m : M) → ◌≡◌ {A = SlotReference M D} (if b then Names k else Faulty d) (Names m) → ◌≡◌ {A = SlotReference M D} (Names k) (Names m)
-  named_if true d k m h = h
-  named_if false d k m h = cc
-
-  checked_names : (p : M) (r : SlotReference M D) (m : M) → checked G p r ≡ Names m → r ≡ Names m
-  checked_names p Nothing m e = cc
-  checked_names p (Faulty d) m e = cc
-  checked_names p (Names k) m e = named_if (func_info_agrees G p k) (G.mismatch k) k m e
-
   linking_same : (p : M) → IsNumber p → SameReferences (checked_references G p) (checked_references F (key p)) IsNumber key name
   linking_same p is =
       record {
         reference = λ m i im. ap (checked F (key p)) (num.reference m i im) ∙ checked_to p (G.reference m i) is (λ k e. num.closed m k i im e);
-        closed = λ m k i im e. num.closed m k i im (checked_names p (G.reference m i) k e);
+        closed = λ m k i im e. num.closed m k i im (checked_names G p (G.reference m i) k e);
         apart = num.apart;
       }
 

@@ -18,10 +18,10 @@ use Rattle.ebpf_linker.specs.Found.{IsFound}
 use Rattle.ebpf_linker.specs.Numbered.{of_target}
 use Rattle.ebpf_linker.specs.Steps.{Search, opened, StepTo, call_target}
 use Rattle.ebpf_linker.proofs.Following.{refs, AreSorted, rising}
-use Rattle.ebpf_linker.proofs.Paths.{before_cases, distinct_more, last_of_last, walk_more, walk_same}
+use Rattle.ebpf_linker.proofs.Paths.{among_get, before_cases, distinct_more, last_of_last, nil_length, walk_more, walk_same}
 use Rattle.ebpf_linker.proofs.Held.{Found, at_index}
 use Rattle.ebpf_linker.proofs.Cursor.{Apart, path_of, keys_of, walk_of, keys_found, keys_distinct, not_nil}
-use Rattle.ebpf_linker.proofs.Searched.{First, State, begins_with, distinct_places, among_place, key_path, before_found, held_top, plain_before, fault_here, push_at, ended}
+use Rattle.ebpf_linker.proofs.Searched.{First, State, begins_with, distinct_places, key_path, before_found, held_top, plain_before, fault_here, push_at, ended}
 use Rattle.ebpf_linker.proofs.Past.{earlier, fits_at}
 
 pub record Counted (F : Functions ℕ Fault) (o : List ℕ) (u : ℕ) : Type 0 where
@@ -118,7 +118,7 @@ module _ (F : Functions ℕ Fault) (N : ℕ) (C : ℕ → List Call) (p : ℕ) w
         earlier = ks;
         once = distinct_places N C p ks (λ i l m ai al. let e = apart'.apart (suc i) (suc l) m (omega arith) (omega arith) ai al in omega (arith, e));
         before = λ m a.
-            let (j, at) = among_place N C p ks m a in
+            let (j, at) = among_get ks m a in
             let first = firsts' (suc j) m (omega arith) at in
             let q = key_path N C p (p ∷ ks) (suc j) m apart' (omega arith) at first in
             let lt = slice_get_within ks j m at in
@@ -205,19 +205,15 @@ module _ (F : Functions ℕ Fault) (N : ℕ) (C : ℕ → List Call) (p : ℕ) w
       cc (h.fault, is)
   faultless ks f u st n order path x e (inr h) =
       let a = key_reached ks (path ++ x ∷ []) h.key order h.path_is.keys h.path_is.some h.path_is.simple.walk h.path_is.ends in
-      let (j, at) = among_place N C p ks h.key a in
+      let (j, at) = among_get ks h.key a in
       let lt = slice_get_within ks j h.key at in
       no_copy_fault (p ∷ ks) (path ++ x ∷ []) f [] u e st n h (suc j, omega arith, omega arith, at)
 
   roomy : (ks : List ℕ) (u : ℕ) → Counted F (p ∷ ks) u → (k : ℕ) → Among ks k → total F (p ∷ ks) ≤ 2147483647
   roomy ks u n k a =
-      let (j, at) = among_place N C p ks k a in
+      let (j, at) = among_get ks k a in
       let z = n.room (suc j) k (omega arith) at in
       omega (arith, z, n.used)
-
-  nil_length : {X : Type 0} (xs : List X) → length xs ≡ 0 → xs ≡ []
-  nil_length [] e = refl
-  nil_length (x ∷ xs) e = absurd (omega arith)
 
   pub found_all : (o : List ℕ) (f : List Bool) (s : List Open) (u : ℕ) → length s ≡ 0 → State N C p o f s → Counted F o u → (ks : List ℕ) × (o ≡ p ∷ ks) × IsFound F (refs C) p ks
   found_all o f s u e h n =

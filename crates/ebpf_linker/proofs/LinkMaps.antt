@@ -1,6 +1,6 @@
 -- The copies and references of a link map are those of the linked program.
 use Rattle.std.proofs.Common.{◌≡◌, ◌≢◌, ℕ, suc, ◌+◌, ◌<◌, ◌≤◌, List, [], ◌∷◌, ◌++◌, length, map, Option, Some, None, refl, sym, ap, ◌∙◌, subst, inl, inr, arith}
-use Rattle.std.specs.Prelude.{slice_get, slice_index, ◌==◌, Vec, ◌⊎◌}
+use Rattle.std.specs.Prelude.{slice_get, slice_index, ◌==◌, Vec}
 use Rattle.std.specs.declared.alloc.Global.{Global}
 use Rattle.std.proofs.lemmas.Bool.{cases_Bool, eqb-true}
 use Rattle.std.proofs.lemmas.Option.{slice_get_within}
@@ -9,11 +9,10 @@ use Rattle.ebpf_linker.specs.declared.body.Body.{Body}
 use Rattle.ebpf_linker.specs.declared.link_map.NumberedCopy.{NumberedCopy}
 use Rattle.ebpf_linker.specs.declared.link_map.Reference.{Reference}
 use Rattle.ebpf_linker.specs.declared.reference.Call.{Call}
-use Rattle.ebpf_linker.specs.declared.reference.Fault.{Fault}
 use Rattle.ebpf_linker.specs.declared.reference.Target.{Target}
 use Rattle.ebpf_linker.specs.declared.reference.Target.TheVariants.{Function, Nowhere}
 use Rattle.ebpf_parts.specs.Slots.{is_pseudo_call}
-use Rattle.ebpf_linker.specs.Functions.{SlotReference, Nothing, Names, Among, BeginsAt}
+use Rattle.ebpf_linker.specs.Functions.{Nothing, Names, Among, BeginsAt}
 use Rattle.ebpf_linker.specs.LinkedSlots.{body_at, with_bases}
 use Rattle.ebpf_linker.specs.LinkMap.{CopyOf, copies_from, IsReference, AreReferences, IsLinkMap, numbered_copy}
 use Rattle.ebpf_linker.specs.LinkMap.{PlacesRise}
@@ -22,25 +21,12 @@ use Rattle.ebpf_linker.specs.Numbered.{of_target, referred, calls_at, functions_
 use Rattle.ebpf_linker.specs.Ready.{IsReady}
 use Rattle.ebpf_linker.proofs.Held.{at_index}
 use Rattle.ebpf_linker.proofs.OneResult.{one_begin}
+use Rattle.ebpf_linker.proofs.Paths.{among_cases, among_left, among_right, names_same}
 use Rattle.ebpf_linker.proofs.Visits.{begins_among}
 use Rattle.ebpf_linker.proofs.Readying.{all_in}
 use Rattle.ebpf_linker.proofs.Whole.{base_of_index}
 
 -- ---- lists of references
-
-among_append : {X : Type 0} (xs ys : List X) (x : X) → Among (xs ++ ys) x → Among xs x ⊎ Among ys x
-among_append [] ys x a = inr a
-among_append (y ∷ xs) ys x (inl e) = inl (inl e)
-among_append (y ∷ xs) ys x (inr a) = elim (among_append xs ys x a) [ inl b ↦ inl (inr b) | inr b ↦ inr b ]
-
-among_left : {X : Type 0} (xs ys : List X) (x : X) → Among xs x → Among (xs ++ ys) x
-among_left [] ys x a = absurd a
-among_left (y ∷ xs) ys x (inl e) = inl e
-among_left (y ∷ xs) ys x (inr a) = inr (among_left xs ys x a)
-
-among_right : {X : Type 0} (xs ys : List X) (x : X) → Among ys x → Among (xs ++ ys) x
-among_right [] ys x a = a
-among_right (y ∷ xs) ys x a = inr (among_right xs ys x a)
 
 rise_lower : (low high : ℕ) (rs : List Reference) → low ≤ high → PlacesRise high rs → PlacesRise low rs
 rise_lower low high [] le h = tt
@@ -169,7 +155,7 @@ module _ (B : List Body) (C : List (Vec Call Global)) (bases : List ℕ) (sound 
   all_from : (base : ℕ) (ks : List ℕ) (r : Reference) → Among (references_of_copies B C bases base ks) r → From base ks r
   all_from base [] r a = absurd a
   all_from base (k ∷ ks) r a =
-      elim (among_append (references_of_copy bases base (body_at B k) (calls_at C k)) (references_of_copies B C bases (base + length (body_at B k)) ks) r a) [
+      elim (among_cases (references_of_copy bases base (body_at B k) (calls_at C k)) (references_of_copies B C bases (base + length (body_at B k)) ks) r a) [
         | inl b ↦ from_copy base k ks r (references_from bases base (body_at B k) (calls_at C k) r b)
         | inr b ↦ from_later base k ks r (all_from (base + length (body_at B k)) ks r b)
       ]
@@ -202,9 +188,6 @@ module _ (B : List Body) (C : List (Vec Call Global)) where
   same_copies base [] = refl
   same_copies base (k ∷ ks) = ap (λ (u : List (CopyOf ℕ)). record { key = k; base = base; slots = length (body_at B k) } ∷ u) (same_copies (base + length (body_at B k)) ks)
 
-  same_name : (r : SlotReference ℕ Fault) (k m : ℕ) → r ≡ Names k → r ≡ Names m → k ≡ m
-  same_name r k m e f = cc
-
   module _ (p : ℕ) (ks bases : List ℕ) (ready : IsReady B C p ks) (before : List ℕ) (count : length before ≡ length B) (places : bases ≡ with_bases B (length (body_at B p)) before ks) (sound : Sound (length B) C) where
     -- the bases are the places at which the copies begin
     begins_there : (m : ℕ) → Among ks m → (c : ℕ) × BeginsAt (functions_by_number B C) ks m c × (slice_index bases m ≡ length (body_at B p) + c)
@@ -217,7 +200,7 @@ module _ (B : List Body) (C : List (Vec Call Global)) where
     is_reference r h =
         let some : referred (calls_at C h.k) h.i ≢ Nothing = λ (z : referred (calls_at C h.k) h.i ≡ Nothing). let names = h.names in cc in
         let (m, names, a) = ready.layout.order.resolved h.k h.i (begins_among (functions_by_number B C) (p ∷ ks) h.k h.b h.begins) some in
-        let same : m ≡ h.m = same_name (referred (calls_at C h.k) h.i) m h.m names h.names in
+        let same : m ≡ h.m = names_same m h.m (referred (calls_at C h.k) h.i) names h.names in
         let (c, reaches, e) = begins_there h.m (subst (Among ks) same a) in
         record {
           k = h.k;

@@ -6,7 +6,7 @@ use Rattle.ebpf_linker.specs.Functions.{References, Functions, FunctionContent, 
 use Rattle.ebpf_linker.specs.Order.{Before, KeyPath, InKeyPathOrder}
 use Rattle.ebpf_linker.specs.Answer.{IsLayout}
 use Rattle.ebpf_linker.specs.Faults.{Base}
-use Rattle.ebpf_linker.proofs.Paths.{before_cases, before_trans}
+use Rattle.ebpf_linker.proofs.Paths.{before_cases, before_trans, irreflexive, get_among, among_get}
 
 module _ {K E : Type 0} (F : Functions K E) (R : References K E) where
   -- k taken out
@@ -62,26 +62,11 @@ module _ {K E : Type 0} (F : Functions K E) (R : References K E) where
   take_among (k ∷ ks) (suc i) zero m lt at = absurd (omega arith)
   take_among (k ∷ ks) (suc i) (suc j) m lt at = inr (take_among ks i j m (omega arith) at)
 
-  get_among : (ks : List K) (j : ℕ) (k : K) → slice_get ks j ≡ Some k → Among ks k
-  get_among [] j k at = cc
-  get_among (m ∷ ks) zero k at = inl cc
-  get_among (m ∷ ks) (suc j) k at = inr (get_among ks j k at)
-
-  among_get : (ks : List K) (k : K) → Among ks k → (j : ℕ) × (slice_get ks j ≡ Some k)
-  among_get [] k a = absurd a
-  among_get (m ∷ ks) k (inl e) = (0, ap Some e)
-  among_get (m ∷ ks) k (inr a) = let (j, at) = among_get ks k a in (suc j, at)
-
   distinct_take : (ks : List K) (j : ℕ) → Distinct ks → Distinct (take j ks)
   distinct_take [] zero h = tt
   distinct_take [] (suc j) h = tt
   distinct_take (k ∷ ks) zero h = tt
   distinct_take (k ∷ ks) (suc j) h = (λ a. let (i, lt, at) = among_take ks j k a in h.0 (get_among ks i k at), distinct_take ks j h.1)
-
-  irreflexive : (x : List ℕ) → Before x x → ⊥
-  irreflexive [] h = h
-  irreflexive (a ∷ x) (inl h) = omega arith
-  irreflexive (a ∷ x) (inr h) = irreflexive x h.1
 
   -- in the order of key paths, the base of a member is what stands before it
   pub base_at : (p : K) (ks : List K) (j : ℕ) (k : K) (x : List ℕ) → Distinct ks → InKeyPathOrder R p ks → ((m : K) (y : List ℕ) → KeyPath R p m y → Before y x → Among ks m) → slice_get ks j ≡ Some k → KeyPath R p k x → Base F R p x (total F (p ∷ take j ks))

@@ -14,23 +14,13 @@ use Rattle.ebpf_linker.specs.Records.{has_lines, count_if}
 use Rattle.ebpf_linker.specs.Faults.{has_some}
 use Rattle.ebpf_linker.specs.Result.{IsProgram}
 use Rattle.ebpf_linker.proofs.OneBase.{one_base}
-use Rattle.ebpf_linker.proofs.Paths.{before_cases, before_trans, last_same, walk_same, walk_parts}
+use Rattle.ebpf_linker.proofs.Paths.{before_cases, before_trans, irreflexive, among_get, last_same, walk_same, walk_parts}
 use Rattle.ebpf_linker.proofs.Visits.{begins_among}
 
 -- ---- the order
 
-not_before_itself : (x : List ℕ) → Before x x → ⊥
-not_before_itself [] h = h
-not_before_itself (n ∷ x) (inl lt) = omega arith
-not_before_itself (n ∷ x) (inr h) = not_before_itself x h.1
-
 not_both : (x y : List ℕ) → Before x y → Before y x → ⊥
-not_both x y h g = not_before_itself x (before_trans x y x h g)
-
-place_of : {K : Type 0} (ks : List K) (k : K) → Among ks k → (i : ℕ) × (slice_get ks i ≡ Some k)
-place_of [] k a = absurd a
-place_of (m ∷ ks) k (inl e) = (0, ap Some e)
-place_of (m ∷ ks) k (inr a) = let (i, at) = place_of ks k a in (suc i, at)
+not_both x y h g = irreflexive x (before_trans x y x h g)
 
 module _ {K E : Type 0} (R : References K E) (p : K) where
   later_in_order : (k : K) (ks : List K) → InKeyPathOrder R p (k ∷ ks) → InKeyPathOrder R p ks
@@ -43,8 +33,8 @@ module _ {K E : Type 0} (R : References K E) (p : K) where
   same_first k m ks ms h g (inr a) (inr b) =
       let (x, kx) = h.0 k (inl refl) in
       let (y, my) = g.0 m (inl refl) in
-      let (i, at) = place_of ks m a in
-      let (j, at') = place_of ms k b in
+      let (i, at) = among_get ks m a in
+      let (j, at') = among_get ms k b in
       absurd (not_both x y (h.1 0 (suc i) k m x y (omega arith) refl at kx my) (g.1 0 (suc j) m k y x (omega arith) refl at' my kx))
 
   -- one list has these keys in the order of their key paths

@@ -8,20 +8,21 @@ use Rattle.ebpf_linker.specs.Order.{Before, KeyPath, InKeyPathOrder}
 use Rattle.ebpf_linker.specs.Faults.{CopyFault, append_fault}
 use Rattle.ebpf_linker.proofs.Following.{refs}
 use Rattle.ebpf_linker.proofs.Cursor.{Apart}
-use Rattle.ebpf_linker.proofs.Searched.{First, distinct_places, among_place, place_among, key_path, in_order}
+use Rattle.ebpf_linker.proofs.Paths.{among_get, get_among}
+use Rattle.ebpf_linker.proofs.Searched.{First, distinct_places, key_path, in_order}
 use Rattle.ebpf_linker.proofs.OneBase.{one_base, one_key_path, base_at}
 
 module _ (F : Functions ℕ Fault) (N : ℕ) (C : ℕ → List Call) (p : ℕ) where
   -- what was found so far is in order
   pub so_far : (ks : List ℕ) → Apart (p ∷ ks) → ((j k : ℕ) → 0 < j → slice_get (p ∷ ks) j ≡ Some k → First C p (p ∷ ks) j k) → InKeyPathOrder (refs C) p ks
   so_far ks apart firsts = (
-    λ k a. let (j, at) = among_place N C p ks k a in let first = firsts (suc j) k (omega arith) at in (first.path, key_path N C p (p ∷ ks) (suc j) k apart (omega arith) at first),
+    λ k a. let (j, at) = among_get ks k a in let first = firsts (suc j) k (omega arith) at in (first.path, key_path N C p (p ∷ ks) (suc j) k apart (omega arith) at first),
     λ i j k m x y lt ai aj kx ky. in_order N C p (p ∷ ks) (suc i) (suc j) k m x y apart (omega arith) (omega arith) ai aj (firsts (suc i) k (omega arith) ai) kx ky,
   )
 
   pub earlier : (ks : List ℕ) (i m : ℕ) → 0 < i → slice_get (p ∷ ks) i ≡ Some m → Among ks m
   earlier ks zero m pos at = absurd (omega arith)
-  earlier ks (suc i) m pos at = place_among N C p ks i m at
+  earlier ks (suc i) m pos at = get_among ks i m at
 
   pub fits_at : (ks : List ℕ) (j : ℕ) (path : List ℕ) (e : Fault) → Apart (p ∷ ks) → ((j k : ℕ) → 0 < j → slice_get (p ∷ ks) j ≡ Some k → First C p (p ∷ ks) j k) → (h : CopyFault F (refs C) p path e) → slice_get ks j ≡ Some h.key → append_fault F h.key (total F (p ∷ take j ks)) ≡ None → ⊥
   fits_at ks j path e apart firsts h at fits =

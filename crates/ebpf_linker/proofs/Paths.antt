@@ -1,5 +1,6 @@
 -- Walks, and the order of lists of numbers.
-use Rattle.std.proofs.Common.{◌≡◌, ℕ, ◌<◌, ◌⊎◌, List, [], ◌∷◌, ◌++◌, refl, sym, ap, ◌∙◌, subst, inl, inr, arith}
+use Rattle.std.proofs.Common.{◌≡◌, ℕ, zero, suc, ◌<◌, ◌⊎◌, List, [], ◌∷◌, ◌++◌, length, Some, refl, sym, ap, ◌∙◌, subst, inl, inr, arith}
+use Rattle.std.specs.Prelude.{slice_get}
 use Rattle.std.proofs.lemmas.Bool.{cases_order}
 use Rattle.ebpf_linker.specs.Functions.{SlotReference, Names, References, Among, Distinct, Walk, last_key_or}
 use Rattle.ebpf_linker.specs.Order.{Before}
@@ -14,6 +15,11 @@ before_trans (a ∷ x) (b ∷ y) (c ∷ z) (inl h) (inl g) = inl (omega arith)
 before_trans (a ∷ x) (b ∷ y) (c ∷ z) (inl h) (inr g) = inl (omega (arith, g.0))
 before_trans (a ∷ x) (b ∷ y) (c ∷ z) (inr h) (inl g) = inl (omega (arith, h.0))
 before_trans (a ∷ x) (b ∷ y) (c ∷ z) (inr h) (inr g) = inr (h.0 ∙ g.0, before_trans x y z h.1 g.1)
+
+pub irreflexive : (x : List ℕ) → Before x x → ⊥
+irreflexive [] h = h
+irreflexive (a ∷ x) (inl h) = omega arith
+irreflexive (a ∷ x) (inr h) = irreflexive x h.1
 
 before_cons : (a b : ℕ) (x y : List ℕ) → (a ≡ b) ⊎ ((a < b) ⊎ (b < a)) → Before x y ⊎ ((x ≡ y) ⊎ Before y x) → Before (a ∷ x) (b ∷ y) ⊎ ((a ∷ x ≡ b ∷ y) ⊎ Before (b ∷ y) (a ∷ x))
 before_cons a b x y (inl e) (inl h) = inl (inr (e, h))
@@ -81,6 +87,20 @@ module _ {K : Type 0} where
   among_cases (n ∷ ks) ms k (inl h) = inl (inl h)
   among_cases (n ∷ ks) ms k (inr h) = elim (among_cases ks ms k h) [ inl a ↦ inl (inr a) | inr b ↦ inr b ]
 
+  pub get_among : (ks : List K) (i : ℕ) (k : K) → slice_get ks i ≡ Some k → Among ks k
+  get_among [] i k at = cc
+  get_among (m ∷ ks) zero k at = inl cc
+  get_among (m ∷ ks) (suc i) k at = inr (get_among ks i k at)
+
+  pub among_get : (ks : List K) (k : K) → Among ks k → (i : ℕ) × (slice_get ks i ≡ Some k)
+  among_get [] k a = absurd a
+  among_get (m ∷ ks) k (inl e) = (0, ap Some e)
+  among_get (m ∷ ks) k (inr a) = let (i, at) = among_get ks k a in (suc i, at)
+
+  pub nil_length : (ks : List K) → length ks ≡ 0 → ks ≡ []
+  nil_length [] e = refl
+  nil_length (k ∷ ks) e = absurd (omega arith)
+
   pub distinct_front : (ks ms : List K) → Distinct (ks ++ ms) → Distinct ks
   distinct_front [] ms h = tt
   distinct_front (n ∷ ks) ms h = (λ a. h.0 (among_left ks ms n a), distinct_front ks ms h.1)
@@ -99,10 +119,10 @@ module _ {K : Type 0} where
   last_of_last p [] k = refl
   last_of_last p (n ∷ ks) k = last_of_last n ks k
 
-module _ {K E : Type 0} (R : References K E) where
-  names_same : (k m : K) (r : SlotReference K E) → r ≡ Names k → r ≡ Names m → k ≡ m
-  names_same k m r e f = cc
+pub names_same : {K E : Type 0} (k m : K) (r : SlotReference K E) → r ≡ Names k → r ≡ Names m → k ≡ m
+names_same k m r e f = cc
 
+module _ {K E : Type 0} (R : References K E) where
   -- a walk goes on by one reference
   pub walk_more : (p : K) (q : List ℕ) (ks : List K) (x : ℕ) (k : K) → Walk R p q ks → R (last_key_or p ks) x ≡ Names k → Walk R p (q ++ x ∷ []) (ks ++ k ∷ [])
   walk_more p [] [] x k w e = (e, tt)

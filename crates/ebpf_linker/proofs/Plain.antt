@@ -6,13 +6,14 @@ use Rattle.ebpf_linker.specs.Functions.{SlotReference, Nothing, Faulty, Names, F
 use Rattle.ebpf_linker.specs.Faults.{checked_references, checked, func_info_agrees}
 use Rattle.ebpf_linker.specs.Order.{Simple, KeyPath}
 use Rattle.ebpf_linker.specs.Answer.{IsOrder}
+use Rattle.ebpf_linker.proofs.Paths.{names_same}
 
 module _ {K E : Type 0} (F : Functions K E) (p : K) where
   named_if : (b : Bool) (e : E) (k m : K) → ◌≡◌ {A = SlotReference K E} (if b then Names k else Faulty e) (Names m) → ◌≡◌ {A = SlotReference K E} (Names k) (Names m)
   named_if true e k m h = h
   named_if false e k m h = cc
 
-  checked_names : (r : SlotReference K E) (m : K) → checked F p r ≡ Names m → r ≡ Names m
+  pub checked_names : (r : SlotReference K E) (m : K) → checked F p r ≡ Names m → r ≡ Names m
   checked_names Nothing m e = cc
   checked_names (Faulty d) m e = cc
   checked_names (Names k) m e = named_if (func_info_agrees F p k) (F.mismatch k) k m e
@@ -25,9 +26,6 @@ module _ {K E : Type 0} (F : Functions K E) (p : K) where
   checked_some Nothing ne e = ne refl
   checked_some (Faulty d) ne e = cc
   checked_some (Names k) ne e = nothing_if (func_info_agrees F p k) (F.mismatch k) k e
-
-  names_same : (r : SlotReference K E) (k m : K) → r ≡ Names k → r ≡ Names m → k ≡ m
-  names_same r k m e f = cc
 
   walk_plain : (q : K) (path : List ℕ) (keys : List K) → Walk (checked_references F p) q path keys → Walk F.reference q path keys
   walk_plain q [] [] w = tt
@@ -49,7 +47,7 @@ module _ {K E : Type 0} (F : Functions K E) (p : K) where
     walk_linking q (x ∷ path) (k ∷ keys) a w =
         let ne : F.reference q x ≢ Nothing = λ (z : F.reference q x ≡ Nothing). cc (w.0) in
         let (m, is, plain, b) = followed q x a ne in
-        let same : m ≡ k = names_same (F.reference q x) m k plain w.0 in
+        let same : m ≡ k = names_same m k (F.reference q x) plain w.0 in
         (is ∙ ap Names same, walk_linking k path keys (inr (subst (Among ks) same b)) w.1)
 
     simple_plain : (path : List ℕ) (keys : List K) → Simple (checked_references F p) p path keys → Simple F.reference p path keys

@@ -4,6 +4,7 @@ use Rattle.std.specs.Prelude.{slice_get}
 use Rattle.ebpf_linker.specs.Functions.{SlotReference, Nothing, Faulty, Names, References, Among, Distinct, Walk, last_key_or, Reached}
 use Rattle.ebpf_linker.specs.Order.{Simple, KeyPath, InKeyPathOrder}
 use Rattle.ebpf_linker.proofs.Numbering.{renamed}
+use Rattle.ebpf_linker.proofs.Paths.{get_among}
 
 -- the same references, by numbers and by the keys that they stand for
 pub record SameReferences {M D K E : Type 0} (R : References M D) (S : References K E) (IsNumber : M → Type 0) (key : M → K) (name : D → E) : Type 0 where
@@ -51,11 +52,6 @@ module _ {M K : Type 0} (IsNumber : M → Type 0) (key : M → K) where
   get_from [] i k e = cc
   get_from (m ∷ ms) zero k e = (m, refl, cc)
   get_from (m ∷ ms) (suc i) k e = get_from ms i k e
-
-  pub get_among : (ms : List M) (i : ℕ) (m : M) → slice_get ms i ≡ Some m → Among ms m
-  get_among [] i m e = cc
-  get_among (n ∷ ms) zero m e = inl cc
-  get_among (n ∷ ms) (suc i) m e = inr (get_among ms i m e)
 
   -- keys that have numbers
   pub numbers_of : (ks : List K) → ((k : K) → Among ks k → (m : M) × IsNumber m × (key m ≡ k)) → (ms : List M) × (map key ms ≡ ks) × AllNumbers IsNumber ms
@@ -165,7 +161,7 @@ module _ {M D K E : Type 0} (R : References M D) (S : References K E) (IsNumber 
     λ i j k l x y lt ai aj kx ky.
         let (m, mi, e) = get_from IsNumber key ms i k ai in
         let (n, nj, f) = get_from IsNumber key ms j l aj in
-        let im = number_at IsNumber key ms m all (get_among IsNumber key ms i m mi) in
-        let in_ = number_at IsNumber key ms n all (get_among IsNumber key ms j n nj) in
+        let im = number_at IsNumber key ms m all (get_among ms i m mi) in
+        let in_ = number_at IsNumber key ms n all (get_among ms j n nj) in
         h.1 i j m n x y lt mi nj (key_path_from p m x is im (subst (λ (u : K). KeyPath S (key p) u x) (sym e) kx)) (key_path_from p n y is in_ (subst (λ (u : K). KeyPath S (key p) u y) (sym f) ky)),
   )

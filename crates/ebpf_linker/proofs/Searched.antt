@@ -12,7 +12,7 @@ use Rattle.ebpf_linker.specs.Functions.{SlotReference, Nothing, Faulty, Names, A
 use Rattle.ebpf_linker.specs.Order.{Before, Simple, KeyPath, HasReferenceFault}
 use Rattle.ebpf_linker.specs.Numbered.{of_target}
 use Rattle.ebpf_linker.proofs.Following.{refs, AreSorted, rising}
-use Rattle.ebpf_linker.proofs.Paths.{before_trans, before_cases, distinct_front, distinct_more, last_of_last, walk_more, walk_same, walk_last}
+use Rattle.ebpf_linker.proofs.Paths.{before_trans, before_cases, among_get, get_among, distinct_front, distinct_more, last_of_last, nil_length, walk_more, walk_same, walk_last}
 use Rattle.ebpf_linker.proofs.Held.{get_more, get_back, get_end, at_index, indexed, rises_index, Found, found_up, found_more, AreDone, Held, held_entry}
 use Rattle.std.specs.Bool.{MatchBool}
 use Rattle.std.specs.Prelude.{slice_index_or, slice_set, MatchOption}
@@ -224,21 +224,11 @@ module _ (N : ℕ) (C : ℕ → List Call) (p : ℕ) where
 
   -- the end
 
-  pub among_place : (o : List ℕ) (k : ℕ) → Among o k → (j : ℕ) × (slice_get o j ≡ Some k)
-  among_place [] k a = absurd a
-  among_place (m ∷ o) k (inl e) = (0, ap Some e)
-  among_place (m ∷ o) k (inr a) = let (j, at) = among_place o k a in (suc j, at)
-
-  pub place_among : (o : List ℕ) (j k : ℕ) → slice_get o j ≡ Some k → Among o k
-  place_among [] j k at = cc
-  place_among (m ∷ o) zero k at = inl cc
-  place_among (m ∷ o) (suc j) k at = inr (place_among o j k at)
-
   -- no two places hold one number
   pub distinct_places : (o : List ℕ) → ((i j k : ℕ) → slice_get o i ≡ Some k → slice_get o j ≡ Some k → i ≡ j) → Distinct o
   distinct_places [] h = tt
   distinct_places (m ∷ o) h = (
-    λ a. let (j, at) = among_place o m a in let e = h 0 (suc j) m refl at in omega (arith, e),
+    λ a. let (j, at) = among_get o m a in let e = h 0 (suc j) m refl at in omega (arith, e),
     distinct_places o (λ i j k ai aj. let e = h (suc i) (suc j) k ai aj in omega (arith, e)),
   )
 
@@ -254,7 +244,7 @@ module _ (N : ℕ) (C : ℕ → List Call) (p : ℕ) where
 
   found_among : (ks : List ℕ) (k : ℕ) → Found (p ∷ ks) (length (p ∷ ks)) (Names k) → Among ks k
   found_among ks k (zero, pos, lt, at) = absurd (omega arith)
-  found_among ks k (suc j, pos, lt, at) = place_among ks j k at
+  found_among ks k (suc j, pos, lt, at) = get_among ks j k at
 
   names_among : (ks : List ℕ) (r : SlotReference ℕ Fault) → Found (p ∷ ks) (length (p ∷ ks)) r → (m : ℕ) × (r ≡ Names m) × Among ks m
   names_among ks Nothing h = absurd h
@@ -315,18 +305,14 @@ module _ (N : ℕ) (C : ℕ → List Call) (p : ℕ) where
   finished ks f h =
       record {
         once = distinct_places ks (λ i j k ai aj. let e = h.apart.apart (suc i) (suc j) k (omega arith) (omega arith) ai aj in omega (arith, e));
-        reached = λ k a. let (j, at) = among_place ks k a in reached_by k (h.firsts (suc j) k (omega arith) at);
+        reached = λ k a. let (j, at) = among_get ks k a in reached_by k (h.firsts (suc j) k (omega arith) at);
         complete = λ k r. found_among ks k (subst (λ (u : ℕ). Found (p ∷ ks) (length (p ∷ ks)) (Names u)) r.4 (walk_found (p ∷ ks) h.held 0 p r.1 r.2 r.0 refl r.3));
-        resolved = λ k x a some. let (j, at) = among_place (p ∷ ks) k a in names_among ks (refs C k x) (closed (p ∷ ks) h.held j k x at some);
+        resolved = λ k x a some. let (j, at) = among_get (p ∷ ks) k a in names_among ks (refs C k x) (closed (p ∷ ks) h.held j k x at some);
         order = (
-          λ k a. let (j, at) = among_place ks k a in let first = h.firsts (suc j) k (omega arith) at in (first.path, key_path (p ∷ ks) (suc j) k h.apart (omega arith) at first),
+          λ k a. let (j, at) = among_get ks k a in let first = h.firsts (suc j) k (omega arith) at in (first.path, key_path (p ∷ ks) (suc j) k h.apart (omega arith) at first),
           λ i j k m x y lt ai aj kx ky. in_order (p ∷ ks) (suc i) (suc j) k m x y h.apart (omega arith) (omega arith) ai aj (h.firsts (suc i) k (omega arith) ai) kx ky,
         );
       }
-
-  nil_length : {X : Type 0} (xs : List X) → length xs ≡ 0 → xs ≡ []
-  nil_length [] e = refl
-  nil_length (x ∷ xs) e = absurd (omega arith)
 
   pub begins_with : (o : List ℕ) (k : ℕ) → slice_get o 0 ≡ Some k → (ks : List ℕ) × (o ≡ k ∷ ks)
   begins_with [] k e = cc

@@ -12,7 +12,8 @@ use Rattle.ebpf_linker.specs.Functions.{Functions, Among}
 use Rattle.ebpf_linker.specs.Faults.{append_fault}
 use Rattle.ebpf_linker.specs.Steps.{Search, opened, StepTo}
 use Rattle.ebpf_linker.proofs.Readying.{all_within}
-use Rattle.ebpf_linker.proofs.Searched.{State, among_place, place_among}
+use Rattle.ebpf_linker.proofs.Paths.{among_get, get_among}
+use Rattle.ebpf_linker.proofs.Searched.{State}
 
 -- of n flags, those of the functions from place i on are left
 pub record Unmarking (n : ℕ) (ks : List ℕ) (flags : List Bool) (i : ℕ) : Type 0 where
@@ -52,10 +53,10 @@ module _ (n : ℕ) (ks : List ℕ) (flags : List Bool) (i : ℕ) where
 module _ {N : ℕ} {C : ℕ → List Call} {p : ℕ} {o : List ℕ} {f : List Bool} {s : List Open} (h : State N C p o f s) where
   -- what the search found are functions with flags, and no other has its flag set
   pub found_within : All (λ k. k < length f) o
-  found_within = all_within (length f) o (λ k a. let (j, at) = among_place N C p o k a in let lt = h.within j k at in omega (arith, lt, h.flags))
+  found_within = all_within (length f) o (λ k a. let (j, at) = among_get o k a in let lt = h.within j k at in omega (arith, lt, h.flags))
 
   pub set_among : (k : ℕ) → slice_index_or f k false ≡ true → Among o k
-  set_among k e = let (j, pos, lt, at) = h.marked k e in place_among N C p o j k at
+  set_among k e = let (j, pos, lt, at) = h.marked k e in get_among o j k at
 
 -- a fault leaves the search as it was
 module _ (F : Functions ℕ Fault) (top : Open) (s t : Search) (d : Fault) where
