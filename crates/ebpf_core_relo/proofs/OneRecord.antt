@@ -19,7 +19,8 @@ use Rattle.ebpf_core_relo.specs.Alone.{Carries, HasSlot, Touches, goes_on, recor
 use Rattle.ebpf_core_relo.specs.Carried.{written}
 use Rattle.ebpf_core_relo.specs.RecordFunctions.{spans_of}
 use Rattle.ebpf_core_relo.specs.Records.{RelocationInputs, Written, own_slots, put_outcome, record_applied, slots_so_far, slots_by}
-use Rattle.ebpf_core_relo.specs.SlotOutcomes.{CarriesAt, next_slot_written, carrying}
+use Rattle.ebpf_core_relo.specs.Carried.{carrying}
+use Rattle.ebpf_core_relo.specs.SlotOutcomes.{CarriesAt, next_slot_written}
 use Rattle.ebpf_core_relo.specs.Spans.{span_at}
 use Rattle.ebpf_core_relo.specs.declared.spans.Span.{Span}
 use Rattle.ebpf_parts.specs.declared.insn.bpf_insn.{bpf_insn}

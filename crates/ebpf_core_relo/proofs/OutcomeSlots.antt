@@ -10,8 +10,8 @@ use Rattle.ebpf_core.specs.declared.error.RelocationError.TheVariants.{InvalidIn
 use Rattle.ebpf_core.specs.declared.field.LoadedField.{LoadedField}
 use Rattle.ebpf_core.specs.declared.outcome.Outcome.{Outcome}
 use Rattle.ebpf_core_relo.specs.Alone.{goes_on}
-use Rattle.ebpf_core_relo.specs.Carried.{both_written, carried_by, carrier_of, carrier_of_class, is_wide_load, high_half, carried_at, may_resize, moved_code, value_written, poison, poisoned, resized, size_bits, written}
-use Rattle.ebpf_core_relo.specs.SlotOutcomes.{CarriesAt, WrittenSlotsCarry, next_slot_written, carrying}
+use Rattle.ebpf_core_relo.specs.Carried.{carried_by, carrier_of, carrier_of_class, carrying, carrying_next, high_half, is_wide_load, may_resize, moved_code, poison, resized, size_bits, takes_next, written}
+use Rattle.ebpf_core_relo.specs.SlotOutcomes.{CarriesAt, WrittenSlotsCarry, next_slot_written}
 use Rattle.ebpf_core_relo.specs.declared.carried.Carrier.{Carrier}
 use Rattle.ebpf_core_relo.specs.declared.carried.Carrier.TheVariants.{Immediate, Offset, WideLoad, Nothing}
 use Rattle.ebpf_parts.specs.Slots.{src_of}
@@ -57,121 +57,104 @@ ok_some (Err x) e = cc
 -- ---- a slot, and the one behind it
 
 module _ (i : ℕ) (outcome : Outcome) (before : List bpf_insn) (old new : bpf_insn) (was : slice_get before i ≡ Some old) (carries : carrying outcome.value old outcome ≡ Some new) where
-  one_slot : ((next : bpf_insn) → next_slot_written outcome.value old next ≡ next) → CarriesAt i outcome before (slice_set before i new)
-  one_slot stays = record {
+  -- what stands behind, by whether it is taken
+  behind : (b : Bool) → takes_next outcome.value old ≡ b → (x : bpf_insn) → next_slot_written outcome.value old x ≡ (if b then carrying_next outcome.value x else x)
+  behind b is x = ap (λ c. if c then carrying_next outcome.value x else x) is
+
+  one_slot : takes_next outcome.value old ≡ false → CarriesAt i outcome before (slice_set before i new)
+  one_slot alone = record {
     old = old;
     was = was;
     new = new;
     carries = carries;
     is = set_same before i new (slice_get_within before i old was);
-    next = set_other before i (i + 1) new (λ e. omega arith) ∙ sym (map_same (slice_get before (i + 1)) (next_slot_written outcome.value old) stays);
+    next = set_other before i (i + 1) new (λ e. omega arith) ∙ sym (map_same (slice_get before (i + 1)) (next_slot_written outcome.value old) (behind false alone));
     others = λ k a b. set_other before i k new a;
     as_many = length-set before i new;
   }
 
-  two_slots : (next : bpf_insn) (second : bpf_insn → bpf_insn) → slice_get before (i + 1) ≡ Some next → ((x : bpf_insn) → second x ≡ next_slot_written outcome.value old x)
-      → CarriesAt i outcome before (slice_set (slice_set before i new) (i + 1) (second next))
-  two_slots next second follows same =
+  two_slots : takes_next outcome.value old ≡ true → (next : bpf_insn) → slice_get before (i + 1) ≡ Some next
+      → CarriesAt i outcome before (slice_set (slice_set before i new) (i + 1) (carrying_next outcome.value next))
+  two_slots both next follows =
       let first = slice_set before i new in
+      let second = carrying_next outcome.value next in
       let inside : i + 1 < length first = rw (length-set before i new) (slice_get_within before (i + 1) next follows) in
       record {
         old = old;
         was = was;
         new = new;
         carries = carries;
-        is = set_other first (i + 1) i (second next) (λ e. omega arith) ∙ set_same before i new (slice_get_within before i old was);
-        next = set_same first (i + 1) (second next) inside ∙ ap Some (same next) ∙ sym (ap (option_map (next_slot_written outcome.value old)) follows);
-        others = λ k a b. set_other first (i + 1) k (second next) b ∙ set_other before i k new a;
-        as_many = length-set first (i + 1) (second next) ∙ length-set before i new;
+        is = set_other first (i + 1) i second (λ e. omega arith) ∙ set_same before i new (slice_get_within before i old was);
+        next = set_same first (i + 1) second inside ∙ ap Some (sym (behind true both next)) ∙ sym (ap (option_map (next_slot_written outcome.value old)) follows);
+        others = λ k a b. set_other first (i + 1) k second b ∙ set_other before i k new a;
+        as_many = length-set first (i + 1) second ∙ length-set before i new;
       }
 
-both_parts : (number : ℕ) (before after : List bpf_insn) (i : ℕ) (first : bpf_insn) (second : bpf_insn → bpf_insn) → both_written number before i first second ≡ Ok after
-    → (next : bpf_insn) × (slice_get before (i + 1) ≡ Some next) × (slice_set (slice_set before i first) (i + 1) (second next) ≡ after)
-both_parts number before after i first second e = go (slice_get before (i + 1)) refl e
-  where
-    go : (o : Option bpf_insn) → slice_get before (i + 1) ≡ o
-        → if_some o (λ next. Ok (slice_set (slice_set before i first) (i + 1) (second next))) (Err (InvalidInstructionIndex (i + 1) (length before) number)) ≡ Ok after
-        → (next : bpf_insn) × (slice_get before (i + 1) ≡ Some next) × (slice_set (slice_set before i first) (i + 1) (second next) ≡ after)
-    go None is e = cc
-    go (Some next) is e = (next, is, same_ok _ _ e)
+module _ (number : ℕ) (before : List bpf_insn) (i : ℕ) (outcome : Outcome) where
+  -- what is written, by the slot behind and whether it is taken
+  abbrev with_next : bpf_insn → Bool → Option bpf_insn → Result (List bpf_insn) RelocationError
+  with_next new two behind =
+      if two
+      then if_some behind (λ next. Ok (slice_set (slice_set before i new) (i + 1) (carrying_next outcome.value next))) (Err (InvalidInstructionIndex (i + 1) (length before) number))
+      else Ok (slice_set before i new)
 
-module _ (number : ℕ) (before after : List bpf_insn) (i : ℕ) (outcome : Outcome) (slot : bpf_insn) (was : slice_get before i ≡ Some slot) where
-  -- one slot or two, by a test
-  by_test : (b : Bool) (new : bpf_insn) (second : bpf_insn → bpf_insn) → carrying outcome.value slot outcome ≡ Some new
-      → ((x : bpf_insn) → next_slot_written outcome.value slot x ≡ (if b then second x else x))
-      → (if b then both_written number before i new second else Ok (slice_set before i new)) ≡ Ok after
-      → CarriesAt i outcome before after
-  by_test true new second carries same e =
-      let (next, follows, is) = both_parts number before after i new second e in
-      subst (CarriesAt i outcome before) is (two_slots i outcome before slot new was carries next second follows (λ x. sym (same x)))
-  by_test false new second carries same e = subst (CarriesAt i outcome before) (same_ok _ _ e) (one_slot i outcome before slot new was carries same)
+  abbrev with_new : bpf_insn → Option bpf_insn → Result (List bpf_insn) RelocationError
+  with_new slot o = if_some o (λ new. with_next new (takes_next outcome.value slot) (slice_get before (i + 1))) (Err (InvalidInstruction number i []))
 
-  by_carried : (n : ℕ) → outcome.value ≡ Some n → (c : Option bpf_insn) → carried_by (carrier_of slot) slot n outcome ≡ c
-      → if_some c (λ new. carried_at number before i slot new n) (Err (InvalidInstruction number i [])) ≡ Ok after → CarriesAt i outcome before after
-  by_carried n value None is e = cc
-  by_carried n value (Some new) is e =
-      by_test (is_wide_load (carrier_of slot)) new (λ x. record x { imm = high_half n })
-      (ap (λ v. carrying v slot outcome) value ∙ is)
-      (λ x. ap (λ v. next_slot_written v slot x) value) e
+  abbrev with_slot : Option bpf_insn → Result (List bpf_insn) RelocationError
+  with_slot o = if_some o (λ slot. with_new slot (carrying outcome.value slot outcome)) (Err (InvalidInstructionIndex i (length before) number))
 
-  by_value : (v : Option ℕ) → outcome.value ≡ v → if_some v (λ n. value_written number before i slot n outcome) (poisoned number before i slot) ≡ Ok after → CarriesAt i outcome before after
-  by_value None value e =
-      by_test (slot.code == 0x18) poison (λ x. poison) (ap (λ v. carrying v slot outcome) value) (λ x. ap (λ v. next_slot_written v slot x) value) e
-  by_value (Some n) value e = by_carried n value (carried_by (carrier_of slot) slot n outcome) refl e
+  by_next : (after : List bpf_insn) (old new : bpf_insn) → slice_get before i ≡ Some old → carrying outcome.value old outcome ≡ Some new
+      → (two : Bool) → takes_next outcome.value old ≡ two → (o : Option bpf_insn) → slice_get before (i + 1) ≡ o → with_next new two o ≡ Ok after → CarriesAt i outcome before after
+  by_next after old new was carries true both None follows e = cc
+  by_next after old new was carries true both (Some next) follows e =
+      subst (CarriesAt i outcome before) (same_ok _ _ e) (two_slots i outcome before old new was carries both next follows)
+  by_next after old new was carries false alone o follows e = subst (CarriesAt i outcome before) (same_ok _ _ e) (one_slot i outcome before old new was carries alone)
+
+  by_new : (after : List bpf_insn) (old : bpf_insn) → slice_get before i ≡ Some old → (o : Option bpf_insn) → carrying outcome.value old outcome ≡ o
+      → with_new old o ≡ Ok after → CarriesAt i outcome before after
+  by_new after old was None carries e = cc
+  by_new after old was (Some new) carries e = by_next after old new was carries (takes_next outcome.value old) refl (slice_get before (i + 1)) refl e
+
+  by_slot : (after : List bpf_insn) (o : Option bpf_insn) → slice_get before i ≡ o → with_slot o ≡ Ok after → CarriesAt i outcome before after
+  by_slot after None was e = cc
+  by_slot after (Some old) was e = by_new after old was (carrying outcome.value old outcome) refl e
 
 pub written_slots_carry : WrittenSlotsCarry
 unfolding written
-written_slots_carry number before after i outcome e = by_slot (slice_get before i) refl e
-  where
-    by_slot : (o : Option bpf_insn) → slice_get before i ≡ o
-        → if_some o (λ slot. if_some outcome.value (λ n. value_written number before i slot n outcome) (poisoned number before i slot)) (Err (InvalidInstructionIndex i (length before) number)) ≡ Ok after
-        → CarriesAt i outcome before after
-    by_slot None is e = cc
-    by_slot (Some slot) is e = by_value number before after i outcome slot is outcome.value refl e
+written_slots_carry number before after i outcome e = by_slot number before i outcome after (slice_get before i) refl e
 
 -- ---- whether an outcome can be written
 
 -- by its slot, and whether there is one behind it
-carried_at_tells : Option bpf_insn → bpf_insn → Bool → Bool
-carried_at_tells None slot more = false
-carried_at_tells (Some new) slot more = if is_wide_load (carrier_of slot) then more else true
+new_tells : Outcome → bpf_insn → Bool → Option bpf_insn → Bool
+new_tells outcome slot more None = false
+new_tells outcome slot more (Some new) = if takes_next outcome.value slot then more else true
 
-value_tells : Option ℕ → bpf_insn → Outcome → Bool → Bool
-value_tells None slot outcome more = if slot.code == 0x18 then more else true
-value_tells (Some n) slot outcome more = carried_at_tells (carried_by (carrier_of slot) slot n outcome) slot more
-
-slot_tells : Option bpf_insn → Outcome → Bool → Bool
-slot_tells None outcome more = false
-slot_tells (Some slot) outcome more = value_tells outcome.value slot outcome more
+slot_tells : Outcome → Bool → Option bpf_insn → Bool
+slot_tells outcome more None = false
+slot_tells outcome more (Some slot) = new_tells outcome slot more (carrying outcome.value slot outcome)
 
 module _ (number : ℕ) (before : List bpf_insn) (i : ℕ) (outcome : Outcome) where
   abbrev more : Bool
   more = is_some (slice_get before (i + 1))
 
-  ok_both : (b : Bool) (o : Option bpf_insn) (two : bpf_insn → List bpf_insn) (one : List bpf_insn) (fault : RelocationError)
-      → is_ok (if b then if_some o (λ x. Ok (two x)) (Err fault) else Ok one) ≡ (if b then is_some o else true)
-  ok_both true None two one fault = refl
-  ok_both true (Some x) two one fault = refl
-  ok_both false o two one fault = refl
+  ok_next : (new : bpf_insn) (two : Bool) (o : Option bpf_insn) → is_ok (with_next number before i outcome new two o) ≡ (if two then is_some o else true)
+  ok_next new true None = refl
+  ok_next new true (Some next) = refl
+  ok_next new false o = refl
 
-  ok_carried_at : (slot : bpf_insn) (n : ℕ) (c : Option bpf_insn) → is_ok (if_some c (λ new. carried_at number before i slot new n) (Err (InvalidInstruction number i []))) ≡ carried_at_tells c slot more
-  unfolding carried_at_tells
-  ok_carried_at slot n None = refl
-  ok_carried_at slot n (Some new) = ok_both (is_wide_load (carrier_of slot)) (slice_get before (i + 1)) _ _ _
+  ok_new : (slot : bpf_insn) (o : Option bpf_insn) → is_ok (with_new number before i outcome slot o) ≡ new_tells outcome slot more o
+  unfolding new_tells
+  ok_new slot None = refl
+  ok_new slot (Some new) = ok_next new (takes_next outcome.value slot) (slice_get before (i + 1))
 
-  ok_value : (slot : bpf_insn) (v : Option ℕ) → is_ok (if_some v (λ n. value_written number before i slot n outcome) (poisoned number before i slot)) ≡ value_tells v slot outcome more
-  unfolding value_tells
-  ok_value slot None = ok_both (slot.code == 0x18) (slice_get before (i + 1)) _ _ _
-  ok_value slot (Some n) = ok_carried_at slot n (carried_by (carrier_of slot) slot n outcome)
-
-  ok_slot : (o : Option bpf_insn)
-      → is_ok (if_some o (λ slot. if_some outcome.value (λ n. value_written number before i slot n outcome) (poisoned number before i slot)) (Err (InvalidInstructionIndex i (length before) number)))
-      ≡ slot_tells o outcome more
+  ok_slot : (o : Option bpf_insn) → is_ok (with_slot number before i outcome o) ≡ slot_tells outcome more o
   unfolding slot_tells
   ok_slot None = refl
-  ok_slot (Some slot) = ok_value slot outcome.value
+  ok_slot (Some slot) = ok_new slot (carrying outcome.value slot outcome)
 
-  ok_written : is_ok (written number before i outcome) ≡ slot_tells (slice_get before i) outcome more
+  ok_written : is_ok (written number before i outcome) ≡ slot_tells outcome more (slice_get before i)
   unfolding written
   ok_written = ok_slot (slice_get before i)
 
@@ -181,8 +164,8 @@ pub written_too : (number : ℕ) (before own after : List bpf_insn) (i : ℕ) (o
 written_too number before own after i outcome e slot as_many =
     ok_some (written number own i outcome)
     (ok_written number own i outcome
-    ∙ sym (ap (slot_tells (slice_get own i) outcome) (same_places before own (i + 1) as_many))
-    ∙ sym (ap (λ o. slot_tells o outcome (is_some (slice_get before (i + 1)))) slot)
+    ∙ sym (ap (λ more. slot_tells outcome more (slice_get own i)) (same_places before own (i + 1) as_many))
+    ∙ sym (ap (slot_tells outcome (is_some (slice_get before (i + 1)))) slot)
     ∙ sym (ok_written number before i outcome)
     ∙ ap is_ok e)
 

@@ -85,41 +85,39 @@ carried_by Nothing slot number outcome = None
 abbrev pub poison : bpf_insn
 poison = record { code = call; regs = 0; off = pos 0; imm = pos 195896080 }
 
--- ---- the slots of a function
-
--- slot i, and where there are two, the one behind it as well; a second one that is not there is a fault
-abbrev pub both_written : ℕ → List bpf_insn → ℕ → bpf_insn → (bpf_insn → bpf_insn) → Result (List bpf_insn) RelocationError
-both_written record_number slots i first second =
-    if_some (slice_get slots (i + 1))
-    (λ next. Ok (slice_set (slice_set slots i first) (i + 1) (second next)))
-    (Err (InvalidInstructionIndex (i + 1) (length slots) record_number))
-
--- a load of a number of 64 bits takes two slots
-abbrev pub poisoned : ℕ → List bpf_insn → ℕ → bpf_insn → Result (List bpf_insn) RelocationError
-poisoned record_number slots i slot =
-    if slot.code == ld_imm64 then both_written record_number slots i poison (λ next. poison) else Ok (slice_set slots i poison)
-
 abbrev pub is_wide_load : Carrier → Bool
 is_wide_load WideLoad = true
 is_wide_load _ = false
 
--- a slot that carries a number, and of a wide load the one behind it
-abbrev pub carried_at : ℕ → List bpf_insn → ℕ → bpf_insn → bpf_insn → ℕ → Result (List bpf_insn) RelocationError
-carried_at record_number slots i slot carrying number =
-    if is_wide_load (carrier_of slot)
-    then both_written record_number slots i carrying (λ next. record next { imm = high_half number })
-    else Ok (slice_set slots i carrying)
+-- what a slot becomes that carries an outcome, if it can: by its class with a number, without one what fails where it is
+-- reached
+abbrev pub carrying : Option ℕ → bpf_insn → Outcome → Option bpf_insn
+carrying None slot outcome = Some poison
+carrying (Some number) slot outcome = carried_by (carrier_of slot) slot number outcome
 
-abbrev pub value_written : ℕ → List bpf_insn → ℕ → bpf_insn → ℕ → Outcome → Result (List bpf_insn) RelocationError
-value_written record_number slots i slot number outcome =
-    if_some (carried_by (carrier_of slot) slot number outcome)
-    (λ carrying. carried_at record_number slots i slot carrying number)
-    (Err (InvalidInstruction record_number i []))
+-- ---- the slots of a function
 
--- The slots of a function of which slot i carries the outcome of the record with a number. Slot i is there; of a
--- function without it the answer is the fault of a slot that is not there.
+-- whether the slot behind carries an outcome too: a load of a number of 64 bits takes two
+abbrev pub takes_next : Option ℕ → bpf_insn → Bool
+takes_next None slot = slot.code == ld_imm64
+takes_next (Some number) slot = is_wide_load (carrier_of slot)
+
+-- what that slot becomes
+abbrev pub carrying_next : Option ℕ → bpf_insn → bpf_insn
+carrying_next None next = poison
+carrying_next (Some number) next = record next { imm = high_half number }
+
+-- The slots of a function of which slot i carries the outcome of the record with a number. The faults in order: there is
+-- no slot i, it can't carry the outcome, or one behind it that is to carry it too is not there.
 unfoldable pub written : ℕ → List bpf_insn → ℕ → Outcome → Result (List bpf_insn) RelocationError
 written record_number slots i outcome =
     if_some (slice_get slots i)
-    (λ slot. if_some outcome.value (λ number. value_written record_number slots i slot number outcome) (poisoned record_number slots i slot))
+    (λ slot. if_some (carrying outcome.value slot outcome)
+    (λ new.
+    if takes_next outcome.value slot
+    then if_some (slice_get slots (i + 1))
+    (λ next. Ok (slice_set (slice_set slots i new) (i + 1) (carrying_next outcome.value next)))
+    (Err (InvalidInstructionIndex (i + 1) (length slots) record_number))
+    else Ok (slice_set slots i new))
+    (Err (InvalidInstruction record_number i [])))
     (Err (InvalidInstructionIndex i (length slots) record_number))

@@ -1,19 +1,12 @@
 -- An outcome in the slots of a function, slot by slot.
-use Rattle.std.specs.Prelude.{◌≡◌, ◌≢◌, ℕ, ◌+◌, ◌==◌, List, length, Option, Some, None, option_map, Ok, slice_get, if◌then◌else◌}
+use Rattle.std.specs.Prelude.{◌≡◌, ◌≢◌, ℕ, ◌+◌, List, length, Option, Some, None, option_map, Ok, slice_get, if◌then◌else◌}
 use Rattle.ebpf_core.specs.declared.outcome.Outcome.{Outcome}
-use Rattle.ebpf_core_relo.specs.Carried.{carried_by, carrier_of, high_half, is_wide_load, poison, written}
+use Rattle.ebpf_core_relo.specs.Carried.{carrying, carrying_next, takes_next, written}
 use Rattle.ebpf_parts.specs.declared.insn.bpf_insn.{bpf_insn}
-use Rattle.ebpf_parts.specs.Opcodes.{ld_imm64}
 
--- a slot that carries an outcome: its number as the slot's class has it, or without one what fails where it is reached
-abbrev pub carrying : Option ℕ → bpf_insn → Outcome → Option bpf_insn
-carrying None slot outcome = Some poison
-carrying (Some number) slot outcome = carried_by (carrier_of slot) slot number outcome
-
--- the slot behind it: the upper half of the number of a wide load, or the second slot of one that fails
+-- the slot behind one that carries an outcome, where it is to carry it too
 abbrev pub next_slot_written : Option ℕ → bpf_insn → bpf_insn → bpf_insn
-next_slot_written None slot next = if slot.code == ld_imm64 then poison else next
-next_slot_written (Some number) slot next = if is_wide_load (carrier_of slot) then record next { imm = high_half number } else next
+next_slot_written value slot next = if takes_next value slot then carrying_next value next else next
 
 -- the slots of a function of which slot i carries an outcome, slot by slot
 pub record CarriesAt (i : ℕ) (outcome : Outcome) (before after : List bpf_insn) : Type 0 where

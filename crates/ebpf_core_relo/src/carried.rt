@@ -1,11 +1,11 @@
 //! Slots that carry the outcome of a record.
 
-ghost use Rattle.std.specs.Prelude.{◌≡◌, ◌<◌, ◌≤◌, ⊤, MatchBool, [], length, slice_index_or, Some, Ok, Err, IfErr, IfOk, IfSome};
+ghost use Rattle.std.specs.Prelude.{◌≡◌, ◌<◌, ◌≤◌, ⊤, MatchBool, [], length, Ok, Err, IfErr, IfOk, IfSome};
 ghost use Rattle.ebpf_core.specs.Answers.{Tells, without_texts};
 ghost use Rattle.ebpf_core.specs.Memory.{is_record_memory};
 ghost use Rattle.ebpf_core.specs.declared.error.RelocationError.TheVariants as errors;
 ghost use Rattle.ebpf_core_relo.specs.Carrying.{HasRoom, put_at};
-ghost use Rattle.ebpf_core_relo.specs.Carried.{carrier_of, carried_by, high_half, carried_at, low_half, may_resize, moved_code, poison, poisoned, resized, resized_to, size_bits, with_offset, written};
+ghost use Rattle.ebpf_core_relo.specs.Carried.{carrier_of, carried_by, carrying, carrying_next, high_half, low_half, may_resize, moved_code, poison, resized, resized_to, size_bits, takes_next, with_offset, written};
 
 use ebpf_base::Text;
 use ebpf_core::{FieldClass, LoadedField, Outcome, RelocationError};
@@ -131,6 +131,18 @@ fn with_offset(slot: bpf_insn, number: u64, outcome: &Outcome) -> Option<bpf_ins
     })
 }
 
+/// A slot that fails where it is reached.
+fn poison() -> bpf_insn
+    ensures { result ≡ poison }
+{
+    bpf_insn {
+        code: CALL,
+        regs: 0,
+        off: 0,
+        imm: 195_896_080,
+    }
+}
+
 /// A slot that carries a number, if it can.
 #[tactic(auto, unfolding(crate::specs::Carried::carried_by))]
 fn carried(slot: bpf_insn, number: u64, outcome: &Outcome) -> Option<bpf_insn>
@@ -147,15 +159,36 @@ fn carried(slot: bpf_insn, number: u64, outcome: &Outcome) -> Option<bpf_insn>
     }
 }
 
-/// A slot that fails where it is reached.
-fn poison() -> bpf_insn
-    ensures { result ≡ poison }
+/// What a slot becomes that carries an outcome, if it can.
+fn carrying(slot: bpf_insn, outcome: &Outcome) -> Option<bpf_insn>
+    ensures { result ≡ carrying outcome.now.value slot outcome.now }
 {
-    bpf_insn {
-        code: CALL,
-        regs: 0,
-        off: 0,
-        imm: 195_896_080,
+    match outcome.value {
+        Some(number) => carried(slot, number, outcome),
+        None => Some(poison()),
+    }
+}
+
+/// Whether the slot behind carries an outcome too.
+fn takes_next(value: Option<u64>, slot: &bpf_insn) -> bool
+    ensures { result ≡ takes_next value slot.now }
+{
+    match value {
+        Some(_) => carrier_of(slot) == Carrier::WideLoad,
+        None => slot.code == LD_IMM64,
+    }
+}
+
+/// What that slot becomes.
+fn carrying_next(value: Option<u64>, next: bpf_insn) -> bpf_insn
+    ensures { result ≡ carrying_next value next }
+{
+    match value {
+        Some(number) => bpf_insn {
+            imm: high_half(number),
+            ..next
+        },
+        None => poison(),
     }
 }
 
@@ -199,61 +232,6 @@ pub struct CarryingSlots {
     pub next: Option<bpf_insn>,
 }
 
-/// A slot that fails where it is reached, and where it is a wide load the one behind it.
-fn poisoned(
-    slots: &[bpf_insn],
-    at: usize,
-    record_number: usize,
-) -> Result<CarryingSlots, RelocationError>
-    requires { at < length slots.now }
-    ensures slots { IfOk result (λ carrying. poisoned record_number slots.now at (slice_index_or slots.now at poison) ≡ Ok (put_at slots.now at carrying)) }
-    ensures there { IfOk result (λ carrying. HasRoom slots.now at carrying.next) }
-    ensures fault { IfErr result (λ e. poisoned record_number slots.now at (slice_index_or slots.now at poison) ≡ Err (without_texts e)) }
-{
-    if slots[at].code != LD_IMM64 {
-        return Ok(CarryingSlots {
-            slot: poison(),
-            next: None,
-        });
-    }
-    if at + 1 >= slots.len() {
-        return missing_slot(slots, at + 1, record_number);
-    }
-    Ok(CarryingSlots {
-        slot: poison(),
-        next: Some(poison()),
-    })
-}
-
-/// A slot that carries a number, and of a wide load the one behind it.
-fn carried_at(
-    slots: &[bpf_insn],
-    at: usize,
-    record_number: usize,
-    slot: bpf_insn,
-    number: u64,
-) -> Result<CarryingSlots, RelocationError>
-    requires { at < length slots.now }
-    ensures slots { IfOk result (λ carrying. carried_at record_number slots.now at (slice_index_or slots.now at poison) slot number ≡ Ok (put_at slots.now at carrying)) }
-    ensures there { IfOk result (λ carrying. HasRoom slots.now at carrying.next) }
-    ensures fault { IfErr result (λ e. carried_at record_number slots.now at (slice_index_or slots.now at poison) slot number ≡ Err (without_texts e)) }
-{
-    if carrier_of(&slots[at]) != Carrier::WideLoad {
-        return Ok(CarryingSlots { slot, next: None });
-    }
-    if at + 1 >= slots.len() {
-        return missing_slot(slots, at + 1, record_number);
-    }
-    let next = bpf_insn {
-        imm: high_half(number),
-        ..slots[at + 1]
-    };
-    Ok(CarryingSlots {
-        slot,
-        next: Some(next),
-    })
-}
-
 /// What a record that came to an outcome makes of slot `at` of a function. Nothing is written.
 ///
 /// # Errors
@@ -277,14 +255,23 @@ pub fn carrying_slots(
     let Some(slot) = slots.get(at) else {
         return missing_slot(slots, at, record_number);
     };
-    let slot = *slot;
-    let Some(number) = outcome.value else {
-        return poisoned(slots, at, record_number);
-    };
-    let Some(carrying) = carried(slot, number, outcome) else {
+    let Some(carrying) = carrying(*slot, outcome) else {
+        let number = outcome.value.unwrap_or(0);
         return no_carrier(alloc, at, record_number, slot.code, number);
     };
-    carried_at(slots, at, record_number, carrying, number)
+    if !takes_next(outcome.value, slot) {
+        return Ok(CarryingSlots {
+            slot: carrying,
+            next: None,
+        });
+    }
+    let Some(next) = slots.get(at + 1) else {
+        return missing_slot(slots, at + 1, record_number);
+    };
+    Ok(CarryingSlots {
+        slot: carrying,
+        next: Some(carrying_next(outcome.value, *next)),
+    })
 }
 
 /// Writes what a record makes of slot `at` of a function.

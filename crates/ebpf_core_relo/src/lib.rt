@@ -2,7 +2,6 @@
 #![tactic(auto)]
 
 mod absence;
-mod absences;
 mod carried;
 mod error;
 mod function_spans;
@@ -11,6 +10,7 @@ pub mod laws;
 mod memory;
 mod outcomes;
 mod record_outcome;
+mod record_search;
 mod records;
 mod relocate;
 mod runs;

@@ -2,21 +2,20 @@
 
 ghost use Rattle.std.specs.Prelude.{◌≡◌, [], ◌∷◌, ◌++◌, map, None, Ok, IfOk, OnOk};
 ghost use Rattle.ebpf_core.specs.Sides.{Sides};
-ghost use Rattle.ebpf_core_relo.specs.RecordOutcomes.{outcome_result, applied, left_by, named_in, named_records, outcome_in, outcomes_from, record_outcomes, record_slots, result_in, section_number_at, slot_of_record, slots_left, outcome_without_texts, result_without_texts};
+ghost use Rattle.ebpf_core_relo.specs.RecordOutcomes.{applied, left_by, named_in, named_records, outcome_in, outcomes_from, record_outcomes, record_slots, section_number_at, slot_of_record, slots_left, outcome_without_texts};
 ghost use Rattle.ebpf_core_relo.specs.Records.{relocation_inputs_between, relocation_inputs};
 ghost use Rattle.ebpf_core_relo.specs.Sections.{found_number};
 ghost use Rattle.ebpf_core_relo.specs.declared.record_outcome.RecordResult.TheVariants.{Refused};
 
-use crate::absences::Absences;
 use crate::function_spans::FunctionSpans;
-use crate::memory::{unless_memory, unless_memory_of_types};
+use crate::memory::unless_memory_of_types;
 use crate::record_outcome::{RecordOutcome, RecordOutcomes, RecordResult, RecordSlot};
-use crate::records::apply_record;
+use crate::record_search::RecordSearch;
 use crate::section_spans::span_in;
 use crate::spans::SLOT;
 use ebpf_base::{ByKey, ByName, Items};
 use ebpf_btf::{Btf, BtfError};
-use ebpf_core::{CoreSearch, Outcome, RelocationError};
+use ebpf_core::RelocationError;
 use ebpf_elf::SectionIndex;
 use ebpf_ext::{BtfExt, Relocation};
 use ebpf_model::Function;
@@ -79,45 +78,6 @@ fn slot_of_record(
     })
 }
 
-/// A record with an outcome, by why it has no value where it has none.
-fn outcome_result(
-    alloc: Global,
-    absences: &mut Absences<'_>,
-    relocation: &Relocation,
-    outcome: Outcome,
-) -> Result<RecordResult, AllocError>
-    ensures outcome_result { IfOk result (λ answer. answer ≡ outcome_result absences.old relocation.now outcome) }
-    ensures stays { absences.new ≡ absences.old }
-{
-    if outcome.value.is_some() {
-        return Ok(RecordResult::Value(outcome));
-    }
-    let absence = absences.absence(alloc, relocation)?;
-    Ok(RecordResult::Absent(absence))
-}
-
-/// What a record of a section comes to. Where it is refused nothing is written.
-fn result_in(
-    alloc: Global,
-    search: &mut CoreSearch<'_>,
-    absences: &mut Absences<'_>,
-    function_spans: &FunctionSpans<'_>,
-    section: usize,
-    written: &mut ByKey<Items<bpf_insn>>,
-    relocation: &Relocation,
-) -> Result<RecordResult, AllocError>
-    requires { absences.old ≡ search.old }
-    ensures outcome_result { IfOk result (λ answer. result_without_texts answer ≡ result_in (relocation_inputs search.old function_spans.now.functions.now function_spans.now.section_infos.now) (Ok section) written.old relocation.now) }
-    ensures written { OnOk result (written.new ≡ left_by written.old (applied (relocation_inputs search.old function_spans.now.functions.now function_spans.now.section_infos.now) (Ok section) written.old relocation.now)) }
-    ensures search { search.new ≡ search.old }
-    ensures absences { absences.new ≡ absences.old }
-{
-    match apply_record(alloc, search, function_spans, section, written, relocation) {
-        Ok(outcome) => outcome_result(alloc, absences, relocation, outcome),
-        Err(fault) => Ok(RecordResult::Refused(unless_memory(fault)?)),
-    }
-}
-
 /// What a record comes to whose section is not found.
 fn unplaced(name: u32, relocation: &Relocation, fault: RelocationError) -> RecordOutcome
     ensures { result ≡ record { section_name = name; number = relocation.now.number; slot = None; result = Refused fault } }
@@ -133,30 +93,19 @@ fn unplaced(name: u32, relocation: &Relocation, fault: RelocationError) -> Recor
 /// What a record of a section comes to, with its slot.
 fn outcome_in(
     alloc: Global,
-    search: &mut CoreSearch<'_>,
-    absences: &mut Absences<'_>,
+    search: &mut RecordSearch<'_>,
     function_spans: &FunctionSpans<'_>,
     section: NamedSection,
     written: &mut ByKey<Items<bpf_insn>>,
     relocation: &Relocation,
 ) -> Result<RecordOutcome, AllocError>
-    requires { absences.old ≡ search.old }
     ensures outcome { IfOk result (λ outcome. outcome_without_texts outcome ≡ outcome_in (relocation_inputs search.old function_spans.now.functions.now function_spans.now.section_infos.now) section.name (found_number section.found) written.old relocation.now) }
     ensures written { OnOk result (written.new ≡ left_by written.old (applied (relocation_inputs search.old function_spans.now.functions.now function_spans.now.section_infos.now) (found_number section.found) written.old relocation.now)) }
     ensures search { search.new ≡ search.old }
-    ensures absences { absences.new ≡ absences.old }
 {
     match section.found {
         FoundSection::Number(number) => {
-            let result = result_in(
-                alloc,
-                search,
-                absences,
-                function_spans,
-                number,
-                written,
-                relocation,
-            )?;
+            let result = search.result_in(alloc, function_spans, number, written, relocation)?;
             Ok(RecordOutcome {
                 section_name: section.name,
                 number: relocation.number,
@@ -179,23 +128,19 @@ fn outcome_in(
 /// Adds what a record of a section comes to.
 fn add_record(
     alloc: Global,
-    search: &mut CoreSearch<'_>,
-    absences: &mut Absences<'_>,
+    search: &mut RecordSearch<'_>,
     function_spans: &FunctionSpans<'_>,
     section: NamedSection,
     relocation: &Relocation,
     outcomes: &mut RecordOutcomes,
 ) -> Result<(), AllocError>
-    requires { absences.old ≡ search.old }
     ensures records { OnOk result (map outcome_without_texts outcomes.new.records ≡ map outcome_without_texts outcomes.old.records ++ outcome_in (relocation_inputs search.old function_spans.now.functions.now function_spans.now.section_infos.now) section.name (found_number section.found) outcomes.old.written relocation.now ∷ []) }
     ensures written { OnOk result (outcomes.new.written ≡ left_by outcomes.old.written (applied (relocation_inputs search.old function_spans.now.functions.now function_spans.now.section_infos.now) (found_number section.found) outcomes.old.written relocation.now)) }
     ensures search { search.new ≡ search.old }
-    ensures absences { absences.new ≡ absences.old }
 {
     let outcome = outcome_in(
         alloc,
         search,
-        absences,
         function_spans,
         section,
         &mut outcomes.written,
@@ -208,30 +153,19 @@ fn add_record(
 /// Adds what the records of a section come to, in order.
 fn add_records(
     alloc: Global,
-    search: &mut CoreSearch<'_>,
-    absences: &mut Absences<'_>,
+    search: &mut RecordSearch<'_>,
     function_spans: &FunctionSpans<'_>,
     section: NamedSection,
     relocations: &[Relocation],
     outcomes: &mut RecordOutcomes,
 ) -> Result<(), AllocError>
-    requires sides { absences.old ≡ search.old }
-    requires section { found_number section.found ≡ section_number_at search.old.local function_spans.now.section_infos.now section.name }
+    requires { found_number section.found ≡ section_number_at search.old.local function_spans.now.section_infos.now section.name }
     ensures records { OnOk result (map outcome_without_texts outcomes.new.records ≡ map outcome_without_texts outcomes.old.records ++ outcomes_from (relocation_inputs search.old function_spans.now.functions.now function_spans.now.section_infos.now) outcomes.old.written (named_in section.name relocations.now)) }
     ensures written { OnOk result (outcomes.new.written ≡ slots_left (relocation_inputs search.old function_spans.now.functions.now function_spans.now.section_infos.now) outcomes.old.written (named_in section.name relocations.now)) }
     ensures search { search.new ≡ search.old }
-    ensures absences { absences.new ≡ absences.old }
 {
     for relocation in relocations {
-        add_record(
-            alloc,
-            search,
-            absences,
-            function_spans,
-            section,
-            relocation,
-            outcomes,
-        )?;
+        add_record(alloc, search, function_spans, section, relocation, outcomes)?;
     }
     Ok(())
 }
@@ -239,15 +173,13 @@ fn add_records(
 /// Adds what all records come to, section by section.
 fn add_sections(
     alloc: Global,
-    search: &mut CoreSearch<'_>,
-    absences: &mut Absences<'_>,
+    search: &mut RecordSearch<'_>,
     function_spans: &FunctionSpans<'_>,
     local: &Btf,
     sections: &[(u32, Items<Relocation>)],
     outcomes: &mut RecordOutcomes,
 ) -> Result<(), AllocError>
-    requires sides { absences.old ≡ search.old }
-    requires local { search.old.local ≡ local.now }
+    requires { search.old.local ≡ local.now }
     ensures records { OnOk result (map outcome_without_texts outcomes.new.records ≡ map outcome_without_texts outcomes.old.records ++ outcomes_from (relocation_inputs search.old function_spans.now.functions.now function_spans.now.section_infos.now) outcomes.old.written (named_records sections.now)) }
     ensures written { OnOk result (outcomes.new.written ≡ slots_left (relocation_inputs search.old function_spans.now.functions.now function_spans.now.section_infos.now) outcomes.old.written (named_records sections.now)) }
 {
@@ -260,7 +192,6 @@ fn add_sections(
         add_records(
             alloc,
             search,
-            absences,
             function_spans,
             section,
             relocations,
@@ -294,8 +225,7 @@ pub fn record_outcomes(
     ensures written { IfOk result (λ outcomes. outcomes.written ≡ record_slots (relocation_inputs_between local.now target.now functions.now section_infos.now) relocations.now.relocations) }
 {
     let function_spans = FunctionSpans::new(alloc, functions, section_infos)?;
-    let mut search = CoreSearch::new(alloc, local, target);
-    let mut absences = Absences::new(alloc, local, target);
+    let mut search = RecordSearch::new(alloc, local, target);
     let mut outcomes = RecordOutcomes {
         records: Items::new(alloc),
         written: ByKey::new(alloc),
@@ -303,7 +233,6 @@ pub fn record_outcomes(
     add_sections(
         alloc,
         &mut search,
-        &mut absences,
         &function_spans,
         local,
         relocations.relocations(),

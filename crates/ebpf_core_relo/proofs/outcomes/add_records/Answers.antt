@@ -11,14 +11,13 @@ loop-relocation-preserved c =
     let before = c.loop-relocation in
     record {
       search = c.in_ok-add_record.ensures.search ∙ before.invariant.search;
-      absences = c.in_ok-add_record.ensures.absences ∙ before.invariant.absences;
       records =
-          record_more (inputs c.args.search.now) (inputs before.search) (ap inputs before.invariant.search) c.args.section.name (found_number c.args.section.found) c.requires.section
+          record_more (inputs c.args.search.now) (inputs before.search) (ap inputs before.invariant.search) c.args.section.name (found_number c.args.section.found) c.requires
           c.args.relocations.now before.relocation-index _ (rest_at c.args.relocations.now before.relocation-index _ c.loop-relocation-test.true)
           before.outcomes.written c.add_record.new.outcomes.written c.in_ok-add_record.ensures.written _ _ c.in_ok-add_record.ensures.records
           ∙ before.invariant.records;
       written =
-          slots_more (inputs c.args.search.now) (inputs before.search) (ap inputs before.invariant.search) c.args.section.name (found_number c.args.section.found) c.requires.section
+          slots_more (inputs c.args.search.now) (inputs before.search) (ap inputs before.invariant.search) c.args.section.name (found_number c.args.section.found) c.requires
           c.args.relocations.now before.relocation-index _ (rest_at c.args.relocations.now before.relocation-index _ c.loop-relocation-test.true)
           before.outcomes.written c.add_record.new.outcomes.written c.in_ok-add_record.ensures.written
           ∙ before.invariant.written;

@@ -9,7 +9,6 @@ invariant-loop-relocation l =
     let inputs = relocation_inputs l.fn.search l.function_spans.functions.now l.function_spans.section_infos.now in
     record {
       search : l.search ≡ l.fn.search;
-      absences : l.absences ≡ l.fn.absences;
       records : map outcome_without_texts l.outcomes.records ++ outcomes_from inputs l.outcomes.written (named_in l.section.name (drop l.relocation-index l.relocations))
           ≡ map outcome_without_texts l.fn.outcomes.records ++ outcomes_from inputs l.fn.outcomes.written (named_in l.section.name l.relocations);
       written : slots_left inputs l.outcomes.written (named_in l.section.name (drop l.relocation-index l.relocations))

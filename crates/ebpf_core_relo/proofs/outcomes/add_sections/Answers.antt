@@ -12,7 +12,6 @@ loop-part-preserved c =
     let here = rest_more c.args.sections.now before.part-index c.part-item.result c.loop-part-test.true c.part-item.is in
     record {
       search = c.in_ok-add_records.ensures.search ∙ before.invariant.search;
-      absences = c.in_ok-add_records.ensures.absences ∙ before.invariant.absences;
       records =
           section_more (inputs c.args.search.now) (inputs before.search) (ap inputs before.invariant.search) c.args.sections.now before.part-index c.part-item.result here
           c.as_slice-relocations.result.now c.as_slice-relocations.ensures before.outcomes.written c.add_records.new.outcomes.written c.in_ok-add_records.ensures.written _ _ c.in_ok-add_records.ensures.records

@@ -9,7 +9,6 @@ invariant-loop-part l =
     let inputs = relocation_inputs l.fn.search l.function_spans.functions.now l.function_spans.section_infos.now in
     record {
       search : l.search ≡ l.fn.search;
-      absences : l.absences ≡ l.fn.absences;
       records : map outcome_without_texts l.outcomes.records ++ outcomes_from inputs l.outcomes.written (named_records (drop l.part-index l.sections))
           ≡ map outcome_without_texts l.fn.outcomes.records ++ outcomes_from inputs l.fn.outcomes.written (named_records l.sections);
       written : slots_left inputs l.outcomes.written (named_records (drop l.part-index l.sections))

@@ -1,0 +1,173 @@
+//! Records over the types of a kernel, with the reasons of those that have no value.
+
+ghost use Rattle.std.specs.Prelude.{◌≡◌, IfOk, Ok, OnOk};
+ghost use Rattle.ebpf_core.specs.LocalPaths.{local_path};
+ghost use Rattle.ebpf_core.specs.Searches.{candidates_for};
+ghost use Rattle.ebpf_core_relo.specs.Absences.{absence_by, absence_in, absence_of, without_position};
+ghost use Rattle.ebpf_core_relo.specs.RecordOutcomes.{applied, left_by, outcome_result, result_in, result_without_texts};
+ghost use Rattle.ebpf_core_relo.specs.Records.{relocation_inputs};
+
+use crate::absence::{Absence, absence_among};
+use crate::function_spans::FunctionSpans;
+use crate::memory::{unless_memory, unless_memory_of_types};
+use crate::record_outcome::RecordResult;
+use crate::records::apply_record;
+use ebpf_base::{ByKey, Items};
+use ebpf_btf::Btf;
+use ebpf_core::{CoreSearch, NamedPath, Outcome, Question, local_path, question_of};
+use ebpf_ext::Relocation;
+use ebpf_parts::insn::bpf_insn;
+use std::alloc::{AllocError, Global};
+use std::collections::BTreeMap;
+use std::marker::Model;
+
+/// What a record asks, without its own position.
+fn without_position(relocation: &Relocation) -> Relocation
+    ensures { result ≡ without_position relocation.now }
+{
+    Relocation {
+        number: 0,
+        insn_off: 0,
+        ..*relocation
+    }
+}
+
+/// A search for what records come to, and for what the kernel's types lack where that is no value. Absences are kept: what
+/// was asked once is looked up.
+///
+/// Contracts see the two sides alone.
+#[derive(Drop)]
+pub struct RecordSearch<'a> {
+    search: CoreSearch<'a>,
+    cached: BTreeMap<Question, Absence>,
+}
+
+impl<'a> Model for RecordSearch<'a> {
+    ghost use Rattle.ebpf_core.specs.Sides.{Sides};
+    ghost use Rattle.ebpf_core_relo.specs.CachedAbsences.{AbsencesAreCached};
+
+    ghost Value = { Sides };
+
+    ghost view = { λ s. s.search };
+
+    ghost invariant = { λ s. AbsencesAreCached s.search.local s.search.target s.cached };
+}
+
+impl<'a> RecordSearch<'a> {
+    /// A search in the types of a kernel for those of an object. It takes no memory.
+    pub fn new(alloc: Global, local: &'a Btf, target: &'a Btf) -> RecordSearch<'a>
+        ensures local { result.local ≡ local.now }
+        ensures target { result.target ≡ target.now }
+    {
+        RecordSearch {
+            search: CoreSearch::new(alloc, local, target),
+            cached: BTreeMap::new(alloc),
+        }
+    }
+
+    /// Why a path has no value among the kernel's types that a local type may stand for.
+    fn absence_over(
+        &mut self,
+        alloc: Global,
+        path: &NamedPath,
+        type_id: u32,
+    ) -> Result<Absence, AllocError>
+        ensures absence { IfOk result (λ absence. absence ≡ absence_in self.old.local self.old.target path.now (candidates_for self.old.local self.old.target type_id)) }
+        ensures stays { self.new ≡ self.old }
+    {
+        match self.search.candidates(alloc, type_id) {
+            Ok(ids) => {
+                let (local, target) = (self.search.local(), self.search.target());
+                absence_among(local, target, path, ids.as_slice())
+            }
+            Err(error) => {
+                unless_memory_of_types(error)?;
+                Ok(Absence::NoType)
+            }
+        }
+    }
+
+    /// Why a record has no value, whatever is kept.
+    #[tactic(auto, unfolding(crate::specs::Absences::absence_of))]
+    fn find(&mut self, alloc: Global, relocation: &Relocation) -> Result<Absence, AllocError>
+        ensures absence { IfOk result (λ absence. absence ≡ absence_of self.old.local self.old.target relocation.now) }
+        ensures stays { self.new ≡ self.old }
+    {
+        let question = without_position(relocation);
+        let path = match local_path(alloc, self.search.local(), &question) {
+            Ok(path) => path,
+            Err(fault) => {
+                let _fault = unless_memory(fault)?;
+                return Ok(Absence::NoType);
+            }
+        };
+        self.absence_over(alloc, &path.path, relocation.type_id)
+    }
+
+    /// Keeps the absence of a record for all that ask the same.
+    fn cache(&mut self, relocation: &Relocation, absence: Absence) -> Result<(), AllocError>
+        requires { absence ≡ absence_of self.old.local self.old.target relocation.now }
+        ensures { self.new ≡ self.old }
+    {
+        self.cached.insert(question_of(relocation), absence)?;
+        Ok(())
+    }
+
+    /// Why a record that has no value has none.
+    pub fn absence(&mut self, alloc: Global, relocation: &Relocation) -> Result<Absence, AllocError>
+        ensures absence { IfOk result (λ absence. absence ≡ absence_of self.old.local self.old.target relocation.now) }
+        ensures stays { self.new ≡ self.old }
+    {
+        if let Some(absence) = self.cached.get(&question_of(relocation)) {
+            return Ok(*absence);
+        }
+        let absence = self.find(alloc, relocation)?;
+        self.cache(relocation, absence)?;
+        Ok(absence)
+    }
+
+    /// A record with an outcome, by why it has no value where it has none.
+    fn outcome_result(
+        &mut self,
+        alloc: Global,
+        relocation: &Relocation,
+        outcome: Outcome,
+    ) -> Result<RecordResult, AllocError>
+        ensures outcome_result { IfOk result (λ answer. answer ≡ outcome_result self.old relocation.now outcome) }
+        ensures stays { self.new ≡ self.old }
+    {
+        if outcome.value.is_some() {
+            return Ok(RecordResult::Value(outcome));
+        }
+        let absence = self.absence(alloc, relocation)?;
+        Ok(RecordResult::Absent(absence))
+    }
+
+    /// What a record of a section comes to, applied to the function that holds its instruction. Where it is refused
+    /// nothing is written.
+    pub fn result_in(
+        &mut self,
+        alloc: Global,
+        function_spans: &FunctionSpans<'_>,
+        section: usize,
+        written: &mut ByKey<Items<bpf_insn>>,
+        relocation: &Relocation,
+    ) -> Result<RecordResult, AllocError>
+        ensures outcome_result { IfOk result (λ answer. result_without_texts answer ≡ result_in (relocation_inputs self.old function_spans.now.functions.now function_spans.now.section_infos.now) (Ok section) written.old relocation.now) }
+        ensures written { OnOk result (written.new ≡ left_by written.old (applied (relocation_inputs self.old function_spans.now.functions.now function_spans.now.section_infos.now) (Ok section) written.old relocation.now)) }
+        ensures stays { self.new ≡ self.old }
+    {
+        let applied = apply_record(
+            alloc,
+            &mut self.search,
+            function_spans,
+            section,
+            written,
+            relocation,
+        );
+        match applied {
+            Ok(outcome) => self.outcome_result(alloc, relocation, outcome),
+            Err(fault) => Ok(RecordResult::Refused(unless_memory(fault)?)),
+        }
+    }
+}
