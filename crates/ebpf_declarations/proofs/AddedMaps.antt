@@ -56,7 +56,7 @@ at_end (y ∷ xs) x = at_end xs x
 
 -- ---- names
 
-at_name : (q name : List ℕ) → eq_by_cmp text_cmp q name ≡ true → q ≡ name
+pub at_name : (q name : List ℕ) → eq_by_cmp text_cmp q name ≡ true → q ≡ name
 at_name q name is = text_exact q name (equal _ is)
 
 pub same_name : (q : List ℕ) → eq_by_cmp text_cmp q q ≡ true

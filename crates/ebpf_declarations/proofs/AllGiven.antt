@@ -10,6 +10,7 @@ use Rattle.ebpf_declarations.specs.Maps.{with_members}
 use Rattle.ebpf_declarations.specs.MemberValues.{with_all}
 use Rattle.ebpf_declarations.specs.declared.definitions.MapDefinitions.{MapDefinitions}
 use Rattle.ebpf_declarations.specs.declared.member_value.MemberValue.{MemberValue}
+use Rattle.ebpf_base.proofs.Faults.{or_else-None}
 use Rattle.ebpf_base.proofs.Walks.{rest_more, rest_none}
 
 over : {X : Type 0} (a b : Option X) (x : X) → unwrap_or a (unwrap_or b x) ≡ unwrap_or (or_else a b) x
@@ -20,10 +21,6 @@ over_other : {X : Type 0} (a b c : Option X) → or_else a (or_else b c) ≡ or_
 over_other None b c = refl
 over_other (Some y) b c = refl
 
-no_other : {X : Type 0} (a : Option X) → or_else a None ≡ a
-no_other None = refl
-no_other (Some x) = refl
-
 -- with no value a definition stays
 pub none_given : (d : MapDefinitions) → with_all d [] ≡ d
 unfolding with_all
@@ -32,7 +29,7 @@ none_given d = refl
 -- what the first says, and then the others
 pub first_given : (d : MapDefinitions) (s : MemberValue) (later : List MemberValue) → with_all (with_all d (s ∷ [])) later ≡ with_all d (s ∷ later)
 unfolding with_all
-first_given d s later = simp (over, over_other, no_other)
+first_given d s later = simp (over, over_other, or_else-None)
 
 module _ (says : BtfMember → Result MemberValue BtfError) where
   pub given_first : (d : MapDefinitions) (s : MemberValue) (r : Result (List MemberValue) BtfError)

@@ -1,5 +1,6 @@
 -- Maps of which each name is put once, as its last map.
 use Rattle.std.proofs.Math.Seq.{take-suc, drop-cons}
+use Rattle.std.proofs.lemmas.Grind.{flat_map-append}
 use Rattle.std.proofs.lemmas.List.{take_all}
 use Rattle.std.proofs.Common.{◌≡◌, ℕ, ◌+◌, ◌<◌, ◌≤◌, suc, Bool, true, false, cond, List, [], ◌∷◌, ◌++◌, length, take, drop, Option, Some, None, Result, Ok, Err, refl, sym, subst, ap, ◌∙◌, append-nil, arith}
 use Rattle.std.specs.Prelude.{⊤, slice_get, slice_index_or, if◌then◌else◌}
@@ -7,6 +8,7 @@ use Rattle.std.specs.Bool.{MatchBool}
 use Rattle.std.specs.FinMap.{FinMap, get, insert, empty, get-insert, get-empty, same_map}
 use Rattle.std.specs.List.{flat_map}
 use Rattle.std.specs.Ordering.{eq_by_cmp}
+use Rattle.ebpf_base.proofs.Faults.{or_else-None, or_else-assoc, first_some-push}
 use Rattle.ebpf_base.proofs.Keyed.{later_text_stands, put_all-append}
 use Rattle.ebpf_base.proofs.TextMaps.{text_exact}
 use Rattle.ebpf_base.specs.Faults.{first_some, or_else, fault_of}
@@ -27,8 +29,8 @@ use Rattle.ebpf_declarations.specs.NamedSections.{datasec_entries_at, ids_maps, 
 use Rattle.ebpf_declarations.specs.declared.definitions.MapDefinitions.{MapDefinitions}
 use Rattle.ebpf_declarations.specs.declared.distinct_maps.DistinctMaps.{DistinctMaps}
 use Rattle.ebpf_declarations.specs.declared.named_sections.NamedSections.{NamedSections}
-use Rattle.ebpf_declarations.proofs.AddedMaps.{IsSame, named_with, defined_name, numbered_name, same_named}
-use Rattle.ebpf_declarations.proofs.NamedSections.{equal, flat_map-append, or_none, or_other, first_some-append, refused_first}
+use Rattle.ebpf_declarations.proofs.AddedMaps.{IsSame, at_name, named_with, defined_name, numbered_name, same_named}
+use Rattle.ebpf_declarations.proofs.NamedSections.{refused_first}
 use Rattle.ebpf_parts.specs.Memory.{is_parse_memory}
 use Rattle.ebpf_parts.specs.declared.error.ParseError.{ParseError}
 use Rattle.ebpf_parts.specs.declared.error.ParseError.TheVariants as errors
@@ -89,9 +91,6 @@ missing_fault section name d (Some y) = refl
 
 -- ---- the names
 
-at_name : (q name : List ℕ) → eq_by_cmp text_cmp q name ≡ true → q ≡ name
-at_name q name is = text_exact q name (equal _ is)
-
 among_more : (q name : List ℕ) (names : List (List ℕ)) → is_name_among q (names ++ (name ∷ [])) ≡ (if is_name_among q names then true else eq_by_cmp text_cmp q name)
 among_more q name [] = by_test (eq_by_cmp text_cmp q name)
   where
@@ -110,13 +109,13 @@ among_fault f name [] there = absurd (cc)
 among_fault f name (n ∷ names) there = by_test (eq_by_cmp text_cmp name n) refl (among_fault f name names) there
   where
     by_first : (o : Option _) → f n ≡ o → f name ≡ f n → or_else o (first_some f names) ≡ or_else (or_else o (first_some f names)) (f name)
-    by_first None is same = sym (ap (or_else (first_some f names)) (same ∙ is) ∙ or_none (first_some f names))
+    by_first None is same = sym (ap (or_else (first_some f names)) (same ∙ is) ∙ or_else-None (first_some f names))
     by_first (Some e) is same = refl
 
     by_test : (b : Bool) → eq_by_cmp text_cmp name n ≡ b → (is_name_among name names ≡ true → first_some f names ≡ or_else (first_some f names) (f name)) → (if b then true else is_name_among name names) ≡ true
         → or_else (f n) (first_some f names) ≡ or_else (or_else (f n) (first_some f names)) (f name)
     by_test true at later there = by_first (f n) refl (ap f (at_name name n at))
-    by_test false at later there = ap (or_else (f n)) (later there) ∙ sym (or_other (f n) (first_some f names) (f name))
+    by_test false at later there = ap (or_else (f n)) (later there) ∙ sym (or_else-assoc (f n) (first_some f names) (f name))
 
 module _ (symbols : List ℕ → Option ℕ) (section : ℕ) (last : List ℕ → Option MapDefinitions) (q : List ℕ) where
   here : (a : Option Map) (name : List ℕ) → last_at text_cmp q a (last_map symbols section last name) ≡ (if eq_by_cmp text_cmp q name then or_else (map_by section (last q) (symbols q)) a else a)
@@ -156,7 +155,7 @@ at_map symbols section kept named m q =
 module _ (kept : DistinctMaps) (name : List ℕ) (d : MapDefinitions) (named : AreNamed kept) (after : DistinctMaps) (more : IsWith kept name d after) where
   fault_more : (symbols : List ℕ → Option ℕ) (o : Option ℕ) → get kept.numbers name ≡ o
       → first_some (missing symbols) (if_some o (λ n. kept.names) (kept.names ++ (name ∷ []))) ≡ or_else (first_some (missing symbols) kept.names) (missing symbols name)
-  fault_more symbols None is = first_some-append (missing symbols) kept.names (name ∷ []) ∙ ap (or_else (first_some (missing symbols) kept.names)) (or_none (missing symbols name))
+  fault_more symbols None is = first_some-push (missing symbols) kept.names name
   fault_more symbols (Some n) is = among_fault (missing symbols) name kept.names (numbered_name kept named name n is)
 
   maps_more : (symbols : List ℕ → Option ℕ) (section : ℕ) (m : FinMap text_cmp Map) (q : List ℕ)
@@ -197,7 +196,7 @@ pub none_added : {A : Type 0} (more : A → (List ℕ → Option ℕ) → ℕ �
 none_added more wrong kept named = record {
   named = named;
   maps = λ symbols section m. refl;
-  fault = λ symbols section. sym (or_none (distinct_fault symbols kept));
+  fault = λ symbols section. sym (or_else-None (distinct_fault symbols kept));
 }
 
 taken_more : {A : Type 0} (items : List A) (i : ℕ) (x : A) → i < length items → take (i + 1) items ≡ take i items ++ (slice_index_or items i x ∷ [])
@@ -215,8 +214,8 @@ module _ {A : Type 0} (more : A → (List ℕ → Option ℕ) → ℕ → List (
     fault = λ symbols section.
         one.fault symbols section
         ∙ ap (λ e. or_else e (wrong x symbols section)) (before.fault symbols section)
-        ∙ or_other (distinct_fault symbols a) (first_some (λ x. wrong x symbols section) items) (wrong x symbols section)
-        ∙ ap (or_else (distinct_fault symbols a)) (ap (or_else (first_some (λ x. wrong x symbols section) items)) (sym (or_none (wrong x symbols section))) ∙ sym (first_some-append (λ x. wrong x symbols section) items (x ∷ [])));
+        ∙ or_else-assoc (distinct_fault symbols a) (first_some (λ x. wrong x symbols section) items) (wrong x symbols section)
+        ∙ ap (or_else (distinct_fault symbols a)) (sym (first_some-push (λ x. wrong x symbols section) items x));
   }
 
   pub more_added : (items : List A) (i : ℕ) (x : A) → i < length items → AddsAll a b more wrong (take i items)
@@ -287,7 +286,7 @@ module _ (reading : Reading) (info : TypeInfo) (sections : NamedSections) (found
     fault = λ symbols section.
         adds.fault symbols section
         ∙ ap (λ l. or_else (first_some (missing symbols) l) (ids_fault reading info symbols section ids)) nameless
-        ∙ sym (or_none (ids_fault reading info symbols section ids))
+        ∙ sym (or_else-None (ids_fault reading info symbols section ids))
         ∙ ap (λ u. or_else (ids_fault reading info symbols section ids) (unreadable_name_fault u)) (sym readable)
         ∙ found.fault reading name ids there symbols section;
   }

@@ -26,7 +26,9 @@ use Rattle.ebpf_declarations.specs.Attempts.{given}
 use Rattle.ebpf_declarations.specs.ExternNames.{weak_at, named, all_named, IsNamed, put_before, NamesArePut}
 use Rattle.ebpf_declarations.specs.Externs.{extern_of, func_or_var_type, new_extern}
 use Rattle.ebpf_declarations.proofs.KnownStructs.{equal_numbers}
-use Rattle.ebpf_declarations.proofs.NamedSections.{equal, flat_map-append, or_none, or_other, first_some-append}
+use Rattle.std.proofs.lemmas.Grind.{flat_map-append}
+use Rattle.ebpf_base.proofs.Faults.{or_else-None, or_else-assoc, first_some-append}
+use Rattle.ebpf_declarations.proofs.NamedSections.{equal}
 use Rattle.ebpf_model.specs.declared.extern_desc.ExternDesc.{ExternDesc}
 
 -- ---- one extern
@@ -120,8 +122,8 @@ module _ {X : Type 0} (q : List ℕ) where
       ∙ ap (λ x. or_else x a) (sym (last_or es (if eq_by_cmp text_cmp q e.0 then Some e.1 else None)))
     where
       by_test : (b : Bool) → or_else (last_at text_cmp q None es) (if b then Some e.1 else a) ≡ or_else (or_else (last_at text_cmp q None es) (if b then Some e.1 else None)) a
-      by_test true = sym (or_other (last_at text_cmp q None es) (Some e.1) a)
-      by_test false = sym (ap (λ x. or_else x a) (or_none (last_at text_cmp q None es)))
+      by_test true = sym (or_else-assoc (last_at text_cmp q None es) (Some e.1) a)
+      by_test false = sym (ap (λ x. or_else x a) (or_else-None (last_at text_cmp q None es)))
 
 pub put_first : {X : Type 0} (name : List ℕ) (d : X) (rest : List (List ℕ × X)) → put_all {R = text_cmp} empty ((name, d) ∷ rest) ≡ if_some (get (put_all {R = text_cmp} empty rest) name) (λ _. put_all empty rest) (insert (put_all empty rest) name d)
 put_first {X = X} name d rest = same_map text_total text_exact _ _ (λ q. by_there q (get (put_all {R = text_cmp} empty rest) name) refl)
@@ -139,14 +141,14 @@ put_first {X = X} name d rest = same_map text_total text_exact _ _ (λ q. by_the
       where
         by_test : (b : Bool) → eq_by_cmp text_cmp q name ≡ b → or_else (get (put_all {R = text_cmp} empty rest) q) (if b then Some d else None) ≡ cond (eq_by_cmp text_cmp q name) (Some d) (get (put_all {R = text_cmp} empty rest) q)
         by_test true at = ap (λ x. or_else x (Some d)) (ap (get (put_all {R = text_cmp} empty rest)) (text_exact q name (equal _ at)) ∙ none) ∙ sym (ap (λ b. cond b (Some d) (get (put_all {R = text_cmp} empty rest) q)) at)
-        by_test false at = or_none (get (put_all {R = text_cmp} empty rest) q) ∙ sym (ap (λ b. cond b (Some d) (get (put_all {R = text_cmp} empty rest) q)) at)
+        by_test false at = or_else-None (get (put_all {R = text_cmp} empty rest) q) ∙ sym (ap (λ b. cond b (Some d) (get (put_all {R = text_cmp} empty rest) q)) at)
     by_there q (Some v) some = after q ∙ by_test (eq_by_cmp text_cmp q name) refl
       where
         by_test : (b : Bool) → eq_by_cmp text_cmp q name ≡ b → or_else (get (put_all {R = text_cmp} empty rest) q) (if b then Some d else None) ≡ get (put_all {R = text_cmp} empty rest) q
         by_test true at =
             let there : get (put_all {R = text_cmp} empty rest) q ≡ Some v = ap (get (put_all {R = text_cmp} empty rest)) (text_exact q name (equal _ at)) ∙ some in
             ap (λ x. or_else x (Some d)) there ∙ sym there
-        by_test false at = or_none (get (put_all {R = text_cmp} empty rest) q)
+        by_test false at = or_else-None (get (put_all {R = text_cmp} empty rest) q)
 
 -- ---- what is there already
 

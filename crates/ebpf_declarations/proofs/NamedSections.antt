@@ -10,7 +10,9 @@ use Rattle.std.specs.Result.{is_err}
 use Rattle.std.specs.Str.{bytes_eq}
 use Rattle.std.specs.declared.cmp.Ordering.{Ordering}
 use Rattle.std.specs.declared.cmp.Ordering.TheVariants.{Less, Equal, Greater}
+use Rattle.std.proofs.lemmas.Grind.{flat_map-append}
 use Rattle.std.proofs.lemmas.Slice.Eq.{bytes_eq-Decides}
+use Rattle.ebpf_base.proofs.Faults.{or_else-None, or_else-assoc, first_some-append}
 use Rattle.ebpf_base.proofs.TextMaps.{text_exact}
 use Rattle.ebpf_base.specs.Faults.{first_some, or_else, fault_of}
 use Rattle.ebpf_base.specs.Keys.{text_cmp, text_total}
@@ -130,24 +132,6 @@ one_there m n name put = ap (λ x. is_some (get x name)) put ∙ ap is_some (get
     by_test true e = refl
     by_test false e = absurd (cc)
 
--- ---- lists
-
-pub flat_map-append : {A X : Type 0} (f : A → List X) (xs ys : List A) → flat_map f (xs ++ ys) ≡ flat_map f xs ++ flat_map f ys
-flat_map-append f [] ys = refl
-flat_map-append f (x ∷ xs) ys = ap (λ l. f x ++ l) (flat_map-append f xs ys) ∙ sym (append_assoc (f x) (flat_map f xs) (flat_map f ys))
-
-pub or_other : {E : Type 0} (a b c : Option E) → or_else (or_else a b) c ≡ or_else a (or_else b c)
-or_other None b c = refl
-or_other (Some e) b c = refl
-
-pub or_none : {E : Type 0} (a : Option E) → or_else a None ≡ a
-or_none None = refl
-or_none (Some e) = refl
-
-pub first_some-append : {A E : Type 0} (f : A → Option E) (xs ys : List A) → first_some f (xs ++ ys) ≡ or_else (first_some f xs) (first_some f ys)
-first_some-append f [] ys = refl
-first_some-append f (x ∷ xs) ys = ap (or_else (f x)) (first_some-append f xs ys) ∙ sym (or_other (f x) (first_some f xs) (first_some f ys))
-
 -- ---- the types that are left
 
 -- what the ids so far and the types that are left declare is what all types declare
@@ -198,7 +182,7 @@ module _ (reading : Reading) (info : TypeInfo) (symbols : List ℕ → Option �
   one_fault (Some es) (Ok name) here none = by_name (bytes_eq name q)
     where
       by_name : (b : Bool) → ids_fault reading info symbols section (if is_match (datasec_match_if es (Ok b)) then id ∷ [] else []) ≡ matched_maps_fault reading info symbols section (datasec_match_if es (Ok b))
-      by_name true = or_none (entries_fault reading info symbols section (datasec_entries_at info.types id)) ∙ ap (entries_fault reading info symbols section) here
+      by_name true = or_else-None (entries_fault reading info symbols section (datasec_entries_at info.types id)) ∙ ap (entries_fault reading info symbols section) here
       by_name false = refl
 
   last_fault : (es : Option (List DataSecEntry)) (r : Result (List ℕ) BtfError) (e : BtfError) → fault_by_name es r ≡ Some e
@@ -317,7 +301,7 @@ module _ (info : TypeInfo) (t : BtfType) where
           let more = if is_match (datasec_match info q t) then id ∷ [] else [] in
           ap (λ l. or_else (ids_fault reading info symbols section l) left) p.2
           ∙ ap (λ l. or_else l left) (first_some-append (λ i. entries_fault reading info symbols section (datasec_entries_at info.types i)) p.0 more)
-          ∙ or_other (ids_fault reading info symbols section p.0) (ids_fault reading info symbols section more) left
+          ∙ or_else-assoc (ids_fault reading info symbols section p.0) (ids_fault reading info symbols section more) left
           ∙ ap (λ l. or_else (ids_fault reading info symbols section p.0) (or_else l left)) (one_fault reading info symbols section id q (datasec_entries t) (text_at info.strings (name_off t)) (here id at) readable)
           ∙ gathered.fault reading q p.0 p.1 symbols section;
     }
