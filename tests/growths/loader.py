@@ -15,8 +15,8 @@ PARTS = CRATES.parent / "tests/objects/kernel_parts_19.o"
 SIX_TWELVE = words([0x60C00])
 NAMED = b'CONFIG_DEFAULT_HOSTNAME="(none)"\n'
 
-# The object of test_loader_calls, as its source has it; where the key's size of its hash of maps stands.
-SOURCE = CRATES / "test_loader_calls/src/initial_slots.rt"
+# The object of test_object_calls, as its source has it; where the key's size of its hash of maps stands.
+SOURCE = CRATES / "test_object_calls/src/initial_slots.rt"
 SLOTS = bytes.fromhex("".join(re.findall(r'^    "([0-9a-f]+)",$', SOURCE.read_text(), re.MULTILINE)))
 KEY_SIZE = 364
 

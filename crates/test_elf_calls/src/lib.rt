@@ -1,0 +1,15 @@
+//! Tests of reading ELF files, each by what the call gives. Nothing is promised here.
+#![tactic(auto)]
+
+#[cfg(test)]
+mod answers;
+#[cfg(test)]
+mod faults;
+#[cfg(test)]
+mod file;
+#[cfg(test)]
+mod relocations;
+#[cfg(test)]
+mod sections;
+#[cfg(test)]
+mod symbols;

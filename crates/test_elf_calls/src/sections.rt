@@ -1,0 +1,161 @@
+//! Sections, their names and their data.
+
+use super::answers::{Question, answers, answers_in_both, section_named};
+use super::file::{CODE, Field, file_with};
+use ebpf_base::Endianness;
+use ebpf_elf::ElfFile;
+use std::alloc::Global;
+use std::test::Fail;
+use test_same::same_bytes;
+
+#[test]
+fn reads_a_file_without_sections(rt: HostRuntime) -> Result<(), Fail> {
+    let alloc = rt.alloc();
+    let changes = [(40, 8, 0), (60, 2, 0)];
+    answers(
+        alloc,
+        Endianness::Big,
+        &changes,
+        Question::Counts,
+        "Big 0 0 0",
+    )?;
+    answers(
+        alloc,
+        Endianness::Big,
+        &changes,
+        Question::Fields(""),
+        "no section",
+    )
+}
+
+/// Fails where the data of the section of the program isn't the first 16 bytes of the code.
+fn has_the_data(alloc: Global, order: Endianness, changes: &[Field]) -> Result<(), Fail> {
+    let bytes = file_with(alloc, order, changes)?;
+    same_bytes(
+        data_of(&bytes, "kprobe/p"),
+        CODE.as_slice().get(..16).unwrap_or(&[]),
+    )
+}
+
+/// The data of a section of the file of these bytes; none where there is no such section.
+fn data_of<'a>(bytes: &'a [u8], name: &str) -> &'a [u8] {
+    let Ok(file) = ElfFile::parse(bytes) else {
+        return &[];
+    };
+    match section_named(&file, name) {
+        Some(section) => section.data().unwrap_or(&[]),
+        None => &[],
+    }
+}
+
+#[test]
+fn reads_the_sections(rt: HostRuntime) -> Result<(), Fail> {
+    let alloc = rt.alloc();
+    let changes = [(312, 8, 0x1000)];
+    answers(
+        alloc,
+        Endianness::Little,
+        &changes,
+        Question::Counts,
+        "Little 5 2 1",
+    )?;
+    answers(
+        alloc,
+        Endianness::Big,
+        &changes,
+        Question::Counts,
+        "Big 5 2 1",
+    )?;
+    answers_in_both(
+        alloc,
+        &changes,
+        Question::Fields("kprobe/p"),
+        "1 1 6 4096 16",
+    )?;
+    has_the_data(alloc, Endianness::Little, &changes)?;
+    has_the_data(alloc, Endianness::Big, &changes)
+}
+
+#[test]
+fn finds_the_first_of_a_name(rt: HostRuntime) -> Result<(), Fail> {
+    let question = Question::Fields(".text");
+    answers(
+        rt.alloc(),
+        Endianness::Little,
+        &[(296, 4, 14)],
+        question,
+        "1 1 6 0 16",
+    )
+}
+
+/// Changes that make the name of `.text` unreadable: past the table, no zero byte after it, no UTF-8.
+const UNREADABLE: [[Field; 2]; 3] = [
+    [(360, 4, 49), (0, 1, 0x7f)],
+    [(360, 4, 36), (520, 8, 48)],
+    [(191, 1, 0xff), (0, 1, 0x7f)],
+];
+
+#[test]
+fn passes_over_unreadable_names(rt: HostRuntime) -> Result<(), Fail> {
+    let alloc = rt.alloc();
+    for changes in UNREADABLE.iter() {
+        let want = "Err(BadStringTable)";
+        answers(
+            alloc,
+            Endianness::Little,
+            changes,
+            Question::SecondName,
+            want,
+        )?;
+        answers(
+            alloc,
+            Endianness::Little,
+            changes,
+            Question::Fields(".text"),
+            "no section",
+        )?;
+    }
+    Ok(())
+}
+
+#[test]
+fn reads_names_without_a_table(rt: HostRuntime) -> Result<(), Fail> {
+    let alloc = rt.alloc();
+    let changes = [(62, 2, 0), (360, 4, 0), (136, 4, 0)];
+    answers(
+        alloc,
+        Endianness::Little,
+        &changes,
+        Question::Fields(""),
+        "2 1 6 0 8",
+    )?;
+    let want = "2 Ok(\"\") Some(2) 0 8";
+    answers(alloc, Endianness::Little, &changes, Question::Symbol, want)
+}
+
+/// Changes of `.text`, and the length of its data where it has any.
+const DATA: [([Field; 2], &str); 5] = [
+    ([(364, 4, 8), (384, 8, 0xffff_ffff_ffff_ffff)], "Ok(0)"),
+    ([(384, 8, 608), (392, 8, 8)], "Ok(8)"),
+    ([(384, 8, 609), (392, 8, 8)], "Err(BadSectionRange)"),
+    (
+        [(384, 8, 8), (392, 8, 0xffff_ffff_ffff_ffff)],
+        "Err(BadSectionRange)",
+    ),
+    ([(384, 8, 617), (392, 8, 0)], "Ok(0)"),
+];
+
+#[test]
+fn reads_data(rt: HostRuntime) -> Result<(), Fail> {
+    let alloc = rt.alloc();
+    for (changes, want) in DATA.iter() {
+        answers(
+            alloc,
+            Endianness::Little,
+            changes,
+            Question::DataLength(".text"),
+            want,
+        )?;
+    }
+    Ok(())
+}

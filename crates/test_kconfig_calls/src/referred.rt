@@ -1,0 +1,224 @@
+//! Externs that a function loads.
+
+use super::asked::{Question, ask};
+use super::defined::{defines, has_maps, has_symbols};
+use super::objects::kconfig_object;
+use ebpf_base::{ByKey, ByOffset, BySection, Items, Text};
+use ebpf_btf::BtfError;
+use ebpf_elf::SectionIndex;
+use ebpf_ext::{FuncSecInfo, LineSecInfo};
+use ebpf_model::{EbpfRelocationError, Function};
+use ebpf_object::Object;
+use ebpf_parts::Relocation;
+use ebpf_parts::insn::bpf_insn;
+use ebpf_parts::maps::Map;
+use std::alloc::{AllocError, Global};
+use std::collections::HashSet;
+use std::test::Fail;
+use test_same::{same, same_bytes};
+use test_types::externs::Extern;
+
+/// A load of 16 bytes, whose second half adds 2.
+const LOAD: [bpf_insn; 2] = [
+    bpf_insn {
+        code: 0x18,
+        regs: 1,
+        off: 0,
+        imm: 2,
+    },
+    bpf_insn {
+        code: 0,
+        regs: 0,
+        off: 0,
+        imm: 0,
+    },
+];
+
+/// The relocation of the load, to the second symbol.
+const RELOCATION: Relocation = Relocation {
+    offset: 0,
+    size: 64,
+    symbol_index: 1,
+};
+
+/// Two externs, the second of which a function loads.
+const EXTERNS: [Extern; 2] = [("CONFIG_HZ", 5, false), ("CONFIG_SHORT", 4, false)];
+
+/// No records on functions.
+fn no_func_info(alloc: Global) -> FuncSecInfo {
+    FuncSecInfo {
+        sec_name_offset: 0,
+        num_info: 0,
+        func_info: Items::new(alloc),
+    }
+}
+
+/// No records on lines.
+fn no_line_info(alloc: Global) -> LineSecInfo {
+    LineSecInfo {
+        sec_name_offset: 0,
+        num_info: 0,
+        line_info: Items::new(alloc),
+    }
+}
+
+/// A function of section 3.
+fn function_of(alloc: Global, name: Text, instructions: Vec<bpf_insn>) -> Function {
+    Function {
+        address: 0,
+        name,
+        section_index: SectionIndex(3),
+        section_offset: 0,
+        instructions: Items::from_vec(instructions),
+        func_info: no_func_info(alloc),
+        line_info: no_line_info(alloc),
+        func_info_rec_size: 0,
+        line_info_rec_size: 0,
+    }
+}
+
+/// A function of one load.
+fn loading(alloc: Global) -> Result<Function, AllocError> {
+    let instructions = Vec::from_slice(alloc, &LOAD)?;
+    let name = Text::from_str(alloc, "f")?;
+    Ok(function_of(alloc, name, instructions))
+}
+
+/// The relocations of the function, by their offsets.
+fn loaded(alloc: Global) -> Result<ByOffset<Relocation>, AllocError> {
+    let mut relocations = ByOffset::new(alloc);
+    relocations.insert(0, RELOCATION)?;
+    Ok(relocations)
+}
+
+fn add_function(alloc: Global, functions: &mut ByKey<Function>) -> Result<(), AllocError> {
+    functions.insert((3, 0), loading(alloc)?)?;
+    Ok(())
+}
+
+fn add_relocations(
+    alloc: Global,
+    relocations: &mut BySection<ByOffset<Relocation>>,
+) -> Result<(), AllocError> {
+    relocations.insert(3, loaded(alloc)?)?;
+    Ok(())
+}
+
+/// Adds the function and its relocations.
+fn add_load(alloc: Global, object: &mut Object) -> Result<(), AllocError> {
+    add_function(alloc, &mut object.functions)?;
+    add_relocations(alloc, &mut object.relocations)
+}
+
+/// An object with these externs and the function.
+fn referring(alloc: Global) -> Result<Object, BtfError> {
+    let mut object = kconfig_object(alloc, &EXTERNS)?;
+    add_load(alloc, &mut object)?;
+    Ok(object)
+}
+
+/// The data of the map of externs; none where there is no map.
+fn data(object: &Object) -> &[u8] {
+    match object.maps.get(".kconfig") {
+        Some(map) => map.data(),
+        None => &[],
+    }
+}
+
+/// Writes the descriptor 7 of a map.
+fn write(
+    object: &mut Object,
+    map: &Map,
+    sections: &HashSet<usize>,
+) -> Result<(), EbpfRelocationError> {
+    let given = [(".kconfig", 7, map)];
+    object.relocate_maps(given.iter().copied(), sections)
+}
+
+/// A copy of the map of externs, where there is one.
+fn copied_map(object: &Object) -> Result<Option<Map>, AllocError> {
+    match object.maps.get(".kconfig") {
+        Some(map) => Ok(Some(map.clone()?)),
+        None => Ok(None),
+    }
+}
+
+/// What writing the descriptor of a map says.
+fn written(alloc: Global, object: &mut Object, map: &Map) -> Result<String, AllocError> {
+    let sections = object.text_sections(alloc)?;
+    let said = write(object, map, &sections);
+    format!(in alloc; "{said:?}")
+}
+
+/// What writing the descriptor of the map of externs says.
+fn outcome(alloc: Global, object: &mut Object) -> Result<String, AllocError> {
+    match copied_map(object)? {
+        Some(map) => written(alloc, object, &map),
+        None => String::from_str(alloc, "no map"),
+    }
+}
+
+/// Fails where that is refused.
+fn is_written(alloc: Global, object: &mut Object) -> Result<(), Fail> {
+    let text = outcome(alloc, object)?;
+    same(text.as_str(), "Ok(())")
+}
+
+/// The slots of the function; none where there is no function.
+fn slots(object: &Object) -> &[bpf_insn] {
+    match object.functions.get((3, 0)) {
+        Some(function) => function.instructions.as_slice(),
+        None => &[],
+    }
+}
+
+/// Slots, by their source registers and immediates.
+fn shown(alloc: Global, slots: &[bpf_insn]) -> Result<String, AllocError> {
+    let mut text = String::new(alloc);
+    for slot in slots {
+        write!(text, "{}:{} ", slot.src_reg(), slot.imm)?;
+    }
+    Ok(text)
+}
+
+/// Fails where the slots of the function aren't these.
+fn has_slots(alloc: Global, object: &Object, want: &str) -> Result<(), Fail> {
+    let text = shown(alloc, slots(object))?;
+    same(text.as_str(), want)
+}
+
+/// Fails where the load doesn't refer to the map.
+pub fn refers(alloc: Global, object: &mut Object) -> Result<(), Fail> {
+    let given: [(&str, &[u8]); 2] = [("CONFIG_SHORT", &[5, 6]), ("CONFIG_HZ", &[1, 2, 3, 4])];
+    defines(alloc, object, &given, "Ok(())")?;
+    same_bytes(data(object), &[1, 2, 3, 4, 5, 6])?;
+    is_written(alloc, object)?;
+    has_slots(alloc, object, "2:7 0:6 ")
+}
+
+#[test]
+fn loads_refer_to_the_map(rt: HostRuntime) -> Result<(), Fail> {
+    ask(rt.alloc(), referring(rt.alloc()), Question::Refers)
+}
+
+/// Fails where a value that misses, or one of another size, isn't refused.
+fn refuses(alloc: Global, object: &mut Object) -> Result<(), Fail> {
+    let missing = "Err(NoValue { name: \"CONFIG_HZ\" })";
+    defines(alloc, object, &[("CONFIG_SHORT", &[5])], missing)?;
+    let given: [(&str, &[u8]); 2] = [("CONFIG_SHORT", &[5]), ("CONFIG_HZ", &[1, 2, 3, 4])];
+    let wrong = "Err(WrongSize { name: \"CONFIG_SHORT\", size: 2, length: 1 })";
+    defines(alloc, object, &given, wrong)
+}
+
+/// Fails where it isn't refused, or where that changes the object.
+pub fn is_refused(alloc: Global, object: &mut Object) -> Result<(), Fail> {
+    refuses(alloc, object)?;
+    has_maps(object, 0)?;
+    let symbols = "Some(\"CONFIG_HZ\") None 0 false\nSome(\"CONFIG_SHORT\") None 0 false\n";
+    has_symbols(alloc, object, symbols)
+}
+
+#[test]
+fn refuses_missing_and_wrong_values(rt: HostRuntime) -> Result<(), Fail> {
+    ask(rt.alloc(), referring(rt.alloc()), Question::Refused)
+}

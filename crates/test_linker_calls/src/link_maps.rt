@@ -1,0 +1,158 @@
+//! What programs are made of, beside the slots that linking writes.
+
+use super::functions::{
+    Answer, CALLS, CALLS_TWICE, ENDS, EXIT, LOAD, MapAnswer, NOTHING, TestReference, TestSlots,
+    link_map_of, linked, lists, plain_bodies,
+};
+use ebpf_linker::link_map::{NumberedCopy, NumberedLinkMap, Reference};
+use ebpf_linker::{Body, Call, Fault, Target};
+use ebpf_parts::insn::bpf_insn;
+use std::alloc::{AllocError, Global};
+use std::test::Fail;
+use test_same::same;
+
+/// Copies as function@base+slots.
+fn add_copies(text: &mut String, copies: &[NumberedCopy]) -> Result<(), AllocError> {
+    for copy in copies {
+        write!(text, "{}@{}+{} ", copy.function, copy.base, copy.slots)?;
+    }
+    Ok(())
+}
+
+/// A reference as place>base, with the imm of the linked slot there.
+fn add_reference(
+    text: &mut String,
+    slots: &[bpf_insn],
+    reference: &Reference,
+) -> Result<(), AllocError> {
+    let kind = if reference.is_call { "call" } else { "load" };
+    let imm = slots.get(reference.place).map(|slot| slot.imm);
+    write!(
+        text,
+        "{}>{} {kind} {imm:?} ",
+        reference.place, reference.base
+    )?;
+    Ok(())
+}
+
+fn add_references(
+    text: &mut String,
+    slots: &[bpf_insn],
+    references: &[Reference],
+) -> Result<(), AllocError> {
+    for reference in references {
+        add_reference(text, slots, reference)?;
+    }
+    Ok(())
+}
+
+/// The copies and the references, and how many slots there are.
+fn printed(alloc: Global, slots: &[bpf_insn], map: &NumberedLinkMap) -> Result<String, AllocError> {
+    let mut text = String::new(alloc);
+    add_copies(&mut text, map.copies.as_slice())?;
+    add_references(&mut text, slots, map.references.as_slice())?;
+    write!(text, "of {}", slots.len())?;
+    Ok(text)
+}
+
+/// What a function is made of, beside what linking gives; or the fault of both.
+fn both(alloc: Global, program: &Answer, map: &MapAnswer) -> Result<String, AllocError> {
+    match (program, map) {
+        (Some(Ok(program)), Some(Ok(map))) => printed(alloc, program.slots.as_slice(), map),
+        (Some(Err(fault)), Some(Err(other))) => format!(in alloc; "{fault:?} {other:?}"),
+        _ => format!(in alloc; "they differ"),
+    }
+}
+
+/// What the first function is made of, beside what linking it gave.
+fn beside(
+    alloc: Global,
+    bodies: &[Body<'_>],
+    calls: &[Vec<Call>],
+    program: &Answer,
+) -> Result<String, AllocError> {
+    let map = link_map_of(alloc, bodies, calls)?;
+    both(alloc, program, &map)
+}
+
+/// The first of these functions.
+fn outcome(
+    alloc: Global,
+    bodies: &[Body<'_>],
+    references: &[TestReference],
+) -> Result<String, AllocError> {
+    let calls = lists(alloc, bodies.len(), references)?;
+    let program = linked(alloc, bodies, &calls)?;
+    beside(alloc, bodies, &calls, &program)
+}
+
+/// Fails where the first of these functions isn't made of this.
+fn is_made_of(
+    alloc: Global,
+    slots: &[TestSlots<'_>],
+    references: &[TestReference],
+    want: &str,
+) -> Result<(), Fail> {
+    let bodies = plain_bodies(alloc, slots)?;
+    let text = outcome(alloc, &bodies, references)?;
+    same(text.as_str(), want)
+}
+
+/// A program that calls itself has a copy of its own.
+#[test]
+fn calls_itself(rt: HostRuntime) -> Result<(), Fail> {
+    let references = [(0, 0, Target::Function(0))];
+    is_made_of(
+        rt.alloc(),
+        &[&CALLS],
+        &references,
+        "0@0+2 0@2+2 0>2 call Some(1) 2>2 call Some(-1) of 4",
+    )
+}
+
+/// P calls g and f, f calls g: g has one copy, before f's.
+#[test]
+fn two_callers_share_a_function(rt: HostRuntime) -> Result<(), Fail> {
+    let references = [
+        (0, 0, Target::Function(2)),
+        (0, 1, Target::Function(1)),
+        (1, 0, Target::Function(2)),
+    ];
+    is_made_of(
+        rt.alloc(),
+        &[&CALLS_TWICE, &CALLS, &ENDS],
+        &references,
+        "0@0+3 2@3+1 1@4+2 0>3 call Some(2) 1>4 call Some(2) 4>3 call Some(-2) of 6",
+    )
+}
+
+/// A load of a function's address.
+#[test]
+fn callback(rt: HostRuntime) -> Result<(), Fail> {
+    let references = [(0, 0, Target::Function(1))];
+    is_made_of(
+        rt.alloc(),
+        &[&[LOAD, NOTHING, EXIT], &ENDS],
+        &references,
+        "0@0+3 1@3+1 0>3 load Some(2) of 4",
+    )
+}
+
+/// A fault of a function that is called.
+#[test]
+fn fault(rt: HostRuntime) -> Result<(), Fail> {
+    let references = [
+        (0, 0, Target::Function(1)),
+        (
+            1,
+            0,
+            Target::Nowhere(Fault::UnsupportedTextSymbol { index: 5 }),
+        ),
+    ];
+    is_made_of(
+        rt.alloc(),
+        &[&CALLS, &CALLS],
+        &references,
+        "UnsupportedTextSymbol { index: 5 } UnsupportedTextSymbol { index: 5 }",
+    )
+}

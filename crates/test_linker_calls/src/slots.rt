@@ -1,0 +1,406 @@
+//! Programs and functions linked, as texts.
+
+use super::functions::{
+    Answer, CALLS, CALLS_TWICE, ENDS, EXIT, LOAD, NOTHING, TestReference, TestSlots, linked,
+    linked_at, lists, plain, plain_bodies,
+};
+use ebpf_ext::{bpf_func_info, bpf_line_info};
+use ebpf_linker::{Body, Call, Fault, LinkedProgram, Tables, Target};
+use ebpf_parts::insn::bpf_insn;
+use std::alloc::{AllocError, Global};
+use std::test::Fail;
+use test_same::same;
+
+/// The imm and the registers of each slot.
+fn add_slots(text: &mut String, slots: &[bpf_insn]) -> Result<(), AllocError> {
+    for slot in slots {
+        write!(text, "{}/{} ", slot.imm, slot.src_reg())?;
+    }
+    Ok(())
+}
+
+/// The slots of records on functions.
+fn add_functions(text: &mut String, records: &[bpf_func_info]) -> Result<(), AllocError> {
+    for record in records {
+        write!(text, "f{} ", record.insn_off)?;
+    }
+    Ok(())
+}
+
+/// The slots of records on lines.
+fn add_lines(text: &mut String, records: &[bpf_line_info]) -> Result<(), AllocError> {
+    for record in records {
+        write!(text, "l{} ", record.insn_off)?;
+    }
+    Ok(())
+}
+
+/// The counts of both.
+fn add_counts(text: &mut String, program: &LinkedProgram) -> Result<(), AllocError> {
+    write!(text, "{:?} {:?}", program.func_count, program.line_count)?;
+    Ok(())
+}
+
+fn add_program(text: &mut String, program: &LinkedProgram) -> Result<(), AllocError> {
+    add_slots(text, program.slots.as_slice())?;
+    add_functions(text, program.func_info.as_slice())?;
+    add_lines(text, program.line_info.as_slice())?;
+    add_counts(text, program)
+}
+
+/// A linked program, or the fault.
+fn add_answer(text: &mut String, answer: &Answer) -> Result<(), AllocError> {
+    match answer {
+        Some(Ok(program)) => add_program(text, program)?,
+        Some(Err(fault)) => write!(text, "{fault:?}")?,
+        None => text.push_str("unsound")?,
+    }
+    Ok(())
+}
+
+fn printed(alloc: Global, answer: &Answer) -> Result<String, AllocError> {
+    let mut text = String::new(alloc);
+    add_answer(&mut text, answer)?;
+    Ok(text)
+}
+
+/// The first function linked.
+fn outcome(
+    alloc: Global,
+    bodies: &[Body<'_>],
+    references: &[TestReference],
+) -> Result<String, AllocError> {
+    let calls = lists(alloc, bodies.len(), references)?;
+    let answer = linked(alloc, bodies, &calls)?;
+    printed(alloc, &answer)
+}
+
+/// Fails where the first of these functions isn't linked so.
+fn links(
+    alloc: Global,
+    slots: &[TestSlots<'_>],
+    references: &[TestReference],
+    want: &str,
+) -> Result<(), Fail> {
+    let bodies = plain_bodies(alloc, slots)?;
+    let text = outcome(alloc, &bodies, references)?;
+    same(text.as_str(), want)
+}
+
+/// One of these functions linked, behind what was linked before.
+fn add_linked(
+    alloc: Global,
+    text: &mut String,
+    tables: &Tables,
+    bodies: &[Body<'_>],
+    calls: &[Vec<Call>],
+    start: usize,
+) -> Result<(), AllocError> {
+    let answer = linked_at(alloc, tables, bodies, calls, start)?;
+    add_answer(text, &answer)?;
+    text.push_str("; ")
+}
+
+/// Each of these functions linked in turn, with the same tables.
+fn outcomes(
+    alloc: Global,
+    tables: &Tables,
+    bodies: &[Body<'_>],
+    references: &[TestReference],
+    starts: &[usize],
+) -> Result<String, AllocError> {
+    let calls = lists(alloc, bodies.len(), references)?;
+    let mut text = String::new(alloc);
+    for start in starts {
+        add_linked(alloc, &mut text, tables, bodies, &calls, *start)?;
+    }
+    Ok(text)
+}
+
+/// Fails where these functions, linked in turn with these tables, don't give this.
+fn link_in_turn(
+    alloc: Global,
+    tables: &Tables,
+    slots: &[TestSlots<'_>],
+    references: &[TestReference],
+    starts: &[usize],
+    want: &str,
+) -> Result<(), Fail> {
+    let bodies = plain_bodies(alloc, slots)?;
+    let text = outcomes(alloc, tables, &bodies, references, starts)?;
+    same(text.as_str(), want)
+}
+
+/// A program that calls itself has a copy of its own.
+#[test]
+fn calls_itself(rt: HostRuntime) -> Result<(), Fail> {
+    let references = [(0, 0, Target::Function(0))];
+    links(
+        rt.alloc(),
+        &[&CALLS],
+        &references,
+        "1/1 0/0 -1/1 0/0 Some(0) None",
+    )
+}
+
+/// P calls f and g, f calls g.
+#[test]
+fn calls_in_turn(rt: HostRuntime) -> Result<(), Fail> {
+    let references = [
+        (0, 0, Target::Function(1)),
+        (0, 1, Target::Function(2)),
+        (1, 0, Target::Function(2)),
+    ];
+    links(
+        rt.alloc(),
+        &[&CALLS_TWICE, &CALLS, &ENDS],
+        &references,
+        "2/1 3/1 0/0 1/1 0/0 0/0 Some(0) None",
+    )
+}
+
+/// P calls g and f, f calls g: g stands before f, though its number is higher.
+#[test]
+fn stands_where_it_is_called_first(rt: HostRuntime) -> Result<(), Fail> {
+    let references = [
+        (0, 0, Target::Function(2)),
+        (0, 1, Target::Function(1)),
+        (1, 0, Target::Function(2)),
+    ];
+    links(
+        rt.alloc(),
+        &[&CALLS_TWICE, &CALLS, &ENDS],
+        &references,
+        "2/1 2/1 0/0 0/0 -2/1 0/0 Some(0) None",
+    )
+}
+
+/// P calls f and h, f calls g, h calls g: f, g, h.
+#[test]
+fn depth_first(rt: HostRuntime) -> Result<(), Fail> {
+    let references = [
+        (0, 0, Target::Function(1)),
+        (0, 1, Target::Function(3)),
+        (1, 0, Target::Function(2)),
+        (3, 0, Target::Function(2)),
+    ];
+    links(
+        rt.alloc(),
+        &[&CALLS_TWICE, &CALLS, &ENDS, &CALLS],
+        &references,
+        "2/1 4/1 0/0 1/1 0/0 0/0 -2/1 0/0 Some(0) None",
+    )
+}
+
+/// A load of a function's address.
+#[test]
+fn address_of_a_function(rt: HostRuntime) -> Result<(), Fail> {
+    let references = [(0, 0, Target::Function(1))];
+    links(
+        rt.alloc(),
+        &[&[LOAD, NOTHING, EXIT], &ENDS],
+        &references,
+        "2/4 0/0 0/0 0/0 Some(0) None",
+    )
+}
+
+/// A fault in a function that is called before the slot with another.
+#[test]
+fn first_fault_on_the_walk(rt: HostRuntime) -> Result<(), Fail> {
+    let references = [
+        (0, 0, Target::Function(1)),
+        (
+            0,
+            1,
+            Target::Nowhere(Fault::UnsupportedTextSymbol { index: 5 }),
+        ),
+        (
+            1,
+            0,
+            Target::Nowhere(Fault::UnknownFunction {
+                address: 16,
+                caller: 1,
+            }),
+        ),
+    ];
+    links(
+        rt.alloc(),
+        &[&CALLS_TWICE, &CALLS],
+        &references,
+        "UnknownFunction { address: 16, caller: 1 }",
+    )
+}
+
+/// A fault in a function that nothing calls.
+#[test]
+fn fault_that_nothing_reaches(rt: HostRuntime) -> Result<(), Fail> {
+    let references = [
+        (0, 0, Target::Function(1)),
+        (
+            2,
+            0,
+            Target::Nowhere(Fault::UnsupportedTextSymbol { index: 5 }),
+        ),
+    ];
+    links(
+        rt.alloc(),
+        &[&CALLS, &ENDS, &CALLS],
+        &references,
+        "1/1 0/0 0/0 Some(0) None",
+    )
+}
+
+/// A record on a function, or on a line, at a slot.
+const fn func_at(insn_off: u32) -> bpf_func_info {
+    bpf_func_info {
+        insn_off,
+        type_id: 1,
+    }
+}
+
+const fn line_at(insn_off: u32) -> bpf_line_info {
+    bpf_line_info {
+        insn_off,
+        file_name_off: 0,
+        line_off: 0,
+        line_col: 0,
+    }
+}
+
+/// What a program with records that calls a function with these gives.
+fn with_records<'a>(
+    alloc: Global,
+    slots: &'a [bpf_insn],
+    func_info: &'a [bpf_func_info],
+    line_info: &'a [bpf_line_info],
+) -> Result<String, AllocError> {
+    let program = Body {
+        slots: &CALLS,
+        func_info: &[func_at(0)],
+        line_info: &[line_at(0), line_at(1)],
+    };
+    let callee = Body {
+        slots,
+        func_info,
+        line_info,
+    };
+    outcome(alloc, &[program, callee], &[(0, 0, Target::Function(1))])
+}
+
+/// Fails where that isn't this.
+fn links_records<'a>(
+    alloc: Global,
+    slots: &'a [bpf_insn],
+    func_info: &'a [bpf_func_info],
+    line_info: &'a [bpf_line_info],
+    want: &str,
+) -> Result<(), Fail> {
+    let text = with_records(alloc, slots, func_info, line_info)?;
+    same(text.as_str(), want)
+}
+
+#[test]
+fn moves_records(rt: HostRuntime) -> Result<(), Fail> {
+    let want = "1/1 0/0 0/0 f0 f2 l0 l1 l2 Some(2) Some(3)";
+    links_records(rt.alloc(), &ENDS, &[func_at(1)], &[line_at(1)], want)
+}
+
+#[test]
+fn wants_records_of_both(rt: HostRuntime) -> Result<(), Fail> {
+    let want = "FunctionInfoMismatch { callee: 1 }";
+    links_records(rt.alloc(), &ENDS, &[], &[line_at(1)], want)
+}
+
+#[test]
+fn line_before_the_first(rt: HostRuntime) -> Result<(), Fail> {
+    let lines = [line_at(2), line_at(1)];
+    let want = "InvalidLineInfo { callee: 1 }";
+    links_records(rt.alloc(), &[NOTHING, EXIT], &[func_at(1)], &lines, want)
+}
+
+/// A list of one call, of a function.
+fn call_of(alloc: Global, function: usize) -> Result<Vec<Call>, AllocError> {
+    let mut list = Vec::new(alloc);
+    list.push(Call {
+        slot: 0,
+        target: Target::Function(function),
+    })?;
+    Ok(list)
+}
+
+/// So many functions that call, and one that ends.
+fn chain_bodies<'a>(alloc: Global, count: usize) -> Result<Vec<Body<'a>>, AllocError> {
+    let mut bodies = vec![in alloc; plain(&CALLS); count]?;
+    bodies.push(plain(&ENDS))?;
+    Ok(bodies)
+}
+
+/// The calls of so many functions, each of the next.
+fn chain_calls(alloc: Global, count: usize) -> Result<Vec<Vec<Call>>, AllocError> {
+    let mut calls = Vec::new(alloc);
+    for function in 0..count {
+        calls.push(call_of(alloc, function.saturating_add(1))?)?;
+    }
+    calls.push(Vec::new(alloc))?;
+    Ok(calls)
+}
+
+/// How many slots have the imm 1.
+fn count_ones(slots: &[bpf_insn]) -> usize {
+    slots.iter().filter(|slot| slot.imm == 1).count()
+}
+
+/// How many slots a linked program has, and how many of these have the imm 1.
+fn counted(alloc: Global, answer: &Answer) -> Result<String, AllocError> {
+    match answer {
+        Some(Ok(program)) => {
+            let slots = program.slots.as_slice();
+            format!(in alloc; "{} {}", slots.len(), count_ones(slots))
+        }
+        Some(Err(fault)) => format!(in alloc; "{fault:?}"),
+        None => format!(in alloc; "unsound"),
+    }
+}
+
+/// That of a chain of so many functions, each of which calls the next.
+fn chain(alloc: Global, count: usize) -> Result<String, AllocError> {
+    let bodies = chain_bodies(alloc, count)?;
+    let calls = chain_calls(alloc, count)?;
+    let answer = linked(alloc, &bodies, &calls)?;
+    counted(alloc, &answer)
+}
+
+#[test]
+fn long_chain(rt: HostRuntime) -> Result<(), Fail> {
+    let text = chain(rt.alloc(), 10000)?;
+    same(text.as_str(), "20001 10000")
+}
+
+/// Five functions linked in turn: after a fault, and again.
+fn share_tables(alloc: Global, tables: &Tables) -> Result<(), Fail> {
+    let slots: [TestSlots<'_>; 4] = [&CALLS_TWICE, &CALLS, &ENDS, &CALLS_TWICE];
+    let references = [
+        (0, 0, Target::Function(1)),
+        (0, 1, Target::Function(2)),
+        (1, 0, Target::Function(2)),
+        (3, 0, Target::Function(2)),
+        (
+            3,
+            1,
+            Target::Nowhere(Fault::UnsupportedTextSymbol { index: 5 }),
+        ),
+    ];
+    let want = "2/1 3/1 0/0 1/1 0/0 0/0 Some(0) None; 1/1 0/0 0/0 Some(0) None; 0/0 None None; \
+        UnsupportedTextSymbol { index: 5 }; 1/1 0/0 0/0 Some(0) None; ";
+    link_in_turn(alloc, tables, &slots, &references, &[0, 1, 2, 3, 1], want)
+}
+
+/// What one program leaves in the tables serves the next: after a fault, and over other functions.
+#[test]
+fn programs_share_tables(rt: HostRuntime) -> Result<(), Fail> {
+    let tables = Tables::new();
+    share_tables(rt.alloc(), &tables)?;
+    let alone = [(0, 0, Target::Function(0))];
+    let want = "1/1 0/0 -1/1 0/0 Some(0) None; ";
+    link_in_turn(rt.alloc(), &tables, &[&CALLS], &alone, &[0], want)
+}

@@ -1,0 +1,12 @@
+//! Tests of calls over whole files: limits, the initial values of maps, and what the programs say; each by what the call gives.
+//! Nothing is promised here.
+#![tactic(auto)]
+
+#[cfg(test)]
+mod commands;
+#[cfg(test)]
+mod hex;
+#[cfg(test)]
+mod initial_slots;
+#[cfg(test)]
+mod limits;
