@@ -1,5 +1,5 @@
 -- What contracts of private functions name and no public one.
-use Rattle.std.specs.Prelude.{◌≡◌, ⊤, [], MatchBool, Result, Ok, Err, ℕ, ◌+◌, List, ◌∷◌, ◌++◌, Option, Some, None, ◌-◌, nat_le, if◌then◌else◌}
+use Rattle.std.specs.Prelude.{◌≡◌, ⊤, [], MatchBool, Result, Ok, Err, ℕ, List, ◌∷◌, ◌++◌, Option, Some, None, nat_le, if◌then◌else◌}
 use Rattle.ebpf_core.specs.Answers.{without_texts}
 use Rattle.ebpf_core.specs.Memory.{is_record_memory}
 use Rattle.ebpf_core.specs.declared.error.RelocationError.{RelocationError}

@@ -1,5 +1,5 @@
 -- An outcome in the slots of a function, slot by slot.
-use Rattle.std.specs.Prelude.{◌≡◌, ◌≢◌, ℕ, ◌+◌, List, length, Option, Some, None, option_map, Ok, slice_get, if◌then◌else◌}
+use Rattle.std.specs.Prelude.{◌≡◌, ◌≢◌, ℕ, ◌+◌, List, length, Option, Some, option_map, Ok, slice_get, if◌then◌else◌}
 use Rattle.ebpf_core.specs.declared.outcome.Outcome.{Outcome}
 use Rattle.ebpf_core_relo.specs.Carried.{carrying, carrying_next, takes_next, written}
 use Rattle.ebpf_parts.specs.declared.insn.bpf_insn.{bpf_insn}
