@@ -5,21 +5,14 @@
 //! be left out. `prepare FILE` is run on an object.
 #![tactic(auto)]
 
-mod clock;
-mod error;
-mod files;
-mod found;
-mod many_types;
 mod peak;
 mod preparing;
 mod timed;
-mod types;
 mod words;
 
-use crate::error::BenchError;
 use crate::preparing::measure_preparing;
-use crate::types::measure_types;
 use crate::words::{Task, read_words};
+use bench_types::{BenchError, measure_types};
 use std::process::ExitCode;
 use std::{env, io};
 

@@ -1,20 +1,20 @@
 //! How long an object takes from its file to finished programs.
 
-use crate::error::{BenchError, allowed};
-use crate::files::read_bytes;
 use crate::peak::peak_kilobytes;
 use crate::timed::timed;
 use crate::words::Sources;
+use bench_types::{BenchError, allowed, read_bytes};
 use ebpf_btf::{Btf, Endianness};
 use ebpf_commands::prepare_all;
 use ebpf_object::Object;
 use std::fs::{self, File};
 use std::io::BufReader;
+use test_bare_calls::parse;
 
 /// The object of a file.
 fn read_object(rt: &HostRuntime, path: &str) -> Result<Object, BenchError> {
     let bytes = read_bytes(rt, path)?;
-    allowed(Object::parse(rt.alloc(), &bytes))
+    allowed(parse(rt.alloc(), &bytes))
 }
 
 /// The types in a file.

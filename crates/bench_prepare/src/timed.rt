@@ -1,6 +1,6 @@
 //! How long a step takes.
 
-use crate::error::BenchError;
+use bench_types::BenchError;
 use std::time::Instant;
 
 /// The microseconds that making a value takes, without those of letting it go.

@@ -1,6 +1,5 @@
 //! Calls that a loader makes beside those for slots.
 
-use crate::call::{Call, say};
 use ebpf_base::{ByName, Endianness, Items};
 use ebpf_initial_slots::initial_slots;
 use ebpf_kconfig::{KconfigExtern, define_kconfig, kconfig, kconfig_number, kconfig_value};
@@ -8,6 +7,7 @@ use ebpf_kernel_types::kernel_types;
 use ebpf_object::Object;
 use std::alloc::AllocError;
 use std::io;
+use test_marked_calls::{Call, say};
 
 /// The version 6.12, as externs have it.
 const VERSION: u64 = 0x6_0c00;

@@ -6,27 +6,19 @@
 //! last one between the marks. A call is a name, and a word behind `=` where it asks for one.
 #![tactic(auto)]
 
-mod call;
-mod code;
-mod given;
 mod kept;
 mod loader;
 mod object;
 mod passes;
 mod prepared;
 mod run;
-mod small;
-mod still;
-mod still_file;
 mod still_object;
-mod still_types;
 mod subject;
-mod type_questions;
 mod types;
 
-use crate::given::Files;
 use crate::run::run;
 use std::{env, fs, io};
+use test_marked_calls::Files;
 
 /// Reads the files.
 fn read_files(rt: &HostRuntime, object: &str, types: &str, lines: &str) -> io::Result<Files> {

@@ -1,6 +1,5 @@
 //! Calls on an object.
 
-use crate::call::{Call, say};
 use crate::kept::on_kept;
 use crate::loader::on_loader;
 use crate::passes::pass;
@@ -9,6 +8,8 @@ use ebpf_object::Object;
 use ebpf_parts::Reading;
 use std::fmt::Debug;
 use std::io;
+use test_bare_calls::parse_as;
+use test_marked_calls::{Call, say};
 
 /// Says that a call has ended, and what object it answered. It doesn't know that this is an object, so that its proof
 /// doesn't let go of each part of one.
@@ -25,7 +26,7 @@ pub fn tell_object<T: Shown, E: Debug + Drop>(
 /// Parses the bytes.
 pub fn parse(bytes: &[u8], call: &Call<'_>) -> io::Result<()> {
     call.begin();
-    tell_object(Object::parse(call.rt.alloc(), bytes), call)
+    tell_object(test_bare_calls::parse(call.rt.alloc(), bytes), call)
 }
 
 /// Copies the object.
@@ -69,6 +70,6 @@ pub fn on_object<'a>(
     front: &'a [String],
     last: &Call<'a>,
 ) -> io::Result<()> {
-    let parsed = Object::parse_as(last.rt.alloc(), bytes, reading);
+    let parsed = parse_as(last.rt.alloc(), bytes, reading);
     on_parsed(parsed, "no object: ", front, last)
 }

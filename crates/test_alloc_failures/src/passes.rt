@@ -1,6 +1,5 @@
 //! The passes over an object.
 
-use crate::call::{Call, say};
 use ebpf_base::ByName;
 use ebpf_btf::Btf;
 use ebpf_object::Object;
@@ -9,6 +8,11 @@ use std::alloc::{AllocError, Global};
 use std::collections::{HashMap, HashSet};
 use std::io::BufRead;
 use std::{io, mem};
+use test_bare_calls::{
+    patch_map_data, relocate_btf, relocate_calls, relocate_externs, relocate_maps, resolve_externs,
+    resolve_lines, resolve_text, sanitize_functions, text_sections,
+};
+use test_marked_calls::{Call, say};
 
 /// Maps with their names and the descriptors 1 and on.
 fn numbered<'a>(
@@ -32,7 +36,7 @@ fn relocate_given_maps(
     call: &Call<'_>,
 ) -> io::Result<()> {
     call.begin();
-    call.tell(object.relocate_maps(given.iter().copied(), sections))
+    call.tell(relocate_maps(object, given, sections))
 }
 
 /// Writes the descriptors of maps that are not the object's.
@@ -49,7 +53,7 @@ fn relocate_other_maps(
 }
 
 /// Writes the descriptors of the object's own maps, which are taken out so long.
-fn relocate_maps(
+fn relocate_own_maps(
     object: &mut Object,
     sections: &HashSet<usize>,
     call: &Call<'_>,
@@ -62,26 +66,26 @@ fn relocate_maps(
 }
 
 /// Links the programs with what they reach.
-fn relocate_calls(
+fn link_programs(
     object: &mut Object,
     sections: &HashSet<usize>,
     call: &Call<'_>,
 ) -> io::Result<()> {
     call.begin();
-    call.tell(object.relocate_calls(sections))
+    call.tell(relocate_calls(object, sections))
 }
 
 /// Makes a pass that is told which sections hold functions.
 fn pass_with(object: &mut Object, sections: &HashSet<usize>, call: &Call<'_>) -> io::Result<()> {
     match call.name {
-        "relocate_maps" => relocate_maps(object, sections, call),
-        _ => relocate_calls(object, sections, call),
+        "relocate_maps" => relocate_own_maps(object, sections, call),
+        _ => link_programs(object, sections, call),
     }
 }
 
 /// The same, where the object tells.
 fn pass_over_sections(object: &mut Object, call: &Call<'_>) -> io::Result<()> {
-    match object.text_sections(call.rt.alloc()) {
+    match text_sections(call.rt.alloc(), object) {
         Ok(sections) => pass_with(object, &sections, call),
         Err(error) => say(call.rt, "no sections: ", error),
     }
@@ -102,27 +106,27 @@ fn values<'a>(
 }
 
 /// Writes the kernel's lines as the value of variables.
-fn patch_map_data(object: &mut Object, call: &Call<'_>) -> io::Result<()> {
+fn patch_variables(object: &mut Object, call: &Call<'_>) -> io::Result<()> {
     let values = values(call.rt.alloc(), call.word, call.kernel.lines)?;
     call.begin();
-    call.tell(object.patch_map_data(values))
+    call.tell(patch_map_data(object, values))
 }
 
 /// Resolves the externs with the kernel's lines, all of them read before.
-fn resolve_lines(object: &mut Object, call: &Call<'_>) -> io::Result<()> {
+fn resolve_read_lines(object: &mut Object, call: &Call<'_>) -> io::Result<()> {
     let lines: Vec<io::Result<String>> = call
         .kernel
         .lines
         .lines(call.rt.alloc())
         .collect(call.rt.alloc())?;
     call.begin();
-    call.tell(object.resolve_lines(call.kernel.types, lines.into_iter()))
+    call.tell(resolve_lines(object, call.kernel.types, lines))
 }
 
 /// Relocates the functions to a kernel's types where there are some.
-fn relocate_btf(object: &mut Object, types: Option<&Btf>, call: &Call<'_>) -> io::Result<()> {
+fn relocate_types(object: &mut Object, types: Option<&Btf>, call: &Call<'_>) -> io::Result<()> {
     match types {
-        Some(types) => call.tell(object.relocate_btf(types)),
+        Some(types) => call.tell(relocate_btf(object, types)),
         None => call.miss(),
     }
 }
@@ -132,12 +136,12 @@ fn pass_at_once(object: &mut Object, call: &Call<'_>) -> io::Result<()> {
     call.begin();
     let (types, lines) = (call.kernel.types, call.kernel.lines);
     match call.name {
-        "relocate_btf" => relocate_btf(object, types, call),
-        "resolve_externs" => call.tell(object.resolve_externs(types, lines)),
-        "resolve_text" => call.tell(object.resolve_text(types, lines)),
-        "relocate_externs" => call.tell(object.relocate_externs()),
+        "relocate_btf" => relocate_types(object, types, call),
+        "resolve_externs" => call.tell(resolve_externs(object, types, lines)),
+        "resolve_text" => call.tell(resolve_text(object, types, lines)),
+        "relocate_externs" => call.tell(relocate_externs(object)),
         "sanitize_functions" => {
-            object.sanitize_functions(|| false);
+            let _ = sanitize_functions(object, false);
             call.tell("done")
         }
         _ => call.miss(),
@@ -148,8 +152,8 @@ fn pass_at_once(object: &mut Object, call: &Call<'_>) -> io::Result<()> {
 pub fn pass(object: &mut Object, call: &Call<'_>) -> io::Result<()> {
     match call.name {
         "relocate_maps" | "relocate_calls" => pass_over_sections(object, call),
-        "resolve_lines" => resolve_lines(object, call),
-        "patch_map_data" => patch_map_data(object, call),
+        "resolve_lines" => resolve_read_lines(object, call),
+        "patch_map_data" => patch_variables(object, call),
         _ => pass_at_once(object, call),
     }
 }

@@ -1,11 +1,11 @@
 //! Files that are prepared or inspected in one call.
 
-use crate::call::Call;
-use crate::given::Kernel;
 use crate::object::tell_object;
 use ebpf_inspect::inspect;
-use ebpf_object::prepare::{Steps, prepare};
+use ebpf_object::prepare::Steps;
 use std::io;
+use test_bare_calls::prepare;
+use test_marked_calls::{Call, Kernel};
 
 /// The descriptors of maps that are given, some of which objects of tests have.
 const DESCRIPTORS: [(&'static str, i32); 8] = [

@@ -1,17 +1,15 @@
 //! The subjects of calls.
 
-use crate::call::{Call, say};
-use crate::code::on_code;
-use crate::given::{Files, Kernel};
 use crate::loader::types_for_kernel;
 use crate::object::{on_object, parse};
 use crate::prepared::on_steps;
-use crate::small::on_small;
-use crate::still_file::on_file;
-use crate::types::{on_types, parse_types, take_types};
+use crate::types::on_parsed_types;
 use ebpf_btf::{Btf, Endianness};
 use ebpf_parts::Reading;
 use std::io;
+use test_marked_calls::{
+    Call, Files, Kernel, on_code, on_file, on_small, parse_types, say, take_types,
+};
 
 /// The calls before the one that is looked at, and that one; one without a name where there is none.
 fn split<'a>(
@@ -73,7 +71,7 @@ fn of_types(rt: &HostRuntime, files: &Files, subject: &str, calls: &[String]) ->
     match subject {
         "parse_types" => parse_types(bytes, &last),
         "take_types" => take_types(bytes, &last),
-        "types" => on_types(bytes, front, &last),
+        "types" => on_parsed_types(bytes, front, &last),
         _ => with_types(rt, files, subject, calls),
     }
 }

@@ -1,8 +1,8 @@
 //! What calls are made on, one after the other.
 
-use crate::call::{Call, say};
 use std::fmt::Debug;
 use std::io;
+use test_marked_calls::{Call, say};
 
 /// What can be printed.
 pub trait Shown: Drop {

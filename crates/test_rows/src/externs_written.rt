@@ -1,20 +1,20 @@
 //! What is known of externs, written into slots.
 
-use crate::extern_words::set_externs;
-use crate::slots::with_slots;
 use ebpf_object::Object;
 use std::alloc::{AllocError, Global};
+use test_bare_calls::relocate_externs;
 use test_cases::{Action, no_action, shown};
+use test_tables::{set_externs, with_slots};
 
 /// What writing the externs of an object answers.
 fn write_externs(alloc: Global, object: &mut Object) -> Result<String, AllocError> {
-    shown(alloc, object.relocate_externs())
+    shown(alloc, relocate_externs(object))
 }
 
 /// The same, and the slots then.
 pub fn written(alloc: Global, object: &mut Object) -> Result<String, AllocError> {
     let answer = write_externs(alloc, object)?;
-    with_slots(alloc, answer, object)
+    with_slots(alloc, answer, &object.functions)
 }
 
 /// What writing the externs gives of which words say what is known, and the slots then.

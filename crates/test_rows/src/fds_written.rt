@@ -1,13 +1,14 @@
 //! Descriptors of maps that are written into slots.
 
-use crate::slots::with_slots;
 use ebpf_base::ByName;
 use ebpf_object::Object;
 use ebpf_parts::maps::Map;
 use std::alloc::{AllocError, Global};
 use std::collections::HashSet;
 use std::mem;
+use test_bare_calls::{relocate_maps, text_sections};
 use test_cases::{Action, no_action, shown};
+use test_tables::with_slots;
 
 /// A map with its name and its descriptor.
 type Given<'a> = (&'a str, i32, &'a Map);
@@ -39,19 +40,19 @@ fn given<'a>(
 fn write_maps(
     alloc: Global,
     object: &mut Object,
-    given: Vec<Given<'_>>,
+    given: &[Given<'_>],
     sections: &HashSet<usize>,
 ) -> Result<String, AllocError> {
-    shown(alloc, object.relocate_maps(given.into_iter(), sections))
+    shown(alloc, relocate_maps(object, given, sections))
 }
 
 /// The same of all sections.
 fn write_all_maps(
     alloc: Global,
     object: &mut Object,
-    given: Vec<Given<'_>>,
+    given: &[Given<'_>],
 ) -> Result<String, AllocError> {
-    let sections = object.text_sections(alloc)?;
+    let sections = text_sections(alloc, object)?;
     write_maps(alloc, object, given, &sections)
 }
 
@@ -65,8 +66,8 @@ fn written(
     let Some(given) = given(alloc, maps, words)? else {
         return no_action(alloc);
     };
-    let answer = write_all_maps(alloc, object, given)?;
-    with_slots(alloc, answer, object)
+    let answer = write_all_maps(alloc, object, &given)?;
+    with_slots(alloc, answer, &object.functions)
 }
 
 /// What writing the descriptors gives that words ask for, and the slots then. The maps are the object's own.

@@ -2,23 +2,16 @@
 #![tactic(auto)]
 
 mod changes;
-mod declared;
-mod extern_words;
 mod externs_written;
 mod fds_written;
-mod lines;
 mod linked;
-mod maps;
-mod names;
 mod objects;
 mod outcomes;
 mod patched;
 mod prepared;
 mod printed;
-mod records;
 mod resolved;
 mod sanitized;
-mod slots;
 mod symbols;
 mod tables;
 mod types_relocated;

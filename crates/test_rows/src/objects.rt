@@ -1,6 +1,5 @@
 //! Actions on an object.
 
-use crate::declared::put_types;
 use crate::externs_written::externs_written;
 use crate::fds_written::fds_written;
 use crate::linked::linked;
@@ -13,7 +12,9 @@ use ebpf_object::Object;
 use ebpf_object::obj::Reading;
 use std::alloc::{AllocError, Global};
 use std::fmt::Debug;
+use test_bare_calls::parse_as;
 use test_cases::{Action, Files, no_action, shown};
+use test_tables::put_types;
 
 /// The tables that the words name, one after the other.
 fn put_tables(alloc: Global, object: &Object, action: &Action<'_>) -> Result<String, AllocError> {
@@ -106,6 +107,6 @@ pub fn on_object(
     bytes: &[u8],
     action: &Action<'_>,
 ) -> Result<String, AllocError> {
-    let parsed = Object::parse_as(alloc, bytes, reading_of(action));
+    let parsed = parse_as(alloc, bytes, reading_of(action));
     of_parsed(alloc, files, parsed, action)
 }

@@ -1,14 +1,13 @@
 //! The actions, by name.
 
 use crate::changes::{bytes, prefixes, prepared_bytes};
-use crate::maps::{map_copy, map_info};
-use crate::names::{default_attach_type, kind, loaded, of_number};
 use crate::objects::on_object;
 use crate::prepared::prepared;
 use crate::printed::printed;
 use crate::symbols::on_symbols;
 use std::alloc::{AllocError, Global};
 use test_cases::{Action, Files, Outcomes};
+use test_tables::{default_attach_type, kind, loaded, map_copy, map_info, of_number};
 
 /// What actions on object files give.
 #[derive(Clone, Copy)]

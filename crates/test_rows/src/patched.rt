@@ -3,6 +3,7 @@
 use ebpf_object::Object;
 use std::alloc::{AllocError, Global};
 use std::collections::HashMap;
+use test_bare_calls::patch_map_data;
 use test_cases::{Action, Files, no_action, shown};
 
 /// A variable's value, and whether the object has to have it, by its name.
@@ -27,7 +28,7 @@ fn values<'a>(
 
 /// What writing values answers.
 fn patch(alloc: Global, object: &mut Object, values: Values<'_>) -> Result<String, AllocError> {
-    shown(alloc, object.patch_map_data(values))
+    shown(alloc, patch_map_data(object, values))
 }
 
 /// The data of `.data`.

@@ -1,12 +1,13 @@
 //! Files that are prepared in one call.
 
-use crate::linked::put_slots;
 use ebpf_btf::{Btf, BtfError, Endianness};
 use ebpf_object::Object;
-use ebpf_object::prepare::{PrepareError, Steps, prepare};
+use ebpf_object::prepare::{PrepareError, Steps};
 use std::alloc::{AllocError, Global};
 use std::fmt::Debug;
+use test_bare_calls::prepare;
 use test_cases::{Action, Files, shown, shown_line};
+use test_tables::put_slots;
 
 /// The name of a map and its descriptor, as `NAME=DESCRIPTOR`.
 fn descriptor(word: &str) -> Option<(&str, i32)> {
@@ -54,7 +55,7 @@ fn programs(alloc: Global, object: &Object) -> Result<String, AllocError> {
     let mut text = String::new(alloc);
     let maps = object.maps.len();
     writeln!(text, "maps {maps}")?;
-    put_slots(alloc, &mut text, object, false)?;
+    put_slots(alloc, &mut text, &object.programs, &object.functions, false)?;
     Ok(text)
 }
 

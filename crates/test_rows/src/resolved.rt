@@ -1,13 +1,13 @@
 //! Externs that are found in a kernel: its types are the file `kernel`, if there is one, and its addresses the file
 //! `kallsyms`.
 
-use crate::extern_words::set_externs;
 use crate::externs_written::written;
-use crate::lines::put_lines;
 use ebpf_btf::Btf;
 use ebpf_object::Object;
 use std::alloc::{AllocError, Global};
+use test_bare_calls::{resolve_externs, resolve_text};
 use test_cases::{Action, Files, no_action, shown_line};
+use test_tables::{put_lines, set_externs};
 
 /// The kernel's types, where there are some.
 fn kernel_types(alloc: Global, object: &Object, bytes: &[u8]) -> Option<Btf> {
@@ -26,9 +26,9 @@ fn resolve(
     as_text: bool,
 ) -> Result<String, AllocError> {
     let answer = if as_text {
-        object.resolve_text(kernel, kallsyms)
+        resolve_text(object, kernel, kallsyms)
     } else {
-        object.resolve_externs(kernel, kallsyms)
+        resolve_externs(object, kernel, kallsyms)
     };
     shown_line(alloc, answer)
 }

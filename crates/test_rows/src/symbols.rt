@@ -1,83 +1,60 @@
-//! Actions on a list of a kernel's addresses, the file `kallsyms`, by name. Their words say the externs, or none where
-//! the file `object` is prepared. The reader of the list can fail.
+//! Actions on a list of a kernel's addresses, the file `kallsyms`, by name: their words say the externs, or none where the
+//! file `object` is prepared.
 
-mod answers;
-mod file;
-mod given;
-
-use self::answers::{Question, TypedExterns};
-use self::file::File;
-use self::given::externs_by;
-use ebpf_base::ByName;
-use ebpf_btf::Btf;
-use ebpf_ksyms::TextLines;
-use ebpf_model::ExternDesc;
+use ebpf_object::Object;
+use ebpf_object::prepare::{Steps, SymbolText};
 use std::alloc::{AllocError, Global};
-use std::io::ErrorKind;
-use test_cases::{Action, FailingReader, Files, front, no_action, shown, tally_each};
+use std::fmt::Debug;
+use test_bare_calls::prepare;
+use test_cases::{Action, FailingReader, Files, shown};
+use test_symbols::{Question, found, of_question, on_lines};
 
-/// What is answered where these bytes are read and then the end or a failure, and whether they were asked for.
-fn answer_behind<Q: Question>(
-    alloc: Global,
-    question: &Q,
-    bytes: &[u8],
-    failure: Option<ErrorKind>,
-) -> Result<String, AllocError> {
-    let mut reader = FailingReader::new(bytes, failure);
-    let mut text = question.answer(alloc, &mut reader)?;
-    let asked = reader.is_asked();
-    write!(text, "\nreader asked {asked}")?;
-    Ok(text)
+/// The passes that find externs, write them, and link programs.
+const STEPS: Steps<'static> = Steps {
+    target_btf: None,
+    map_fds: None,
+    externs: Some(None),
+    calls: true,
+};
+
+/// A file to prepare, whose externs are looked up in the lines that a reader or a text gives.
+#[derive(Clone, Copy)]
+struct File<'a> {
+    bytes: &'a [u8],
 }
 
-/// How many times each answer comes where a failure stands behind the first bytes, for each number of them.
-fn answers_at_each<Q: Question>(
-    alloc: Global,
-    question: &Q,
-    bytes: &[u8],
-) -> Result<String, AllocError> {
-    tally_each(alloc, 0..bytes.len().saturating_add(1), |place| {
-        answer_behind(alloc, question, front(bytes, place), Some(ErrorKind::Other))
-    })
+/// What has externs.
+trait HasExterns: Drop {
+    /// The answer that its externs are found.
+    fn externs(&self, alloc: Global) -> Result<String, AllocError>;
 }
 
-/// What an action gives of a question.
-fn of_question<Q: Question>(
-    alloc: Global,
-    question: &Q,
-    bytes: &[u8],
-    action: &str,
-) -> Result<String, AllocError> {
-    match action {
-        "found" => answer_behind(alloc, question, bytes, None),
-        "text" => question.answer_text(alloc, bytes),
-        "failing" => answer_behind(alloc, question, bytes, Some(ErrorKind::Other)),
-        "without_memory" => answer_behind(alloc, question, bytes, Some(ErrorKind::OutOfMemory)),
-        "failing_at_each" => answers_at_each(alloc, question, bytes),
-        _ => no_action(alloc),
+impl HasExterns for Object {
+    fn externs(&self, alloc: Global) -> Result<String, AllocError> {
+        found(alloc, &self.externs)
     }
 }
 
-/// What an action gives of externs, of an object whose types are void alone.
-fn of_externs(
+/// The externs of what was prepared, or why nothing was. It knows neither type, so that its proof doesn't let go of each
+/// part of an object.
+fn externs_of<T: HasExterns, E: Debug + Drop>(
     alloc: Global,
-    externs: ByName<ExternDesc>,
-    bytes: &[u8],
-    action: &str,
+    prepared: Result<T, E>,
 ) -> Result<String, AllocError> {
-    match Btf::new(alloc) {
-        Ok(types) => of_question(alloc, &TypedExterns { externs, types }, bytes, action),
+    match prepared {
+        Ok(object) => object.externs(alloc),
         Err(error) => shown(alloc, error),
     }
 }
 
-/// The lines of a text, or what stands in their place.
-fn lines_of(alloc: Global, bytes: &[u8]) -> Result<String, AllocError> {
-    let mut text = String::new(alloc);
-    for line in TextLines::new(alloc, bytes) {
-        writeln!(text, "{line:?}")?;
+impl<'a> Question for File<'a> {
+    fn answer(&self, alloc: Global, reader: &mut FailingReader<'_>) -> Result<String, AllocError> {
+        externs_of(alloc, prepare(alloc, self.bytes, &STEPS, reader))
     }
-    Ok(text)
+
+    fn answer_text(&self, alloc: Global, text: &[u8]) -> Result<String, AllocError> {
+        externs_of(alloc, prepare(alloc, self.bytes, &STEPS, SymbolText(text)))
+    }
 }
 
 /// What an action of this name gives.
@@ -88,15 +65,9 @@ pub fn on_symbols(
     name: &str,
 ) -> Result<String, AllocError> {
     let lines = files.get("kallsyms");
-    if name == "lines" {
-        return lines_of(alloc, lines);
-    }
     if let Some(name) = name.strip_prefix("prepared_") {
         let bytes = files.get("object");
         return of_question(alloc, &File { bytes }, lines, name);
     }
-    match externs_by(alloc, action.words.as_slice())? {
-        Some(externs) => of_externs(alloc, externs, lines, name),
-        None => no_action(alloc),
-    }
+    on_lines(alloc, lines, action, name)
 }

@@ -1,11 +1,12 @@
 //! Functions that are relocated to a kernel's types.
 
-use crate::slots::with_slots;
 use ebpf_btf::{Btf, BtfError, Endianness};
 use ebpf_object::Object;
 use ebpf_object::core_relo::{BtfRelocationError, RelocationError};
 use std::alloc::{AllocError, Global};
+use test_bare_calls::relocate_btf;
 use test_cases::{Action, Files, shown};
+use test_tables::with_slots;
 
 /// Why a relocation can't be applied, but for the texts that are for people to read.
 fn fault(alloc: Global, error: &RelocationError) -> Result<String, AllocError> {
@@ -48,7 +49,7 @@ fn refusal(alloc: Global, refusal: &BtfRelocationError) -> Result<String, AllocE
 
 /// What relocating to types answers.
 fn relocate_types(alloc: Global, object: &mut Object, types: &Btf) -> Result<String, AllocError> {
-    match object.relocate_btf(types) {
+    match relocate_btf(object, types) {
         Ok(()) => String::from_str(alloc, "Ok"),
         Err(error) => refusal(alloc, &error),
     }
@@ -61,7 +62,7 @@ fn types_relocated_to(
     types: &Btf,
 ) -> Result<String, AllocError> {
     let answer = relocate_types(alloc, object, types)?;
-    with_slots(alloc, answer, object)
+    with_slots(alloc, answer, &object.functions)
 }
 
 /// Why bytes are no types.

@@ -2,7 +2,6 @@
 
 use ebpf_base::ByKey;
 use ebpf_model::Function;
-use ebpf_object::Object;
 use ebpf_parts::insn::bpf_insn;
 use std::alloc::{AllocError, Global};
 
@@ -44,12 +43,23 @@ fn put_all_slots(
     Ok(())
 }
 
-/// What a pass over an object answers, and the slots of all functions then.
+/// What a pass answers, and the slots of all functions then.
 pub fn with_slots(
     alloc: Global,
     mut answer: String,
-    object: &Object,
+    functions: &ByKey<Function>,
 ) -> Result<String, AllocError> {
-    put_all_slots(alloc, &mut answer, &object.functions)?;
+    put_all_slots(alloc, &mut answer, functions)?;
     Ok(answer)
+}
+
+/// The immediates of all slots.
+pub fn put_immediates(text: &mut String, functions: &ByKey<Function>) -> Result<(), AllocError> {
+    for (_, function) in functions.iter() {
+        for slot in function.instructions.iter() {
+            let imm = slot.imm;
+            write!(text, "{imm} ")?;
+        }
+    }
+    Ok(())
 }

@@ -2,9 +2,8 @@
 
 use ebpf_base::ByKey;
 use ebpf_btf::Btf;
-use ebpf_ext::{FuncSecInfo, LineSecInfo, Relocation};
+use ebpf_ext::{BtfExt, FuncSecInfo, LineSecInfo, Relocation};
 use ebpf_model::Function;
-use ebpf_object::Object;
 use std::alloc::{AllocError, Global};
 use test_cases::shown;
 
@@ -67,11 +66,9 @@ fn put_relocation(
 pub fn put_type_relocations(
     alloc: Global,
     text: &mut String,
-    object: &Object,
+    btf: &Btf,
+    ext: &BtfExt,
 ) -> Result<(), AllocError> {
-    let (Some(btf), Some(ext)) = (&object.btf, &object.btf_ext) else {
-        return Ok(());
-    };
     for (section, relocations) in ext.relocations() {
         let name = text_at(alloc, btf, *section)?;
         writeln!(text, "in {name}")?;

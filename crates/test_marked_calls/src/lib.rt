@@ -1,0 +1,25 @@
+//! One call between two marks, and such calls on what objects are made of: the bytes of a file, its sections, instructions,
+//! types, maps, and the small types that grow by one. Nothing is promised of it but that it is safe.
+#![tactic(auto)]
+
+mod call;
+mod code;
+mod given;
+mod kept_parts;
+mod small;
+mod still;
+mod still_file;
+mod still_maps;
+mod still_types;
+mod type_questions;
+mod types;
+
+pub use call::{Call, say};
+pub use code::on_code;
+pub use given::{Files, Kernel};
+pub use kept_parts::{on_ext, on_map};
+pub use small::on_small;
+pub use still::mix;
+pub use still_file::on_file;
+pub use still_maps::{changed_map, map_by_info, of_maps};
+pub use types::{on_types, parse_types, take_types};
