@@ -1,11 +1,11 @@
 //! What `ebpf check --json` prints.
 
-use crate::findings::{At, Found, Location, Rank, Topic};
 use crate::session::{Judgement, KernelAnswer, Session};
 use ebpf_base::Text;
 use ebpf_report::json::separate;
 use ebpf_report::kinds::Kind;
 use ebpf_report::names::Quoted;
+use ebpf_verdict::findings::{At, Found, Location, Rank, Topic};
 use std::collections::{BTreeMap, BTreeSet};
 use std::io::{self, Write};
 

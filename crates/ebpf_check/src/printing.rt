@@ -1,9 +1,9 @@
 //! What `ebpf check` prints for people.
 
-use crate::findings::{At, Found, Location, Rank, Topic};
 use crate::session::{Judgement, KernelAnswer, Session};
 use ebpf_report::kinds::Kind;
 use ebpf_report::names::{Shown, last_part};
+use ebpf_verdict::findings::{At, Found, Location, Rank, Topic};
 use std::collections::{BTreeMap, BTreeSet};
 use std::io::{self, Write};
 

@@ -2,7 +2,6 @@
 
 use crate::json::write_json;
 use crate::kernel_files::{KernelFile, kernel_files};
-use crate::loaded::{Loaded, Needs};
 use crate::printing::{Manner, write_findings, write_kernel};
 use crate::programs::counting;
 use crate::session::{Judgement, Session};
@@ -16,6 +15,7 @@ use ebpf_report::programs::{ObjectProgram, object_programs};
 use ebpf_report::refusal::{READING, Refusal};
 use ebpf_report::refuse::{check_names, tell};
 use ebpf_report::stop::Stop;
+use ebpf_verdict::loaded::{Loaded, Needs};
 use std::alloc::{AllocError, Global};
 use std::io::{self, BufWriter, Stdout, Write};
 

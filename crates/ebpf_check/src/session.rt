@@ -3,12 +3,12 @@
 ghost use Rattle.std.specs.Prelude.{◌≡◌};
 ghost use Rattle.ebpf_check.specs.Statuses.{status_of};
 
-use crate::findings::{Findings, Rank};
-use crate::loaded::Loaded;
-use crate::verdict::judge_kernel;
 use ebpf_base::Text;
 use ebpf_btf::Btf;
 use ebpf_report::refusal::Refusal;
+use ebpf_verdict::findings::{Findings, Rank};
+use ebpf_verdict::judge_kernel;
+use ebpf_verdict::loaded::Loaded;
 use std::alloc::{AllocError, Global};
 
 /// The status by how many kernels' types can't be read, and on how many kernels some program breaks.
