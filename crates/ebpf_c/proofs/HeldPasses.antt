@@ -9,12 +9,12 @@ use Rattle.ebpf_object.specs.Steps.{Chosen}
 use Rattle.ebpf_object.specs.UnchangedFields.{KeepsOthers}
 use Rattle.ebpf_object.specs.declared.object.Object.{Object}
 use Rattle.ebpf_parts.specs.declared.reading.Reading.{Reading}
-use Rattle.ebpf_c.specs.Descriptors.{have_names}
-use Rattle.ebpf_c.specs.PreparingHeld.{HeldInputs, held_passes, HasPreparedHeld}
-use Rattle.ebpf_c.specs.TargetTypes.{types_if}
+use Rattle.ebpf_rows.specs.Descriptors.{have_names}
+use Rattle.ebpf_c.specs.Preparing.{PreparationInputs, all_passes, HasPreparedHeld}
+use Rattle.ebpf_rows.specs.TargetTypes.{types_if}
 
-pub held : (inputs : HeldInputs) (kernel : Option TypeInfo) (steps : Chosen) (old new : Object)
-    → types_if inputs.types ≡ Ok kernel → have_names inputs.text inputs.rows ≡ true → steps ≡ held_passes inputs kernel → Stages steps (Text inputs.symbols) old new
+pub held : (inputs : PreparationInputs) (kernel : Option TypeInfo) (steps : Chosen) (old new : Object)
+    → types_if inputs.types ≡ Ok kernel → have_names inputs.text inputs.rows ≡ true → steps ≡ all_passes inputs kernel → Stages steps (Text inputs.symbols) old new
     → ((reading : Reading) (file : List ℕ) → IsParsed reading file old → Headline steps (Text inputs.symbols) reading file new)
     → KeepsOthers old new → HasPreparedHeld inputs old new
 held inputs kernel steps old new spelled named all stages headline others = record {

@@ -5,9 +5,9 @@ use Rattle.std.specs.FinMap.{FinMap, get, insert}
 use Rattle.std.specs.Str.{IsUtf8}
 use Rattle.ebpf_base.specs.Keys.{text_cmp}
 use Rattle.ebpf_parts.specs.declared.maps.either.Map.{Map}
-use Rattle.ebpf_c.proofs.Texts.{named_by_text, named_by_none}
-use Rattle.ebpf_c.specs.PrivateContracts.{IsSet}
-use Rattle.ebpf_c.specs.declared.codes.TheConstants.{DONE, NO_MAP}
+use Rattle.ebpf_answers.proofs.Texts.{named_by_text, named_by_none}
+use Rattle.ebpf_rows.specs.PrivateContracts.{IsSet}
+use Rattle.ebpf_answers.specs.declared.codes.TheConstants.{DONE, NO_MAP}
 
 module _ (set : Map → Map) (name : List ℕ) (before after : FinMap text_cmp Map) where
   abbrev Set : ℕ → Option Map → Type 0

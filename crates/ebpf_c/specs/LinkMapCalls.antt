@@ -10,16 +10,16 @@ use Rattle.ebpf_reloc.specs.LinkMaps.{IsLinkMapAt}
 use Rattle.ebpf_reloc.specs.Linking.{key_of, IsProgramRefusal}
 use Rattle.ebpf_reloc.specs.SlotTargets.{LinkableValue}
 use Rattle.ebpf_reloc.specs.declared.link_map.LinkMap.{LinkMap}
-use Rattle.ebpf_c.specs.Answers.{Listed}
-use Rattle.ebpf_c.specs.Entries.{value_by_bytes}
-use Rattle.ebpf_c.specs.Handles.{IsRefusal}
-use Rattle.ebpf_c.specs.LinkMapRows.{copy_list, reference_rows}
-use Rattle.ebpf_c.specs.Numbers.{slot_refusal}
-use Rattle.ebpf_c.specs.Refusal.{plain}
-use Rattle.ebpf_c.specs.declared.codes.TheConstants.{NO_PROGRAM}
-use Rattle.ebpf_c.specs.declared.link_map_rows.ebpf_code_copy.{ebpf_code_copy}
-use Rattle.ebpf_c.specs.declared.link_map_rows.ebpf_code_reference.{ebpf_code_reference}
-use Rattle.ebpf_c.specs.declared.refusal.Refusal.{Refusal}
+use Rattle.ebpf_answers.specs.Answers.{Listed}
+use Rattle.ebpf_answers.specs.Entries.{value_by_bytes}
+use Rattle.ebpf_rows.specs.Handles.{IsRefusal}
+use Rattle.ebpf_rows.specs.LinkMapRows.{copy_list, reference_rows}
+use Rattle.ebpf_answers.specs.Numbers.{slot_refusal}
+use Rattle.ebpf_answers.specs.Refusal.{plain}
+use Rattle.ebpf_answers.specs.declared.codes.TheConstants.{NO_PROGRAM}
+use Rattle.ebpf_rows.specs.declared.link_map_rows.ebpf_code_copy.{ebpf_code_copy}
+use Rattle.ebpf_rows.specs.declared.link_map_rows.ebpf_code_reference.{ebpf_code_reference}
+use Rattle.ebpf_answers.specs.declared.refusal.Refusal.{Refusal}
 
 -- what linking reads of an object, by the sections that its own functions stand in
 abbrev pub own_parts : Object → LinkableValue

@@ -3,11 +3,13 @@ use Rattle.std.specs.Prelude.{◌≡◌, ℕ, ◌==◌, Bool, false, not, List, 
 use Rattle.std.specs.FinMap.{FinMap}
 use Rattle.ebpf_base.specs.Keys.{text_cmp}
 use Rattle.ebpf_object.specs.declared.object.Object.{Object}
-use Rattle.ebpf_parts.specs.Maps.{bytes_of, with_bytes}
+use Rattle.ebpf_parts.specs.Maps.{bytes_of, with_bytes, with_max_entries, with_value_size}
 use Rattle.ebpf_parts.specs.declared.maps.either.Map.{Map}
-use Rattle.ebpf_c.specs.Entries.{value_by_bytes}
-use Rattle.ebpf_c.specs.PrivateContracts.{IsSet}
-use Rattle.ebpf_c.specs.declared.codes.TheConstants.{CLOSED, WRONG_LENGTH}
+use Rattle.ebpf_answers.specs.Entries.{value_by_bytes}
+use Rattle.ebpf_rows.specs.PrivateContracts.{IsSet}
+use Rattle.ebpf_answers.specs.declared.codes.TheConstants.{CLOSED, WRONG_LENGTH}
+use Rattle.ebpf_c.specs.declared.map_settings.Setting.{Setting}
+use Rattle.ebpf_c.specs.declared.map_settings.Setting.TheVariants.{MaxEntries, ValueSize, Data}
 
 -- bytes in the place of as many, else those that are there
 abbrev pub replaced : List ℕ → List ℕ → List ℕ
@@ -36,3 +38,9 @@ abbrev pub IsDataSetOf : List ℕ → List ℕ → Option Object → ℕ → Opt
 IsDataSetOf bytes name None number after = (number ≡ CLOSED) × (after ≡ None)
 IsDataSetOf bytes name (Some o) number after =
     (maps : FinMap text_cmp Map) × IsDataSet bytes name o.maps number maps × (after ≡ Some (record o { maps = maps }))
+
+-- a map with what is set of it
+abbrev pub with_setting : Setting → Map → Map
+with_setting (MaxEntries entries) m = with_max_entries m entries
+with_setting (ValueSize size) m = with_value_size m size
+with_setting (Data bytes) m = with_replaced bytes.now m

@@ -11,10 +11,11 @@ use Rattle.ebpf_object.specs.WrittenSlots.{with_externs, externs_fault}
 use Rattle.ebpf_object.specs.declared.object.Object.{Object}
 use Rattle.ebpf_reloc.specs.Linking.{IsFirstRefusal}
 use Rattle.ebpf_model.specs.Memory as relocating
-use Rattle.ebpf_c.specs.Handles.{IsRefusal}
-use Rattle.ebpf_c.specs.Numbers.{ksyms_refusal, slot_refusal, types_refusal}
-use Rattle.ebpf_c.specs.TargetTypes.{types_in, types_if, CannotRead, CannotReadIf}
-use Rattle.ebpf_c.specs.declared.refusal.Refusal.{Refusal}
+use Rattle.ebpf_rows.specs.Handles.{IsRefusal}
+use Rattle.ebpf_answers.specs.Numbers.{slot_refusal}
+use Rattle.ebpf_rows.specs.StageNumbers.{ksyms_refusal, types_refusal}
+use Rattle.ebpf_rows.specs.TargetTypes.{types_in, types_if, CannotRead, CannotReadIf}
+use Rattle.ebpf_answers.specs.declared.refusal.Refusal.{Refusal}
 
 -- ---- types
 

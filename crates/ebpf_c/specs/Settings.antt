@@ -1,19 +1,17 @@
 -- What is set of an object before its relocation.
-use Rattle.std.specs.Prelude.{◌≡◌, ⊤, ℕ, Bool, List, Option, Some, None, MatchBool, MatchOption}
+use Rattle.std.specs.Prelude.{◌≡◌, ℕ, Bool, List, Option, Some, None, MatchOption}
 use Rattle.std.specs.FinMap.{FinMap, empty, insert}
 use Rattle.ebpf_base.specs.Keys.{text_cmp}
 use Rattle.ebpf_object.specs.OlderHelpers.{AreSanitized}
 use Rattle.ebpf_object.specs.Patches.{all_patched, patches_of, patches_fault}
 use Rattle.ebpf_object.specs.declared.object.Object.{Object}
-use Rattle.ebpf_parts.specs.Memory.{is_parse_memory}
 use Rattle.ebpf_parts.specs.declared.maps.either.Map.{Map}
-use Rattle.ebpf_c.specs.Entries.{value_by_bytes}
-use Rattle.ebpf_c.specs.Handles.{IsRefusal}
-use Rattle.ebpf_c.specs.Numbers.{parse_refusal}
-use Rattle.ebpf_c.specs.Refusal.{plain}
-use Rattle.ebpf_c.specs.Descriptors.{text_of}
-use Rattle.ebpf_c.specs.declared.codes.TheConstants.{BAD_NAME}
-use Rattle.ebpf_c.specs.declared.refusal.Refusal.{Refusal}
+use Rattle.ebpf_answers.specs.Entries.{value_by_bytes}
+use Rattle.ebpf_rows.specs.Handles.{CannotParse}
+use Rattle.ebpf_answers.specs.Refusal.{plain}
+use Rattle.ebpf_rows.specs.Descriptors.{text_of}
+use Rattle.ebpf_answers.specs.declared.codes.TheConstants.{BAD_NAME}
+use Rattle.ebpf_answers.specs.declared.refusal.Refusal.{Refusal}
 
 -- ---- maps
 
@@ -44,7 +42,7 @@ pub record HasPatched (name value : List ℕ) (must_exist : Bool) (old new : Obj
 abbrev pub CannotPatch : List ℕ → List ℕ → Bool → Object → Refusal → Type 0
 CannotPatch name value must_exist o r =
     MatchOption (text_of name) (r ≡ plain BAD_NAME) (λ _.
-    IsRefusal (λ e. MatchBool (is_parse_memory e) ⊤ (patches_fault o.symbol_table o.maps (one_value name value must_exist) ≡ Some e)) parse_refusal r)
+    CannotParse (patches_fault o.symbol_table o.maps (one_value name value must_exist)) r)
 
 -- ---- helper functions
 

@@ -4,11 +4,11 @@ use Rattle.ebpf_btf.specs.TypeInfo.{TypeInfo}
 use Rattle.ebpf_loading.specs.AttachTargets.{attach_target}
 use Rattle.ebpf_loading.specs.declared.attach.AttachTarget.{AttachTarget}
 use Rattle.ebpf_loading.specs.declared.attach.AttachTarget.TheVariants.{NotWanted, Unnamed, Found, NotFound}
-use Rattle.ebpf_c.specs.Descriptors.{text_of}
-use Rattle.ebpf_c.specs.Refusal.{plain}
-use Rattle.ebpf_c.specs.TargetTypes.{types_in, CannotRead}
-use Rattle.ebpf_c.specs.declared.codes.TheConstants.{BAD_NAME}
-use Rattle.ebpf_c.specs.declared.refusal.Refusal.{Refusal}
+use Rattle.ebpf_rows.specs.Descriptors.{text_of}
+use Rattle.ebpf_answers.specs.Refusal.{plain}
+use Rattle.ebpf_rows.specs.TargetTypes.{types_in, CannotRead}
+use Rattle.ebpf_answers.specs.declared.codes.TheConstants.{BAD_NAME}
+use Rattle.ebpf_answers.specs.declared.refusal.Refusal.{Refusal}
 
 abbrev pub target_number : AttachTarget → ℕ
 target_number NotWanted = 0

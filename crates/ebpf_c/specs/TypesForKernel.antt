@@ -4,9 +4,9 @@ use Rattle.ebpf_base.specs.Faults.{fault_of}
 use Rattle.ebpf_kernel_types.specs.KernelTypes.{kernel_types_of}
 use Rattle.ebpf_kernel_types.specs.KernelTypesMemory.{is_kernel_types_memory}
 use Rattle.ebpf_kernel_types.specs.declared.error.KernelTypesError.{KernelTypesError}
-use Rattle.ebpf_c.specs.Handles.{IsRefusal}
-use Rattle.ebpf_c.specs.LoaderNumbers.{kernel_types_refusal}
-use Rattle.ebpf_c.specs.declared.refusal.Refusal.{Refusal}
+use Rattle.ebpf_rows.specs.Handles.{IsRefusal}
+use Rattle.ebpf_rows.specs.LoaderNumbers.{kernel_types_refusal}
+use Rattle.ebpf_answers.specs.declared.refusal.Refusal.{Refusal}
 
 abbrev pub bytes_or_none : Result (Option (List ℕ)) KernelTypesError → Result (List ℕ) KernelTypesError
 bytes_or_none (Ok types) = Ok (unwrap_or types [])

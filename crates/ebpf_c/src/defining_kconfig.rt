@@ -1,18 +1,18 @@
 //! Externs that the kernel's configuration gives, defined.
 
 ghost use Rattle.std.specs.Prelude.{◌≡◌, ◌<◌, OnOk, OnErr, IfErr};
-ghost use Rattle.ebpf_c.specs.Handles.{Changes, IsRefused, WhyHeld};
-ghost use Rattle.ebpf_c.specs.KconfigDefinitions.{CannotDefine, HasDefined};
+ghost use Rattle.ebpf_rows.specs.Handles.{Changes, IsRefused, WhyHeld};
+ghost use Rattle.ebpf_rows.specs.KconfigDefinitions.{CannotDefine, HasDefined};
 
-use crate::codes::{BAD_NAME, BAD_VALUE, CLOSED, DONE, MEMORY};
-use crate::given_rows::given_values;
 use crate::handle::ebpf_handle;
-use crate::kconfig_refusal::kconfig_refusal;
-use crate::refusal::{Refusal, answered, tell};
-use crate::refusal_row::ebpf_refusal;
-use crate::value_rows::{are_named, ebpf_value, have_values};
+use ebpf_answers::codes::{BAD_NAME, BAD_VALUE, CLOSED, DONE, MEMORY};
+use ebpf_answers::refusal::{Refusal, answered, tell};
+use ebpf_answers::refusal_row::ebpf_refusal;
 use ebpf_kconfig::define_kconfig;
 use ebpf_object::Object;
+use ebpf_rows::given_rows::given_values;
+use ebpf_rows::kconfig_refusal::kconfig_refusal;
+use ebpf_rows::value_rows::{are_named, ebpf_value, have_values};
 use std::alloc::Global;
 
 /// Defines the externs of an object by rows of values.

@@ -1,14 +1,14 @@
 //! The calls that find one thing of an object by its name.
 
 ghost use Rattle.std.specs.Prelude.{◌≡◌};
-ghost use Rattle.ebpf_c.specs.NamedRows.{answer_row, map_named, program_named, row_after};
-ghost use Rattle.ebpf_c.specs.Reads.{of_open};
+ghost use Rattle.ebpf_rows.specs.NamedRows.{answer_row, map_named, program_named, row_after};
+ghost use Rattle.ebpf_rows.specs.Reads.{of_open};
 
-use crate::codes::CLOSED;
 use crate::handle::ebpf_handle;
-use crate::maps::ebpf_map;
-use crate::named_rows::{map_named, program_named, write_row};
-use crate::programs::ebpf_program;
+use ebpf_answers::codes::CLOSED;
+use ebpf_rows::maps::ebpf_map;
+use ebpf_rows::named_rows::{map_named, program_named, write_row};
+use ebpf_rows::programs::ebpf_program;
 use std::alloc::Global;
 
 /// Finds the map with a name: its row is that of `ebpf_maps`, but that its name stands in `name`, at 0.

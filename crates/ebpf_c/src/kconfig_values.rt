@@ -4,21 +4,21 @@ ghost use Rattle.std.specs.Prelude.{◌≡◌, IfOk, IfErr, MatchResult, Result,
 ghost use Rattle.std.specs.List.{find};
 ghost use Rattle.std.specs.Option.{option_copied};
 ghost use Rattle.std.specs.Str.{bytes_eq};
-ghost use Rattle.ebpf_c.specs.Handles.{FindsHeld};
-ghost use Rattle.ebpf_c.specs.KconfigCalls.{extern_named, CannotConfigure, CannotFindExtern, CannotNumber, IsConfigured, IsNumbered, IsWanted};
-ghost use Rattle.ebpf_c.specs.Told.{LeavesList, LeavesValue};
-ghost use Rattle.ebpf_c.specs.declared.refusal.Refusal.{Refusal};
+ghost use Rattle.ebpf_rows.specs.Handles.{FindsHeld};
+ghost use Rattle.ebpf_rows.specs.KconfigCalls.{extern_named, CannotConfigure, CannotFindExtern, CannotNumber, IsConfigured, IsNumbered, IsWanted};
+ghost use Rattle.ebpf_answers.specs.Told.{LeavesList, LeavesValue};
+ghost use Rattle.ebpf_answers.specs.declared.refusal.Refusal.{Refusal};
 
-use crate::codes::{CLOSED, MEMORY, NO_EXTERN};
-use crate::descriptors::text_of;
 use crate::handle::ebpf_handle;
-use crate::kconfig_refusal::kconfig_refusal;
-use crate::refusal::Refusal;
-use crate::refusal_row::ebpf_refusal;
-use crate::told::{tell_bytes, tell_value};
+use ebpf_answers::codes::{CLOSED, MEMORY, NO_EXTERN};
+use ebpf_answers::refusal::Refusal;
+use ebpf_answers::refusal_row::ebpf_refusal;
+use ebpf_answers::told::{tell_items, tell_value};
 use ebpf_base::Items;
 use ebpf_kconfig::{KconfigExtern, kconfig, kconfig_number, kconfig_value};
 use ebpf_object::Object;
+use ebpf_rows::descriptors::text_of;
+use ebpf_rows::kconfig_refusal::kconfig_refusal;
 use std::alloc::Global;
 
 /// The first extern of a name.
@@ -94,42 +94,6 @@ fn number_value(
     }
 }
 
-/// The value of the extern of a name of what a handle holds.
-fn value_held(
-    alloc: Global,
-    handle: &mut ebpf_handle,
-    name: &[u8],
-    config: &[u8],
-) -> Result<Option<Items<u8>>, Refusal>
-    ensures stays { handle.new.object ≡ handle.old.object }
-    ensures found { FindsHeld (IsConfigured name.now config.now) (CannotConfigure name.now config.now) handle.old.object result }
-{
-    let Some(object) = handle.take(alloc) else {
-        return Err(Refusal::plain(CLOSED));
-    };
-    let found = configured_value(alloc, &object, name, config);
-    handle.put(alloc, object);
-    found
-}
-
-/// The value that a number is to the extern of a name of what a handle holds.
-fn number_held(
-    alloc: Global,
-    handle: &mut ebpf_handle,
-    name: &[u8],
-    number: u64,
-) -> Result<Items<u8>, Refusal>
-    ensures stays { handle.new.object ≡ handle.old.object }
-    ensures found { FindsHeld (IsNumbered name.now number) (CannotNumber name.now number) handle.old.object result }
-{
-    let Some(object) = handle.take(alloc) else {
-        return Err(Refusal::plain(CLOSED));
-    };
-    let found = number_value(alloc, &object, name, number);
-    handle.put(alloc, object);
-    found
-}
-
 /// Writes the value of an extern that the kernel's configuration gives, by that configuration as text, and its length, and
 /// whether there is one: 1 or 0. The first line that begins with the extern's name and `=` counts; there is none for names
 /// that don't begin with `CONFIG_`. Of externs of one name the first counts. The bytes are in the object's byte order.
@@ -154,7 +118,12 @@ pub extern "C" fn ebpf_kconfig_value(
     ensures stays { handle.new.object ≡ handle.old.object }
     ensures value { (found : Result (Option (List ℕ)) Refusal) × FindsHeld (IsConfigured name.now config.now) (CannotConfigure name.now config.now) handle.old.object found × LeavesValue found result value.old value.new len.old len.new is_found.old is_found.new about.old about.new report.old report.new }
 {
-    let found = value_held(alloc, handle, name, config);
+    let Some(object) = handle.take(alloc) else {
+        let closed = Err(Refusal::plain(CLOSED));
+        return tell_value(alloc, closed, value, len, is_found, about, report);
+    };
+    let found = configured_value(alloc, &object, name, config);
+    handle.put(alloc, object);
     tell_value(alloc, found, value, len, is_found, about, report)
 }
 
@@ -180,6 +149,11 @@ pub extern "C" fn ebpf_kconfig_number(
     ensures stays { handle.new.object ≡ handle.old.object }
     ensures value { (found : Result (List ℕ) Refusal) × FindsHeld (IsNumbered name.now number) (CannotNumber name.now number) handle.old.object found × LeavesList found result value.old value.new len.old len.new about.old about.new report.old report.new }
 {
-    let found = number_held(alloc, handle, name, number);
-    tell_bytes(found, value, len, about, report)
+    let Some(object) = handle.take(alloc) else {
+        let closed = Err(Refusal::plain(CLOSED));
+        return tell_items(closed, value, len, about, report);
+    };
+    let found = number_value(alloc, &object, name, number);
+    handle.put(alloc, object);
+    tell_items(found, value, len, about, report)
 }

@@ -1,22 +1,22 @@
 //! The calls that tell what a linked program is made of.
 
 ghost use Rattle.std.specs.Prelude.{◌≡◌, List, Result};
-ghost use Rattle.ebpf_c.specs.Answers.{Listed};
-ghost use Rattle.ebpf_c.specs.Handles.{FindsHeld};
+ghost use Rattle.ebpf_answers.specs.Answers.{Listed};
+ghost use Rattle.ebpf_rows.specs.Handles.{FindsHeld};
 ghost use Rattle.ebpf_c.specs.LinkMapCalls.{CannotMap, IsCopyList, IsReferenceList};
-ghost use Rattle.ebpf_c.specs.Told.{LeavesListing};
-ghost use Rattle.ebpf_c.specs.ToldRows.{LeavesRows};
-ghost use Rattle.ebpf_c.specs.declared.link_map_rows.ebpf_code_copy.{ebpf_code_copy};
-ghost use Rattle.ebpf_c.specs.declared.link_map_rows.ebpf_code_reference.{ebpf_code_reference};
-ghost use Rattle.ebpf_c.specs.declared.refusal.Refusal.{Refusal};
+ghost use Rattle.ebpf_answers.specs.Told.{LeavesList, LeavesListing};
+ghost use Rattle.ebpf_rows.specs.declared.link_map_rows.ebpf_code_copy.{ebpf_code_copy};
+ghost use Rattle.ebpf_rows.specs.declared.link_map_rows.ebpf_code_reference.{ebpf_code_reference};
+ghost use Rattle.ebpf_answers.specs.declared.refusal.Refusal.{Refusal};
 
-use crate::buffers::ebpf_counts;
 use crate::handle::ebpf_handle;
-use crate::link_map_rows::{ebpf_code_copy, ebpf_code_reference};
-use crate::link_maps::{copies_held, references_held};
-use crate::refusal_row::ebpf_refusal;
-use crate::told::tell_listing;
-use crate::told_rows::tell_rows;
+use crate::link_maps::{copies_of, references_of};
+use ebpf_answers::buffers::ebpf_counts;
+use ebpf_answers::codes::CLOSED;
+use ebpf_answers::refusal::Refusal;
+use ebpf_answers::refusal_row::ebpf_refusal;
+use ebpf_answers::told::{tell_items, tell_listing};
+use ebpf_rows::link_map_rows::{ebpf_code_copy, ebpf_code_reference};
 use std::alloc::Global;
 
 /// Lists what the program with a name is made of once it is linked: a row for each copy of a function, in their order, the
@@ -42,7 +42,12 @@ pub extern "C" fn ebpf_link_map(
     ensures stays { handle.new.object ≡ handle.old.object }
     ensures listed { (found : Result (Listed ebpf_code_copy) Refusal) × FindsHeld (IsCopyList name.now) (CannotMap name.now) handle.old.object found × LeavesListing found result rows.old rows.new text.old text.new counts.old counts.new about.old about.new report.old report.new }
 {
-    let found = copies_held(alloc, handle, name);
+    let Some(object) = handle.take(alloc) else {
+        let closed = Err(Refusal::plain(CLOSED));
+        return tell_listing(closed, rows, text, counts, about, report);
+    };
+    let found = copies_of(alloc, &object, name);
+    handle.put(alloc, object);
     tell_listing(found, rows, text, counts, about, report)
 }
 
@@ -65,8 +70,13 @@ pub extern "C" fn ebpf_link_references(
     report: &mut ebpf_refusal,
 ) -> u32
     ensures stays { handle.new.object ≡ handle.old.object }
-    ensures listed { (found : Result (List ebpf_code_reference) Refusal) × FindsHeld (IsReferenceList name.now) (CannotMap name.now) handle.old.object found × LeavesRows found result rows.old rows.new count.old count.new about.old about.new report.old report.new }
+    ensures listed { (found : Result (List ebpf_code_reference) Refusal) × FindsHeld (IsReferenceList name.now) (CannotMap name.now) handle.old.object found × LeavesList found result rows.old rows.new count.old count.new about.old about.new report.old report.new }
 {
-    let found = references_held(alloc, handle, name);
-    tell_rows(found, rows, count, about, report)
+    let Some(object) = handle.take(alloc) else {
+        let closed = Err(Refusal::plain(CLOSED));
+        return tell_items(closed, rows, count, about, report);
+    };
+    let found = references_of(alloc, &object, name);
+    handle.put(alloc, object);
+    tell_items(found, rows, count, about, report)
 }

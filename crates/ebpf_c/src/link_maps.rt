@@ -1,20 +1,18 @@
 //! The link maps of an object's programs.
 
-ghost use Rattle.std.specs.Prelude.{◌≡◌, MatchResult};
-ghost use Rattle.ebpf_c.specs.Handles.{FindsHeld};
-ghost use Rattle.ebpf_c.specs.LentResults.{told_listing};
+ghost use Rattle.std.specs.Prelude.{MatchResult};
+ghost use Rattle.ebpf_answers.specs.LentResults.{told_listing};
 ghost use Rattle.ebpf_c.specs.LinkMapCalls.{CannotMap, IsCopyList, IsLinkMapOf, IsReferenceList};
 
-use crate::codes::{CLOSED, MEMORY, NO_PROGRAM};
-use crate::descriptors::text_of;
-use crate::handle::ebpf_handle;
-use crate::link_map_rows::{ebpf_code_copy, ebpf_code_reference, list_copies, list_references};
-use crate::listing::Listing;
-use crate::refusal::Refusal;
-use crate::slot_refusal::slot_refusal;
+use ebpf_answers::codes::{MEMORY, NO_PROGRAM};
+use ebpf_answers::listing::{Listing, list_all};
+use ebpf_answers::refusal::Refusal;
+use ebpf_answers::slot_refusal::slot_refusal;
 use ebpf_base::Items;
 use ebpf_object::Object;
 use ebpf_reloc::LinkMap;
+use ebpf_rows::descriptors::text_of;
+use ebpf_rows::link_map_rows::{ebpf_code_copy, ebpf_code_reference, list_references};
 use std::alloc::Global;
 
 /// The number of the first fault of linking.
@@ -37,7 +35,7 @@ fn link_map_of(object: &Object, name: &[u8]) -> Result<LinkMap, Refusal>
 
 /// The copies that the linked program of a name is made of.
 #[tactic(auto, using(crate::proofs::MappedPrograms::no_memory))]
-fn copies_of(
+pub fn copies_of(
     alloc: Global,
     object: &Object,
     name: &[u8],
@@ -48,7 +46,7 @@ fn copies_of(
         Ok(map) => map,
         Err(refusal) => return Err(refusal),
     };
-    match list_copies(alloc, map.copies.as_slice()) {
+    match list_all(alloc, &(), map.copies.as_slice()) {
         Ok(listing) => Ok(listing),
         Err(_) => Err(Refusal::plain(MEMORY)),
     }
@@ -56,7 +54,7 @@ fn copies_of(
 
 /// The references between those copies.
 #[tactic(auto, using(crate::proofs::MappedPrograms::no_memory))]
-fn references_of(
+pub fn references_of(
     alloc: Global,
     object: &Object,
     name: &[u8],
@@ -71,38 +69,4 @@ fn references_of(
         Ok(rows) => Ok(rows),
         Err(_) => Err(Refusal::plain(MEMORY)),
     }
-}
-
-/// The copies of the linked program of a name of what a handle holds.
-pub fn copies_held(
-    alloc: Global,
-    handle: &mut ebpf_handle,
-    name: &[u8],
-) -> Result<Listing<ebpf_code_copy>, Refusal>
-    ensures stays { handle.new.object ≡ handle.old.object }
-    ensures found { FindsHeld (IsCopyList name.now) (CannotMap name.now) handle.old.object (told_listing result) }
-{
-    let Some(object) = handle.take(alloc) else {
-        return Err(Refusal::plain(CLOSED));
-    };
-    let found = copies_of(alloc, &object, name);
-    handle.put(alloc, object);
-    found
-}
-
-/// The references of the linked program of a name of what a handle holds.
-pub fn references_held(
-    alloc: Global,
-    handle: &mut ebpf_handle,
-    name: &[u8],
-) -> Result<Items<ebpf_code_reference>, Refusal>
-    ensures stays { handle.new.object ≡ handle.old.object }
-    ensures found { FindsHeld (IsReferenceList name.now) (CannotMap name.now) handle.old.object result }
-{
-    let Some(object) = handle.take(alloc) else {
-        return Err(Refusal::plain(CLOSED));
-    };
-    let found = references_of(alloc, &object, name);
-    handle.put(alloc, object);
-    found
 }

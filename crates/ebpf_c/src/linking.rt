@@ -1,14 +1,14 @@
 //! Programs, linked with the functions that they reach.
 
 ghost use Rattle.std.specs.Prelude.{◌≡◌, ◌<◌, OnOk, OnErr, IfErr};
-ghost use Rattle.ebpf_c.specs.Handles.{Changes, IsRefused, WhyHeld};
+ghost use Rattle.ebpf_rows.specs.Handles.{Changes, IsRefused, WhyHeld};
 ghost use Rattle.ebpf_c.specs.Passes.{CannotLink, HasLinked};
 
-use crate::codes::{CLOSED, DONE};
 use crate::handle::ebpf_handle;
-use crate::refusal::{Refusal, answered, tell};
-use crate::refusal_row::ebpf_refusal;
-use crate::slot_refusal::slot_refusal;
+use ebpf_answers::codes::{CLOSED, DONE};
+use ebpf_answers::refusal::{Refusal, answered, tell};
+use ebpf_answers::refusal_row::ebpf_refusal;
+use ebpf_answers::slot_refusal::slot_refusal;
 use ebpf_model::EbpfRelocationError;
 use ebpf_object::Object;
 use std::alloc::Global;

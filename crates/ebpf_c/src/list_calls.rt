@@ -1,19 +1,18 @@
 //! The calls that list what an object has.
 
 ghost use Rattle.std.specs.Prelude.{◌≡◌, Ok};
-ghost use Rattle.ebpf_c.specs.Answers.{answer_listed, counts_of, filled_rows, filled_text, or_memory};
-ghost use Rattle.ebpf_c.specs.Reads.{extern_list_in, map_list_in, program_list_in, program_list, section_list_in};
+ghost use Rattle.ebpf_answers.specs.Answers.{FillsListing, or_memory};
+ghost use Rattle.ebpf_rows.specs.Reads.{extern_list, map_list, of_open, program_list, section_list};
 
-use crate::buffers::ebpf_counts;
-use crate::codes::{CLOSED, MEMORY};
-use crate::entries::entries_of;
-use crate::externs::ebpf_extern;
 use crate::handle::ebpf_handle;
-use crate::lists::write_all;
-use crate::maps::ebpf_map;
-use crate::programs::{Surroundings, ebpf_program};
-use crate::sections::ebpf_section;
+use ebpf_answers::buffers::ebpf_counts;
+use ebpf_answers::codes::CLOSED;
+use ebpf_answers::externs::ebpf_extern;
+use ebpf_answers::lists::write_all;
+use ebpf_answers::sections::ebpf_section;
 use ebpf_object::Object;
+use ebpf_rows::maps::ebpf_map;
+use ebpf_rows::programs::ebpf_program;
 use std::alloc::Global;
 
 /// Lists the programs of an object, as `ebpf_programs` does.
@@ -24,19 +23,9 @@ fn write_programs(
     text: &mut [u8],
     counts: &mut ebpf_counts,
 ) -> u32
-    ensures answer { result ≡ answer_listed (or_memory result (Ok (program_list object.now))) rows.old text.old }
-    ensures rows { rows.new ≡ filled_rows (or_memory result (Ok (program_list object.now))) rows.old text.old }
-    ensures text { text.new ≡ filled_text (or_memory result (Ok (program_list object.now))) rows.old text.old }
-    ensures counts { counts.new ≡ counts_of (or_memory result (Ok (program_list object.now))) counts.old }
+    ensures { FillsListing (or_memory result (Ok (program_list object.now))) result rows.old rows.new text.old text.new counts.old counts.new }
 {
-    let Ok(sections) = entries_of(alloc, &object.section_infos) else {
-        return MEMORY;
-    };
-    let among = Surroundings {
-        functions: &object.functions,
-        sections: &sections,
-    };
-    write_all(alloc, &among, &object.programs, rows, text, counts)
+    write_all(alloc, object, &object.programs, rows, text, counts)
 }
 
 /// Lists the programs of an object: a row each in byte order of their names, and the names in `text`, a zero byte behind
@@ -54,10 +43,7 @@ pub extern "C" fn ebpf_programs(
     counts: &mut ebpf_counts,
 ) -> u32
     ensures stays { handle.new.object ≡ handle.old.object }
-    ensures answer { result ≡ answer_listed (or_memory result (program_list_in handle.old.object)) rows.old text.old }
-    ensures rows { rows.new ≡ filled_rows (or_memory result (program_list_in handle.old.object)) rows.old text.old }
-    ensures text { text.new ≡ filled_text (or_memory result (program_list_in handle.old.object)) rows.old text.old }
-    ensures counts { counts.new ≡ counts_of (or_memory result (program_list_in handle.old.object)) counts.old }
+    ensures fills { FillsListing (or_memory result (of_open (λ o. Ok (program_list o)) handle.old.object)) result rows.old rows.new text.old text.new counts.old counts.new }
 {
     let Some(object) = handle.take(alloc) else {
         return CLOSED;
@@ -83,10 +69,7 @@ pub extern "C" fn ebpf_maps(
     counts: &mut ebpf_counts,
 ) -> u32
     ensures stays { handle.new.object ≡ handle.old.object }
-    ensures answer { result ≡ answer_listed (or_memory result (map_list_in handle.old.object)) rows.old text.old }
-    ensures rows { rows.new ≡ filled_rows (or_memory result (map_list_in handle.old.object)) rows.old text.old }
-    ensures text { text.new ≡ filled_text (or_memory result (map_list_in handle.old.object)) rows.old text.old }
-    ensures counts { counts.new ≡ counts_of (or_memory result (map_list_in handle.old.object)) counts.old }
+    ensures fills { FillsListing (or_memory result (of_open (λ o. Ok (map_list o)) handle.old.object)) result rows.old rows.new text.old text.new counts.old counts.new }
 {
     let Some(object) = handle.take(alloc) else {
         return CLOSED;
@@ -111,10 +94,7 @@ pub extern "C" fn ebpf_externs(
     counts: &mut ebpf_counts,
 ) -> u32
     ensures stays { handle.new.object ≡ handle.old.object }
-    ensures answer { result ≡ answer_listed (or_memory result (extern_list_in handle.old.object)) rows.old text.old }
-    ensures rows { rows.new ≡ filled_rows (or_memory result (extern_list_in handle.old.object)) rows.old text.old }
-    ensures text { text.new ≡ filled_text (or_memory result (extern_list_in handle.old.object)) rows.old text.old }
-    ensures counts { counts.new ≡ counts_of (or_memory result (extern_list_in handle.old.object)) counts.old }
+    ensures fills { FillsListing (or_memory result (of_open (λ o. Ok (extern_list o)) handle.old.object)) result rows.old rows.new text.old text.new counts.old counts.new }
 {
     let Some(object) = handle.take(alloc) else {
         return CLOSED;
@@ -139,10 +119,7 @@ pub extern "C" fn ebpf_sections(
     counts: &mut ebpf_counts,
 ) -> u32
     ensures stays { handle.new.object ≡ handle.old.object }
-    ensures answer { result ≡ answer_listed (or_memory result (section_list_in handle.old.object)) rows.old text.old }
-    ensures rows { rows.new ≡ filled_rows (or_memory result (section_list_in handle.old.object)) rows.old text.old }
-    ensures text { text.new ≡ filled_text (or_memory result (section_list_in handle.old.object)) rows.old text.old }
-    ensures counts { counts.new ≡ counts_of (or_memory result (section_list_in handle.old.object)) counts.old }
+    ensures fills { FillsListing (or_memory result (of_open (λ o. Ok (section_list o)) handle.old.object)) result rows.old rows.new text.old text.new counts.old counts.new }
 {
     let Some(object) = handle.take(alloc) else {
         return CLOSED;

@@ -1,12 +1,12 @@
 //! All of a map's initial data, set before the maps are made.
 
 ghost use Rattle.std.specs.Prelude.{◌≡◌};
-ghost use Rattle.ebpf_c.specs.MapDataSettings.{has_other_length, replaced, with_replaced, IsDataSet, IsDataSetOf};
-ghost use Rattle.ebpf_c.specs.PrivateContracts.{IsSet};
+ghost use Rattle.ebpf_c.specs.MapDataSettings.{has_other_length, IsDataSet, IsDataSetOf};
 
-use crate::codes::{CLOSED, DONE, NO_MAP, WRONG_LENGTH};
-use crate::entries::value_by_bytes;
 use crate::handle::ebpf_handle;
+use crate::map_settings::{Setting, set_map};
+use ebpf_answers::codes::{CLOSED, WRONG_LENGTH};
+use ebpf_answers::entries::value_by_bytes;
 use ebpf_base::ByName;
 use ebpf_parts::maps::Map;
 use std::alloc::Global;
@@ -21,36 +21,6 @@ fn has_other_length(maps: &ByName<Map>, name: &[u8], len: usize) -> bool
     }
 }
 
-/// Puts bytes in the place of as many.
-fn replace_bytes(target: &mut Vec<u8>, bytes: &[u8])
-    ensures { target.new.items ≡ replaced target.old.items bytes.now }
-{
-    if target.len() == bytes.len() {
-        target.as_mut_slice().copy_from_slice(bytes);
-    }
-}
-
-/// Puts bytes in the place of a map's data, where that has as many.
-fn replace_data(target: &mut Map, bytes: &[u8])
-    ensures { target.new ≡ with_replaced bytes.now target.old }
-{
-    replace_bytes(target.data_mut(), bytes);
-}
-
-/// Puts bytes in the place of the data of the map of a name, where that has as many.
-fn put_data(maps: &mut ByName<Map>, name: &[u8], bytes: &[u8]) -> u32
-    ensures { IsSet (with_replaced bytes.now) name.now maps.old result maps.new }
-{
-    let Ok(name) = str::from_utf8(name) else {
-        return NO_MAP;
-    };
-    let Some(map) = maps.get_mut(name) else {
-        return NO_MAP;
-    };
-    replace_data(map, bytes);
-    DONE
-}
-
 /// Sets the data of the map of a name, which has as many bytes.
 fn set_data(maps: &mut ByName<Map>, name: &[u8], bytes: &[u8]) -> u32
     ensures { IsDataSet bytes.now name.now maps.old result maps.new }
@@ -58,7 +28,7 @@ fn set_data(maps: &mut ByName<Map>, name: &[u8], bytes: &[u8]) -> u32
     if has_other_length(maps, name, bytes.len()) {
         return WRONG_LENGTH;
     }
-    put_data(maps, name, bytes)
+    set_map(maps, name, Setting::Data(bytes))
 }
 
 /// Sets all of the initial data of a map of what a handle holds. It has as many bytes as before.

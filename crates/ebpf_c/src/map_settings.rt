@@ -1,34 +1,52 @@
-//! Sizes of maps, set before the maps are made.
+//! Sizes and data of maps, set before the maps are made.
 
 ghost use Rattle.std.specs.Prelude.{◌≡◌, ◌⊎◌, None};
-ghost use Rattle.ebpf_c.specs.Handles.{Changes};
+ghost use Rattle.ebpf_rows.specs.Handles.{Changes};
 ghost use Rattle.ebpf_c.specs.Settings.{HasSet, LacksMap};
-ghost use Rattle.ebpf_c.specs.PrivateContracts.{IsSet};
+ghost use Rattle.ebpf_c.specs.MapDataSettings.{replaced, with_setting};
+ghost use Rattle.ebpf_rows.specs.PrivateContracts.{IsSet};
 ghost use Rattle.ebpf_parts.specs.Maps.{with_max_entries, with_value_size};
 
-use crate::codes::{CLOSED, DONE, NO_MAP};
 use crate::handle::ebpf_handle;
+use ebpf_answers::codes::{CLOSED, DONE, NO_MAP};
 use ebpf_base::ByName;
 use ebpf_parts::maps::Map;
 use std::alloc::Global;
 
-/// Sets how many entries the map of a name holds at most.
-fn set_max_entries(maps: &mut ByName<Map>, name: &[u8], entries: u32) -> u32
-    ensures { IsSet (λ m. with_max_entries m entries) name.now maps.old result maps.new }
-{
-    let Ok(name) = str::from_utf8(name) else {
-        return NO_MAP;
-    };
-    let Some(map) = maps.get_mut(name) else {
-        return NO_MAP;
-    };
-    map.set_max_entries(entries);
-    DONE
+/// What is set of a map.
+#[derive(Clone, Copy)]
+pub enum Setting<'a> {
+    /// How many entries it holds at most.
+    MaxEntries(u32),
+    /// The size of its values in bytes.
+    ValueSize(u32),
+    /// Its data, where it has as many bytes.
+    Data(&'a [u8]),
 }
 
-/// Sets the size of the values of the map of a name, in bytes.
-fn set_value_size(maps: &mut ByName<Map>, name: &[u8], size: u32) -> u32
-    ensures { IsSet (λ m. with_value_size m size) name.now maps.old result maps.new }
+/// Puts bytes in the place of as many.
+fn replace_bytes(target: &mut Vec<u8>, bytes: &[u8])
+    ensures { target.new.items ≡ replaced target.old.items bytes.now }
+{
+    if target.len() == bytes.len() {
+        target.as_mut_slice().copy_from_slice(bytes);
+    }
+}
+
+/// Sets what is said of a map.
+fn set(map: &mut Map, setting: Setting<'_>)
+    ensures { map.new ≡ with_setting setting.entry map.old }
+{
+    match setting {
+        Setting::MaxEntries(entries) => map.set_max_entries(entries),
+        Setting::ValueSize(size) => map.set_value_size(size),
+        Setting::Data(bytes) => replace_bytes(map.data_mut(), bytes),
+    }
+}
+
+/// Sets what is said of the map of a name.
+pub fn set_map(maps: &mut ByName<Map>, name: &[u8], setting: Setting<'_>) -> u32
+    ensures { IsSet (with_setting setting.entry) name.now maps.old result maps.new }
 {
     let Ok(name) = str::from_utf8(name) else {
         return NO_MAP;
@@ -36,7 +54,7 @@ fn set_value_size(maps: &mut ByName<Map>, name: &[u8], size: u32) -> u32
     let Some(map) = maps.get_mut(name) else {
         return NO_MAP;
     };
-    map.set_value_size(size);
+    set(map, setting);
     DONE
 }
 
@@ -59,7 +77,7 @@ pub extern "C" fn ebpf_set_max_entries(
     let Some(mut object) = handle.take(alloc) else {
         return CLOSED;
     };
-    let number = set_max_entries(&mut object.maps, name, entries);
+    let number = set_map(&mut object.maps, name, Setting::MaxEntries(entries));
     handle.put(alloc, object);
     number
 }
@@ -83,7 +101,7 @@ pub extern "C" fn ebpf_set_value_size(
     let Some(mut object) = handle.take(alloc) else {
         return CLOSED;
     };
-    let number = set_value_size(&mut object.maps, name, size);
+    let number = set_map(&mut object.maps, name, Setting::ValueSize(size));
     handle.put(alloc, object);
     number
 }

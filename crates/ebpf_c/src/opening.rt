@@ -1,16 +1,16 @@
 //! Objects that C opens, copies and closes.
 
 ghost use Rattle.std.specs.Prelude.{◌≡◌, ◌⊎◌, ◌<◌, IfOk, IfErr, None, Some, MatchOption};
-ghost use Rattle.ebpf_c.specs.Handles.{IsRefused};
+ghost use Rattle.ebpf_rows.specs.Handles.{IsRefused};
 ghost use Rattle.ebpf_c.specs.Opened.{CannotOpen};
 ghost use Rattle.ebpf_object.specs.Objects.{object_as, object_of, parse_fault, parse_fault_as};
 ghost use Rattle.ebpf_parts.specs.declared.reading.Reading.TheVariants.{Broad, Stated};
 
-use crate::codes::{CLOSED, DONE, MEMORY};
 use crate::handle::ebpf_handle;
-use crate::parse_refusal::parse_refusal;
-use crate::refusal::{Refusal, tell};
-use crate::refusal_row::ebpf_refusal;
+use ebpf_answers::codes::{CLOSED, DONE, MEMORY};
+use ebpf_answers::parse_refusal::parse_refusal;
+use ebpf_answers::refusal::{Refusal, tell};
+use ebpf_answers::refusal_row::ebpf_refusal;
 use ebpf_object::Object;
 use ebpf_object::obj::Reading;
 use std::alloc::{AllocError, Global};

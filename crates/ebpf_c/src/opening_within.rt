@@ -1,16 +1,16 @@
 //! Objects that C opens within a limit.
 
 ghost use Rattle.std.specs.Prelude.{◌≡◌, ◌<◌, IfOk, IfErr, None, Some};
-ghost use Rattle.ebpf_c.specs.Handles.{IsRefused};
-ghost use Rattle.ebpf_c.specs.OpenedWithin.{CannotOpenWithin, reading_of};
+ghost use Rattle.ebpf_rows.specs.Handles.{IsRefused};
+ghost use Rattle.ebpf_c.specs.Opened.{CannotOpenWithin, reading_of};
 ghost use Rattle.ebpf_limits.specs.Within.{within_fault};
 ghost use Rattle.ebpf_object.specs.Objects.{object_as};
 
-use crate::codes::{DONE, MEMORY};
 use crate::handle::ebpf_handle;
-use crate::parse_refusal::parse_refusal;
-use crate::refusal::{Refusal, tell};
-use crate::refusal_row::ebpf_refusal;
+use ebpf_answers::codes::{DONE, MEMORY};
+use ebpf_answers::parse_refusal::parse_refusal;
+use ebpf_answers::refusal::{Refusal, tell};
+use ebpf_answers::refusal_row::ebpf_refusal;
 use ebpf_limits::{Limits, parse_within};
 use ebpf_object::Object;
 use ebpf_object::obj::Reading;

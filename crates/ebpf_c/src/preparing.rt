@@ -2,20 +2,20 @@
 
 ghost use Rattle.std.specs.Prelude.{◌≡◌, ◌<◌, map, true, Some, IfOk, IfErr};
 ghost use Rattle.std.specs.Option.{option_copied};
-ghost use Rattle.ebpf_c.specs.Handles.{IsRefused};
-ghost use Rattle.ebpf_c.specs.Preparing.{preparation_inputs, CannotPrepare, HasPrepared, IsPreparedIn};
+ghost use Rattle.ebpf_rows.specs.Handles.{IsRefused};
+ghost use Rattle.ebpf_c.specs.Preparing.{inputs_of, CannotPrepare, HasPrepared, IsPreparedIn};
 ghost use Rattle.ebpf_object.specs.Steps.{chosen, descriptor_of};
 
-use crate::codes::{BAD_NAME, DONE, MEMORY};
-use crate::descriptors::{descriptors_in, ebpf_descriptor, have_names};
 use crate::handle::ebpf_handle;
-use crate::prepare_refusal::prepare_refusal;
-use crate::refusal::{Refusal, tell};
-use crate::refusal_row::ebpf_refusal;
-use crate::target_types::read_types_if;
+use ebpf_answers::codes::{BAD_NAME, DONE, MEMORY};
+use ebpf_answers::refusal::{Refusal, tell};
+use ebpf_answers::refusal_row::ebpf_refusal;
 use ebpf_btf::Btf;
 use ebpf_object::Object;
 use ebpf_object::prepare::{Steps, SymbolText, prepare};
+use ebpf_rows::descriptors::{descriptors_in, ebpf_descriptor, have_names};
+use ebpf_rows::prepare_refusal::prepare_refusal;
+use ebpf_rows::target_types::read_types_if;
 use std::alloc::Global;
 
 /// All passes, types where a kernel's are known.
@@ -39,8 +39,8 @@ fn prepare_object(
     text: &[u8],
     symbols: &[u8],
 ) -> Result<Object, Refusal>
-    ensures prepared { IfOk result (HasPrepared (preparation_inputs file.now types.now rows.now text.now symbols.now)) }
-    ensures why { IfErr result (CannotPrepare (preparation_inputs file.now types.now rows.now text.now symbols.now)) }
+    ensures prepared { IfOk result (HasPrepared file.now (inputs_of types.now rows.now text.now symbols.now)) }
+    ensures why { IfErr result (CannotPrepare file.now (inputs_of types.now rows.now text.now symbols.now)) }
     ensures refuses { IfErr result (λ r. 0 < r.number) }
 {
     if !have_names(rows, text) {
@@ -69,8 +69,8 @@ fn prepare_box(
     text: &[u8],
     symbols: &[u8],
 ) -> Result<Box<Object>, Refusal>
-    ensures prepared { IfOk result (λ b. HasPrepared (preparation_inputs file.now types.now rows.now text.now symbols.now) b.value) }
-    ensures why { IfErr result (CannotPrepare (preparation_inputs file.now types.now rows.now text.now symbols.now)) }
+    ensures prepared { IfOk result (λ b. HasPrepared file.now (inputs_of types.now rows.now text.now symbols.now) b.value) }
+    ensures why { IfErr result (CannotPrepare file.now (inputs_of types.now rows.now text.now symbols.now)) }
     ensures refuses { IfErr result (λ r. 0 < r.number) }
 {
     let object = match prepare_object(alloc, file, types, rows, text, symbols) {
@@ -104,9 +104,9 @@ pub extern "C" fn ebpf_prepare(
     about: &mut [u8],
     report: &mut ebpf_refusal,
 ) -> u32
-    ensures prepared { result ≡ DONE → IsPreparedIn (preparation_inputs file.now types.now rows.now text.now symbols.now) handle.new.object }
+    ensures prepared { result ≡ DONE → IsPreparedIn file.now (inputs_of types.now rows.now text.now symbols.now) handle.new.object }
     ensures quiet { result ≡ DONE → (about.new ≡ about.old) × (report.new ≡ report.old) }
-    ensures refused { ¬ (result ≡ DONE) → IsRefused (CannotPrepare (preparation_inputs file.now types.now rows.now text.now symbols.now)) result handle.old.object handle.new.object about.old about.new report.new }
+    ensures refused { ¬ (result ≡ DONE) → IsRefused (CannotPrepare file.now (inputs_of types.now rows.now text.now symbols.now)) result handle.old.object handle.new.object about.old about.new report.new }
 {
     match prepare_box(alloc, file, types, rows, text, symbols) {
         Ok(object) => {

@@ -1,19 +1,19 @@
 //! An object that a handle holds, prepared in one call.
 
 ghost use Rattle.std.specs.Prelude.{◌≡◌, ◌<◌, OnOk, OnErr, IfErr};
-ghost use Rattle.ebpf_c.specs.Handles.{Changes, IsRefused, WhyHeld};
-ghost use Rattle.ebpf_c.specs.PreparingHeld.{held_inputs, CannotPrepareHeld, HasPreparedHeld};
+ghost use Rattle.ebpf_rows.specs.Handles.{Changes, IsRefused, WhyHeld};
+ghost use Rattle.ebpf_c.specs.Preparing.{inputs_of, CannotPrepareHeld, HasPreparedHeld};
 
-use crate::codes::{BAD_NAME, CLOSED, DONE, MEMORY};
-use crate::descriptors::{descriptors_in, ebpf_descriptor, have_names};
 use crate::handle::ebpf_handle;
-use crate::prepare_refusal::prepare_refusal;
 use crate::preparing::all_passes;
-use crate::refusal::{Refusal, answered, tell};
-use crate::refusal_row::ebpf_refusal;
-use crate::target_types::read_types_if;
+use ebpf_answers::codes::{BAD_NAME, CLOSED, DONE, MEMORY};
+use ebpf_answers::refusal::{Refusal, answered, tell};
+use ebpf_answers::refusal_row::ebpf_refusal;
 use ebpf_object::Object;
 use ebpf_object::prepare::{SymbolText, prepare_in_place};
+use ebpf_rows::descriptors::{descriptors_in, ebpf_descriptor, have_names};
+use ebpf_rows::prepare_refusal::prepare_refusal;
+use ebpf_rows::target_types::read_types_if;
 use std::alloc::Global;
 
 /// Runs all passes over an object where it stands.
@@ -25,9 +25,9 @@ fn prepare_held(
     text: &[u8],
     symbols: &[u8],
 ) -> Result<(), Refusal>
-    ensures ok { OnOk result (HasPreparedHeld (held_inputs types.now rows.now text.now symbols.now) object.old object.new) }
+    ensures ok { OnOk result (HasPreparedHeld (inputs_of types.now rows.now text.now symbols.now) object.old object.new) }
     ensures unchanged { OnErr result (object.new ≡ object.old) }
-    ensures why { IfErr result (CannotPrepareHeld (held_inputs types.now rows.now text.now symbols.now) object.old) }
+    ensures why { IfErr result (CannotPrepareHeld (inputs_of types.now rows.now text.now symbols.now) object.old) }
     ensures refuses { IfErr result (λ r. 0 < r.number) }
 {
     if !have_names(rows, text) {
@@ -66,9 +66,9 @@ pub extern "C" fn ebpf_prepare_handle(
     about: &mut [u8],
     report: &mut ebpf_refusal,
 ) -> u32
-    ensures prepared { result ≡ DONE → Changes (HasPreparedHeld (held_inputs types.now rows.now text.now symbols.now)) handle.old.object handle.new.object }
+    ensures prepared { result ≡ DONE → Changes (HasPreparedHeld (inputs_of types.now rows.now text.now symbols.now)) handle.old.object handle.new.object }
     ensures quiet { result ≡ DONE → (about.new ≡ about.old) × (report.new ≡ report.old) }
-    ensures refused { ¬ (result ≡ DONE) → IsRefused (WhyHeld handle.old.object (CannotPrepareHeld (held_inputs types.now rows.now text.now symbols.now))) result handle.old.object handle.new.object about.old about.new report.new }
+    ensures refused { ¬ (result ≡ DONE) → IsRefused (WhyHeld handle.old.object (CannotPrepareHeld (inputs_of types.now rows.now text.now symbols.now))) result handle.old.object handle.new.object about.old about.new report.new }
 {
     let Some(mut object) = handle.take(alloc) else {
         return tell(&Refusal::plain(CLOSED), about, report);

@@ -1,23 +1,22 @@
 //! The calls that read what an object has.
 
 ghost use Rattle.std.specs.Prelude.{◌≡◌, MatchOption};
-ghost use Rattle.ebpf_c.specs.Answers.{answer, count_after, filled, or_memory};
-ghost use Rattle.ebpf_c.specs.Flags.{flag};
-ghost use Rattle.ebpf_c.specs.Info.{info_of, states_license};
-ghost use Rattle.ebpf_c.specs.Reads.{read_func_infos, read_license, read_line_infos, read_map_data, of_open, read_section_name, read_slots};
+ghost use Rattle.ebpf_answers.specs.Answers.{FillsList, or_memory};
+ghost use Rattle.ebpf_answers.specs.Flags.{flag};
+ghost use Rattle.ebpf_rows.specs.Info.{info_of, states_license};
+ghost use Rattle.ebpf_rows.specs.Reads.{read_func_infos, read_license, read_line_infos, read_map_data, of_open, read_section_name, read_slots};
 
-use crate::buffers::write_list;
-use crate::codes::{CLOSED, DONE, MEMORY};
-use crate::entries::entries_of;
-use crate::flags::flag;
 use crate::handle::ebpf_handle;
-use crate::info::{ebpf_object_info, info_of};
-use crate::reads::{
-    read_func_infos, read_line_infos, read_map_data, read_section_name, read_slots,
-};
+use ebpf_answers::buffers::write_list;
+use ebpf_answers::codes::{CLOSED, DONE};
+use ebpf_answers::flags::flag;
 use ebpf_ext::{bpf_func_info, bpf_line_info};
 use ebpf_object::Object;
 use ebpf_parts::insn::bpf_insn;
+use ebpf_rows::info::{ebpf_object_info, info_of};
+use ebpf_rows::reads::{
+    read_func_infos, read_line_infos, read_map_data, read_section_name, read_slots,
+};
 use std::alloc::Global;
 
 /// Says what an object is.
@@ -55,9 +54,7 @@ pub extern "C" fn ebpf_license(
     len: &mut usize,
 ) -> u32
     ensures stays { handle.new.object ≡ handle.old.object }
-    ensures answer { result ≡ answer (of_open (read_license) handle.old.object) text.old }
-    ensures text { text.new ≡ filled (of_open (read_license) handle.old.object) text.old }
-    ensures len { len.new ≡ count_after (of_open (read_license) handle.old.object) len.old }
+    ensures fills { FillsList (of_open (read_license) handle.old.object) result text.old text.new len.old len.new }
 {
     let Some(object) = handle.take(alloc) else {
         return CLOSED;
@@ -90,25 +87,11 @@ pub extern "C" fn ebpf_states_license(
 }
 
 /// Writes the name of a program's section, as `ebpf_program_section` does.
-fn write_section(
-    alloc: Global,
-    object: &Object,
-    name: &[u8],
-    text: &mut [u8],
-    len: &mut usize,
-) -> u32
-    ensures answer { result ≡ answer (or_memory result (read_section_name name.now object.now)) text.old }
-    ensures text { text.new ≡ filled (or_memory result (read_section_name name.now object.now)) text.old }
-    ensures len { len.new ≡ count_after (or_memory result (read_section_name name.now object.now)) len.old }
+#[tactic(auto, using(ebpf_answers::proofs::Fills::unless_memory))]
+fn write_section(object: &Object, name: &[u8], text: &mut [u8], len: &mut usize) -> u32
+    ensures { FillsList (or_memory result (read_section_name name.now object.now)) result text.old text.new len.old len.new }
 {
-    let Ok(sections) = entries_of(alloc, &object.section_infos) else {
-        return MEMORY;
-    };
-    write_list(
-        read_section_name(&object.programs, &sections, name),
-        text,
-        len,
-    )
+    write_list(read_section_name(object, name), text, len)
 }
 
 /// Writes the name of the section of the program with a name, and its length: 0 where no named section has the index of
@@ -126,14 +109,12 @@ pub extern "C" fn ebpf_program_section(
     len: &mut usize,
 ) -> u32
     ensures stays { handle.new.object ≡ handle.old.object }
-    ensures answer { result ≡ answer (or_memory result (of_open (read_section_name name.now) handle.old.object)) text.old }
-    ensures text { text.new ≡ filled (or_memory result (of_open (read_section_name name.now) handle.old.object)) text.old }
-    ensures len { len.new ≡ count_after (or_memory result (of_open (read_section_name name.now) handle.old.object)) len.old }
+    ensures fills { FillsList (or_memory result (of_open (read_section_name name.now) handle.old.object)) result text.old text.new len.old len.new }
 {
     let Some(object) = handle.take(alloc) else {
         return CLOSED;
     };
-    let number = write_section(alloc, &object, name, text, len);
+    let number = write_section(&object, name, text, len);
     handle.put(alloc, object);
     number
 }
@@ -152,9 +133,7 @@ pub extern "C" fn ebpf_slots(
     count: &mut usize,
 ) -> u32
     ensures stays { handle.new.object ≡ handle.old.object }
-    ensures answer { result ≡ answer (of_open (read_slots name.now) handle.old.object) slots.old }
-    ensures slots { slots.new ≡ filled (of_open (read_slots name.now) handle.old.object) slots.old }
-    ensures count { count.new ≡ count_after (of_open (read_slots name.now) handle.old.object) count.old }
+    ensures fills { FillsList (of_open (read_slots name.now) handle.old.object) result slots.old slots.new count.old count.new }
 {
     let Some(object) = handle.take(alloc) else {
         return CLOSED;
@@ -178,9 +157,7 @@ pub extern "C" fn ebpf_func_infos(
     count: &mut usize,
 ) -> u32
     ensures stays { handle.new.object ≡ handle.old.object }
-    ensures answer { result ≡ answer (of_open (read_func_infos name.now) handle.old.object) rows.old }
-    ensures rows { rows.new ≡ filled (of_open (read_func_infos name.now) handle.old.object) rows.old }
-    ensures count { count.new ≡ count_after (of_open (read_func_infos name.now) handle.old.object) count.old }
+    ensures fills { FillsList (of_open (read_func_infos name.now) handle.old.object) result rows.old rows.new count.old count.new }
 {
     let Some(object) = handle.take(alloc) else {
         return CLOSED;
@@ -204,9 +181,7 @@ pub extern "C" fn ebpf_line_infos(
     count: &mut usize,
 ) -> u32
     ensures stays { handle.new.object ≡ handle.old.object }
-    ensures answer { result ≡ answer (of_open (read_line_infos name.now) handle.old.object) rows.old }
-    ensures rows { rows.new ≡ filled (of_open (read_line_infos name.now) handle.old.object) rows.old }
-    ensures count { count.new ≡ count_after (of_open (read_line_infos name.now) handle.old.object) count.old }
+    ensures fills { FillsList (of_open (read_line_infos name.now) handle.old.object) result rows.old rows.new count.old count.new }
 {
     let Some(object) = handle.take(alloc) else {
         return CLOSED;
@@ -230,9 +205,7 @@ pub extern "C" fn ebpf_map_data(
     len: &mut usize,
 ) -> u32
     ensures stays { handle.new.object ≡ handle.old.object }
-    ensures answer { result ≡ answer (of_open (read_map_data name.now) handle.old.object) bytes.old }
-    ensures bytes { bytes.new ≡ filled (of_open (read_map_data name.now) handle.old.object) bytes.old }
-    ensures len { len.new ≡ count_after (of_open (read_map_data name.now) handle.old.object) len.old }
+    ensures fills { FillsList (of_open (read_map_data name.now) handle.old.object) result bytes.old bytes.new len.old len.new }
 {
     let Some(object) = handle.take(alloc) else {
         return CLOSED;

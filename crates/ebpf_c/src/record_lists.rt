@@ -1,19 +1,25 @@
 //! What the CO-RE records of an object come to over a kernel's types.
 
-ghost use Rattle.std.specs.Prelude.{◌≡◌, IfOk, IfErr, MatchResult};
-ghost use Rattle.ebpf_c.specs.Handles.{FindsHeld};
-ghost use Rattle.ebpf_c.specs.LentResults.{told_listing};
-ghost use Rattle.ebpf_c.specs.RecordRows.{outcome_list, IsOutcomeList};
-ghost use Rattle.ebpf_c.specs.RecordCalls.{CannotListOutcomes};
+ghost use Rattle.std.specs.Prelude.{◌≡◌, IfOk, MatchResult, Result};
+ghost use Rattle.ebpf_answers.specs.Answers.{Listed};
+ghost use Rattle.ebpf_rows.specs.Handles.{FindsHeld};
+ghost use Rattle.ebpf_answers.specs.LentResults.{told_listing};
+ghost use Rattle.ebpf_rows.specs.RecordRows.{outcome_list, CannotListOutcomes, IsOutcomeList};
+ghost use Rattle.ebpf_answers.specs.Told.{LeavesListing};
+ghost use Rattle.ebpf_rows.specs.declared.record_rows.ebpf_record_outcome.{ebpf_record_outcome};
+ghost use Rattle.ebpf_answers.specs.declared.refusal.Refusal.{Refusal};
 
-use crate::codes::{CLOSED, MEMORY};
 use crate::handle::ebpf_handle;
-use crate::listing::Listing;
-use crate::record_rows::{ebpf_record_outcome, list_outcomes};
-use crate::refusal::Refusal;
-use crate::target_types::read_types;
+use ebpf_answers::buffers::ebpf_counts;
+use ebpf_answers::codes::{CLOSED, MEMORY};
+use ebpf_answers::listing::{Listing, list_all};
+use ebpf_answers::refusal::Refusal;
+use ebpf_answers::refusal_row::ebpf_refusal;
+use ebpf_answers::told::tell_listing;
 use ebpf_btf::Btf;
 use ebpf_object::Object;
+use ebpf_rows::record_rows::ebpf_record_outcome;
+use ebpf_rows::target_types::read_types;
 use std::alloc::{AllocError, Global};
 
 /// The rows of an object's records over a kernel's types.
@@ -26,7 +32,7 @@ fn rows_over(
     ensures { IfOk result (λ l. (l.rows.items, l.text.items) ≡ outcome_list object.now target.now) }
 {
     let outcomes = object.record_outcomes(target)?;
-    list_outcomes(alloc, &object.btf, outcomes.records.as_slice())
+    list_all(alloc, &object.btf, outcomes.records.as_slice())
 }
 
 /// The rows of an object's records over the types that the bytes spell.
@@ -47,19 +53,33 @@ fn rows_over_bytes(
     }
 }
 
-/// The rows of the records of what a handle holds.
-pub fn outcomes_held(
+/// Lists what each CO-RE record of an object comes to over a kernel's types, which are raw BTF in the byte order that its
+/// magic number tells: a row each, section by section and in order, also behind one that is refused; and the names of their
+/// sections in `text`, a zero byte behind each. The object stays. Without types or records of its own it has no rows.
+///
+/// # Answers
+///
+/// 0; 1 where not all fits; 2; 3 where the handle is closed; 200 to 214 where the types can't be read. The buffers are then
+/// as they were, and `counts` too but for 1.
+#[unsafe(no_mangle)]
+pub extern "C" fn ebpf_record_outcomes(
     alloc: Global,
     handle: &mut ebpf_handle,
     types: &[u8],
-) -> Result<Listing<ebpf_record_outcome>, Refusal>
+    rows: &mut [ebpf_record_outcome],
+    text: &mut [u8],
+    counts: &mut ebpf_counts,
+    about: &mut [u8],
+    report: &mut ebpf_refusal,
+) -> u32
     ensures stays { handle.new.object ≡ handle.old.object }
-    ensures found { FindsHeld (IsOutcomeList types.now) (CannotListOutcomes types.now) handle.old.object (told_listing result) }
+    ensures listed { (found : Result (Listed ebpf_record_outcome) Refusal) × FindsHeld (IsOutcomeList types.now) (CannotListOutcomes types.now) handle.old.object found × LeavesListing found result rows.old rows.new text.old text.new counts.old counts.new about.old about.new report.old report.new }
 {
     let Some(object) = handle.take(alloc) else {
-        return Err(Refusal::plain(CLOSED));
+        let closed = Err(Refusal::plain(CLOSED));
+        return tell_listing(closed, rows, text, counts, about, report);
     };
     let found = rows_over_bytes(alloc, types, &object);
     handle.put(alloc, object);
-    found
+    tell_listing(found, rows, text, counts, about, report)
 }

@@ -1,16 +1,16 @@
 //! Functions relocated to a kernel's types.
 
 ghost use Rattle.std.specs.Prelude.{◌≡◌, ◌<◌, OnOk, OnErr, IfErr};
-ghost use Rattle.ebpf_c.specs.Handles.{Changes, IsRefused, WhyHeld};
+ghost use Rattle.ebpf_rows.specs.Handles.{Changes, IsRefused, WhyHeld};
 ghost use Rattle.ebpf_c.specs.Passes.{CannotRelocateTypes, HasRelocatedTypes};
 
-use crate::codes::{CLOSED, DONE};
 use crate::handle::ebpf_handle;
-use crate::refusal::{Refusal, answered, tell};
-use crate::refusal_row::ebpf_refusal;
-use crate::target_types::read_types;
-use crate::types_refusal::types_refusal;
+use ebpf_answers::codes::{CLOSED, DONE};
+use ebpf_answers::refusal::{Refusal, answered, tell};
+use ebpf_answers::refusal_row::ebpf_refusal;
 use ebpf_object::Object;
+use ebpf_rows::target_types::read_types;
+use ebpf_rows::types_refusal::types_refusal;
 use std::alloc::Global;
 
 /// Relocates the functions of an object to the types that the bytes spell.

@@ -1,17 +1,17 @@
 //! Externs, found in a kernel and written.
 
 ghost use Rattle.std.specs.Prelude.{◌≡◌, ◌<◌, OnOk, OnErr, IfErr};
-ghost use Rattle.ebpf_c.specs.Handles.{Changes, IsRefused, WhyHeld};
+ghost use Rattle.ebpf_rows.specs.Handles.{Changes, IsRefused, WhyHeld};
 ghost use Rattle.ebpf_c.specs.Passes.{CannotResolve, CannotWriteExterns, HasResolved, HasWrittenExterns};
 
-use crate::codes::{CLOSED, DONE};
 use crate::handle::ebpf_handle;
-use crate::ksyms_refusal::ksyms_refusal;
-use crate::refusal::{Refusal, answered, tell};
-use crate::refusal_row::ebpf_refusal;
-use crate::slot_refusal::slot_refusal;
-use crate::target_types::read_types_if;
+use ebpf_answers::codes::{CLOSED, DONE};
+use ebpf_answers::refusal::{Refusal, answered, tell};
+use ebpf_answers::refusal_row::ebpf_refusal;
+use ebpf_answers::slot_refusal::slot_refusal;
 use ebpf_object::Object;
+use ebpf_rows::ksyms_refusal::ksyms_refusal;
+use ebpf_rows::target_types::read_types_if;
 use std::alloc::Global;
 
 /// The number of the first fault of writing externs.

@@ -1,11 +1,11 @@
 //! Functions made fit for a kernel without the newer helper functions.
 
 ghost use Rattle.std.specs.Prelude.{◌≡◌, ◌⊎◌, not, ◌==◌, None};
-ghost use Rattle.ebpf_c.specs.Handles.{Changes};
+ghost use Rattle.ebpf_rows.specs.Handles.{Changes};
 ghost use Rattle.ebpf_c.specs.Settings.{HasSanitized};
 
-use crate::codes::{CLOSED, DONE};
 use crate::handle::ebpf_handle;
+use ebpf_answers::codes::{CLOSED, DONE};
 use ebpf_object::Object;
 use std::alloc::Global;
 

@@ -1,16 +1,16 @@
 //! Values of many variables.
 
 ghost use Rattle.std.specs.Prelude.{◌≡◌, ◌<◌, OnOk, OnErr, IfErr};
-ghost use Rattle.ebpf_c.specs.Handles.{Changes, IsRefused, WhyHeld};
-ghost use Rattle.ebpf_c.specs.Values.{CannotPatchAll, HasPatchedAll};
+ghost use Rattle.ebpf_rows.specs.Handles.{Changes, IsRefused, WhyHeld};
+ghost use Rattle.ebpf_rows.specs.Values.{CannotPatchAll, HasPatchedAll};
 
-use crate::codes::{BAD_NAME, BAD_VALUE, CLOSED, DONE, MEMORY};
 use crate::handle::ebpf_handle;
-use crate::parse_refusal::parse_refusal;
-use crate::refusal::{Refusal, answered, tell};
-use crate::refusal_row::ebpf_refusal;
-use crate::value_rows::{are_named, ebpf_value, have_values, values_in};
+use ebpf_answers::codes::{BAD_NAME, BAD_VALUE, CLOSED, DONE, MEMORY};
+use ebpf_answers::parse_refusal::parse_refusal;
+use ebpf_answers::refusal::{Refusal, answered, tell};
+use ebpf_answers::refusal_row::ebpf_refusal;
 use ebpf_object::Object;
+use ebpf_rows::value_rows::{are_named, ebpf_value, have_values, values_in};
 use std::alloc::Global;
 
 /// Writes the values of variables into the data of the maps that hold them.

@@ -3,11 +3,11 @@
 ghost use Rattle.std.specs.Prelude.{◌≡◌, ◌<◌, IfOk, IfErr};
 ghost use Rattle.ebpf_c.specs.TargetAnswers.{target_number, target_type_id, CannotFindTarget, IsTarget, TellsNone, TellsTarget};
 
-use crate::codes::{BAD_NAME, DONE, MEMORY};
-use crate::descriptors::text_of;
-use crate::refusal::Refusal;
-use crate::target_types::read_types;
+use ebpf_answers::codes::{BAD_NAME, DONE, MEMORY};
+use ebpf_answers::refusal::Refusal;
 use ebpf_loading::{AttachTarget, attach_target};
+use ebpf_rows::descriptors::text_of;
+use ebpf_rows::target_types::read_types;
 use std::alloc::Global;
 
 /// The number of what is known of a target.

@@ -1,17 +1,18 @@
 //! Values of variables.
 
 ghost use Rattle.std.specs.Prelude.{◌≡◌, ◌⊎◌, ◌<◌, not, ◌==◌, IfOk, OnOk, OnErr, IfErr};
-ghost use Rattle.ebpf_c.specs.Handles.{Changes, IsRefused, WhyHeld};
+ghost use Rattle.ebpf_rows.specs.Handles.{Changes, IsRefused, WhyHeld};
 ghost use Rattle.ebpf_c.specs.Settings.{one_value, CannotPatch, HasPatched};
 ghost use Rattle.ebpf_object.specs.PatchValues.{globals_of};
 
-use crate::codes::{BAD_NAME, CLOSED, DONE, MEMORY};
-use crate::descriptors::text_of;
 use crate::handle::ebpf_handle;
-use crate::parse_refusal::parse_refusal;
-use crate::refusal::{Refusal, answered, tell};
-use crate::refusal_row::ebpf_refusal;
+use ebpf_answers::codes::{BAD_NAME, CLOSED, DONE, MEMORY};
+use ebpf_answers::parse_refusal::parse_refusal;
+use ebpf_answers::refusal::{Refusal, answered, tell};
+use ebpf_answers::refusal_row::ebpf_refusal;
 use ebpf_object::Object;
+use ebpf_rows::descriptors::text_of;
+use ebpf_rows::value_rows::put_over;
 use std::alloc::{AllocError, Global};
 use std::collections::HashMap;
 
@@ -25,7 +26,7 @@ fn one_value<'a>(
     ensures { IfOk result (λ globals. globals_of globals.entries ≡ one_value name.now value.now must_exist) }
 {
     let mut globals = HashMap::new(alloc);
-    globals.insert(name, (value, must_exist))?;
+    put_over(&mut globals, name, (value, must_exist))?;
     Ok(globals)
 }
 

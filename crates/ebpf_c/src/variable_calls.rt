@@ -1,16 +1,18 @@
 //! The calls that read variables.
 
 ghost use Rattle.std.specs.Prelude.{◌≡◌, Ok};
-ghost use Rattle.ebpf_c.specs.Answers.{answer, answer_listed, count_after, counts_of, filled, filled_rows, filled_text, or_memory};
-ghost use Rattle.ebpf_c.specs.Reads.{of_open};
-ghost use Rattle.ebpf_c.specs.Variables.{read_value, variable_list};
+ghost use Rattle.ebpf_answers.specs.Answers.{FillsList, FillsListing, or_memory};
+ghost use Rattle.ebpf_rows.specs.Reads.{of_open};
+ghost use Rattle.ebpf_rows.specs.Variables.{read_value, variable_list};
 
-use crate::buffers::{ebpf_counts, write_listing};
-use crate::codes::CLOSED;
 use crate::handle::ebpf_handle;
-use crate::variable_rows::{ebpf_variable, list_variables};
-use crate::variables::write_value;
+use ebpf_answers::buffers::ebpf_counts;
+use ebpf_answers::codes::{CLOSED, MEMORY};
+use ebpf_answers::lists::write_all;
 use ebpf_object::Object;
+use ebpf_rows::symbol_names::symbol_indices;
+use ebpf_rows::variable_rows::ebpf_variable;
+use ebpf_rows::variables::write_value;
 use std::alloc::Global;
 
 /// Lists the variables of an object, as `ebpf_variables` does.
@@ -21,13 +23,12 @@ fn write_variables(
     text: &mut [u8],
     counts: &mut ebpf_counts,
 ) -> u32
-    ensures answer { result ≡ answer_listed (or_memory result (Ok (variable_list object.now))) rows.old text.old }
-    ensures rows { rows.new ≡ filled_rows (or_memory result (Ok (variable_list object.now))) rows.old text.old }
-    ensures text { text.new ≡ filled_text (or_memory result (Ok (variable_list object.now))) rows.old text.old }
-    ensures counts { counts.new ≡ counts_of (or_memory result (Ok (variable_list object.now))) counts.old }
+    ensures { FillsListing (or_memory result (Ok (variable_list object.now))) result rows.old rows.new text.old text.new counts.old counts.new }
 {
-    let found = list_variables(alloc, object);
-    write_listing(found, rows, text, counts)
+    let Ok(names) = symbol_indices(alloc, &object.symbol_table) else {
+        return MEMORY;
+    };
+    write_all(alloc, object, &names, rows, text, counts)
 }
 
 /// Lists the variables of an object: a row each in byte order of their names; in `text` the name of each and then that of its
@@ -46,10 +47,7 @@ pub extern "C" fn ebpf_variables(
     counts: &mut ebpf_counts,
 ) -> u32
     ensures stays { handle.new.object ≡ handle.old.object }
-    ensures answer { result ≡ answer_listed (or_memory result (of_open (λ o. Ok (variable_list o)) handle.old.object)) rows.old text.old }
-    ensures rows { rows.new ≡ filled_rows (or_memory result (of_open (λ o. Ok (variable_list o)) handle.old.object)) rows.old text.old }
-    ensures text { text.new ≡ filled_text (or_memory result (of_open (λ o. Ok (variable_list o)) handle.old.object)) rows.old text.old }
-    ensures counts { counts.new ≡ counts_of (or_memory result (of_open (λ o. Ok (variable_list o)) handle.old.object)) counts.old }
+    ensures fills { FillsListing (or_memory result (of_open (λ o. Ok (variable_list o)) handle.old.object)) result rows.old rows.new text.old text.new counts.old counts.new }
 {
     let Some(object) = handle.take(alloc) else {
         return CLOSED;
@@ -75,9 +73,7 @@ pub extern "C" fn ebpf_value(
     len: &mut usize,
 ) -> u32
     ensures stays { handle.new.object ≡ handle.old.object }
-    ensures answer { result ≡ answer (or_memory result (of_open (read_value name.now) handle.old.object)) value.old }
-    ensures value { value.new ≡ filled (or_memory result (of_open (read_value name.now) handle.old.object)) value.old }
-    ensures len { len.new ≡ count_after (or_memory result (of_open (read_value name.now) handle.old.object)) len.old }
+    ensures fills { FillsList (or_memory result (of_open (read_value name.now) handle.old.object)) result value.old value.new len.old len.new }
 {
     let Some(object) = handle.take(alloc) else {
         return CLOSED;

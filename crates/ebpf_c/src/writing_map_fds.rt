@@ -1,17 +1,17 @@
 //! Descriptors of maps, written into the slots that refer to them.
 
 ghost use Rattle.std.specs.Prelude.{◌≡◌, ◌<◌, OnOk, OnErr, IfErr};
-ghost use Rattle.ebpf_c.specs.Descriptors.{CannotWriteMapFds, HasWrittenMapFds};
-ghost use Rattle.ebpf_c.specs.Handles.{Changes, IsRefused, WhyHeld};
+ghost use Rattle.ebpf_rows.specs.Descriptors.{CannotWriteMapFds, HasWrittenMapFds};
+ghost use Rattle.ebpf_rows.specs.Handles.{Changes, IsRefused, WhyHeld};
 
-use crate::codes::{BAD_NAME, CLOSED, DONE, MEMORY};
-use crate::descriptors::{descriptors_in, ebpf_descriptor, have_names};
 use crate::handle::ebpf_handle;
-use crate::prepare_refusal::prepare_refusal;
-use crate::refusal::{Refusal, answered, tell};
-use crate::refusal_row::ebpf_refusal;
+use ebpf_answers::codes::{BAD_NAME, CLOSED, DONE, MEMORY};
+use ebpf_answers::refusal::{Refusal, answered, tell};
+use ebpf_answers::refusal_row::ebpf_refusal;
 use ebpf_object::Object;
 use ebpf_object::prepare::relocate_own_maps;
+use ebpf_rows::descriptors::{descriptors_in, ebpf_descriptor, have_names};
+use ebpf_rows::prepare_refusal::prepare_refusal;
 use std::alloc::Global;
 
 /// Writes the descriptors of maps of an object into the slots that refer to them.

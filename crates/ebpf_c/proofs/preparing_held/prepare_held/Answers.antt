@@ -1,18 +1,18 @@
 use Rattle.std.proofs.Common.{rules, ◌≡◌, map, true, Some, ◌∙◌}
 use Rattle.std.specs.Option.{option_copied}
 use Rattle.ebpf_object.specs.Steps.{chosen, descriptor_of}
-use Rattle.ebpf_c.specs.Descriptors.{descriptors_in, have_names}
-use Rattle.ebpf_c.specs.PreparingHeld.{held_inputs, held_passes}
+use Rattle.ebpf_rows.specs.Descriptors.{descriptors_in, have_names}
+use Rattle.ebpf_c.specs.Preparing.{all_passes, inputs_of}
 use Rattle.ebpf_c.proofs.HeldPasses.{held}
 use Rattle.ebpf_c.proofs.preparing_held.prepare_held.Goals as goal
 
 pub returns-in-Ok-prepare_in_place-clause-ok : goal.returns-in-Ok-prepare_in_place-clause-ok
 returns-in-Ok-prepare_in_place-clause-ok c =
-    let inputs = held_inputs c.args.types.now c.args.rows.now c.args.text.now c.args.symbols.now in
+    let inputs = inputs_of c.args.types.now c.args.rows.now c.args.text.now c.args.symbols.now in
     let named : have_names c.args.text.now c.args.rows.now ≡ true = search rules in
     let kernel : option_copied c.as_ref.result ≡ c.in-Ok.kernel = search rules in
     let given : map descriptor_of c.deref.result.now ≡ descriptors_in c.args.text.now c.args.rows.now = search rules in
-    let all : chosen c.all_passes-steps.result ≡ held_passes inputs c.in-Ok.kernel =
+    let all : chosen c.all_passes-steps.result ≡ all_passes inputs c.in-Ok.kernel =
     c.all_passes-steps.ensures ∙ (λ i. record { target = kernel i; descriptors = Some (given i); kernel = Some (kernel i); externs = true; calls = true }) in
     held inputs c.in-Ok.kernel (chosen c.all_passes-steps.result) c.args.object.now c.prepare_in_place.new.object c.in-Ok.ensures.types named all
     c.in-Ok-prepare_in_place.ensures.stages c.in-Ok-prepare_in_place.ensures.headline c.in-Ok-prepare_in_place.ensures.others_stay

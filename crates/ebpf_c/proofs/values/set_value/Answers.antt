@@ -3,12 +3,12 @@ use Rattle.std.specs.Prelude.{⊤, MatchBool, MatchOption}
 use Rattle.ebpf_object.specs.PatchValues.{globals_of}
 use Rattle.ebpf_object.specs.Patches.{all_patched, patches_of, patches_fault}
 use Rattle.ebpf_parts.specs.Memory.{is_parse_memory}
-use Rattle.ebpf_c.specs.Handles.{IsRefusal}
-use Rattle.ebpf_c.specs.Numbers.{parse_refusal}
-use Rattle.ebpf_c.specs.Refusal.{plain}
+use Rattle.ebpf_rows.specs.Handles.{IsRefusal}
+use Rattle.ebpf_answers.specs.Numbers.{parse_refusal}
+use Rattle.ebpf_answers.specs.Refusal.{plain}
 use Rattle.ebpf_c.specs.Settings.{one_value}
-use Rattle.ebpf_c.specs.declared.codes.TheConstants.{BAD_NAME}
-use Rattle.ebpf_c.proofs.Rows.{text_same}
+use Rattle.ebpf_answers.specs.declared.codes.TheConstants.{BAD_NAME}
+use Rattle.ebpf_rows.proofs.Rows.{text_same}
 use Rattle.ebpf_c.proofs.values.set_value.Goals as goal
 
 pub returns-in-Ok-patch_map_data-clause-ok : goal.returns-in-Ok-patch_map_data-clause-ok

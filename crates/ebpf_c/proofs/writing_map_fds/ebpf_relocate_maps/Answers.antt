@@ -1,5 +1,5 @@
 use Rattle.std.proofs.Common.{ap, ◌∙◌, Some}
-use Rattle.ebpf_c.specs.Descriptors.{CannotWriteMapFds}
+use Rattle.ebpf_rows.specs.Descriptors.{CannotWriteMapFds}
 use Rattle.ebpf_c.proofs.Refusing.{refused_with}
 use Rattle.ebpf_c.proofs.writing_map_fds.ebpf_relocate_maps.Goals as goal
 

@@ -1,0 +1,3 @@
+pub mod Fills
+pub mod NextRow
+pub mod Texts
