@@ -8,7 +8,8 @@ A new row: in the module of rows/ on its subject, or in a new one listed below, 
 with files made by rows/elf.py and rows/btf.py. What has to be given is written by hand, from the definitions or from
 another reader, and never taken from what the program prints. A new action is a function that gives its text and an arm of
 the `match` in src/objects.rt of test_rows, in src/lib.rt of test_symbols, or in src/types.rt of test_btf_rows: it borrows
-the object or the types and doesn't hold them, or its proof takes minutes; it calls an object by test_bare_calls. Then run this script, and `rt ci` compares.
+the object or the types and doesn't hold them, or its proof takes minutes; it calls an object by test_bare_calls, which tells
+its answer and lets go of it. Then run this script, and `rt ci` compares.
 """
 from pathlib import Path
 

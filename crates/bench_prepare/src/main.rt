@@ -7,7 +7,6 @@
 
 mod peak;
 mod preparing;
-mod timed;
 mod words;
 
 use crate::preparing::measure_preparing;

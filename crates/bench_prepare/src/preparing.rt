@@ -1,20 +1,24 @@
 //! How long an object takes from its file to finished programs.
 
 use crate::peak::peak_kilobytes;
-use crate::timed::timed;
 use crate::words::Sources;
-use bench_types::{BenchError, allowed, read_bytes};
+use bench_types::{BenchError, read_bytes};
 use ebpf_btf::{Btf, Endianness};
-use ebpf_commands::prepare_all;
+use ebpf_commands::{Failure, prepare_all};
 use ebpf_object::Object;
+use ebpf_object::prepare::SymbolSource;
 use std::fs::{self, File};
 use std::io::BufReader;
-use test_bare_calls::parse;
+use std::time::Instant;
+use test_bare_calls::{forget, let_go, parsed};
 
 /// The object of a file.
 fn read_object(rt: &HostRuntime, path: &str) -> Result<Object, BenchError> {
     let bytes = read_bytes(rt, path)?;
-    allowed(parse(rt.alloc(), &bytes))
+    match parsed(rt.alloc(), &bytes) {
+        Some(object) => Ok(object),
+        None => Err(BenchError::Refused),
+    }
 }
 
 /// The types in a file.
@@ -51,29 +55,70 @@ fn both<A: Drop, B: Drop, E: Drop>(first: Result<A, E>, second: Result<B, E>) ->
     Ok((first, second))
 }
 
-/// Prepares an object as `ebpf-link` does, with a kernel's types and symbols.
+/// Why `ebpf-link` would not prepare an object.
+fn refused(failure: Failure<'static>) -> BenchError {
+    match failure {
+        Failure::Btf(error) => BenchError::Types(error),
+        Failure::Preparing(error) => {
+            forget(error);
+            BenchError::Refused
+        }
+        Failure::CannotRead(_) => BenchError::Refused,
+        Failure::NoProgram(_) => BenchError::Refused,
+        Failure::CannotWrite => BenchError::Refused,
+        Failure::Memory => BenchError::Refused,
+    }
+}
+
+/// Prepares an object as `ebpf-link` does.
+fn finished<K: SymbolSource>(
+    rt: &HostRuntime,
+    object: Object,
+    types: Option<&Btf>,
+    symbols: K,
+) -> Result<Object, Failure<'static>> {
+    prepare_all(rt.alloc(), object, types, symbols)
+}
+
+/// The same with a kernel's types and symbols.
 fn finish(
     rt: &HostRuntime,
     object: Object,
     given: (Option<Btf>, BufReader<File>),
 ) -> Result<Object, BenchError> {
     let (types, symbols) = given;
-    allowed(prepare_all(rt.alloc(), object, types.as_ref(), symbols))
+    match finished(rt, object, types.as_ref(), symbols) {
+        Ok(object) => Ok(object),
+        Err(failure) => Err(refused(failure)),
+    }
 }
 
 /// The prepared object.
 fn prepare(rt: &HostRuntime, sources: &Sources<'_>) -> Result<Object, BenchError> {
     let object = read_object(rt, sources.file)?;
-    let given = both(types_for(rt, sources, &object), symbols(rt, sources));
-    let (object, given) = both(Ok(object), given)?;
-    finish(rt, object, given)
+    match both(types_for(rt, sources, &object), symbols(rt, sources)) {
+        Ok(given) => finish(rt, object, given),
+        Err(error) => {
+            let_go(object);
+            Err(error)
+        }
+    }
+}
+
+/// The microseconds that preparing takes, without those of letting the object go.
+fn time(rt: &HostRuntime, sources: &Sources<'_>) -> Result<u128, BenchError> {
+    let start = Instant::now(rt)?;
+    let object = prepare(rt, sources)?;
+    let time = start.elapsed(rt);
+    let_go(object);
+    Ok(time?.as_micros())
 }
 
 /// The time of each run, in microseconds.
 fn times(rt: &HostRuntime, sources: &Sources<'_>) -> Result<Vec<u128>, BenchError> {
     let mut times = Vec::new(rt.alloc());
     for _run in 0..sources.runs {
-        times.push(timed(rt, || prepare(rt, sources))?)?;
+        times.push(time(rt, sources)?)?;
     }
     Ok(times)
 }

@@ -20,14 +20,6 @@ pub enum BenchError {
     Memory(#[from] AllocError),
 }
 
-/// A value, where it was not refused.
-pub fn allowed<T: Drop, E: Drop>(answer: Result<T, E>) -> Result<T, BenchError> {
-    match answer {
-        Ok(value) => Ok(value),
-        Err(_) => Err(BenchError::Refused),
-    }
-}
-
 impl<T: Drop> From<AllocFailed<T>> for BenchError {
     fn from(_failed: AllocFailed<T>) -> BenchError {
         BenchError::Memory(AllocError)

@@ -9,6 +9,6 @@ mod found;
 mod many_types;
 mod types;
 
-pub use error::{BenchError, allowed};
+pub use error::BenchError;
 pub use files::read_bytes;
 pub use types::measure_types;

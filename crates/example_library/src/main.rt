@@ -13,6 +13,7 @@ use ebpf_object::Object;
 use ebpf_object::obj::{Btf, ParseError};
 use ebpf_object::prepare::{PrepareError, Steps};
 use std::alloc::AllocError;
+use std::fmt::Display;
 use std::{env, fs, io};
 
 /// What an object is prepared with: the file of a kernel's types, the lines of its symbols, and those with descriptors.
@@ -23,8 +24,8 @@ struct Given<'a> {
     lines: &'a str,
 }
 
-/// What is printed of an object, or of why there is none.
-trait Shown {
+/// What is printed of an object.
+trait Shown: Drop {
     fn show(&self, rt: &HostRuntime) -> io::Result<()>;
 }
 
@@ -34,20 +35,14 @@ impl Shown for Object {
     }
 }
 
-impl Shown for PrepareError {
-    fn show(&self, rt: &HostRuntime) -> io::Result<()> {
-        refusals::print_gone(rt, self)
-    }
-}
-
 /// Prints what came of an object that was copied or taken.
-fn show_outcome<T: Shown + Drop, E: Shown + Drop>(
+fn show_outcome<T: Shown, E: Display + Drop>(
     rt: &HostRuntime,
     outcome: Result<T, E>,
 ) -> io::Result<()> {
     match &outcome {
         Ok(object) => object.show(rt),
-        Err(error) => error.show(rt),
+        Err(error) => println!(rt; "refused: {error}"),
     }
 }
 
@@ -82,14 +77,6 @@ trait Fault: Drop {
 impl Fault for ParseError {
     fn show_fault(&self, rt: &HostRuntime, file: &[u8]) -> io::Result<()> {
         refusals::print_unparsed(rt, file, self)
-    }
-}
-
-/// Prints why a file can't be parsed, where it can't.
-fn show_why<E: Fault>(rt: &HostRuntime, file: &[u8], why: Option<E>) -> io::Result<()> {
-    match why {
-        Some(error) => error.show_fault(rt, file),
-        None => println!(rt; "  parsed"),
     }
 }
 
@@ -145,38 +132,25 @@ fn go_taken(rt: &HostRuntime, object: &Object, kernel: &Btf, symbols: &[u8]) -> 
 fn go_in_place(
     rt: &HostRuntime,
     object: &mut Object,
+    heading: &str,
     steps: &Steps<'_>,
     symbols: &[u8],
 ) -> io::Result<()> {
+    println!(rt; "in place, {heading}")?;
     let answer = preparing::in_place(rt.alloc(), object, steps, symbols);
     show_in_place(rt, object, answer)
 }
 
-/// Prepares the object without descriptors, which is refused.
-fn go_without_fds(rt: &HostRuntime, object: &mut Object) -> io::Result<()> {
-    println!(rt; "in place, without descriptors")?;
-    go_in_place(rt, object, &Steps::without_kernel(&[]), &[])
-}
-
-/// Looks for externs by symbols alone, which is refused where one has a type.
-fn go_by_symbols(rt: &HostRuntime, object: &mut Object, symbols: &[u8]) -> io::Result<()> {
-    println!(rt; "in place, externs by symbols alone")?;
-    let steps = Steps::none().with_externs_by_symbols();
-    go_in_place(rt, object, &steps, symbols)
-}
-
-/// Links programs whose externs are left alone, which is refused where one is called.
-fn go_unresolved(rt: &HostRuntime, object: &mut Object) -> io::Result<()> {
-    println!(rt; "in place, externs left alone")?;
-    let descriptors = [("counts", 3), (".bss", 4), (".rodata", 5)];
-    go_in_place(rt, object, &Steps::without_kernel(&descriptors), &[])
-}
-
-/// Prepares the object in ways that are refused, each of which leaves it as it was.
+/// Prepares the object in ways that are refused, each of which leaves it as it was: without descriptors; with externs looked
+/// for by symbols alone, where one has a type; and with externs left alone, where one is called.
 fn go_refused(rt: &HostRuntime, object: &mut Object, symbols: &[u8]) -> io::Result<()> {
-    go_without_fds(rt, object)?;
-    go_by_symbols(rt, object, symbols)?;
-    go_unresolved(rt, object)
+    let without = Steps::without_kernel(&[]);
+    let by_symbols = Steps::none().with_externs_by_symbols();
+    let descriptors = [("counts", 3), (".bss", 4), (".rodata", 5)];
+    let unresolved = Steps::without_kernel(&descriptors);
+    go_in_place(rt, object, "without descriptors", &without, &[])?;
+    go_in_place(rt, object, "externs by symbols alone", &by_symbols, symbols)?;
+    go_in_place(rt, object, "externs left alone", &unresolved, &[])
 }
 
 /// Prepares the object for a kernel pass by pass.
@@ -190,18 +164,6 @@ fn go_one_by_one(
     let descriptors = [("counts", 3), (".bss", 4), (".rodata", 5)];
     let answer = passes::one_by_one(rt.alloc(), object, kernel, &descriptors, symbols);
     show_in_place(rt, object, answer)
-}
-
-/// Why a file can't be parsed, where it can't.
-fn why_unparsed(rt: &HostRuntime, file: &[u8]) -> Option<ParseError> {
-    preparing::parsed(rt.alloc(), file).err()
-}
-
-/// Parses a file that is cut, which is refused.
-fn go_cut(rt: &HostRuntime, file: &[u8]) -> io::Result<()> {
-    println!(rt; "a file without its end")?;
-    let cut = file.get(..file.len() / 2).unwrap_or(file);
-    show_why(rt, cut, why_unparsed(rt, cut))
 }
 
 /// Prepares the object in each way for a kernel whose types are known.
@@ -226,13 +188,6 @@ fn go_with_types(rt: &HostRuntime, object: &mut Object, given: &Given<'_>) -> io
     }
 }
 
-/// Prints what a file has.
-fn print_file(rt: &HostRuntime, file: &[u8], object: &Object) -> io::Result<()> {
-    listing::print_parts(rt, object)?;
-    listing::print_sections(rt, file, object)?;
-    listing::print_license(rt, object)
-}
-
 /// Prints what the file has, and prepares the object in each way.
 fn go_with_file(
     rt: &HostRuntime,
@@ -240,22 +195,10 @@ fn go_with_file(
     object: &mut Object,
     given: &Given<'_>,
 ) -> io::Result<()> {
-    print_file(rt, file, object)?;
+    listing::print_parts(rt, object)?;
+    listing::print_sections(rt, file, object)?;
+    listing::print_license(rt, object)?;
     go_with_types(rt, object, given)
-}
-
-/// The same, once a variable is set; else prints why it isn't.
-fn go_once_set<E: Fault>(
-    rt: &HostRuntime,
-    file: &[u8],
-    object: &mut Object,
-    given: &Given<'_>,
-    set: Result<(), E>,
-) -> io::Result<()> {
-    match set {
-        Ok(()) => go_with_file(rt, file, object, given),
-        Err(error) => error.show_fault(rt, file),
-    }
 }
 
 /// What a file is parsed to.
@@ -266,8 +209,10 @@ trait Parsed: Drop {
 
 impl Parsed for Object {
     fn go(&mut self, rt: &HostRuntime, file: &[u8], given: &Given<'_>) -> io::Result<()> {
-        let set = making::set_step(rt.alloc(), self, 2);
-        go_once_set(rt, file, self, given, set)
+        match making::set_step(rt.alloc(), self, 2) {
+            Ok(()) => go_with_file(rt, file, self, given),
+            Err(error) => error.show_fault(rt, file),
+        }
     }
 }
 
@@ -290,10 +235,11 @@ fn go_through(rt: &HostRuntime, file: &[u8], given: &Given<'_>) -> io::Result<()
     go_parsed(rt, file, given, preparing::parsed(rt.alloc(), file))
 }
 
-/// Goes through the steps with the file, and with the file cut.
+/// Goes through the steps with the file, and with the file cut, which is refused.
 fn go(rt: &HostRuntime, file: &[u8], given: &Given<'_>) -> io::Result<()> {
     go_through(rt, file, given)?;
-    go_cut(rt, file)
+    println!(rt; "a file without its end")?;
+    go_through(rt, file.get(..file.len() / 2).unwrap_or(file), given)
 }
 
 /// Reads the files but that of the types, and goes through the steps.

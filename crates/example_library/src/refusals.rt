@@ -32,8 +32,3 @@ pub fn print_refused(rt: &HostRuntime, object: &Object, error: &PrepareError) ->
     let advice = advice(error);
     println!(rt; "  {advice}")
 }
-
-/// Prints why an object that is gone was refused, by the numbers that the error has.
-pub fn print_gone(rt: &HostRuntime, error: &PrepareError) -> io::Result<()> {
-    println!(rt; "refused: {error}")
-}

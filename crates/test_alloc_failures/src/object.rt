@@ -3,40 +3,26 @@
 use crate::kept::on_kept;
 use crate::loader::on_loader;
 use crate::passes::pass;
-use crate::subject::{Shown, Subject, on_parsed, tell_made};
+use crate::subject::{Calls, Making, Subject};
 use ebpf_object::Object;
 use ebpf_parts::Reading;
-use std::fmt::Debug;
 use std::io;
-use test_bare_calls::parse_as;
+use test_bare_calls::{on_copy, on_file, on_parsed};
 use test_marked_calls::{Call, say};
-
-/// Says that a call has ended, and what object it answered. It doesn't know that this is an object, so that its proof
-/// doesn't let go of each part of one.
-pub fn tell_object<T: Shown, E: Debug + Drop>(
-    answer: Result<T, E>,
-    call: &Call<'_>,
-) -> io::Result<()> {
-    match answer {
-        Ok(object) => tell_made(object, call),
-        Err(error) => call.tell(Err::<(), E>(error)),
-    }
-}
 
 /// Parses the bytes.
 pub fn parse(bytes: &[u8], call: &Call<'_>) -> io::Result<()> {
     call.begin();
-    tell_object(test_bare_calls::parse(call.rt.alloc(), bytes), call)
+    on_file(call.rt.alloc(), bytes, Making(*call))
 }
 
 /// Copies the object.
 fn clone(object: &Object, call: &Call<'_>) -> io::Result<()> {
     call.begin();
-    let copy: Result<_, _> = object.clone();
-    tell_object(copy, call)
+    on_copy(object, Making(*call))
 }
 
-impl Shown for Object {
+impl Subject for Object {
     fn show(&self, rt: &HostRuntime, text: &str) -> io::Result<()> {
         let file = (
             &self.endianness,
@@ -50,9 +36,7 @@ impl Shown for Object {
         let changed = (&self.externs, &self.maps, &self.functions);
         say(rt, text, (file, types, changed))
     }
-}
 
-impl Subject for Object {
     fn make(&mut self, call: &Call<'_>) -> io::Result<()> {
         match call.name {
             "clone" => clone(self, call),
@@ -70,6 +54,10 @@ pub fn on_object<'a>(
     front: &'a [String],
     last: &Call<'a>,
 ) -> io::Result<()> {
-    let parsed = parse_as(last.rt.alloc(), bytes, reading);
-    on_parsed(parsed, "no object: ", front, last)
+    let calls = Calls {
+        front,
+        last: *last,
+        refusal: "no object: ",
+    };
+    on_parsed(last.rt.alloc(), bytes, reading, calls)
 }

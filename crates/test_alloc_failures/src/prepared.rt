@@ -1,14 +1,15 @@
 //! Files that are prepared or inspected in one call.
 
-use crate::object::tell_object;
-use ebpf_inspect::inspect;
-use ebpf_object::prepare::Steps;
+use crate::subject::Making;
+use ebpf_base::Items;
+use ebpf_inspect::{ProgramReport, inspect};
+use ebpf_object::prepare::{PrepareError, Steps};
 use std::io;
-use test_bare_calls::prepare;
+use test_bare_calls::{forget, on_prepared};
 use test_marked_calls::{Call, Kernel};
 
 /// The descriptors of maps that are given, some of which objects of tests have.
-const DESCRIPTORS: [(&'static str, i32); 8] = [
+pub const DESCRIPTORS: [(&'static str, i32); 8] = [
     (".bss", 1),
     (".data", 2),
     (".rodata", 3),
@@ -36,15 +37,30 @@ fn steps<'a>(kernel: Kernel<'a>, word: &str, given: &'a [(&'a str, i32)]) -> Ste
 
 /// Prepares the file by these steps.
 fn prepare_by(bytes: &[u8], steps: &Steps<'_>, call: &Call<'_>) -> io::Result<()> {
+    let (alloc, lines) = (call.rt.alloc(), call.kernel.lines);
     call.begin();
-    let answer = prepare(call.rt.alloc(), bytes, steps, call.kernel.lines);
-    tell_object(answer, call)
+    on_prepared(alloc, bytes, steps, lines, Making(*call))
+}
+
+/// The reports of the file's programs by these steps.
+fn inspected(
+    bytes: &[u8],
+    steps: &Steps<'_>,
+    call: &Call<'_>,
+) -> Result<Items<ProgramReport>, PrepareError> {
+    inspect(call.rt.alloc(), bytes, steps, call.kernel.lines)
 }
 
 /// Inspects the file by these steps.
 fn inspect_by(bytes: &[u8], steps: &Steps<'_>, call: &Call<'_>) -> io::Result<()> {
     call.begin();
-    call.tell(inspect(call.rt.alloc(), bytes, steps, call.kernel.lines))
+    let answer = inspected(bytes, steps, call);
+    let said = call.tell(&answer);
+    match answer {
+        Ok(reports) => drop(reports),
+        Err(error) => forget(error),
+    }
+    said
 }
 
 /// Prepares the file by the steps whose first letters the call's name has, or inspects it by them.

@@ -6,7 +6,9 @@ use crate::prepared::on_steps;
 use crate::types::on_parsed_types;
 use ebpf_btf::{Btf, Endianness};
 use ebpf_parts::Reading;
+use std::fmt::Debug;
 use std::io;
+use test_bare_calls::{Asker, on_types};
 use test_marked_calls::{
     Call, Files, Kernel, on_code, on_file, on_small, parse_types, say, take_types,
 };
@@ -57,11 +59,40 @@ fn with_kernel(
 }
 
 /// Calls that are given a kernel's types.
-fn with_types(rt: &HostRuntime, files: &Files, subject: &str, calls: &[String]) -> io::Result<()> {
-    match Btf::parse(rt.alloc(), files.types.as_slice(), Endianness::Little) {
-        Ok(types) => with_kernel(rt, files, Some(&types), subject, calls),
-        Err(error) => say(rt, "no types: ", error),
+#[derive(Clone, Copy)]
+struct WithTypes<'a> {
+    rt: &'a HostRuntime,
+    files: &'a Files,
+    subject: &'a str,
+    calls: &'a [String],
+}
+
+impl<'a> Asker<Btf> for WithTypes<'a> {
+    type Answer = io::Result<()>;
+
+    fn asks(self, types: &mut Btf) -> io::Result<()> {
+        with_kernel(self.rt, self.files, Some(types), self.subject, self.calls)
     }
+
+    fn hears<E: Debug>(self, error: &E) -> io::Result<()> {
+        say(self.rt, "no types: ", error)
+    }
+}
+
+/// The same, of the file of types.
+fn with_types(rt: &HostRuntime, files: &Files, subject: &str, calls: &[String]) -> io::Result<()> {
+    let given = WithTypes {
+        rt,
+        files,
+        subject,
+        calls,
+    };
+    on_types(
+        rt.alloc(),
+        files.types.as_slice(),
+        Endianness::Little,
+        given,
+    )
 }
 
 /// Calls on the types themselves, or others that are given them.

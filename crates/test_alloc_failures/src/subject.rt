@@ -2,16 +2,14 @@
 
 use std::fmt::Debug;
 use std::io;
+use test_bare_calls::{Asker, Listener};
 use test_marked_calls::{Call, say};
 
-/// What can be printed.
-pub trait Shown: Drop {
+/// What calls are made on.
+pub trait Subject {
     /// Prints all that it holds, behind a text.
     fn show(&self, rt: &HostRuntime, text: &str) -> io::Result<()>;
-}
 
-/// What calls are made on.
-pub trait Subject: Shown {
     /// Makes a call.
     fn make(&mut self, call: &Call<'_>) -> io::Result<()>;
 }
@@ -23,34 +21,63 @@ fn look_at<T: Subject>(subject: &mut T, call: &Call<'_>) -> io::Result<()> {
     subject.show(call.rt, "after:\n")
 }
 
+/// Calls that are made one after the other, and what is said where there is nothing to make them on.
+#[derive(Clone, Copy)]
+pub struct Calls<'a> {
+    pub front: &'a [String],
+    pub last: Call<'a>,
+    pub refusal: &'static str,
+}
+
 /// Makes the calls, and prints the subject before the last one and behind it.
-fn make_calls<'a, T: Subject>(
-    mut subject: T,
-    front: &'a [String],
-    last: &Call<'a>,
-) -> io::Result<()> {
-    for text in front {
-        subject.make(&last.before(text.as_str()))?;
+fn make_calls<T: Subject>(subject: &mut T, calls: Calls<'_>) -> io::Result<()> {
+    for text in calls.front {
+        subject.make(&calls.last.before(text.as_str()))?;
     }
-    look_at(&mut subject, last)
+    look_at(subject, &calls.last)
 }
 
-/// Makes the calls on what was parsed, or says why nothing was, behind a text. It knows neither type, so that its proof
-/// doesn't let go of each part of an object.
-pub fn on_parsed<'a, T: Subject, E: Debug + Drop>(
-    parsed: Result<T, E>,
-    text: &str,
-    front: &'a [String],
-    last: &Call<'a>,
-) -> io::Result<()> {
-    match parsed {
-        Ok(subject) => make_calls(subject, front, last),
-        Err(error) => say(last.rt, text, error),
+impl<'a, T: Subject> Asker<T> for Calls<'a> {
+    type Answer = io::Result<()>;
+
+    fn asks(self, subject: &mut T) -> io::Result<()> {
+        make_calls(subject, self)
+    }
+
+    fn hears<E: Debug>(self, error: &E) -> io::Result<()> {
+        say(self.last.rt, self.refusal, error)
     }
 }
 
-/// Says that a call has ended, and what it made.
-pub fn tell_made<T: Shown>(made: T, call: &Call<'_>) -> io::Result<()> {
-    call.end();
-    made.show(call.rt, "answer: Ok ")
+/// A call that makes a subject, between its marks.
+#[derive(Clone, Copy)]
+pub struct Making<'a>(pub Call<'a>);
+
+impl<'a, T: Subject> Asker<T> for Making<'a> {
+    type Answer = io::Result<()>;
+
+    fn asks(self, made: &mut T) -> io::Result<()> {
+        self.0.end();
+        made.show(self.0.rt, "answer: Ok ")
+    }
+
+    fn hears<E: Debug>(self, error: &E) -> io::Result<()> {
+        self.0.tell(Err::<(), &E>(error))
+    }
+}
+
+/// A call between its marks.
+#[derive(Clone, Copy)]
+pub struct Marked<'a>(pub Call<'a>);
+
+impl<'a> Listener for Marked<'a> {
+    type Told = io::Result<()>;
+
+    fn begins(&self) {
+        self.0.begin();
+    }
+
+    fn hears<T: Debug, E: Debug>(&self, answer: &Result<T, E>) -> io::Result<()> {
+        self.0.tell(answer)
+    }
 }

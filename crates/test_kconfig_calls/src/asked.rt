@@ -1,11 +1,14 @@
-//! What is asked of objects, which are let go of in one place.
+//! What is asked of objects.
 
 use super::defined::{is_as_libbpf, is_left, is_too_large};
+use super::listed::lists;
 use super::referred::{is_refused, refers};
+use ebpf_btf::BtfError;
 use ebpf_object::Object;
 use std::alloc::Global;
 use std::fmt::Debug;
 use std::test::Fail;
+use test_bare_calls::{Asker, on_made};
 
 /// A question.
 #[derive(Clone, Copy)]
@@ -20,33 +23,37 @@ pub enum Question {
     Refers,
     /// Whether missing and wrong values are refused, and the object is left as it was.
     Refused,
+    /// Whether the list of externs is this.
+    Lists(&'static str),
 }
 
-/// What questions are asked of.
-pub trait Subject: Drop {
-    /// Fails where the answer isn't as wanted.
-    fn answers(&mut self, alloc: Global, question: Question) -> Result<(), Fail>;
+/// A question that is put to an object.
+#[derive(Clone, Copy)]
+struct Asking {
+    alloc: Global,
+    question: Question,
 }
 
-impl Subject for Object {
-    fn answers(&mut self, alloc: Global, question: Question) -> Result<(), Fail> {
-        match question {
-            Question::AsLibbpf => is_as_libbpf(alloc, self),
-            Question::TooLarge => is_too_large(alloc, self),
-            Question::Left => is_left(alloc, self),
-            Question::Refers => refers(alloc, self),
-            Question::Refused => is_refused(alloc, self),
+impl Asker<Object> for Asking {
+    type Answer = Result<(), Fail>;
+
+    fn asks(self, object: &mut Object) -> Result<(), Fail> {
+        match self.question {
+            Question::AsLibbpf => is_as_libbpf(self.alloc, object),
+            Question::TooLarge => is_too_large(self.alloc, object),
+            Question::Left => is_left(self.alloc, object),
+            Question::Refers => refers(self.alloc, object),
+            Question::Refused => is_refused(self.alloc, object),
+            Question::Lists(want) => lists(self.alloc, object, want),
         }
+    }
+
+    fn hears<E: Debug>(self, _error: &E) -> Result<(), Fail> {
+        Err(Fail::new("no object"))
     }
 }
 
-/// Fails where nothing was made, or what was doesn't answer as wanted. It knows neither type, so that its proof doesn't let
-/// go of each part of an object.
-pub fn ask<T: Subject, E: Debug + Drop>(
-    alloc: Global,
-    made: Result<T, E>,
-    question: Question,
-) -> Result<(), Fail> {
-    let mut subject = made?;
-    subject.answers(alloc, question)
+/// Fails where nothing was made, or what was doesn't answer as wanted.
+pub fn ask(alloc: Global, made: Result<Object, BtfError>, question: Question) -> Result<(), Fail> {
+    on_made(made, Asking { alloc, question })
 }

@@ -1,12 +1,12 @@
 //! The list of externs.
 
+use super::asked::{Question, ask};
 use super::objects::{kconfig_object, object_with};
 use ebpf_base::{ByIndex, Items};
 use ebpf_btf::{Btf, BtfError};
 use ebpf_kconfig::{KconfigError, KconfigExtern, kconfig};
 use ebpf_object::Object;
 use std::alloc::{AllocError, Global};
-use std::fmt::Debug;
 use std::test::Fail;
 use test_same::same;
 use test_types::externs::{Extern, add_externs, kconfig_types};
@@ -25,7 +25,7 @@ const EACH_TYPE: [Extern; 10] = [
     ("LINUX_KERNEL_VERSION", 13, false),
 ];
 
-const EACH_TYPE_TEXT: &str = "\"CONFIG_BOOL\" Bool\n\
+const EACH_TYPE_TEXT: &'static str = "\"CONFIG_BOOL\" Bool\n\
     \"CONFIG_CHAR\" Char { signed: true }\n\
     \"CONFIG_BYTE\" Char { signed: false } weak\n\
     \"CONFIG_SHORT\" Integer { size: 2, signed: true }\n\
@@ -37,7 +37,7 @@ const EACH_TYPE_TEXT: &str = "\"CONFIG_BOOL\" Bool\n\
     \"LINUX_KERNEL_VERSION\" Integer { size: 4, signed: true }\n";
 
 /// A weak extern alone, by its name and type, and the list.
-const ALONE: [(&str, u32, &str); 8] = [
+const ALONE: [(&'static str, u32, &'static str); 8] = [
     ("CONFIG_X", 9, "UnsupportedType { name: \"CONFIG_X\" }"),
     ("CONFIG_X", 11, "UnsupportedType { name: \"CONFIG_X\" }"),
     ("CONFIG_X", 12, "UnsupportedType { name: \"CONFIG_X\" }"),
@@ -84,37 +84,14 @@ fn outcome(
 }
 
 /// Fails where the list of an object isn't this.
-fn has(alloc: Global, object: &Object, want: &str) -> Result<(), Fail> {
+pub fn lists(alloc: Global, object: &Object, want: &str) -> Result<(), Fail> {
     let text = outcome(alloc, externs_of(object))?;
     same(text.as_str(), want)
 }
 
-/// What has a list of externs.
-trait Listed: Drop {
-    /// Fails where it isn't this.
-    fn has(&self, alloc: Global, want: &str) -> Result<(), Fail>;
-}
-
-impl Listed for Object {
-    fn has(&self, alloc: Global, want: &str) -> Result<(), Fail> {
-        has(alloc, self, want)
-    }
-}
-
-/// Fails where nothing was made, or its list isn't this. It knows neither type, so that its proof doesn't let go of each part
-/// of an object.
-fn made_has<T: Listed, E: Debug + Drop>(
-    alloc: Global,
-    made: Result<T, E>,
-    want: &str,
-) -> Result<(), Fail> {
-    let subject = made?;
-    subject.has(alloc, want)
-}
-
 /// Fails where the list of an object with these externs isn't this.
-fn have(alloc: Global, externs: &[Extern], want: &str) -> Result<(), Fail> {
-    made_has(alloc, kconfig_object(alloc, externs), want)
+fn have(alloc: Global, externs: &[Extern], want: &'static str) -> Result<(), Fail> {
+    ask(alloc, kconfig_object(alloc, externs), Question::Lists(want))
 }
 
 #[test]
@@ -152,9 +129,9 @@ fn types_with_sections(alloc: Global) -> Result<Btf, BtfError> {
 }
 
 /// Fails where the list of an object of types alone isn't this.
-fn types_have(alloc: Global, types: Option<Btf>, want: &str) -> Result<(), Fail> {
-    let made: Result<Object, BtfError> = Ok(object_with(alloc, types, ByIndex::new(alloc)));
-    made_has(alloc, made, want)
+fn types_have(alloc: Global, types: Option<Btf>, want: &'static str) -> Result<(), Fail> {
+    let object = object_with(alloc, types, ByIndex::new(alloc));
+    ask(alloc, Ok(object), Question::Lists(want))
 }
 
 #[test]

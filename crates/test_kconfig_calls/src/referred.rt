@@ -4,17 +4,16 @@ use super::asked::{Question, ask};
 use super::defined::{defines, has_maps, has_symbols};
 use super::objects::kconfig_object;
 use ebpf_base::{ByKey, ByOffset, BySection, Items, Text};
-use ebpf_btf::BtfError;
 use ebpf_elf::SectionIndex;
 use ebpf_ext::{FuncSecInfo, LineSecInfo};
-use ebpf_model::{EbpfRelocationError, Function};
+use ebpf_model::Function;
 use ebpf_object::Object;
 use ebpf_parts::Relocation;
 use ebpf_parts::insn::bpf_insn;
-use ebpf_parts::maps::Map;
 use std::alloc::{AllocError, Global};
-use std::collections::HashSet;
+use std::fmt::Debug;
 use std::test::Fail;
+use test_bare_calls::{Listener, relocate_maps};
 use test_same::{same, same_bytes};
 use test_types::externs::Extern;
 
@@ -110,13 +109,6 @@ fn add_load(alloc: Global, object: &mut Object) -> Result<(), AllocError> {
     add_relocations(alloc, &mut object.relocations)
 }
 
-/// An object with these externs and the function.
-fn referring(alloc: Global) -> Result<Object, BtfError> {
-    let mut object = kconfig_object(alloc, &EXTERNS)?;
-    add_load(alloc, &mut object)?;
-    Ok(object)
-}
-
 /// The data of the map of externs; none where there is no map.
 fn data(object: &Object) -> &[u8] {
     match object.maps.get(".kconfig") {
@@ -125,42 +117,21 @@ fn data(object: &Object) -> &[u8] {
     }
 }
 
-/// Writes the descriptor 7 of a map.
-fn write(
-    object: &mut Object,
-    map: &Map,
-    sections: &HashSet<usize>,
-) -> Result<(), EbpfRelocationError> {
-    let given = [(".kconfig", 7, map)];
-    object.relocate_maps(given.iter().copied(), sections)
-}
+/// Answers as texts.
+#[derive(Clone, Copy)]
+struct Shown(Global);
 
-/// A copy of the map of externs, where there is one.
-fn copied_map(object: &Object) -> Result<Option<Map>, AllocError> {
-    match object.maps.get(".kconfig") {
-        Some(map) => Ok(Some(map.clone()?)),
-        None => Ok(None),
+impl Listener for Shown {
+    type Told = Result<String, AllocError>;
+
+    fn hears<T: Debug, E: Debug>(&self, answer: &Result<T, E>) -> Result<String, AllocError> {
+        format!(in self.0; "{answer:?}")
     }
 }
 
-/// What writing the descriptor of a map says.
-fn written(alloc: Global, object: &mut Object, map: &Map) -> Result<String, AllocError> {
-    let sections = object.text_sections(alloc)?;
-    let said = write(object, map, &sections);
-    format!(in alloc; "{said:?}")
-}
-
-/// What writing the descriptor of the map of externs says.
-fn outcome(alloc: Global, object: &mut Object) -> Result<String, AllocError> {
-    match copied_map(object)? {
-        Some(map) => written(alloc, object, &map),
-        None => String::from_str(alloc, "no map"),
-    }
-}
-
-/// Fails where that is refused.
+/// Fails where writing the descriptor 7 of the map of externs is refused.
 fn is_written(alloc: Global, object: &mut Object) -> Result<(), Fail> {
-    let text = outcome(alloc, object)?;
+    let text = relocate_maps(alloc, object, &[(".kconfig", 7)], &Shown(alloc))?;
     same(text.as_str(), "Ok(())")
 }
 
@@ -189,6 +160,7 @@ fn has_slots(alloc: Global, object: &Object, want: &str) -> Result<(), Fail> {
 
 /// Fails where the load doesn't refer to the map.
 pub fn refers(alloc: Global, object: &mut Object) -> Result<(), Fail> {
+    add_load(alloc, object)?;
     let given: [(&str, &[u8]); 2] = [("CONFIG_SHORT", &[5, 6]), ("CONFIG_HZ", &[1, 2, 3, 4])];
     defines(alloc, object, &given, "Ok(())")?;
     same_bytes(data(object), &[1, 2, 3, 4, 5, 6])?;
@@ -198,7 +170,8 @@ pub fn refers(alloc: Global, object: &mut Object) -> Result<(), Fail> {
 
 #[test]
 fn loads_refer_to_the_map(rt: HostRuntime) -> Result<(), Fail> {
-    ask(rt.alloc(), referring(rt.alloc()), Question::Refers)
+    let made = kconfig_object(rt.alloc(), &EXTERNS);
+    ask(rt.alloc(), made, Question::Refers)
 }
 
 /// Fails where a value that misses, or one of another size, isn't refused.
@@ -212,6 +185,7 @@ fn refuses(alloc: Global, object: &mut Object) -> Result<(), Fail> {
 
 /// Fails where it isn't refused, or where that changes the object.
 pub fn is_refused(alloc: Global, object: &mut Object) -> Result<(), Fail> {
+    add_load(alloc, object)?;
     refuses(alloc, object)?;
     has_maps(object, 0)?;
     let symbols = "Some(\"CONFIG_HZ\") None 0 false\nSome(\"CONFIG_SHORT\") None 0 false\n";
@@ -220,5 +194,6 @@ pub fn is_refused(alloc: Global, object: &mut Object) -> Result<(), Fail> {
 
 #[test]
 fn refuses_missing_and_wrong_values(rt: HostRuntime) -> Result<(), Fail> {
-    ask(rt.alloc(), referring(rt.alloc()), Question::Refused)
+    let made = kconfig_object(rt.alloc(), &EXTERNS);
+    ask(rt.alloc(), made, Question::Refused)
 }

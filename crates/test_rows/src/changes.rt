@@ -6,7 +6,7 @@ use std::alloc::{AllocError, Global};
 use test_cases::{Action, Files, changed, front, no_action, tally_each};
 
 /// Whether the bytes are an object, or the error.
-fn outcome(alloc: Global, files: &Files, bytes: &[u8]) -> Result<String, AllocError> {
+fn parsed(alloc: Global, files: &Files, bytes: &[u8]) -> Result<String, AllocError> {
     let action = Action {
         is_broad: false,
         name: "is_object",
@@ -19,8 +19,22 @@ fn outcome(alloc: Global, files: &Files, bytes: &[u8]) -> Result<String, AllocEr
 pub fn prefixes(alloc: Global, files: &Files, action: &Action<'_>) -> Result<String, AllocError> {
     let bytes = files.get("object");
     tally_each(alloc, action.range(), |length| {
-        outcome(alloc, files, front(bytes, length))
+        parsed(alloc, files, front(bytes, length))
     })
+}
+
+/// What the bytes give, prepared or parsed.
+fn outcome(
+    alloc: Global,
+    files: &Files,
+    bytes: &[u8],
+    is_prepared: bool,
+) -> Result<String, AllocError> {
+    if is_prepared {
+        linked_in_one_call(alloc, bytes)
+    } else {
+        parsed(alloc, files, bytes)
+    }
 }
 
 /// What the bytes give with another one at a place.
@@ -29,42 +43,20 @@ fn changed_outcome(
     files: &Files,
     place: usize,
     value: u8,
+    is_prepared: bool,
 ) -> Result<String, AllocError> {
     let bytes = changed(alloc, files.get("object"), place, value)?;
-    outcome(alloc, files, &bytes)
+    outcome(alloc, files, &bytes, is_prepared)
 }
 
-/// What the bytes give with one value at each place from one number up to another.
+/// What the bytes give with one value at each place from one number up to another: prepared, with the programs linked, as
+/// the action `prepared_bytes`, or parsed.
 pub fn bytes(alloc: Global, files: &Files, action: &Action<'_>) -> Result<String, AllocError> {
     let Ok(value) = action.word(2).parse::<u8>() else {
         return no_action(alloc);
     };
+    let is_prepared = action.name == "prepared_bytes";
     tally_each(alloc, action.range(), |place| {
-        changed_outcome(alloc, files, place, value)
-    })
-}
-
-/// What preparing the bytes gives with another one at a place.
-fn changed_preparation(
-    alloc: Global,
-    files: &Files,
-    place: usize,
-    value: u8,
-) -> Result<String, AllocError> {
-    let bytes = changed(alloc, files.get("object"), place, value)?;
-    linked_in_one_call(alloc, &bytes)
-}
-
-/// The same of preparing them, with the programs linked.
-pub fn prepared_bytes(
-    alloc: Global,
-    files: &Files,
-    action: &Action<'_>,
-) -> Result<String, AllocError> {
-    let Ok(value) = action.word(2).parse::<u8>() else {
-        return no_action(alloc);
-    };
-    tally_each(alloc, action.range(), |place| {
-        changed_preparation(alloc, files, place, value)
+        changed_outcome(alloc, files, place, value, is_prepared)
     })
 }

@@ -1,19 +1,15 @@
 //! What is known of externs, written into slots.
 
+use crate::answers::Shown;
 use ebpf_object::Object;
 use std::alloc::{AllocError, Global};
 use test_bare_calls::relocate_externs;
-use test_cases::{Action, no_action, shown};
+use test_cases::{Action, no_action};
 use test_tables::{set_externs, with_slots};
 
-/// What writing the externs of an object answers.
-fn write_externs(alloc: Global, object: &mut Object) -> Result<String, AllocError> {
-    shown(alloc, relocate_externs(object))
-}
-
-/// The same, and the slots then.
+/// What writing the externs of an object answers, and the slots then.
 pub fn written(alloc: Global, object: &mut Object) -> Result<String, AllocError> {
-    let answer = write_externs(alloc, object)?;
+    let answer = relocate_externs(object, &Shown(alloc))?;
     with_slots(alloc, answer, &object.functions)
 }
 

@@ -1,6 +1,7 @@
 //! Rows over all crates: reads cases of files, and prints what each of their actions gives.
 #![tactic(auto)]
 
+mod answers;
 mod changes;
 mod externs_written;
 mod fds_written;

@@ -12,8 +12,8 @@ use ebpf_object::Object;
 use ebpf_object::obj::Reading;
 use std::alloc::{AllocError, Global};
 use std::fmt::Debug;
-use test_bare_calls::parse_as;
-use test_cases::{Action, Files, no_action, shown};
+use test_bare_calls::{Asker, on_parsed};
+use test_cases::{Action, Files, no_action};
 use test_tables::put_types;
 
 /// The tables that the words name, one after the other.
@@ -34,25 +34,37 @@ fn types(alloc: Global, object: &Object, action: &Action<'_>) -> Result<String, 
     Ok(text)
 }
 
-/// What an action gives of an object, which it may change.
-fn of_object(
+/// An action on the object of a file.
+#[derive(Clone, Copy)]
+struct OnObject<'a> {
     alloc: Global,
-    files: &Files,
-    object: &mut Object,
-    action: &Action<'_>,
-) -> Result<String, AllocError> {
-    match action.name {
-        "is_object" => String::from_str(alloc, "parsed"),
-        "parsed" => put_tables(alloc, object, action),
-        "types" => types(alloc, object, action),
-        "linked" => linked(alloc, object, action),
-        "types_relocated" => types_relocated(alloc, files, object, action),
-        "fds_written" => fds_written(alloc, object, action),
-        "externs_written" => externs_written(alloc, object, action),
-        "resolved" | "resolved_text" => resolved(alloc, files, object, action),
-        "patched" => patched(alloc, files, object, action),
-        "sanitized" => sanitized(alloc, object, action),
-        _ => no_action(alloc),
+    files: &'a Files,
+    action: &'a Action<'a>,
+}
+
+impl<'a> Asker<Object> for OnObject<'a> {
+    type Answer = Result<String, AllocError>;
+
+    /// What the action gives of an object, which it may change.
+    fn asks(self, object: &mut Object) -> Result<String, AllocError> {
+        let (alloc, files, action) = (self.alloc, self.files, self.action);
+        match action.name {
+            "is_object" => String::from_str(alloc, "parsed"),
+            "parsed" => put_tables(alloc, object, action),
+            "types" => types(alloc, object, action),
+            "linked" => linked(alloc, object, action),
+            "types_relocated" => types_relocated(alloc, files, object, action),
+            "fds_written" => fds_written(alloc, object, action),
+            "externs_written" => externs_written(alloc, object, action),
+            "resolved" | "resolved_text" => resolved(alloc, files, object, action),
+            "patched" => patched(alloc, files, object, action),
+            "sanitized" => sanitized(alloc, object, action),
+            _ => no_action(alloc),
+        }
+    }
+
+    fn hears<E: Debug>(self, error: &E) -> Result<String, AllocError> {
+        format!(in self.alloc; "{error:?}")
     }
 }
 
@@ -64,42 +76,6 @@ fn reading_of(action: &Action<'_>) -> Reading {
     Reading::Stated
 }
 
-/// What actions are done with.
-trait Subject: Drop {
-    /// What an action gives, which may change the subject.
-    fn outcome(
-        &mut self,
-        alloc: Global,
-        files: &Files,
-        action: &Action<'_>,
-    ) -> Result<String, AllocError>;
-}
-
-impl Subject for Object {
-    fn outcome(
-        &mut self,
-        alloc: Global,
-        files: &Files,
-        action: &Action<'_>,
-    ) -> Result<String, AllocError> {
-        of_object(alloc, files, self, action)
-    }
-}
-
-/// What an action gives of what was parsed, or the error. It knows neither type, so that its proof doesn't let go of each
-/// part of an object.
-fn of_parsed<T: Subject, E: Debug + Drop>(
-    alloc: Global,
-    files: &Files,
-    parsed: Result<T, E>,
-    action: &Action<'_>,
-) -> Result<String, AllocError> {
-    match parsed {
-        Ok(mut subject) => subject.outcome(alloc, files, action),
-        Err(error) => shown(alloc, error),
-    }
-}
-
 /// What an action gives of the object that the bytes are, or the error.
 pub fn on_object(
     alloc: Global,
@@ -107,6 +83,10 @@ pub fn on_object(
     bytes: &[u8],
     action: &Action<'_>,
 ) -> Result<String, AllocError> {
-    let parsed = parse_as(alloc, bytes, reading_of(action));
-    of_parsed(alloc, files, parsed, action)
+    let asker = OnObject {
+        alloc,
+        files,
+        action,
+    };
+    on_parsed(alloc, bytes, reading_of(action), asker)
 }

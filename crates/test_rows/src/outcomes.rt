@@ -1,6 +1,6 @@
 //! The actions, by name.
 
-use crate::changes::{bytes, prefixes, prepared_bytes};
+use crate::changes::{bytes, prefixes};
 use crate::objects::on_object;
 use crate::prepared::prepared;
 use crate::printed::printed;
@@ -30,8 +30,7 @@ impl Outcomes for ObjectOutcomes {
             "map_info" => map_info(alloc, action),
             "map_copy" => map_copy(alloc),
             "prefixes" => prefixes(alloc, files, action),
-            "bytes" => bytes(alloc, files, action),
-            "prepared_bytes" => prepared_bytes(alloc, files, action),
+            "bytes" | "prepared_bytes" => bytes(alloc, files, action),
             "default_attach_type" => default_attach_type(alloc),
             "prepared" => prepared(alloc, files, action),
             "link" | "inspect" => printed(alloc, files, action),

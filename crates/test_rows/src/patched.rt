@@ -1,10 +1,11 @@
 //! Values of variables that are written into the data of maps.
 
+use crate::answers::Shown;
 use ebpf_object::Object;
 use std::alloc::{AllocError, Global};
 use std::collections::HashMap;
 use test_bare_calls::patch_map_data;
-use test_cases::{Action, Files, no_action, shown};
+use test_cases::{Action, Files, no_action};
 
 /// A variable's value, and whether the object has to have it, by its name.
 type Values<'a> = HashMap<&'a str, (&'a [u8], bool)>;
@@ -26,11 +27,6 @@ fn values<'a>(
     Ok(Some(values))
 }
 
-/// What writing values answers.
-fn patch(alloc: Global, object: &mut Object, values: Values<'_>) -> Result<String, AllocError> {
-    shown(alloc, patch_map_data(object, values))
-}
-
 /// The data of `.data`.
 fn put_data(text: &mut String, object: &Object) -> Result<(), AllocError> {
     if let Some(map) = object.maps.get(".data") {
@@ -46,7 +42,7 @@ fn patched_with(
     object: &mut Object,
     values: Values<'_>,
 ) -> Result<String, AllocError> {
-    let mut text = patch(alloc, object, values)?;
+    let mut text = patch_map_data(object, values, &Shown(alloc))?;
     put_data(&mut text, object)?;
     Ok(text)
 }

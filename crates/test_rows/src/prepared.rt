@@ -1,12 +1,13 @@
 //! Files that are prepared in one call.
 
-use ebpf_btf::{Btf, BtfError, Endianness};
+use ebpf_btf::{Btf, Endianness};
 use ebpf_object::Object;
-use ebpf_object::prepare::{PrepareError, Steps};
+use ebpf_object::prepare::Steps;
 use std::alloc::{AllocError, Global};
 use std::fmt::Debug;
-use test_bare_calls::prepare;
-use test_cases::{Action, Files, shown, shown_line};
+use test_bare_calls::{Asker, on_prepared, on_types, on_void_types};
+use test_cases::{Action, Files};
+use test_symbols::found;
 use test_tables::put_slots;
 
 /// The name of a map and its descriptor, as `NAME=DESCRIPTOR`.
@@ -16,7 +17,10 @@ fn descriptor(word: &str) -> Option<(&str, i32)> {
 }
 
 /// The descriptors that words give, in their order.
-fn descriptors<'a>(alloc: Global, words: &[&'a str]) -> Result<Vec<(&'a str, i32)>, AllocError> {
+pub fn descriptors<'a>(
+    alloc: Global,
+    words: &[&'a str],
+) -> Result<Vec<(&'a str, i32)>, AllocError> {
     let mut given = Vec::new(alloc);
     for word in words {
         let Some(named) = descriptor(word) else {
@@ -59,49 +63,73 @@ fn programs(alloc: Global, object: &Object) -> Result<String, AllocError> {
     Ok(text)
 }
 
-/// What has programs.
-trait HasPrograms: Drop {
+/// What is asked of an object that was prepared.
+#[derive(Clone, Copy)]
+pub enum Wanted {
     /// The slots of the programs, and how many maps there are.
-    fn programs(&self, alloc: Global) -> Result<String, AllocError>;
+    Programs,
+    /// The externs.
+    Externs,
+    /// Nothing.
+    Nothing,
 }
 
-impl HasPrograms for Object {
-    fn programs(&self, alloc: Global) -> Result<String, AllocError> {
-        programs(alloc, self)
+/// What is asked of an object that was prepared, or why nothing was.
+#[derive(Clone, Copy)]
+pub struct Outcome {
+    pub alloc: Global,
+    pub wanted: Wanted,
+}
+
+impl Asker<Object> for Outcome {
+    type Answer = Result<String, AllocError>;
+
+    fn asks(self, object: &mut Object) -> Result<String, AllocError> {
+        match self.wanted {
+            Wanted::Programs => programs(self.alloc, object),
+            Wanted::Externs => found(self.alloc, &object.externs),
+            Wanted::Nothing => String::from_str(self.alloc, "prepared"),
+        }
+    }
+
+    fn hears<E: Debug>(self, error: &E) -> Result<String, AllocError> {
+        format!(in self.alloc; "{error:?}")
     }
 }
 
-/// The programs of what was prepared, or why nothing was. It knows neither type, so that its proof doesn't let go of each
-/// part of an object.
-fn programs_of<T: HasPrograms, E: Debug + Drop>(
+/// A file that is to be prepared with types, as words choose.
+#[derive(Clone, Copy)]
+struct Preparing<'a> {
     alloc: Global,
-    prepared: Result<T, E>,
-) -> Result<String, AllocError> {
-    match prepared {
-        Ok(object) => object.programs(alloc),
-        Err(error) => shown_line(alloc, error),
-    }
+    files: &'a Files,
+    words: &'a [&'a str],
 }
 
 /// What preparing a file by these steps gives.
-fn prepared_by(alloc: Global, files: &Files, steps: &Steps<'_>) -> Result<String, AllocError> {
-    let (object, kallsyms) = (files.get("object"), files.get("kallsyms"));
-    programs_of(alloc, prepare(alloc, object, steps, kallsyms))
+fn prepared_by(given: Preparing<'_>, steps: &Steps<'_>) -> Result<String, AllocError> {
+    let outcome = Outcome {
+        alloc: given.alloc,
+        wanted: Wanted::Programs,
+    };
+    let (object, kallsyms) = (given.files.get("object"), given.files.get("kallsyms"));
+    on_prepared(given.alloc, object, steps, kallsyms, outcome)
 }
 
-/// What preparing a file with these types gives.
-fn prepared_with(
-    alloc: Global,
-    files: &Files,
-    types: &Btf,
-    words: &[&str],
-) -> Result<String, AllocError> {
-    let given = descriptors(alloc, words)?;
-    prepared_by(alloc, files, &steps(words, types, &given))
+impl<'a> Asker<Btf> for Preparing<'a> {
+    type Answer = Result<String, AllocError>;
+
+    fn asks(self, types: &mut Btf) -> Result<String, AllocError> {
+        let given = descriptors(self.alloc, self.words)?;
+        prepared_by(self, &steps(self.words, types, &given))
+    }
+
+    fn hears<E: Debug>(self, error: &E) -> Result<String, AllocError> {
+        format!(in self.alloc; "no types: {error:?}")
+    }
 }
 
-/// Why the programs of a file can't be linked with the functions that they reach, where they can't.
-fn why_unprepared(alloc: Global, bytes: &[u8]) -> Option<PrepareError> {
+/// Whether the programs of a file can be linked with the functions that they reach, or the error.
+pub fn linked_in_one_call(alloc: Global, bytes: &[u8]) -> Result<String, AllocError> {
     let steps = Steps {
         target_btf: None,
         map_fds: None,
@@ -109,31 +137,21 @@ fn why_unprepared(alloc: Global, bytes: &[u8]) -> Option<PrepareError> {
         calls: true,
     };
     let none: &[u8] = &[];
-    prepare(alloc, bytes, &steps, none).err()
-}
-
-/// Whether the programs of a file can be linked with the functions that they reach, or the error.
-pub fn linked_in_one_call(alloc: Global, bytes: &[u8]) -> Result<String, AllocError> {
-    match why_unprepared(alloc, bytes) {
-        Some(error) => shown(alloc, error),
-        None => String::from_str(alloc, "prepared"),
-    }
-}
-
-/// Why bytes are no types.
-fn no_types(alloc: Global, error: &BtfError) -> Result<String, AllocError> {
-    format!(in alloc; "no types: {error:?}")
+    let wanted = Wanted::Nothing;
+    on_prepared(alloc, bytes, &steps, none, Outcome { alloc, wanted })
 }
 
 /// What preparing a file gives as the words choose; without a file of types there are none but void.
 pub fn prepared(alloc: Global, files: &Files, action: &Action<'_>) -> Result<String, AllocError> {
-    let types = if files.get("types").is_empty() {
-        Btf::new(alloc)
-    } else {
-        Btf::parse(alloc, files.get("types"), Endianness::Little)
+    let (bytes, words) = (files.get("types"), action.words.as_slice());
+    let given = Preparing {
+        alloc,
+        files,
+        words,
     };
-    match types {
-        Ok(types) => prepared_with(alloc, files, &types, action.words.as_slice()),
-        Err(error) => no_types(alloc, &error),
+    if bytes.is_empty() {
+        on_void_types(alloc, given)
+    } else {
+        on_types(alloc, bytes, Endianness::Little, given)
     }
 }

@@ -1,48 +1,62 @@
 //! Externs that are found in a kernel: its types are the file `kernel`, if there is one, and its addresses the file
 //! `kallsyms`.
 
+use crate::answers::Shown;
 use crate::externs_written::written;
 use ebpf_btf::Btf;
 use ebpf_object::Object;
 use std::alloc::{AllocError, Global};
-use test_bare_calls::{resolve_externs, resolve_text};
-use test_cases::{Action, Files, no_action, shown_line};
+use std::fmt::Debug;
+use test_bare_calls::{Asker, on_types, resolve_externs, resolve_text};
+use test_cases::{Action, Files, no_action};
 use test_tables::{put_lines, set_externs};
 
-/// The kernel's types, where there are some.
-fn kernel_types(alloc: Global, object: &Object, bytes: &[u8]) -> Option<Btf> {
-    if bytes.is_empty() {
-        return None;
-    }
-    Btf::parse(alloc, bytes, object.endianness).ok()
-}
-
-/// Resolves the externs with the addresses as a reader's or as a text: what that answers, in a line.
-fn resolve(
+/// An object whose externs are looked up, with the addresses as a reader's or as a text.
+#[derive(Drop)]
+struct Resolving<'a> {
     alloc: Global,
-    object: &mut Object,
-    kernel: Option<&Btf>,
-    kallsyms: &[u8],
+    object: &'a mut Object,
+    kallsyms: &'a [u8],
     as_text: bool,
-) -> Result<String, AllocError> {
-    let answer = if as_text {
-        resolve_text(object, kernel, kallsyms)
-    } else {
-        resolve_externs(object, kernel, kallsyms)
-    };
-    shown_line(alloc, answer)
 }
 
-/// Looks the externs up in the kernel of the files: what that answers, in a line.
+/// Resolves the externs with a kernel's types, where there are some: what that answers.
+fn resolve(given: Resolving<'_>, kernel: Option<&Btf>) -> Result<String, AllocError> {
+    let shown = Shown(given.alloc);
+    if given.as_text {
+        resolve_text(given.object, kernel, given.kallsyms, &shown)
+    } else {
+        resolve_externs(given.object, kernel, given.kallsyms, &shown)
+    }
+}
+
+impl<'a> Asker<Btf> for Resolving<'a> {
+    type Answer = Result<String, AllocError>;
+
+    fn asks(self, types: &mut Btf) -> Result<String, AllocError> {
+        resolve(self, Some(types))
+    }
+
+    fn hears<E: Debug>(self, _error: &E) -> Result<String, AllocError> {
+        resolve(self, None)
+    }
+}
+
+/// Looks the externs up in the kernel of the files: what that answers.
 fn looked_up(
     alloc: Global,
     files: &Files,
     object: &mut Object,
     as_text: bool,
 ) -> Result<String, AllocError> {
-    let kernel = kernel_types(alloc, object, files.get("kernel"));
-    let kallsyms = files.get("kallsyms");
-    resolve(alloc, object, kernel.as_ref(), kallsyms, as_text)
+    let order = object.endianness;
+    let resolving = Resolving {
+        alloc,
+        object,
+        kallsyms: files.get("kallsyms"),
+        as_text,
+    };
+    on_types(alloc, files.get("kernel"), order, resolving)
 }
 
 /// Adds the externs by name, or what writing them gives.
@@ -56,9 +70,9 @@ fn put_found(
         "externs" => put_lines(alloc, text, &object.externs),
         "slots" => {
             let slots = written(alloc, object)?;
-            write!(text, "{slots}")
+            text.push_str(slots.as_str())
         }
-        _ => write!(text, "no such outcome {what}"),
+        _ => text.push_str("no such outcome"),
     }
 }
 
@@ -75,6 +89,7 @@ pub fn resolved(
         return no_action(alloc);
     }
     let mut text = looked_up(alloc, files, object, action.name == "resolved_text")?;
+    text.push('\n')?;
     put_found(alloc, &mut text, object, action.word(0))?;
     Ok(text)
 }

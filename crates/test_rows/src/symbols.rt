@@ -1,13 +1,12 @@
 //! Actions on a list of a kernel's addresses, the file `kallsyms`, by name: their words say the externs, or none where the
 //! file `object` is prepared.
 
-use ebpf_object::Object;
+use crate::prepared::{Outcome, Wanted};
 use ebpf_object::prepare::{Steps, SymbolText};
 use std::alloc::{AllocError, Global};
-use std::fmt::Debug;
-use test_bare_calls::prepare;
-use test_cases::{Action, FailingReader, Files, shown};
-use test_symbols::{Question, found, of_question, on_lines};
+use test_bare_calls::on_prepared;
+use test_cases::{Action, FailingReader, Files};
+use test_symbols::{Question, of_question, on_lines};
 
 /// The passes that find externs, write them, and link programs.
 const STEPS: Steps<'static> = Steps {
@@ -17,43 +16,27 @@ const STEPS: Steps<'static> = Steps {
     calls: true,
 };
 
+/// The externs of an object.
+fn externs(alloc: Global) -> Outcome {
+    Outcome {
+        alloc,
+        wanted: Wanted::Externs,
+    }
+}
+
 /// A file to prepare, whose externs are looked up in the lines that a reader or a text gives.
 #[derive(Clone, Copy)]
 struct File<'a> {
     bytes: &'a [u8],
 }
 
-/// What has externs.
-trait HasExterns: Drop {
-    /// The answer that its externs are found.
-    fn externs(&self, alloc: Global) -> Result<String, AllocError>;
-}
-
-impl HasExterns for Object {
-    fn externs(&self, alloc: Global) -> Result<String, AllocError> {
-        found(alloc, &self.externs)
-    }
-}
-
-/// The externs of what was prepared, or why nothing was. It knows neither type, so that its proof doesn't let go of each
-/// part of an object.
-fn externs_of<T: HasExterns, E: Debug + Drop>(
-    alloc: Global,
-    prepared: Result<T, E>,
-) -> Result<String, AllocError> {
-    match prepared {
-        Ok(object) => object.externs(alloc),
-        Err(error) => shown(alloc, error),
-    }
-}
-
 impl<'a> Question for File<'a> {
     fn answer(&self, alloc: Global, reader: &mut FailingReader<'_>) -> Result<String, AllocError> {
-        externs_of(alloc, prepare(alloc, self.bytes, &STEPS, reader))
+        on_prepared(alloc, self.bytes, &STEPS, reader, externs(alloc))
     }
 
     fn answer_text(&self, alloc: Global, text: &[u8]) -> Result<String, AllocError> {
-        externs_of(alloc, prepare(alloc, self.bytes, &STEPS, SymbolText(text)))
+        on_prepared(alloc, self.bytes, &STEPS, SymbolText(text), externs(alloc))
     }
 }
 

@@ -1,0 +1,28 @@
+//! Who is lent what was made.
+
+use std::fmt::Debug;
+
+/// Who asks what was made, or is told why nothing was.
+pub trait Asker<T> {
+    /// What comes of it.
+    type Answer;
+
+    /// Asks what was made.
+    fn asks(self, made: &mut T) -> Self::Answer
+    where
+        Self: Sized;
+
+    /// Is told why nothing was made.
+    fn hears<E: Debug>(self, error: &E) -> Self::Answer
+    where
+        Self: Sized;
+}
+
+/// Lends what was made to who asks it, or tells why nothing was. It knows neither type, so that its proof doesn't let go of
+/// each part of an object.
+pub fn ask<T: Drop, E: Debug + Drop, A: Asker<T>>(asker: A, made: Result<T, E>) -> A::Answer {
+    match made {
+        Ok(mut made) => asker.asks(&mut made),
+        Err(error) => asker.hears(&error),
+    }
+}
