@@ -141,16 +141,30 @@ fn go_in_place(
     show_in_place(rt, object, answer)
 }
 
-/// Prepares the object in ways that are refused, each of which leaves it as it was: without descriptors; with externs looked
-/// for by symbols alone, where one has a type; and with externs left alone, where one is called.
-fn go_refused(rt: &HostRuntime, object: &mut Object, symbols: &[u8]) -> io::Result<()> {
-    let without = Steps::without_kernel(&[]);
-    let by_symbols = Steps::none().with_externs_by_symbols();
+/// Prepares the object without descriptors, which is refused.
+fn go_without_fds(rt: &HostRuntime, object: &mut Object) -> io::Result<()> {
+    let steps = Steps::without_kernel(&[]);
+    go_in_place(rt, object, "without descriptors", &steps, &[])
+}
+
+/// Looks for externs by symbols alone, which is refused where one has a type.
+fn go_by_symbols(rt: &HostRuntime, object: &mut Object, symbols: &[u8]) -> io::Result<()> {
+    let steps = Steps::none().with_externs_by_symbols();
+    go_in_place(rt, object, "externs by symbols alone", &steps, symbols)
+}
+
+/// Links programs whose externs are left alone, which is refused where one is called.
+fn go_unresolved(rt: &HostRuntime, object: &mut Object) -> io::Result<()> {
     let descriptors = [("counts", 3), (".bss", 4), (".rodata", 5)];
-    let unresolved = Steps::without_kernel(&descriptors);
-    go_in_place(rt, object, "without descriptors", &without, &[])?;
-    go_in_place(rt, object, "externs by symbols alone", &by_symbols, symbols)?;
-    go_in_place(rt, object, "externs left alone", &unresolved, &[])
+    let steps = Steps::without_kernel(&descriptors);
+    go_in_place(rt, object, "externs left alone", &steps, &[])
+}
+
+/// Prepares the object in ways that are refused, each of which leaves it as it was.
+fn go_refused(rt: &HostRuntime, object: &mut Object, symbols: &[u8]) -> io::Result<()> {
+    go_without_fds(rt, object)?;
+    go_by_symbols(rt, object, symbols)?;
+    go_unresolved(rt, object)
 }
 
 /// Prepares the object for a kernel pass by pass.
