@@ -3,7 +3,7 @@
 use crate::kept::on_kept;
 use crate::loader::on_loader;
 use crate::passes::pass;
-use crate::subject::{Calls, Making, Subject};
+use crate::subject::{Calls, Making, Shown, Subject};
 use ebpf_object::Object;
 use ebpf_parts::Reading;
 use std::io;
@@ -22,7 +22,7 @@ fn clone(object: &Object, call: &Call<'_>) -> io::Result<()> {
     on_copy(object, Making(*call))
 }
 
-impl Subject for Object {
+impl Shown for Object {
     fn show(&self, rt: &HostRuntime, text: &str) -> io::Result<()> {
         let file = (
             &self.endianness,
@@ -36,7 +36,9 @@ impl Subject for Object {
         let changed = (&self.externs, &self.maps, &self.functions);
         say(rt, text, (file, types, changed))
     }
+}
 
+impl Subject for Object {
     fn make(&mut self, call: &Call<'_>) -> io::Result<()> {
         match call.name {
             "clone" => clone(self, call),

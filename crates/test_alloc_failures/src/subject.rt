@@ -5,11 +5,14 @@ use std::io;
 use test_bare_calls::{Asker, Listener};
 use test_marked_calls::{Call, say};
 
-/// What calls are made on.
-pub trait Subject {
+/// What can be printed.
+pub trait Shown {
     /// Prints all that it holds, behind a text.
     fn show(&self, rt: &HostRuntime, text: &str) -> io::Result<()>;
+}
 
+/// What calls are made on.
+pub trait Subject: Shown {
     /// Makes a call.
     fn make(&mut self, call: &Call<'_>) -> io::Result<()>;
 }
@@ -49,11 +52,11 @@ impl<'a, T: Subject> Asker<T> for Calls<'a> {
     }
 }
 
-/// A call that makes a subject, between its marks.
+/// A call that makes what can be printed, between its marks.
 #[derive(Clone, Copy)]
 pub struct Making<'a>(pub Call<'a>);
 
-impl<'a, T: Subject> Asker<T> for Making<'a> {
+impl<'a, T: Shown> Asker<T> for Making<'a> {
     type Answer = io::Result<()>;
 
     fn asks(self, made: &mut T) -> io::Result<()> {
