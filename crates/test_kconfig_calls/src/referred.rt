@@ -119,9 +119,9 @@ fn data(object: &Object) -> &[u8] {
 
 /// Answers as texts.
 #[derive(Clone, Copy)]
-struct Shown(Global);
+struct AsText(Global);
 
-impl Listener for Shown {
+impl Listener for AsText {
     type Told = Result<String, AllocError>;
 
     fn hears<T: Debug, E: Debug>(&self, answer: &Result<T, E>) -> Result<String, AllocError> {
@@ -131,7 +131,7 @@ impl Listener for Shown {
 
 /// Fails where writing the descriptor 7 of the map of externs is refused.
 fn is_written(alloc: Global, object: &mut Object) -> Result<(), Fail> {
-    let text = relocate_maps(alloc, object, &[(".kconfig", 7)], &Shown(alloc))?;
+    let text = relocate_maps(alloc, object, &[(".kconfig", 7)], &AsText(alloc))?;
     same(text.as_str(), "Ok(())")
 }
 
