@@ -22,11 +22,13 @@ struct Resolving<'a> {
 
 /// Resolves the externs with a kernel's types, where there are some: what that answers.
 fn resolve(given: Resolving<'_>, kernel: Option<&Btf>) -> Result<String, AllocError> {
+    let as_text = given.as_text;
+    let kallsyms = given.kallsyms;
     let shown = Shown(given.alloc);
-    if given.as_text {
-        resolve_text(given.object, kernel, given.kallsyms, &shown)
+    if as_text {
+        resolve_text(given.object, kernel, kallsyms, &shown)
     } else {
-        resolve_externs(given.object, kernel, given.kallsyms, &shown)
+        resolve_externs(given.object, kernel, kallsyms, &shown)
     }
 }
 
