@@ -8,8 +8,9 @@ and 'new: TEXT'; each TEXT of 'old:' stands in that file exactly once.
 
 Edits of different functions are tried together, in one check of these functions and what they call: a function is proved
 from its own body and the contracts of what it calls, so that it is refused for its own edit alone, and the check names each
-function that isn't proved and why. What isn't told apart so (an edit outside functions, one that shows in another function)
-is tried by itself, in a check of the whole crate. An edit stands in a copy of the crate, over the libraries below it as they
+function that isn't proved and why. What isn't told apart so (an edit of a function that calls another edited one, one
+outside functions, one that shows in another function) is tried by itself: in a check of its functions, and where these are
+proved, of the whole crate. An edit stands in a copy of the crate, over the libraries below it as they
 are built; where one isn't, `rt check` builds it.
 """
 import argparse
@@ -198,11 +199,13 @@ def try_together(copy, edits):
 
 
 def try_alone(copy, edit):
-    """Whether the prover refuses the crate with this edit alone, and why not else."""
+    """Whether the prover refuses the crate with this edit alone, and why not else: first its functions, then all."""
     try:
-        texts, _ = apply(copy.crate, pairs_of(edit), {})
+        texts, bodies = apply(copy.crate, pairs_of(edit), {})
     except ValueError as error:
         return f"BAD EDIT: {error}"
+    if bodies and is_refused(copy.name, bodies, refused(copy.check(texts, bodies))):
+        return None
     said = copy.check(texts)
     if re.search(r"(?m)^logic=not-proved", said):
         return None
