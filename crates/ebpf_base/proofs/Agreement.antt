@@ -11,20 +11,11 @@ use Rattle.std.specs.HashMap.{HashMap, hash_map_eq}
 use Rattle.std.specs.HashMap.Eq.{hash_map_eq_from_get, get_from_hash_map_eq}
 use Rattle.std.specs.FinMap.{FinMap, IsAntisymmetric, from_entries, get, entries, find, get-entries, contains_key-keys, nat_cmp-IsAntisymmetric}
 use Rattle.std.proofs.lemmas.Map.Keys.{IsDistinct-from_sorted}
+use Rattle.std.proofs.lemmas.Bool.{and_from, and_parts}
 use Rattle.ebpf_base.specs.Copies.{maps_eq}
 use Rattle.ebpf_base.proofs.Maps.{get-number}
 use Rattle.ebpf_base.proofs.Orderings.{is_equal}
 use Rattle.ebpf_base.proofs.Sorted.{entries_rise, same_keys}
-
-both_true : (a b : Bool) → (a && b) ≡ true → (a ≡ true) × (b ≡ true)
-both_true true b h = (refl, h)
-both_true false b h = absurd_path h
-  where
-    absurd_path : {P : Type 0} → false ≡ true → P
-    absurd_path g = cc
-
-and_true : (a b : Bool) → a ≡ true → b ≡ true → (a && b) ≡ true
-and_true a b g h = rw (g, h) refl
 
 same_variant : {X : Type 0} (eq : X → X → Bool) (a b : Option X) → option_eq eq a b ≡ true → is_some a ≡ is_some b
 same_variant eq None None h = refl
@@ -42,8 +33,8 @@ module _ {K X : Type 0} {R : K → K → Ordering} (o : IsTotalOrder R) (exact :
   agree_from_equal [] (f ∷ fs) h q = cc
   agree_from_equal (e ∷ es) [] h q = cc
   agree_from_equal (e ∷ es) (f ∷ fs) h q =
-      let split = both_true (same_entry e f) (pointwise same_entry es fs) h in
-      let here = both_true (eq_by_cmp R e.0 f.0) (eq e.1 f.1) split.0 in
+      let split = and_parts (same_entry e f) (pointwise same_entry es fs) h in
+      let here = and_parts (eq_by_cmp R e.0 f.0) (eq e.1 f.1) split.0 in
       let laws = eq_by_cmp_equiv o in
       let tied : eq_by_cmp R q e.0 ≡ eq_by_cmp R q f.0 = laws.symm q e.0 ∙ laws.congr e.0 f.0 q here.0 ∙ laws.symm f.0 q in
       let rest = agree_from_equal es fs split.1 q in
@@ -66,7 +57,7 @@ module _ {K X : Type 0} {R : K → K → Ordering} (o : IsTotalOrder R) (exact :
       let left : eq_by_cmp R e.0 e.0 ≡ true = (eq_by_cmp_equiv o).refl e.0 in
       let right : eq_by_cmp R e.0 f.0 ≡ true = ap (eq_by_cmp R e.0) (sym head) ∙ left in
       let value : eq e.1 f.1 ≡ true = rw (left, right) at (agree e.0) in
-      and_true _ _ (and_true _ _ right value) (equal_from_agree es fs tail apart.1 (λ q. rest q (eq_by_cmp R q e.0) refl head tail))
+      and_from _ _ (and_from _ _ right value) (equal_from_agree es fs tail apart.1 (λ q. rest q (eq_by_cmp R q e.0) refl head tail))
     where
       rest : (q : K) (b : Bool) → eq_by_cmp R q e.0 ≡ b → e.0 ≡ f.0 → keys_of es ≡ keys_of fs → option_eq eq (find R q es) (find R q fs) ≡ true
       rest q true at head tail =

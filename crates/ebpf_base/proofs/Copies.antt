@@ -1,6 +1,5 @@
 -- Copies of finite maps: copied entries make copied maps, and exact copies are equal.
-use Rattle.std.proofs.Common.{◌≡◌, ℕ, List, [], ◌∷◌, Result, Ok, Err, refl, sym, ap, subst}
-use Rattle.std.specs.Result.{IfOk, MatchResult}
+use Rattle.std.proofs.Common.{◌≡◌, ℕ, List, [], ◌∷◌, refl, sym, ap, subst}
 use Rattle.std.specs.declared.cmp.Ordering.{Ordering}
 use Rattle.std.specs.declared.cmp.Ordering.TheVariants.{Less, Equal, Greater}
 use Rattle.std.specs.Cmp.{IsTotalOrder}
@@ -61,8 +60,3 @@ same_entries D same (e ∷ es) (f ∷ fs) h = λ i. (h.0.0 i, same e.1 f.1 h.0.1
 -- where a copied value is equal, a copied map is
 pub exact_copy : {K X : Type 0} {R : K → K → Ordering} (D : X → X → Type 0) → ((v w : X) → D v w → w ≡ v) → (m n : FinMap R X) → AreCopies D m n → n ≡ m
 exact_copy D same m n h = same_entries_map n m (same_entries D same (entries m) (entries n) h)
-
--- what `clone` ensures of such a map
-pub exact_clone : {K X E : Type 0} {R : K → K → Ordering} (D : X → X → Type 0) → ((v w : X) → D v w → w ≡ v) → (m : FinMap R X) (r : Result (FinMap R X) E) (Q : E → Type 0) → MatchResult r (AreCopies D m) Q → IfOk r (λ n. n ≡ m)
-exact_clone D same m (Ok n) Q h = exact_copy D same m n h
-exact_clone D same m (Err e) Q h = tt

@@ -9,18 +9,10 @@ use Rattle.ebpf_base.specs.Keys.{text_cmp, text_total, key_cmp, key_total}
 use Rattle.ebpf_base.specs.Keyed.{put_all, last_at, LaterStands}
 
 module _ {K X : Type 0} {R : K → K → Ordering} where
-  -- the first entry, then the others
-  pub put_all-cons : (m : FinMap R X) (e : K × X) (es : List (K × X)) → put_all m (e ∷ es) ≡ put_all (insert m e.0 e.1) es
-  put_all-cons m e es = refl
-
   -- the entries of two lists, one after the other
   pub put_all-append : (m : FinMap R X) (es fs : List (K × X)) → put_all m (es ++ fs) ≡ put_all (put_all m es) fs
   put_all-append m [] fs = refl
   put_all-append m (e ∷ es) fs = put_all-append (insert m e.0 e.1) es fs
-
-  -- one more entry at the end
-  pub put_all-push : (m : FinMap R X) (es : List (K × X)) (e : K × X) → put_all m (es ++ e ∷ []) ≡ insert (put_all m es) e.0 e.1
-  put_all-push m es e = put_all-append m es (e ∷ [])
 
   -- the entries of the first item, then those of the others
   pub put_all-flat_map : {A : Type 0} (f : A → List (K × X)) (m : FinMap R X) (x : A) (xs : List A) → put_all m (flat_map f (x ∷ xs)) ≡ put_all (put_all m (f x)) (flat_map f xs)

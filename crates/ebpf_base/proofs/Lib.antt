@@ -13,3 +13,4 @@ pub mod Ranges
 pub mod Sorted
 pub mod TextMaps
 pub mod Walks
+pub mod ZeroBytes

@@ -1,23 +1,12 @@
 -- One list operation after another, in one.
-use Rattle.std.proofs.Common.{◌≡◌, Bool, true, false, ◌&&◌, cond, List, [], ◌∷◌, ◌++◌, map, Some, refl, ap, ◌∙◌}
-use Rattle.std.specs.List.{slice_get, filter, flat_map, find, fold}
+use Rattle.std.proofs.Common.{◌≡◌, Bool, true, false, ◌&&◌, cond, List, [], ◌∷◌, ◌++◌, map, Some, refl, ap, ◌≢◌, ℕ, ◌<◌, zero, suc, length, arith}
+use Rattle.std.specs.List.{slice_get, filter, flat_map, find, slice_set}
 use Rattle.std.specs.Option.{option_map}
-use Rattle.std.proofs.lemmas.Grind.{flat_map-append}
-use Rattle.std.proofs.lemmas.List.{map-append}
-use Rattle.std.proofs.lemmas.List.Elements.{filter-append}
 
 module _ {A B C : Type 0} where
   pub map-map : (g : B → C) (f : A → B) (xs : List A) → map g (map f xs) ≡ map (λ x. g (f x)) xs
   map-map g f [] = refl
   map-map g f (x ∷ xs) = ap (λ ys. g (f x) ∷ ys) (map-map g f xs)
-
-  pub flat_map-flat_map : (g : B → List C) (f : A → List B) (xs : List A) → flat_map g (flat_map f xs) ≡ flat_map (λ x. flat_map g (f x)) xs
-  flat_map-flat_map g f [] = refl
-  flat_map-flat_map g f (x ∷ xs) = flat_map-append g (f x) (flat_map f xs) ∙ ap (λ ys. flat_map g (f x) ++ ys) (flat_map-flat_map g f xs)
-
-  pub map-flat_map : (g : B → C) (f : A → List B) (xs : List A) → map g (flat_map f xs) ≡ flat_map (λ x. map g (f x)) xs
-  map-flat_map g f [] = refl
-  map-flat_map g f (x ∷ xs) = map-append g (f x) (flat_map f xs) ∙ ap (λ ys. map g (f x) ++ ys) (map-flat_map g f xs)
 
 module _ {A B : Type 0} where
   pub filter-map : (p : B → Bool) (f : A → B) (xs : List A) → filter p (map f xs) ≡ map f (filter (λ x. p (f x)) xs)
@@ -28,27 +17,10 @@ module _ {A B : Type 0} where
         | false ↦ filter-map p f xs
       ]
 
-  pub filter-flat_map : (p : B → Bool) (f : A → List B) (xs : List A) → filter p (flat_map f xs) ≡ flat_map (λ x. filter p (f x)) xs
-  filter-flat_map p f [] = refl
-  filter-flat_map p f (x ∷ xs) = filter-append p (f x) (flat_map f xs) ∙ ap (λ ys. filter p (f x) ++ ys) (filter-flat_map p f xs)
-
-  -- what a filter takes away gives nothing
-  pub flat_map-filter : (p : A → Bool) (f : A → List B) (xs : List A) → flat_map f (filter p xs) ≡ flat_map (λ x. cond (p x) (f x) []) xs
-  flat_map-filter p f [] = refl
-  flat_map-filter p f (x ∷ xs) =
-      elim (p x) as (λ b. flat_map f (cond b (x ∷ filter p xs) (filter p xs)) ≡ cond b (f x) [] ++ flat_map (λ x. cond (p x) (f x) []) xs) [
-        | true ↦ ap (λ ys. f x ++ ys) (flat_map-filter p f xs)
-        | false ↦ flat_map-filter p f xs
-      ]
-
   -- the same at each item
   pub flat_map-same : (f g : A → List B) (xs : List A) → ((x : A) → f x ≡ g x) → flat_map f xs ≡ flat_map g xs
   flat_map-same f g [] h = refl
   flat_map-same f g (x ∷ xs) h = λ i. h x i ++ flat_map-same f g xs h i
-
-  pub map-same : (f g : A → B) (xs : List A) → ((x : A) → f x ≡ g x) → map f xs ≡ map g xs
-  map-same f g [] h = refl
-  map-same f g (x ∷ xs) h = λ i. h x i ∷ map-same f g xs h i
 
   pub find-map : (p : B → Bool) (f : A → B) (xs : List A) → find p (map f xs) ≡ option_map f (find (λ x. p (f x)) xs)
   find-map p f [] = refl
@@ -57,10 +29,6 @@ module _ {A B : Type 0} where
         | true ↦ refl
         | false ↦ find-map p f xs
       ]
-
-  pub fold-map : {S : Type 0} (g : S → B → S) (f : A → B) (s : S) (xs : List A) → fold g s (map f xs) ≡ fold (λ t x. g t (f x)) s xs
-  fold-map g f s [] = refl
-  fold-map g f s (x ∷ xs) = fold-map g f (g s (f x)) xs
 
 module _ {A : Type 0} where
   pub filter-filter : (p q : A → Bool) (xs : List A) → filter p (filter q xs) ≡ filter (λ x. q x && p x) xs
@@ -92,3 +60,26 @@ module _ {A : Type 0} where
         | true ↦ ap (cond (p x) (Some x)) (find-filter p q xs)
         | false ↦ find-filter p q xs
       ]
+
+-- ---- places
+
+pub there_is : {X : Type 0} (xs : List X) (i : ℕ) → i < length xs → (x : X) × (slice_get xs i ≡ Some x)
+there_is [] i h = absurd (omega arith)
+there_is (x ∷ xs) zero h = (x, refl)
+there_is (x ∷ xs) (suc i) h = there_is xs i (omega arith)
+
+pub set_same : {X : Type 0} (xs : List X) (i : ℕ) (a : X) → i < length xs → slice_get (slice_set xs i a) i ≡ Some a
+set_same [] i a h = absurd (omega arith)
+set_same (x ∷ xs) zero a h = refl
+set_same (x ∷ xs) (suc i) a h = set_same xs i a (omega arith)
+
+pub set_other : {X : Type 0} (xs : List X) (i k : ℕ) (a : X) → k ≢ i → slice_get (slice_set xs i a) k ≡ slice_get xs k
+set_other [] i k a h = refl
+set_other (x ∷ xs) zero zero a h = absurd (h refl)
+set_other (x ∷ xs) zero (suc k) a h = refl
+set_other (x ∷ xs) (suc i) zero a h = refl
+set_other (x ∷ xs) (suc i) (suc k) a h = set_other xs i k a (λ e. h (ap suc e))
+
+pub get_end : {X : Type 0} (xs : List X) (x : X) → slice_get (xs ++ x ∷ []) (length xs) ≡ Some x
+get_end [] x = refl
+get_end (y ∷ xs) x = get_end xs x

@@ -6,7 +6,7 @@ use Rattle.std.specs.Option.{option_map, option_or, is_some}
 use Rattle.std.specs.Ordering.{is_lt, eq_by_cmp}
 use Rattle.std.specs.Cmp.{IsTotalOrder}
 use Rattle.std.specs.Map.{keys_of}
-use Rattle.std.specs.FinMap.{FinMap, IsAntisymmetric, from_entries, from_sorted, empty, entries, entries_sorted, entries-from_sorted, get, get-entries, find, len, len-entries, is_sorted, same_map, same_entries_map, get-from_entries, insert, get-insert, get-empty}
+use Rattle.std.specs.FinMap.{FinMap, IsAntisymmetric, from_entries, from_sorted, empty, entries, entries_sorted, entries-from_sorted, get, get-entries, find, is_sorted, same_map, same_entries_map, get-from_entries, insert, get-insert, get-empty}
 use Rattle.std.specs.FinMap.Entries.{below_all}
 use Rattle.std.proofs.lemmas.Map.Keys.{IsDistinct-from_sorted}
 use Rattle.ebpf_base.specs.Keyed.{put_all, last_at}
@@ -37,10 +37,6 @@ module _ {K V W : Type 0} where
   keys_of-mapped_entries f [] = refl
   keys_of-mapped_entries f (e ∷ es) = ap (λ ks. e.0 ∷ ks) (keys_of-mapped_entries f es)
 
-  pub mapped_entries-same : (f g : V → W) → ((v : V) → f v ≡ g v) → (es : List (K × V)) → mapped_entries f es ≡ mapped_entries g es
-  mapped_entries-same f g h [] = refl
-  mapped_entries-same f g h (e ∷ es) = λ i. (e.0, h e.1 i) ∷ mapped_entries-same f g h es i
-
 module _ {V W : Type 0} (f : V → W) where
   is_some-option_map : (o : Option V) → is_some (option_map f o) ≡ is_some o
   is_some-option_map None = refl
@@ -63,15 +59,6 @@ module _ {K V W : Type 0} {R : K → K → Ordering} (f : V → W) where
       ∙ ap (find R q) (entries-map_values m)
       ∙ find-mapped_entries R f q (entries m)
       ∙ ap (option_map f) (sym (get-entries m q))
-
-  pub keys-map_values : (m : FinMap R V) → keys_of (entries (map_values f m)) ≡ keys_of (entries m)
-  keys-map_values m = ap keys_of (entries-map_values m) ∙ keys_of-mapped_entries f (entries m)
-
-  pub has-map_values : (m : FinMap R V) (q : K) → is_some (get (map_values f m) q) ≡ is_some (get m q)
-  has-map_values m q = ap is_some (get-map_values m q) ∙ is_some-option_map f (get m q)
-
-  pub len-map_values : (m : FinMap R V) → len (map_values f m) ≡ len m
-  len-map_values m = len-entries (map_values f m) ∙ ap length (entries-map_values m) ∙ length-mapped_entries f (entries m) ∙ sym (len-entries m)
 
   -- it is the one map with these entries
   pub map_values-from_entries : (m : FinMap R V) (n : FinMap R W) → entries n ≡ mapped_entries f (entries m) → n ≡ map_values f m
@@ -99,21 +86,9 @@ module _ {K V W : Type 0} {R : K → K → Ordering} (f : V → W) where
         ∙ ap (option_map f) (sym (get-insert o m k v q))))
 
 module _ {K V W : Type 0} {R : K → K → Ordering} where
-  -- equal values make equal maps
-  pub map_values-same : (f g : V → W) → ((v : V) → f v ≡ g v) → (m : FinMap R V) → map_values f m ≡ map_values g m
-  map_values-same f g h m = map_values-from_entries g m (map_values f m) (entries-map_values f m ∙ mapped_entries-same f g h (entries m))
-
   -- also where only the values that the map has are equal
   pub map_values-same_at : (f g : V → W) (m : FinMap R V) → mapped_entries f (entries m) ≡ mapped_entries g (entries m) → map_values f m ≡ map_values g m
   map_values-same_at f g m h = map_values-from_entries g m (map_values f m) (entries-map_values f m ∙ h)
-
-mapped_entries-mapped_entries : {K U V W : Type 0} (g : V → W) (f : U → V) (es : List (K × U)) → mapped_entries g (mapped_entries f es) ≡ mapped_entries (λ v. g (f v)) es
-mapped_entries-mapped_entries g f [] = refl
-mapped_entries-mapped_entries g f (e ∷ es) = ap (λ fs. (e.0, g (f e.1)) ∷ fs) (mapped_entries-mapped_entries g f es)
-
--- one after the other, in one
-pub map_values-map_values : {K U V W : Type 0} {R : K → K → Ordering} (g : V → W) (f : U → V) (m : FinMap R U) → map_values g (map_values f m) ≡ map_values (λ v. g (f v)) m
-map_values-map_values g f m = map_values-from_entries (λ v. g (f v)) m _ (entries-map_values g (map_values f m) ∙ ap (mapped_entries g) (entries-map_values f m) ∙ mapped_entries-mapped_entries g f (entries m))
 
 module _ {K V : Type 0} where
   mapped_entries-identity : (es : List (K × V)) → mapped_entries (λ v. v) es ≡ es
@@ -124,9 +99,6 @@ module _ {K V : Type 0} {R : K → K → Ordering} where
   -- values that stay make the map that is there
   pub map_values-identity : (m : FinMap R V) → map_values (λ v. v) m ≡ m
   map_values-identity m = same_entries_map _ m (entries-map_values (λ v. v) m ∙ mapped_entries-identity (entries m))
-
-  pub map_values-stay : (f : V → V) → ((v : V) → f v ≡ v) → (m : FinMap R V) → map_values f m ≡ m
-  map_values-stay f h m = map_values-same f (λ v. v) h m ∙ map_values-identity m
 
 -- entries of which no two have one key, put into a map
 module _ {K X : Type 0} {R : K → K → Ordering} (o : IsTotalOrder R) (exact : IsAntisymmetric R) where

@@ -1,5 +1,5 @@
 -- The same for maps keyed by texts, which a finite map has by their bytes.
-use Rattle.std.proofs.Common.{◌≡◌, ℕ, Bool, ◌&&◌, suc, cond, List, [], ◌∷◌, map, length, Option, Some, None, refl, sym, ap, ◌∙◌, ◌↔◌}
+use Rattle.std.proofs.Common.{◌≡◌, ℕ, Bool, ◌&&◌, suc, cond, List, [], ◌∷◌, map, length, Option, Some, None, refl, sym, ap, ◌∙◌, ◌↔◌, true, false}
 use Rattle.std.specs.declared.cmp.Ordering.TheVariants.{Less}
 use Rattle.std.specs.Ordering.{eq_by_cmp}
 use Rattle.std.specs.Cmp.Lexicographic.{pointwise}
@@ -11,17 +11,36 @@ use Rattle.std.specs.Str.{bytes_eq}
 use Rattle.std.specs.String.{string_bytes, string_cmp, string_eq}
 use Rattle.std.specs.declared.string.String.{String}
 use Rattle.std.specs.FinMap.{IsAntisymmetric, from_entries, get, insert, remove, empty, len, entries, slice_cmp-IsAntisymmetric, nat_cmp-IsAntisymmetric}
+use Rattle.std.specs.Cmp.{eq_by_cmp_equiv}
 use Rattle.std.proofs.lemmas.Map.Text.{is_eq-slice_cmp}
+use Rattle.std.proofs.lemmas.Slice.Eq.{bytes_eq-Decides}
 use Rattle.ebpf_base.specs.Copies.{maps_eq}
 use Rattle.ebpf_base.specs.Keys.{text_cmp, text_total, by_bytes}
 use Rattle.ebpf_base.proofs.Maps.{get-view, one_set, one_removed, len-view, empty-view, entries-view}
 use Rattle.ebpf_base.proofs.Pointwise.{same_maps}
+use Rattle.ebpf_base.proofs.Orderings.{is_equal}
 
 pub text_exact : IsAntisymmetric text_cmp
 text_exact = slice_cmp-IsAntisymmetric nat_cmp-IsAntisymmetric
 
 text_agrees : (x y : List ℕ) → bytes_eq x y ≡ eq_by_cmp text_cmp x y
 text_agrees x y = sym (is_eq-slice_cmp x y)
+
+-- two tests of one thing
+pub same_tests : (q name : List ℕ) → eq_by_cmp text_cmp q name ≡ bytes_eq name q
+same_tests q name = by_both (eq_by_cmp text_cmp q name) (bytes_eq name q) refl refl
+  where
+    by_both : (a b : Bool) → eq_by_cmp text_cmp q name ≡ a → bytes_eq name q ≡ b → a ≡ b
+    by_both true true p r = refl
+    by_both false false p r = refl
+    by_both true false p r =
+        let same : name ≡ q = sym (text_exact q name (is_equal _ p)) in
+        let yes : bytes_eq name q ≡ true = (bytes_eq-Decides name q).1 same in
+        cc
+    by_both false true p r =
+        let same : name ≡ q = (bytes_eq-Decides name q).0 r in
+        let yes : eq_by_cmp text_cmp q name ≡ true = ap (λ n. eq_by_cmp text_cmp q n) same ∙ (eq_by_cmp_equiv text_total).refl q in
+        cc
 
 module _ {X Y : Type 0} where
   pub length-by_bytes : (es : List (String Y × X)) → length (by_bytes es) ≡ length es

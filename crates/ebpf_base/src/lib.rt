@@ -4,9 +4,9 @@
 mod by_index;
 mod by_key;
 mod by_name;
+mod by_number;
 mod by_offset;
 mod by_section;
-mod duplicates;
 mod endianness;
 mod items;
 pub mod numbers;
@@ -15,6 +15,7 @@ mod text;
 pub use by_index::ByIndex;
 pub use by_key::ByKey;
 pub use by_name::ByName;
+pub use by_number::ByNumber;
 pub use by_offset::ByOffset;
 pub use by_section::BySection;
 pub use endianness::Endianness;

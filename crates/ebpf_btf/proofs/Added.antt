@@ -1,6 +1,6 @@
 -- A type behind others.
 use Rattle.std.proofs.Common.{◌≡◌, ◌+◌, ◌^◌, drop, ◌<◌, ℕ, suc, List, [], ◌∷◌, ◌++◌, length, Some, refl, sym, ap, ◌∙◌, arith, subst}
-use Rattle.std.proofs.lemmas.List.{length-append, map-append}
+use Rattle.std.proofs.lemmas.List.{length-append}
 use Rattle.ebpf_base.specs.declared.endianness.Endianness.{Endianness}
 use Rattle.ebpf_btf.specs.declared.types.BtfType.{BtfType}
 use Rattle.ebpf_btf.specs.Format.{IsTypeAt, end_of, info_at, info_kind, spelled, word}
@@ -22,14 +22,6 @@ types_front o xs ys (p ∷ ps) inside =
     let rest = types_front o xs ys ps (λ k d below. inside (suc k) d (omega arith)) in
     λ i. first i ∷ rest i
 
-pub types_added : (o : Endianness) (xs ys offsets : List ℕ) (t : BtfType) → AreInside o xs offsets → type_here o ys 0 ≡ t
-    → types_here o (xs ++ ys) (offsets ++ length xs ∷ []) ≡ types_here o xs offsets ++ t ∷ []
-unfolding types_here
-types_added o xs ys offsets t inside is =
-    let before = types_front o xs ys offsets inside in
-    let last = (type_behind o xs ys).0 ∙ is in
-    map-append (type_here o (xs ++ ys)) offsets (length xs ∷ []) ∙ (λ i. before i ++ last i ∷ [])
-
 -- ---- the whole
 
 pub here_is : (o : Endianness) (ys : List ℕ) (next : ℕ) (t : BtfType) → IsTypeAt o ys 0 next t → (type_here o ys 0 ≡ t) × (end_here o ys 0 ≡ next)
@@ -37,16 +29,6 @@ unfolding type_here end_here kind_here
 here_is o ys next t is =
     let kind : kind_here o ys 0 ≡ kind_of t = ap (λ r. unwrap_or r kinds.Unknown) is.kind in
     (ap (spelled o ys 0) kind ∙ sym is.words, ap (end_of o ys 0) kind ∙ sym is.ends)
-
--- the types with one more
-pub types_with_one : (o : Endianness) (bytes : List ℕ) (start : ℕ) (offsets added : List ℕ) (t : BtfType) (offset : ℕ) → HoldsTypes o bytes start offsets
-    → IsTypeAt o added 0 (length added) t → offset ≡ length (drop start bytes)
-    → types_here o (drop start (bytes ++ added)) (offsets ++ offset ∷ []) ≡ types_here o (drop start bytes) offsets ++ t ∷ []
-types_with_one o bytes start offsets added t offset kept is at =
-    let more = drop-append-le start bytes added kept.within in
-    ap (λ p. types_here o (drop start (bytes ++ added)) (offsets ++ p ∷ [])) at
-    ∙ ap (λ xs. types_here o xs (offsets ++ length (drop start bytes) ∷ [])) more
-    ∙ types_added o (drop start bytes) added offsets t kept.inside (here_is o added (length added) t is).0
 
 known_at : (o : Endianness) (part ys : List ℕ) (next : ℕ) (t : BtfType) → IsTypeAt o ys 0 next t
     → info_kind (info_at o (part ++ ys) (length part)) ≡ Some (kind_here o (part ++ ys) (length part))

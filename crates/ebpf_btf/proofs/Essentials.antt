@@ -111,13 +111,6 @@ moved n o = option_map (λ k. n + k) o
 abbrev pub flavor_from : List ℕ → ℕ → Option ℕ
 flavor_from name index = moved index (flavor_start (drop index name))
 
-moved_none : (o : Option ℕ) → moved 0 o ≡ o
-moved_none None = refl
-moved_none (Some k) = ap Some (omega arith)
-
-pub from_start : (name : List ℕ) → flavor_from name 0 ≡ flavor_start name
-from_start name = moved_none (flavor_start name)
-
 moved_one : (index next : ℕ) (o : Option ℕ) → next ≡ index + 1 → moved next o ≡ moved index (option_map suc o)
 moved_one index next None is = refl
 moved_one index next (Some k) is = ap Some (omega arith)
@@ -170,13 +163,3 @@ none_short (x ∷ y ∷ z ∷ xs) few = absurd (omega arith)
 -- fewer than three bytes are left
 pub past_end : (name : List ℕ) (index : ℕ) → length name - index ≤ 2 → flavor_from name index ≡ None
 past_end name index few = ap (moved index) (none_short (drop index name) (omega (arith, length-drop index name)))
-
--- three begin at an index
-pub found_at : (name : List ℕ) (index : ℕ) → index < length name → opens (drop index name) ≡ true → flavor_from name index ≡ Some index
-found_at name index inside found =
-    let here : drop index name ≡ get_or name index 0 ∷ drop (index + 1) name = drop_more name index 0 inside in
-    let rest = flavor_start (drop (index + 1) name) in
-    let step : flavor_start (drop index name) ≡ Some 0 =
-    ap flavor_start here ∙ flavor_step (get_or name index 0) (drop (index + 1) name)
-    ∙ ap (λ b. cond b (Some 0) (option_map suc rest)) (ap opens (sym here) ∙ found) in
-    ap (moved index) step ∙ ap Some (omega arith)

@@ -17,14 +17,14 @@ use Rattle.ebpf_btf.proofs.ReadBack.{length_words, word_again}
 use Rattle.ebpf_btf.proofs.Spelling.{again_from}
 use Rattle.ebpf_btf.proofs.WordsBehind.{word_front}
 
-abbrev words : Endianness → ℕ → ℕ → List ℕ
+abbrev pub words : Endianness → ℕ → ℕ → List ℕ
 words o m n = first_word o ∷ 24 ∷ 0 ∷ m ∷ m ∷ n ∷ []
 
-length_header : (o : Endianness) (m n : ℕ) → length (header_bytes o m n) ≡ 24
+pub length_header : (o : Endianness) (m n : ℕ) → length (header_bytes o m n) ≡ 24
 unfolding header_bytes
 length_header o m n = length_words o (words o m n)
 
-header_word : (o : Endianness) (m n : ℕ) (part strings : List ℕ) (i : ℕ) → i < 6 → get_or (words o m n) i 0 < 2 ^ 32
+pub header_word : (o : Endianness) (m n : ℕ) (part strings : List ℕ) (i : ℕ) → i < 6 → get_or (words o m n) i 0 < 2 ^ 32
     → word o (header_bytes o m n ++ part ++ strings) (4 * i) ≡ get_or (words o m n) i 0
 unfolding header_bytes
 header_word o m n part strings i below fits =
@@ -43,7 +43,7 @@ unfolding order_of header_bytes first_word words_bytes word_bytes
 order_is Little m n part strings = refl
 order_is Big m n part strings = refl
 
-middle : (h part strings : List ℕ) (a b : ℕ) → a ≡ length h → b ≡ a + length part → slice_range (h ++ part ++ strings) a b ≡ part
+pub middle : (h part strings : List ℕ) (a b : ℕ) → a ≡ length h → b ≡ a + length part → slice_range (h ++ part ++ strings) a b ≡ part
 middle h part strings a b at to =
     let long : b - a ≡ length part = omega arith in
     let behind : drop a (h ++ part ++ strings) ≡ part ++ strings =

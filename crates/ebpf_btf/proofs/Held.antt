@@ -1,11 +1,12 @@
 -- Types by their offsets, with what stands beside their bytes.
-use Rattle.std.proofs.Common.{◌≡◌, ◌+◌, ◌-◌, ◌<◌, ◌≤◌, ℕ, zero, suc, Bool, true, false, nat_lt, take, drop, List, [], ◌∷◌, ◌++◌, Some, None, length, get_or, refl, ap, ◌∙◌, arith}
-use Rattle.std.specs.Prelude.{slice_get, sum_by, ◌||◌}
+use Rattle.std.proofs.Common.{◌≡◌, ◌+◌, ◌-◌, ◌<◌, ◌≤◌, ℕ, zero, suc, false, nat_lt, take, drop, List, [], ◌∷◌, ◌++◌, Some, None, length, get_or, refl, ap, ◌∙◌, arith}
+use Rattle.std.specs.Prelude.{slice_get, sum_by}
 use Rattle.std.specs.List.{filter, list_any}
 use Rattle.std.specs.Option.{option_map}
 use Rattle.std.proofs.lemmas.Option.{slice_get-map}
 use Rattle.std.proofs.lemmas.List.{drop-append-le, drop-take, length-map, length-take, map-append, take-map, take_all}
 use Rattle.std.proofs.lemmas.List.Sums.{sum_by-cons}
+use Rattle.std.proofs.lemmas.Bool.{or_parts}
 use Rattle.ebpf_base.specs.declared.endianness.Endianness.{Endianness}
 use Rattle.ebpf_btf.specs.declared.fallback.OffsetFallback.{OffsetFallback}
 use Rattle.ebpf_btf.specs.declared.types.BtfType.{BtfType}
@@ -149,17 +150,13 @@ unfolding fallback_of
 none_has o bytes [] offsets none = ap (list_any has_fallback) (held_alone o bytes offsets) ∙ none_plain o bytes offsets
 none_has o bytes (f ∷ fs) offsets none = absurd (omega arith)
 
-or_false : (a b : Bool) → (a || b) ≡ false → (a ≡ false) × (b ≡ false)
-or_false true b is = cc
-or_false false b is = (refl, is)
-
 each_plain : (o : Endianness) (bytes : List ℕ) (fs : List OffsetFallback) (ps : List ℕ) → list_any has_fallback (held_types o bytes fs ps) ≡ false
     → held_types o bytes fs ps ≡ types_here o bytes ps
 unfolding held_types held_type types_here
 each_plain o bytes fs [] none = refl
 each_plain o bytes fs (p ∷ ps) none =
     let t = with_fallback (fallback_at fs p) (type_here o bytes p) in
-    let both = or_false (has_fallback t) (list_any has_fallback (held_types o bytes fs ps)) none in
+    let both = or_parts (has_fallback t) (list_any has_fallback (held_types o bytes fs ps)) none in
     let first = plain_with (fallback_at fs p) (type_here o bytes p) both.0 in
     let rest = each_plain o bytes fs ps both.1 in
     λ i. first i ∷ rest i

@@ -1,23 +1,12 @@
 -- Names that are too long for a text.
-use Rattle.std.proofs.Common.{◌≡◌, ◌+◌, ◌≤◌, min, not, ℕ, zero, suc, Bool, true, false, cond, List, [], ◌∷◌, length, take, drop, ◌-◌, take_all, length-drop, nat_lt, Option, Some, None, refl, sym, ap, ◌∙◌, arith}
+use Rattle.std.proofs.Common.{◌≡◌, ◌+◌, ◌≤◌, ℕ, zero, suc, Bool, true, false, cond, List, [], length, take, drop, ◌-◌, take_all, length-drop, nat_lt, Option, Some, None, refl, sym, ap, ◌∙◌, arith}
 use Rattle.std.specs.Prelude.{◌==◌, is_some}
-use Rattle.std.specs.List.{position, position_or_len}
+use Rattle.std.specs.List.{position}
 use Rattle.std.proofs.lemmas.Bool.Decides.{nat_tests}
 use Rattle.std.proofs.lemmas.List.{length-take, drop_all}
+use Rattle.ebpf_base.proofs.ZeroBytes.{front, front_take}
 use Rattle.ebpf_btf.specs.Strings.{before_zero, is_text, text_at, text_or_fault}
 use Rattle.ebpf_btf.proofs.NearTexts.{near_text}
-
-abbrev front : List ℕ → ℕ
-front xs = position_or_len (λ b. b == 0) xs
-
-front_take : (k : ℕ) (xs : List ℕ) → front (take k xs) ≡ min k (front xs)
-front_take zero xs = omega arith
-front_take (suc k) [] = omega arith
-front_take (suc k) (x ∷ xs) = by_first (not (x == 0)) (front_take k xs)
-  where
-    by_first : (b : Bool) → front (take k xs) ≡ min k (front xs) → cond b (1 + front (take k xs)) 0 ≡ min (suc k) (cond b (1 + front xs) 0)
-    by_first true rest = omega arith
-    by_first false rest = omega arith
 
 -- no zero byte among bytes, so none among the first of them
 fewer : (k n : ℕ) (xs : List ℕ) → k ≤ n → position (λ b. b == 0) (take n xs) ≡ None → before_zero (take k xs) ≡ None

@@ -1,14 +1,15 @@
 -- Bytes that may not be UTF-8, beside a text.
-use Rattle.std.proofs.Common.{◌≡◌, ◌≢◌, ◌+◌, ◌<◌, ℕ, Bool, true, false, List, [], ◌∷◌, ◌++◌, length, take, drop, Option, Some, None, refl, sym, ap, ◌∙◌, drop-drop, arith, length-drop, take_all, ◌-◌}
+use Rattle.std.proofs.Common.{◌≡◌, ◌+◌, ◌<◌, ℕ, true, false, List, [], ◌∷◌, ◌++◌, length, take, drop, Option, Some, None, refl, sym, ap, ◌∙◌, drop-drop, arith, length-drop, take_all, ◌-◌}
 use Rattle.std.specs.Prelude.{nat_eq, MatchOption, unwrap_or}
 use Rattle.std.specs.Option.{option_map_or}
 use Rattle.std.specs.Str.{bytes_eq}
 use Rattle.std.specs.Str.Lossy.{after_first_chunk, replacement_bytes, utf8_error_len, utf8_lossy, utf8_valid_len}
 use Rattle.std.specs.Cmp.Lexicographic.{pointwise}
 use Rattle.std.proofs.lemmas.Bool.Decides.{Decides-eqb, nat_tests}
-use Rattle.std.proofs.lemmas.Slice.Eq.{bytes_eq-Decides, strip_prefix_is}
+use Rattle.std.proofs.lemmas.Slice.Eq.{strip_prefix_is}
 use Rattle.std.proofs.lemmas.Str.{utf8_lossy_step}
 use denote.Ref.{Bor}
+use Rattle.ebpf_base.proofs.ZeroBytes.{no_same}
 
 same_number : (x : ℕ) → nat_eq x x ≡ true
 same_number x = grind (arith, nat_tests)
@@ -17,14 +18,6 @@ same_number x = grind (arith, nat_tests)
 pub same_after : (front xs ys : List ℕ) → bytes_eq (front ++ xs) (front ++ ys) ≡ bytes_eq xs ys
 same_after [] xs ys = refl
 same_after (x ∷ front) xs ys = rw (same_number x) (same_after front xs ys)
-
--- with another front
-pub no_same : (xs ys : List ℕ) → xs ≢ ys → bytes_eq xs ys ≡ false
-no_same xs ys differ = by_answer (bytes_eq xs ys) (bytes_eq-Decides xs ys).0
-  where
-    by_answer : (b : Bool) → (b ≡ true → xs ≡ ys) → b ≡ false
-    by_answer true same = absurd (differ (same refl))
-    by_answer false same = refl
 
 -- bytes past the text at their front, `len` of which read as U+FFFD
 pub lossy_split : (bytes front back : List ℕ) (n len : ℕ) → front ≡ take n bytes → back ≡ drop n bytes → n ≡ utf8_valid_len bytes → n < length bytes

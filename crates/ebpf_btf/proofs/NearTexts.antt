@@ -1,15 +1,14 @@
 -- A text that is compared within its length.
-use Rattle.std.proofs.Common.{◌≡◌, ◌+◌, ◌-◌, ◌<◌, ◌≤◌, min, ℕ, zero, suc, Bool, true, false, not, cond, List, [], ◌∷◌, ◌++◌, length, take, drop, nat_lt, Option, Some, None, refl, sym, ap, ◌∙◌, arith, ⊎_elim, length-append, length-drop, take_all}
+use Rattle.std.proofs.Common.{◌≡◌, ◌+◌, ◌-◌, ◌<◌, ◌≤◌, ℕ, zero, suc, Bool, true, false, cond, List, ◌++◌, length, take, drop, nat_lt, Option, Some, None, refl, sym, ap, ◌∙◌, arith, ⊎_elim, length-append, length-drop, take_all}
 use Rattle.std.specs.Prelude.{◌==◌, option_map, slice_index, unwrap_or}
-use Rattle.std.specs.List.{prefix_len}
 use Rattle.std.specs.Str.{bytes_eq}
 use Rattle.std.specs.Int.{is_in_range}
 use Rattle.std.specs.Str.Lossy.{after_first_chunk, error_len_after_one, error_len_after_two, error_len_of_some, second_byte_max, second_byte_min, replacement_bytes, utf8_error_len, utf8_lossy, utf8_lossy_within, utf8_invalid_len, utf8_valid_len}
 use Rattle.std.proofs.lemmas.Bool.{cases_lt}
 use Rattle.std.proofs.lemmas.Bool.Decides.{nat_tests}
 use Rattle.std.proofs.lemmas.List.{length-take}
+use Rattle.ebpf_base.proofs.ZeroBytes.{front, near, far, no_same}
 use Rattle.ebpf_btf.specs.Strings.{before_zero, is_text, text_at, text_or_fault}
-use Rattle.ebpf_btf.proofs.LossyTexts.{no_same}
 
 -- ---- U+FFFD is not shorter than what it stands for
 
@@ -56,53 +55,6 @@ longer_within (suc k) bs = by_whole (utf8_valid_len bs == length bs) (longer_wit
 lossy_longer : (bs : List ℕ) → length bs ≤ length (utf8_lossy bs)
 unfolding utf8_lossy
 lossy_longer bs = longer_within (length bs) bs
-
--- ---- the zero byte is near or far
-
-abbrev front : List ℕ → ℕ
-front xs = prefix_len (λ b. not (b == 0)) xs
-
-front_take : (k : ℕ) (xs : List ℕ) → front (take k xs) ≡ min k (front xs)
-front_take zero xs = omega arith
-front_take (suc k) [] = omega arith
-front_take (suc k) (x ∷ xs) = by_first (not (x == 0)) (front_take k xs)
-  where
-    by_first : (b : Bool) → front (take k xs) ≡ min k (front xs) → cond b (1 + front (take k xs)) 0 ≡ min (suc k) (cond b (1 + front xs) 0)
-    by_first true rest = omega arith
-    by_first false rest = omega arith
-
-take_again : (n k : ℕ) (xs : List ℕ) → n ≤ k → take n (take k xs) ≡ take n xs
-take_again zero k xs le = refl
-take_again (suc n) zero xs le = absurd (omega arith)
-take_again (suc n) (suc k) [] le = refl
-take_again (suc n) (suc k) (x ∷ xs) le = ap (λ ys. x ∷ ys) (take_again n k xs (omega arith))
-
-same_test : (a b c d : ℕ) → (a < b → c < d) → (c < d → a < b) → nat_lt a b ≡ nat_lt c d
-same_test a b c d there back = ⊎_elim
-    (λ (less : a < b). let more = there less in grind (arith, nat_tests))
-    (λ (over : b ≤ a). ⊎_elim (λ (less : c < d). let no = back less in absurd (omega arith)) (λ (above : d ≤ c). grind (arith, nat_tests)) (cases_lt c d))
-    (cases_lt a b)
-
-near : (k : ℕ) (xs : List ℕ) → front xs < k → before_zero (take k xs) ≡ before_zero xs
-near k xs less =
-    let same : front (take k xs) ≡ front xs = omega (arith, front_take k xs) in
-    let test : nat_lt (front (take k xs)) (length (take k xs)) ≡ nat_lt (front xs) (length xs) =
-    same_test _ _ _ _ (λ a. omega (arith, length-take k xs)) (λ a. omega (arith, length-take k xs)) in
-    let part : take (front (take k xs)) (take k xs) ≡ take (front xs) xs = ap (λ n. take n (take k xs)) same ∙ take_again (front xs) k xs (omega arith) in
-    by_test (nat_lt (front (take k xs)) (length (take k xs))) (nat_lt (front xs) (length xs)) test part
-  where
-    by_test : (b c : Bool) → b ≡ c → take (front (take k xs)) (take k xs) ≡ take (front xs) xs
-        → option_map (λ n. take n (take k xs)) (cond b (Some (front (take k xs))) None) ≡ option_map (λ n. take n xs) (cond c (Some (front xs)) None)
-    by_test true true e part = ap Some part
-    by_test true false e part = cc
-    by_test false true e part = cc
-    by_test false false e part = refl
-
-far : (k : ℕ) (xs : List ℕ) → k ≤ front xs → before_zero (take k xs) ≡ None
-far k xs more =
-    let over : nat_lt (front (take k xs)) (length (take k xs)) ≡ false =
-    let a = front_take k xs in let b = length-take k xs in let c : length (take k xs) ≤ front (take k xs) = omega arith in grind (arith, nat_tests) in
-    rw over refl
 
 -- a text is found by as many bytes as it has, and one
 pub near_text : (offset : ℕ) (from text : List ℕ)

@@ -27,12 +27,12 @@ use Rattle.ebpf_btf.proofs.WordsBehind.{word_behind}
 
 -- ---- words in bytes
 
-length_word : (o : Endianness) (w : ℕ) → length (word_bytes o w) ≡ 4
+pub length_word : (o : Endianness) (w : ℕ) → length (word_bytes o w) ≡ 4
 unfolding word_bytes
 length_word Little w = length-bytes_low_first 0 4 w
 length_word Big w = length-bytes_high_first 4 w
 
-first_word : (o : Endianness) (w : ℕ) (rest : List ℕ) → w < 2 ^ 32 → word o (word_bytes o w ++ rest) 0 ≡ w
+pub first_word : (o : Endianness) (w : ℕ) (rest : List ℕ) → w < 2 ^ 32 → word o (word_bytes o w ++ rest) 0 ≡ w
 unfolding word_bytes number_at
 first_word Little w rest fits = little_number-reads_back 4 w rest fits
 first_word Big w rest fits = big_number-reads_back 4 w rest fits

@@ -1,34 +1,19 @@
 //! A file, prepared in one call.
 
-ghost use Rattle.std.specs.Prelude.{◌≡◌, ◌<◌, map, true, Some, IfOk, IfErr};
-ghost use Rattle.std.specs.Option.{option_copied};
+ghost use Rattle.std.specs.Prelude.{◌≡◌, ◌<◌, IfOk, IfErr};
 ghost use Rattle.ebpf_rows.specs.Handles.{IsRefused};
 ghost use Rattle.ebpf_c.specs.Preparing.{inputs_of, CannotPrepare, HasPrepared, IsPreparedIn};
-ghost use Rattle.ebpf_object.specs.Steps.{chosen, descriptor_of};
 
 use crate::handle::ebpf_handle;
 use ebpf_answers::codes::{BAD_NAME, DONE, MEMORY};
 use ebpf_answers::refusal::{Refusal, tell};
 use ebpf_answers::refusal_row::ebpf_refusal;
-use ebpf_btf::Btf;
 use ebpf_object::Object;
 use ebpf_object::prepare::{Steps, SymbolText, prepare};
 use ebpf_rows::descriptors::{descriptors_in, ebpf_descriptor, have_names};
 use ebpf_rows::prepare_refusal::prepare_refusal;
 use ebpf_rows::target_types::read_types_if;
 use std::alloc::Global;
-
-/// All passes, types where a kernel's are known.
-pub fn all_passes<'a>(kernel: Option<&'a Btf>, descriptors: &'a [(&'a str, i32)]) -> Steps<'a>
-    ensures { chosen result ≡ record { target = option_copied kernel.entry; descriptors = Some (map descriptor_of descriptors.now); kernel = Some (option_copied kernel.entry); externs = true; calls = true } }
-{
-    Steps {
-        target_btf: kernel,
-        map_fds: Some(descriptors),
-        externs: Some(kernel),
-        calls: true,
-    }
-}
 
 /// The object of a file after all passes.
 fn prepare_object(
@@ -53,7 +38,7 @@ fn prepare_object(
     let Ok(descriptors) = descriptors_in(alloc, rows, text) else {
         return Err(Refusal::plain(MEMORY));
     };
-    let steps = all_passes(kernel.as_ref(), &descriptors);
+    let steps = Steps::all_with(kernel.as_ref(), &descriptors);
     match prepare(alloc, file, &steps, SymbolText(symbols)) {
         Ok(object) => Ok(object),
         Err(error) => Err(prepare_refusal(error)),

@@ -5,12 +5,11 @@ ghost use Rattle.ebpf_rows.specs.Handles.{Changes, IsRefused, WhyHeld};
 ghost use Rattle.ebpf_c.specs.Preparing.{inputs_of, CannotPrepareHeld, HasPreparedHeld};
 
 use crate::handle::ebpf_handle;
-use crate::preparing::all_passes;
 use ebpf_answers::codes::{BAD_NAME, CLOSED, DONE, MEMORY};
 use ebpf_answers::refusal::{Refusal, answered, tell};
 use ebpf_answers::refusal_row::ebpf_refusal;
 use ebpf_object::Object;
-use ebpf_object::prepare::{SymbolText, prepare_in_place};
+use ebpf_object::prepare::{Steps, SymbolText, prepare_in_place};
 use ebpf_rows::descriptors::{descriptors_in, ebpf_descriptor, have_names};
 use ebpf_rows::prepare_refusal::prepare_refusal;
 use ebpf_rows::target_types::read_types_if;
@@ -40,7 +39,7 @@ fn prepare_held(
     let Ok(descriptors) = descriptors_in(alloc, rows, text) else {
         return Err(Refusal::plain(MEMORY));
     };
-    let steps = all_passes(kernel.as_ref(), &descriptors);
+    let steps = Steps::all_with(kernel.as_ref(), &descriptors);
     match prepare_in_place(alloc, object, &steps, SymbolText(symbols)) {
         Ok(()) => Ok(()),
         Err(error) => Err(prepare_refusal(error)),

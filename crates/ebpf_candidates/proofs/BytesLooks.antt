@@ -1,10 +1,10 @@
 -- One look at each byte of a name, up to its zero byte.
-use Rattle.std.proofs.Common.{◌≡◌, ◌+◌, ◌-◌, ◌<◌, ◌≤◌, ◌==◌, ℕ, zero, suc, Bool, true, false, not, cond, List, [], ◌∷◌, ◌++◌, length, get_or, take, drop, nat_lt, Option, Some, None, refl, sym, ap, ◌∙◌, arith, add-one, append-nil, append_assoc, ◌&&◌, ⊎_elim, subst}
+use Rattle.std.proofs.Common.{◌≡◌, ◌+◌, ◌-◌, ◌<◌, ◌≤◌, ◌==◌, ℕ, zero, suc, Bool, true, false, not, cond, List, [], ◌∷◌, ◌++◌, length, get_or, take, drop, nat_lt, Option, Some, None, refl, sym, ap, ◌∙◌, arith, add-one, append-nil, append_assoc, ⊎_elim, subst}
 use Rattle.std.specs.Prelude.{option_map, nat_eq, replicate}
 use Rattle.std.specs.List.{prefix_len}
 use Rattle.std.proofs.lemmas.Bool.{cases_eq, cases_lt}
 use Rattle.std.proofs.lemmas.Bool.Decides.{nat_tests}
-use Rattle.std.proofs.lemmas.List.{drop_all, drop_more, replicate_more, take_more}
+use Rattle.std.proofs.lemmas.List.{drop_more, replicate_more, take_more}
 use Rattle.ebpf_btf.specs.EssentialNames.{essential_name}
 use Rattle.ebpf_btf.specs.Strings.{before_zero}
 use Rattle.ebpf_btf.proofs.Essentials.{essential_step}
@@ -25,10 +25,6 @@ zero_later x xs other = rw other (by_test (nat_lt (front xs) (length xs)) refl)
         let one : 1 + front xs ≡ suc (front xs) = omega arith in
         rw more (ap (λ n. Some (take n (x ∷ xs))) one)
     by_test false e = let more : nat_lt (1 + front xs) (suc (length xs)) ≡ false = grind (arith, nat_tests) in rw more refl
-
--- no zero byte is there
-none_left : before_zero [] ≡ None
-none_left = refl
 
 -- what is left of an essential name, where the bytes before an index have no zero byte and no three underscores, and end
 -- in so many underscores
@@ -59,10 +55,6 @@ scanned_byte bytes index marks inside other =
     ap (λ xs. option_map F (before_zero xs)) (byte_at bytes index inside)
     ∙ ap (option_map F) (zero_later x (drop (index + 1) bytes) other)
     ∙ map_twice F (λ t. x ∷ t) (before_zero (drop (index + 1) bytes))
-
-closed : (b c : Bool) → c ≡ false → (b && (c && true)) ≡ false
-closed true c e = rw e refl
-closed false c e = refl
 
 -- underscores before another byte are part of the name
 essential_other : (marks x : ℕ) (tail : List ℕ) → marks ≤ 2 → nat_eq 95 x ≡ false → essential_name (replicate marks 95 ++ (x ∷ tail)) ≡ replicate marks 95 ++ (x ∷ essential_name tail)
@@ -131,10 +123,6 @@ scanned_zero bytes index marks inside few ends byte =
     ap (λ xs. option_map F (before_zero xs)) (byte_at bytes index inside ∙ ap (λ x. x ∷ drop (index + 1) bytes) byte)
     ∙ ap (option_map F) (zero_first (drop (index + 1) bytes))
     ∙ ap Some (ap (λ t. take (index - marks) bytes ++ essential_name t) (append-nil (replicate marks 95)) ∙ ap (λ name. take (index - marks) bytes ++ name) (essential_marks marks few) ∙ ends)
-
-pub scanned_end : (bytes : List ℕ) (index marks : ℕ) → length bytes ≤ index → scanned_name bytes index marks ≡ None
-scanned_end bytes index marks past =
-    ap (λ xs. option_map (λ tail. take (index - marks) bytes ++ essential_name (replicate marks 95 ++ tail)) (before_zero xs)) (drop_all index bytes past)
 
 -- ---- all of it at one index
 

@@ -1,6 +1,6 @@
 -- The candidates by the rows of the types.
-use Rattle.std.proofs.Common.{◌≡◌, ◌+◌, ◌-◌, ◌==◌, ◌++◌, take, drop, ℕ, zero, suc, Bool, true, false, ◌&&◌, cond, List, [], ◌∷◌, map, Option, Some, None, Result, Ok, Err, refl, sym, ap, ◌∙◌, append_assoc, arith, add-one, true≢false}
-use Rattle.std.specs.Prelude.{option_map, slice_get, slice_range}
+use Rattle.std.proofs.Common.{◌≡◌, ◌+◌, ◌-◌, ◌==◌, ◌++◌, take, drop, ℕ, zero, suc, Bool, true, false, ◌&&◌, cond, List, [], ◌∷◌, map, Some, None, Result, Ok, Err, refl, sym, ap, ◌∙◌, append_assoc, arith, add-one, true≢false}
+use Rattle.std.specs.Prelude.{slice_get, slice_range}
 use Rattle.std.specs.List.{enumerate_from, filter}
 use Rattle.std.specs.List.Sorted.{IsStableBy}
 use Rattle.std.proofs.lemmas.Bool.Decides.{nat_tests}
@@ -166,10 +166,6 @@ candidates_named chosen marks info kind among name sorted ids low high number (x
     candidates_found chosen marks info kind among name sorted ids low high number x xs same_kind (sym named) marked stable same_ids part
 
 -- ---- one pass over the types
-
-pub absent : {A B : Type 0} (f : A → B) (o : Option A) (r : Option B) → option_map f o ≡ r → ((x : A) → o ≡ Some x → ⊥) → r ≡ None
-absent f None r is missing = sym is
-absent f (Some x) r is missing = absurd (missing x refl)
 
 -- a type of another kind is passed over
 pub rows_pass : (chosen : List Bool) (marks : List Bool) (info : TypeInfo) (types : List BtfType) (i : ℕ) (t : BtfType) → drop i types ≡ t ∷ drop (i + 1) types

@@ -9,9 +9,10 @@ use Rattle.std.specs.declared.cmp.Ordering.{Ordering}
 use Rattle.std.specs.declared.cmp.Ordering.TheVariants.{Less, Equal, Greater}
 use denote.Param.Members.{Mut}
 use denote.Ref.{Bor}
+use Rattle.ebpf_base.proofs.Orderings.{is_equal}
 use Rattle.ebpf_candidates.specs.PrivateContracts.{IsLowerBound, IsUpperBound}
 use Rattle.std.proofs.Common.{ltb, leb, ⊎_elim}
-use Rattle.std.proofs.lemmas.Bool.{cases_lt}
+use Rattle.std.proofs.lemmas.Bool.{cases_lt, and_from}
 use Rattle.std.proofs.lemmas.Cmp.{alike_right}
 use Rattle.std.proofs.lemmas.Fn.{always_returns_same}
 use Rattle.std.proofs.lemmas.List.Elements.{filter_agree}
@@ -114,17 +115,12 @@ first_passes p (y ∷ ys) x rest is = by_test (λ same. first_passes p ys x rest
     by_test later true e same = let one : y ≡ x = cc in ap p (sym one) ∙ e
     by_test later false e same = later same
 
-equal_from : (o : Ordering) → is_eq o ≡ true → o ≡ Equal
-equal_from Less e = cc
-equal_from Equal e = refl
-equal_from Greater e = cc
-
 -- where an element has the key, those that have it keep their order
 filter_tied : {X K : Type 0} {R : K → K → Ordering} → IsTotalOrder R → (key : X → K) (xs ys : List X) (k : K) (x : X) → is_eq (R (key x) k) ≡ true
     → IsStableBy (λ a b. is_lt (R (key a) (key b))) xs ys → filter (λ y. is_eq (R (key y) k)) ys ≡ filter (λ y. is_eq (R (key y) k)) xs
 filter_tied {X} {R = R} o key xs ys k x has stable =
     let same : (y : X) → ties (λ a b. is_lt (R (key a) (key b))) x y ≡ is_eq (R (key y) k) =
-    λ (y : X). ties-is_eq o key x y ∙ ap is_eq (alike_right o (key x) k (key y) (equal_from (R (key x) k) has)) in
+    λ (y : X). ties-is_eq o key x y ∙ ap is_eq (alike_right o (key x) k (key y) (is_equal (R (key x) k) has)) in
     sym (filter_agree (ties (λ a b. is_lt (R (key a) (key b))) x) (λ y. is_eq (R (key y) k)) same ys)
     ∙ stable x
     ∙ filter_agree (ties (λ a b. is_lt (R (key a) (key b))) x) (λ y. is_eq (R (key y) k)) same xs
@@ -183,9 +179,6 @@ tie_right Less b false e = cc
 tie_right Equal b c e = refl
 tie_right Greater b c e = refl
 
-both_hold : (b c : Bool) → b ≡ true → c ≡ true → (b && c) ≡ true
-both_hold b c e f = rw (e, f) refl
-
 -- what ties by a first part and then by another ties by the first
 pub ties_first : (a b c d : Ordering) → (not (is_lt (ordering_then a b)) && not (is_lt (ordering_then c d))) ≡ true → (not (is_lt a) && not (is_lt c)) ≡ true
-ties_first a b c d e = both_hold (not (is_lt a)) (not (is_lt c)) (tie_left a b (not (is_lt (ordering_then c d))) e) (tie_right c d (not (is_lt (ordering_then a b))) e)
+ties_first a b c d e = and_from (not (is_lt a)) (not (is_lt c)) (tie_left a b (not (is_lt (ordering_then c d))) e) (tie_right c d (not (is_lt (ordering_then a b))) e)

@@ -7,6 +7,7 @@ use Rattle.std.specs.FinMap.{get, entries, find, get-entries}
 use Rattle.std.specs.Ordering.{eq_by_cmp}
 use Rattle.std.specs.Str.{bytes_eq}
 use Rattle.ebpf_base.proofs.TextMaps.{text_exact}
+use Rattle.ebpf_base.proofs.Orderings.{is_equal}
 use Rattle.ebpf_base.specs.Keys.{text_cmp}
 use Rattle.ebpf_commands.proofs.Refusing.{nothing}
 use Rattle.ebpf_commands.specs.Failures.{is_outside, IsFailureOf}
@@ -20,7 +21,6 @@ use Rattle.ebpf_inspect.specs.declared.report.ProgramReport.{ProgramReport}
 use Rattle.ebpf_ksyms.specs.Sources.{Source}
 use Rattle.ebpf_object.specs.LinkedPrograms.{program_value, programs_in_order}
 use Rattle.ebpf_object.specs.declared.object.Object.{Object}
-use Rattle.ebpf_parsing.proofs.LastEntries.{equal}
 use Rattle.ebpf_model.specs.declared.program.Program.{Program}
 use Rattle.ebpf_reloc.specs.Linking.{ProgramValue}
 
@@ -30,7 +30,7 @@ bytes_same : (xs ys : List ℕ) → xs ≡ ys → bytes_eq xs ys ≡ true
 bytes_same xs ys is = (bytes_eq-Decides xs ys).1 is
 
 names_same : (xs ys : List ℕ) → eq_by_cmp text_cmp xs ys ≡ true → ys ≡ xs
-names_same xs ys is = sym (text_exact xs ys (equal (text_cmp xs ys) is))
+names_same xs ys is = sym (text_exact xs ys (is_equal (text_cmp xs ys) is))
 
 either : {C : Type 0} (b : Bool) → (b ≡ true → C) → (b ≡ false → C) → C
 either true same other = same refl

@@ -14,13 +14,13 @@ ghost use Rattle.ebpf_parts.specs.declared.reading.Reading.TheVariants.{Stated};
 use crate::arguments::Words;
 use crate::failure::{Failure, report};
 use crate::link::finish;
-use crate::preparation::{all_passes, map_names, numbered_descriptors, read_types};
+use crate::preparation::{map_names, numbered_descriptors, read_types};
 use crate::report_text::write_report;
 use ebpf_base::Items;
 use ebpf_btf::Btf;
 use ebpf_inspect::{ProgramReport, inspect_object};
 use ebpf_object::Object;
-use ebpf_object::prepare::{PrepareError, SymbolSource};
+use ebpf_object::prepare::{PrepareError, Steps, SymbolSource};
 use std::alloc::Global;
 use std::io::Write;
 
@@ -124,7 +124,12 @@ fn inspect_all<K: SymbolSource>(
         drop(object);
         return Err(Failure::Memory);
     };
-    match inspect_object(alloc, object, &all_passes(types, &descriptors), kallsyms) {
+    match inspect_object(
+        alloc,
+        object,
+        &Steps::all_with(types, &descriptors),
+        kallsyms,
+    ) {
         Ok(reports) => Ok(reports),
         Err(error) => Err(Failure::Preparing(error)),
     }

@@ -13,6 +13,7 @@ mod report_text;
 pub use arguments::{Words, WordsError, read_words};
 pub use failure::{Failure, cannot_read, report};
 pub use inspect::{print_reports, run_inspect};
-pub use link::{prepare_all, print_programs, run_link};
+pub use link::{function_named, prepare_all, print_programs, run_link};
 pub use opened::{Command, start};
 pub use preparation::{map_names, numbered_descriptors};
+pub use program_text::write_slots;

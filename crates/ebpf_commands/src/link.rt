@@ -16,17 +16,17 @@ ghost use Rattle.ebpf_parts.specs.declared.reading.Reading.TheVariants.{Stated};
 
 use crate::arguments::Words;
 use crate::failure::{Failure, report};
-use crate::preparation::{all_passes, map_names, numbered_descriptors, read_types};
+use crate::preparation::{map_names, numbered_descriptors, read_types};
 use crate::program_text::write_program;
 use ebpf_btf::Btf;
 use ebpf_model::Function;
 use ebpf_object::Object;
-use ebpf_object::prepare::{PrepareError, SymbolSource, prepare_object};
+use ebpf_object::prepare::{PrepareError, Steps, SymbolSource, prepare_object};
 use std::alloc::Global;
 use std::io::Write;
 
-/// The function of the program of a name.
-fn function_named<'a>(object: &'a Object, name: &str) -> Option<&'a Function>
+/// The function of the program of a name; None where no program has the name, or it has no function.
+pub fn function_named<'a>(object: &'a Object, name: &str) -> Option<&'a Function>
     ensures { option_copied result ≡ function_named object.now name.now }
 {
     let program = object.programs.get(name)?;
@@ -154,7 +154,12 @@ pub fn prepare_all<K: SymbolSource>(
         drop(object);
         return Err(Failure::Memory);
     };
-    match prepare_object(alloc, object, &all_passes(types, &descriptors), kallsyms) {
+    match prepare_object(
+        alloc,
+        object,
+        &Steps::all_with(types, &descriptors),
+        kallsyms,
+    ) {
         Ok(object) => Ok(object),
         Err(error) => Err(Failure::Preparing(error)),
     }

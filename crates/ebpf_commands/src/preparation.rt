@@ -1,19 +1,17 @@
 //! What preparing a file takes: the kernel's types, and descriptors of the file's own maps.
 
-ghost use Rattle.std.specs.Prelude.{◌≡◌, map, option_map, pos, true, Some, IfOk};
+ghost use Rattle.std.specs.Prelude.{◌≡◌, map, option_map, pos, Some, IfOk};
 ghost use Rattle.std.specs.FinMap.{entries};
 ghost use Rattle.std.specs.Map.{keys_of};
-ghost use Rattle.std.specs.Option.{option_copied};
 ghost use Rattle.ebpf_base.specs.Faults.{Gives};
 ghost use Rattle.ebpf_base.specs.Keys.{lent_bytes};
 ghost use Rattle.ebpf_btf.specs.Memory.{is_btf_memory};
-ghost use Rattle.ebpf_object.specs.Steps.{chosen, descriptor_of};
+ghost use Rattle.ebpf_object.specs.Steps.{descriptor_of};
 ghost use Rattle.ebpf_commands.specs.Linked.{kernel_types, numbered_descriptors};
 
 use ebpf_base::{Items, Text};
 use ebpf_btf::{Btf, BtfError, Endianness};
 use ebpf_object::Object;
-use ebpf_object::prepare::Steps;
 use std::alloc::{AllocError, Global};
 
 /// The names of maps with descriptors, 1 and on.
@@ -61,16 +59,4 @@ pub fn map_names(alloc: Global, object: &Object) -> Result<Items<Text>, AllocErr
 {
     let names = object.maps.names(alloc)?;
     copied(alloc, &names)
-}
-
-/// All passes: types where the kernel's are known, these descriptors of maps, externs, calls.
-pub fn all_passes<'a>(types: Option<&'a Btf>, descriptors: &'a [(&'a str, i32)]) -> Steps<'a>
-    ensures { chosen result ≡ record { target = option_copied types.entry; descriptors = Some (map descriptor_of descriptors.now); kernel = Some (option_copied types.entry); externs = true; calls = true } }
-{
-    Steps {
-        target_btf: types,
-        map_fds: Some(descriptors),
-        externs: Some(types),
-        calls: true,
-    }
 }

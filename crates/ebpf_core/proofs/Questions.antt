@@ -4,8 +4,6 @@ use Rattle.std.specs.Prelude.{if◌then◌else◌}
 use Rattle.std.specs.BTreeMap.{BTreeMap, get, is_at}
 use Rattle.std.specs.Map.{lookup}
 use Rattle.std.specs.Ordering.{is_eq, nat_cmp}
-use Rattle.std.specs.declared.cmp.Ordering.{Ordering}
-use Rattle.std.specs.declared.cmp.Ordering.TheVariants.{Less, Equal, Greater}
 use Rattle.std.proofs.lemmas.Map.Lookups.{exact_pairs, exact_unsigned}
 use Rattle.std.proofs.lemmas.Option.{same_Some}
 use Rattle.ebpf_btf.specs.Next.{if_some}
@@ -21,6 +19,7 @@ use Rattle.ebpf_ext.specs.declared.relocation.Relocation.{Relocation}
 use Rattle.ebpf_ext.specs.declared.relocation.RelocationKind.{RelocationKind}
 use Rattle.ebpf_core.specs.AccessStrings.{accessors}
 use Rattle.ebpf_base.specs.Results.{if_ok}
+use Rattle.ebpf_base.proofs.Orderings.{is_equal}
 use Rattle.ebpf_core.specs.Answers.{each, of_types}
 use Rattle.ebpf_core.specs.Questions.{OutcomesAreCached, Question, question_of, question_cmp}
 use Rattle.ebpf_core.specs.Fields.{field_value}
@@ -208,12 +207,7 @@ outcomes_rest_on_questions local target r s outcome same is =
 -- ---- the cached outcomes
 
 pub question_exact : (a b : Question) → is_eq (question_cmp a b) ≡ true → a ≡ b
-question_exact a b e = exact_pairs _ nat_cmp (exact_pairs nat_cmp nat_cmp exact_unsigned exact_unsigned) exact_unsigned a b (equal (question_cmp a b) e)
-  where
-    equal : (o : Ordering) → is_eq o ≡ true → o ≡ Equal
-    equal Less e = cc
-    equal Equal e = refl
-    equal Greater e = cc
+question_exact a b e = exact_pairs _ nat_cmp (exact_pairs nat_cmp nat_cmp exact_unsigned exact_unsigned) exact_unsigned a b (is_equal (question_cmp a b) e)
 
 module _ (local target : TypeInfo) where
   pub none_cached : (cached : BTreeMap Question Outcome) → cached.entries ≡ [] → OutcomesAreCached local target cached

@@ -5,7 +5,7 @@ use Rattle.std.specs.List.{flat_map, list_all, list_any}
 use Rattle.std.specs.Option.{option_map_or}
 use Rattle.std.specs.Result.{result_ok}
 use Rattle.std.specs.Str.{bytes_eq}
-use Rattle.std.proofs.lemmas.Bool.{ltb-true}
+use Rattle.std.proofs.lemmas.Bool.{ltb-true, and_parts}
 use Rattle.std.proofs.lemmas.List.Folds.{list_all-append, list_any-append}
 use Rattle.ebpf_btf.specs.Steps.{resolved, type_at}
 use Rattle.ebpf_base.specs.Results.{if_ok}
@@ -40,10 +40,6 @@ quiet (Ok Other) = true
 quiet (Ok Misfit) = true
 quiet (Ok Fitting) = false
 quiet (Err fault) = false
-
-both_true : (a b : Bool) → (a && b) ≡ true → (a ≡ true) × (b ≡ true)
-both_true true b e = (refl, e)
-both_true false b e = cc
 
 module _ (K : MemberSearch) where
   abbrev at : ViewEntry → Result Role PlaceFault
@@ -186,7 +182,7 @@ module _ (local target : TypeInfo) (name : List ℕ) (local_type : ℕ) where
         let inner : List ViewEntry = deeper (inside + 1) (bits + first.bits) (K.members_of n) in
         let outer : List ViewEntry = flat_view K deeper inside bits ms in
         let all : are_quiet K (inner ++ outer) ≡ true = sym (ap (calm_by first ms) (same ∙ is)) ∙ calm in
-        let parts = both_true (are_quiet K inner) (are_quiet K outer) (sym (list_all-append (λ e. quiet (at K e)) inner outer) ∙ all) in
+        let parts = and_parts (are_quiet K inner) (are_quiet K outer) (sym (list_all-append (λ e. quiet (at K e)) inner outer) ∙ all) in
         ap (misfits first ms) (same ∙ is)
         ∙ list_any-append (λ e. is_misfit (at K e)) inner outer
         ∙ ap (λ b. b || any_misfit K outer) (told m.btf_type n (bits + first.bits) shallow leads parts.0)
@@ -200,7 +196,7 @@ module _ (local target : TypeInfo) (name : List ℕ) (local_type : ℕ) where
         let first : Member = indexed_member id t (number, m) in
         let ms : List Member = members_from id t (number + 1) bms in
         let same : K.role_of inside first ≡ what inside m = known_role local target name local_type inside first in
-        let here = both_true (quiet (K.role_of inside first)) (are_quiet K (rest first ms (K.role_of inside first))) calm in
+        let here = and_parts (quiet (K.role_of inside first)) (are_quiet K (rest first ms (K.role_of inside first))) calm in
         one_told first ms m bms same (quiet_role inside m (sym (ap quiet same) ∙ here.0)) calm (own_told (number + 1) bms)
 
   -- ---- the view of a type

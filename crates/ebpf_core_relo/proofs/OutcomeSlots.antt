@@ -4,6 +4,7 @@ use Rattle.std.specs.Prelude.{◌≢◌, ◌==◌, ◌^◌, if◌then◌else◌,
 use Rattle.std.proofs.lemmas.Bool.{cases_eq, eqb-true}
 use Rattle.std.proofs.lemmas.Nat.{mod-mul-add, mod_below}
 use Rattle.std.proofs.lemmas.Option.{cond_some, same_Some, slice_get_within}
+use Rattle.ebpf_base.proofs.Lists.{set_same, set_other}
 use Rattle.ebpf_btf.specs.Next.{if_some}
 use Rattle.ebpf_core.specs.declared.error.RelocationError.{RelocationError}
 use Rattle.ebpf_core.specs.declared.error.RelocationError.TheVariants.{InvalidInstruction, InvalidInstructionIndex}
@@ -18,18 +19,6 @@ use Rattle.ebpf_parts.specs.Slots.{src_of}
 use Rattle.ebpf_parts.specs.declared.insn.bpf_insn.{bpf_insn}
 
 -- ---- lists and answers
-
-set_same : {X : Type 0} (xs : List X) (i : ℕ) (a : X) → i < length xs → slice_get (slice_set xs i a) i ≡ Some a
-set_same [] i a h = absurd (omega arith)
-set_same (x ∷ xs) zero a h = refl
-set_same (x ∷ xs) (suc i) a h = set_same xs i a (omega arith)
-
-set_other : {X : Type 0} (xs : List X) (i k : ℕ) (a : X) → k ≢ i → slice_get (slice_set xs i a) k ≡ slice_get xs k
-set_other [] i k a h = refl
-set_other (x ∷ xs) zero zero a h = absurd (h refl)
-set_other (x ∷ xs) zero (suc k) a h = refl
-set_other (x ∷ xs) (suc i) zero a h = refl
-set_other (x ∷ xs) (suc i) (suc k) a h = set_other xs i k a (λ e. h (ap suc e))
 
 -- lists of one length have the same places
 same_places : {X : Type 0} (xs ys : List X) (k : ℕ) → length xs ≡ length ys → is_some (slice_get xs k) ≡ is_some (slice_get ys k)

@@ -58,8 +58,3 @@ one_more before after key slots rest sorted is q =
 -- the entries of a map are what is there
 pub all_found : (m : Written) (es : List ((ℕ × ℕ) × List bpf_insn)) → from_entries {R = key_cmp} es ≡ m → (q : ℕ × ℕ) → find key_cmp q es ≡ get m q
 all_found m es is q = sym (get-from_entries key_total es q) ∙ ap (λ x. get x q) is
-
--- what stands where nothing takes its place
-pub stays_there : (o : Option Function) → with_slots None o ≡ o
-stays_there None = refl
-stays_there (Some f) = refl

@@ -1,7 +1,7 @@
 -- How far along a path candidates come: a path that leads somewhere does so with fewer steps.
 use Rattle.std.proofs.Common.{◌≡◌, ℕ, zero, suc, ◌<◌, ◌≤◌, max, ◌⊎◌, inl, inr, Bool, true, false, List, [], ◌∷◌, length, take, Option, Some, None, Result, Ok, Err, refl, sym, ap, ◌∙◌, subst, arith}
 use Rattle.std.specs.Prelude.{◌≢◌, if◌then◌else◌}
-use Rattle.std.proofs.lemmas.Bool.{cases_eq, cases_lt, le-ltb, lt-ltb}
+use Rattle.std.proofs.lemmas.Bool.{cases_eq, cases_lt, lt-ltb}
 use Rattle.ebpf_btf.specs.TypeInfo.{TypeInfo}
 use Rattle.ebpf_places.specs.Places.{root_spot, followed, if_fine, onward, place_of, stepped}
 use Rattle.ebpf_places.specs.declared.fault.PlaceFault.{PlaceFault}
@@ -134,9 +134,3 @@ one_further last id far steps is more =
     let past : last.steps < far = omega arith in
     ap (λ b. if b then record { candidate = Some id; steps = far } else last) (lt-ltb last.steps far past)
     ∙ ap (λ (n : ℕ). let found : Furthest = record { candidate = Some id; steps = n } in found) same
-
--- one that does not
-pub none_further : (last : Furthest) (id far steps : ℕ) → steps ≡ max last.steps far → steps ≤ last.steps → further last id far ≡ last
-none_further last id far steps is less =
-    let past : far ≤ last.steps = omega arith in
-    ap (λ b. if b then record { candidate = Some id; steps = far } else last) (le-ltb last.steps far past)

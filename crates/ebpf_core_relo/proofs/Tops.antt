@@ -3,27 +3,11 @@ use Rattle.std.proofs.Common.{◌≡◌, ℕ, zero, suc, ◌/◌, ◌<◌, ◌�
 use Rattle.std.specs.Prelude.{slice_get}
 use Rattle.std.proofs.Math.Nat.{le-max_left, le-max_right, max-le}
 use Rattle.std.specs.List.Sorted.{IsPartitionPoint, IsPartitionedBy}
-use Rattle.std.proofs.lemmas.Bool.{leb-true, leb-false, lt-leb, le-leb, lt-ltb, le-ltb, cases_lt}
+use Rattle.std.proofs.lemmas.Bool.{leb-true, leb-false, lt-leb, le-leb, lt-ltb, le-ltb, cases_lt, and_left, and_right, and_parts}
 use Rattle.ebpf_core_relo.specs.declared.spans.Span.{Span}
 use Rattle.ebpf_core_relo.specs.Spans.{span_holds, span_at}
 use Rattle.ebpf_core_relo.specs.PrivateContracts.{if_begun}
 use Rattle.ebpf_core_relo.specs.SpanLists.{IsTopped, last_start, last_top, rises, tops}
-
-first : (a b : Bool) → (a && b) ≡ true → a ≡ true
-first true b h = refl
-first false b h = h
-
-second : (a b : Bool) → (a && b) ≡ true → b ≡ true
-second true b h = h
-second false b h = cc
-
-none_by : (a b : Bool) → a ≡ false → (a && b) ≡ false
-none_by true b h = cc
-none_by false b h = refl
-
-none_after : (a b : Bool) → b ≡ false → (a && b) ≡ false
-none_after true b h = h
-none_after false b h = refl
 
 passed : (offset : ℕ) (s : Span) (ss : List Span) → span_holds offset s ≡ false → span_at offset (s ∷ ss) ≡ span_at offset ss
 passed offset s ss misses = rw misses refl
@@ -32,9 +16,9 @@ passed offset s ss misses = rw misses refl
 none_past : (offset place : ℕ) (spans : List Span) → offset < place → rises place spans ≡ true → span_at offset spans ≡ None
 none_past offset place [] lt rising = refl
 none_past offset place (s ∷ ss) lt rising =
-    let begins = leb-true place s.start (first (leb place s.start) (rises s.start ss) rising) in
-    passed offset s ss (none_by (leb s.start offset) (ltb (offset / 8) s.end) (lt-leb s.start offset (omega arith)))
-    ∙ none_past offset s.start ss (omega arith) (second (leb place s.start) (rises s.start ss) rising)
+    let begins = leb-true place s.start (and_parts (leb place s.start) (rises s.start ss) rising).0 in
+    passed offset s ss (and_left (leb s.start offset) (ltb (offset / 8) s.end) (lt-leb s.start offset (omega arith)))
+    ∙ none_past offset s.start ss (omega arith) (and_parts (leb place s.start) (rises s.start ss) rising).1
 
 past_max : (x m e : ℕ) → m ≤ x → x < max m e → x < e
 past_max x m e le lt = elim (cases_lt x e) [
@@ -47,7 +31,7 @@ here_begun offset place s ss lt begun = rw (begun, lt-ltb (offset / 8) s.end lt)
 
 here_later : (offset place : ℕ) (s : Span) (ss : List Span) → rises place (s ∷ ss) ≡ true → leb s.start offset ≡ false → span_at offset (s ∷ ss) ≡ if_begun offset (Some s)
 here_later offset place s ss rising later =
-    rw later (none_past offset s.start ss (leb-false s.start offset later) (second (leb place s.start) (rises s.start ss) rising))
+    rw later (none_past offset s.start ss (leb-false s.start offset later) (and_parts (leb place s.start) (rises s.start ss) rising).1)
 
 -- the span at which the greatest end first passes the offset
 here : (offset place : ℕ) (s : Span) (ss : List Span) → rises place (s ∷ ss) ≡ true → offset / 8 < s.end → span_at offset (s ∷ ss) ≡ if_begun offset (Some s)
@@ -67,8 +51,8 @@ found offset place top (s ∷ ss) zero le rising before at =
     here offset place s ss rising (past_max (offset / 8) top s.end le (at (omega arith)))
 found offset place top (s ∷ ss) (suc i) le rising before at =
     let own : max top s.end ≤ offset / 8 = before 0 (omega arith) in
-    passed offset s ss (none_after (leb s.start offset) (ltb (offset / 8) s.end) (le-ltb (offset / 8) s.end (let end = le-max_right top s.end in omega arith)))
-    ∙ found offset s.start (max top s.end) ss i own (second (leb place s.start) (rises s.start ss) rising)
+    passed offset s ss (and_right (leb s.start offset) (ltb (offset / 8) s.end) (le-ltb (offset / 8) s.end (let end = le-max_right top s.end in omega arith)))
+    ∙ found offset s.start (max top s.end) ss i own (and_parts (leb place s.start) (rises s.start ss) rising).1
     (λ j lt. before (suc j) (omega arith))
     (λ lt. at (omega arith))
 

@@ -1,12 +1,14 @@
 -- One more map among those of which each name is kept once.
 use Rattle.std.proofs.Common.{◌≡◌, ℕ, zero, suc, ◌+◌, ◌<◌, Bool, true, false, cond, List, [], ◌∷◌, ◌++◌, length, Option, Some, None, refl, sym, ap, ◌∙◌, arith, length-append, length-set}
-use Rattle.std.specs.Prelude.{◌≢◌, MatchOption, Result, Ok, Err, slice_get, slice_set, if◌then◌else◌}
+use Rattle.std.specs.Prelude.{MatchOption, Result, Ok, Err, slice_get, slice_set, if◌then◌else◌}
 use Rattle.std.specs.BTreeMap.{get as at_key, is_at, Updates}
 use Rattle.std.specs.FinMap.{get, insert, empty, get-insert, get-empty}
 use Rattle.std.specs.Ordering.{eq_by_cmp, nat_cmp}
 use Rattle.std.proofs.lemmas.Cmp.{eq_by_cmp_equiv}
 use Rattle.std.proofs.lemmas.Option.{slice_get_within}
 use Rattle.ebpf_base.proofs.TextMaps.{text_exact}
+use Rattle.ebpf_base.proofs.Orderings.{is_equal}
+use Rattle.ebpf_base.proofs.Lists.{there_is, set_same, set_other, get_end}
 use Rattle.ebpf_base.specs.Keys.{text_cmp, text_total}
 use Rattle.ebpf_base.specs.Results.{if_ok}
 use Rattle.ebpf_btf.specs.Next.{if_some}
@@ -23,41 +25,19 @@ use Rattle.ebpf_declarations.specs.Maps.{variable, declared, struct_definitions}
 use Rattle.ebpf_declarations.proofs.KnownStructs.{equal_numbers}
 use Rattle.ebpf_declarations.specs.declared.definitions.MapDefinitions.{MapDefinitions}
 use Rattle.ebpf_declarations.specs.declared.distinct_maps.DistinctMaps.{DistinctMaps}
-use Rattle.ebpf_declarations.proofs.NamedSections.{equal}
 use Rattle.ebpf_parts.specs.declared.reading.Reading.{Reading}
 
 -- ---- lists
-
-there : {X : Type 0} (xs : List X) (i : ℕ) → i < length xs → (x : X) × (slice_get xs i ≡ Some x)
-there [] i h = absurd (omega arith)
-there (x ∷ xs) zero h = (x, refl)
-there (x ∷ xs) (suc i) h = there xs i (omega arith)
-
-set_same : {X : Type 0} (xs : List X) (i : ℕ) (a : X) → i < length xs → slice_get (slice_set xs i a) i ≡ Some a
-set_same [] i a h = absurd (omega arith)
-set_same (x ∷ xs) zero a h = refl
-set_same (x ∷ xs) (suc i) a h = set_same xs i a (omega arith)
-
-set_other : {X : Type 0} (xs : List X) (i k : ℕ) (a : X) → k ≢ i → slice_get (slice_set xs i a) k ≡ slice_get xs k
-set_other [] i k a h = refl
-set_other (x ∷ xs) zero zero a h = absurd (h refl)
-set_other (x ∷ xs) zero (suc k) a h = refl
-set_other (x ∷ xs) (suc i) zero a h = refl
-set_other (x ∷ xs) (suc i) (suc k) a h = set_other xs i k a (λ e. h (ap suc e))
 
 before_end : {X : Type 0} (xs ys : List X) (k : ℕ) → k < length xs → slice_get (xs ++ ys) k ≡ slice_get xs k
 before_end [] ys k l = absurd (omega arith)
 before_end (x ∷ xs) ys zero l = refl
 before_end (x ∷ xs) ys (suc k) l = before_end xs ys k (omega arith)
 
-at_end : {X : Type 0} (xs : List X) (x : X) → slice_get (xs ++ x ∷ []) (length xs) ≡ Some x
-at_end [] x = refl
-at_end (y ∷ xs) x = at_end xs x
-
 -- ---- names
 
 pub at_name : (q name : List ℕ) → eq_by_cmp text_cmp q name ≡ true → q ≡ name
-at_name q name is = text_exact q name (equal _ is)
+at_name q name is = text_exact q name (is_equal _ is)
 
 pub same_name : (q : List ℕ) → eq_by_cmp text_cmp q q ≡ true
 same_name q = (eq_by_cmp_equiv text_total).refl q
@@ -104,7 +84,7 @@ module _ (kept : DistinctMaps) (named : AreNamed kept) (name : List ℕ) (d : Ma
   put_there after Refused Was put = by_place (slice_get kept.last n) refl put
     where
       by_place : (o : Option MapDefinitions) → slice_get kept.last n ≡ o → MatchOption o (Refused × (after ≡ kept.last)) (λ before. Was before × (after ≡ slice_set kept.last n d)) → after ≡ slice_set kept.last n d
-      by_place None is put = let here = there kept.last n within in let wrong : None ≡ Some here.0 = sym is ∙ here.1 in absurd (cc)
+      by_place None is put = let here = there_is kept.last n within in let wrong : None ≡ Some here.0 = sym is ∙ here.1 in absurd (cc)
       by_place (Some e) is put = put.1
 
   pub set_with : (after : DistinctMaps) → after.names ≡ kept.names → after.last ≡ slice_set kept.last n d → after.numbers ≡ kept.numbers → after.offsets ≡ kept.offsets → IsWith kept name d after
@@ -159,7 +139,7 @@ module _ (kept : DistinctMaps) (named : AreNamed kept) (name : List ℕ) (d : Ma
       looked : (q : List ℕ) (b : Bool) → eq_by_cmp text_cmp q name ≡ b → if_some (get (insert kept.numbers name (length kept.names)) q) (λ m. slice_get (kept.last ++ d ∷ []) m) None ≡ (if b then Some d else last_of kept q)
       looked q true same =
           ap (λ o. if_some o (λ m. slice_get (kept.last ++ d ∷ []) m) None) (got q ∙ ap (λ b. cond b (Some (length kept.names)) (get kept.numbers q)) same)
-          ∙ ap (slice_get (kept.last ++ d ∷ [])) named.defined ∙ at_end kept.last d
+          ∙ ap (slice_get (kept.last ++ d ∷ [])) named.defined ∙ get_end kept.last d
       looked q false other =
           ap (λ o. if_some o (λ m. slice_get (kept.last ++ d ∷ []) m) None) (got q ∙ ap (λ b. cond b (Some (length kept.names)) (get kept.numbers q)) other)
           ∙ by_number (get kept.numbers q) refl
@@ -172,7 +152,7 @@ module _ (kept : DistinctMaps) (named : AreNamed kept) (name : List ℕ) (d : Ma
       numbered q m true same at =
           let value : Some (length kept.names) ≡ Some m = sym (ap (λ b. cond b (Some (length kept.names)) (get kept.numbers q)) same) ∙ at in
           let place : length kept.names ≡ m = cc in
-          ap (slice_get (kept.names ++ name ∷ [])) (sym place) ∙ at_end kept.names name ∙ ap Some (sym (at_name q name same))
+          ap (slice_get (kept.names ++ name ∷ [])) (sym place) ∙ get_end kept.names name ∙ ap Some (sym (at_name q name same))
       numbered q m false other at =
           let is : get kept.numbers q ≡ Some m = sym (ap (λ b. cond b (Some (length kept.names)) (get kept.numbers q)) other) ∙ at in
           before_end kept.names (name ∷ []) m (slice_get_within kept.names m q (named.is q m is)) ∙ named.is q m is
@@ -193,9 +173,6 @@ pub record IsSame (before after : DistinctMaps) : Type 0 where
   pub names : after.names ≡ before.names
   pub last : after.last ≡ before.last
   pub numbers : after.numbers ≡ before.numbers
-
-pub none_remembered : (info : TypeInfo) (none : DistinctMaps) → ((offset : ℕ) → at_key nat_cmp none.offsets offset ≡ None) → RemembersNames info none
-none_remembered info none empty = record { at = λ offset n at. let wrong : None ≡ Some n = sym (empty offset) ∙ at in absurd (cc) }
 
 pub still_remembered : (info : TypeInfo) (before after : DistinctMaps) (name : List ℕ) (d : MapDefinitions) → RemembersNames info before → IsWith before name d after → RemembersNames info after
 still_remembered info before after name d remembers more = record {

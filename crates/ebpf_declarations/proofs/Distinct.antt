@@ -91,18 +91,6 @@ missing_fault section name d (Some y) = refl
 
 -- ---- the names
 
-among_more : (q name : List ℕ) (names : List (List ℕ)) → is_name_among q (names ++ (name ∷ [])) ≡ (if is_name_among q names then true else eq_by_cmp text_cmp q name)
-among_more q name [] = by_test (eq_by_cmp text_cmp q name)
-  where
-    by_test : (b : Bool) → (if b then true else false) ≡ b
-    by_test true = refl
-    by_test false = refl
-among_more q name (n ∷ names) = ap (λ b. if eq_by_cmp text_cmp q n then true else b) (among_more q name names) ∙ by_test (eq_by_cmp text_cmp q n)
-  where
-    by_test : (b : Bool) → (if b then true else (if is_name_among q names then true else eq_by_cmp text_cmp q name)) ≡ (if (if b then true else is_name_among q names) then true else eq_by_cmp text_cmp q name)
-    by_test true = refl
-    by_test false = refl
-
 -- the fault of a name that is there already
 among_fault : {E : Type 0} (f : List ℕ → Option E) (name : List ℕ) (names : List (List ℕ)) → is_name_among name names ≡ true → first_some f names ≡ or_else (first_some f names) (f name)
 among_fault f name [] there = absurd (cc)

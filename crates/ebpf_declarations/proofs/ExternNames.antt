@@ -14,21 +14,20 @@ use Rattle.ebpf_base.specs.Keyed.{put_all, last_at}
 use Rattle.ebpf_base.specs.Keys.{text_cmp, text_total}
 use Rattle.ebpf_base.specs.Results.{if_ok}
 use Rattle.ebpf_btf.specs.Next.{if_some}
-use Rattle.ebpf_btf.specs.Steps.{type_at, resolved}
+use Rattle.ebpf_btf.specs.Steps.{resolved}
 use Rattle.ebpf_btf.specs.Strings.{text_at}
 use Rattle.ebpf_btf.specs.TypeInfo.{TypeInfo}
-use Rattle.ebpf_btf.specs.Types.{name_off}
 use Rattle.ebpf_btf.specs.declared.error.BtfError.{BtfError}
-use Rattle.ebpf_btf.specs.declared.error.BtfError.TheVariants.{InvalidDatasec, InvalidSymbolName}
+use Rattle.ebpf_btf.specs.declared.error.BtfError.TheVariants.{InvalidSymbolName}
 use Rattle.ebpf_btf.specs.declared.members.DataSecEntry.{DataSecEntry}
 use Rattle.ebpf_btf.specs.declared.types.BtfType.{BtfType}
 use Rattle.ebpf_declarations.specs.Attempts.{given}
-use Rattle.ebpf_declarations.specs.ExternNames.{weak_at, named, all_named, IsNamed, put_before, NamesArePut}
-use Rattle.ebpf_declarations.specs.Externs.{extern_of, func_or_var_type, new_extern}
+use Rattle.ebpf_declarations.specs.ExternNames.{named, all_named, IsNamed, put_before, NamesArePut}
+use Rattle.ebpf_declarations.specs.Externs.{new_extern}
 use Rattle.ebpf_declarations.proofs.KnownStructs.{equal_numbers}
 use Rattle.std.proofs.lemmas.Grind.{flat_map-append}
 use Rattle.ebpf_base.proofs.Faults.{or_else-None, or_else-assoc, first_some-append}
-use Rattle.ebpf_declarations.proofs.NamedSections.{equal}
+use Rattle.ebpf_base.proofs.Orderings.{is_equal}
 use Rattle.ebpf_model.specs.declared.extern_desc.ExternDesc.{ExternDesc}
 
 -- ---- one extern
@@ -64,32 +63,6 @@ module _ {X : Type 0} (weak : List ℕ → Option Bool) (f : List ℕ → Bool �
 module _ (info : TypeInfo) (weak : List ℕ → Option Bool) (entry : DataSecEntry) (t : BtfType) (id : ℕ) where
   abbrev made : List ℕ → Bool → Result (List ℕ × ExternDesc) BtfError
   made name w = if_ok (resolved info.types id) (λ r. Ok (name, new_extern entry.btf_type t w r))
-
-  begins : type_at info.types entry.btf_type ≡ Ok t → func_or_var_type t ≡ Some id → extern_of info weak entry ≡ followed (text_at info.strings (name_off t)) weak made
-  unfolding extern_of
-  begins here holds =
-      ap (λ x. if_ok x (λ t. if_some (func_or_var_type t) (λ id. if_ok (text_at info.strings (name_off t)) (λ name. if_some (weak name) (λ is_weak. if_ok (resolved info.types id) (λ r. Ok (name, new_extern entry.btf_type t is_weak r))) (Err InvalidSymbolName))) (Err InvalidDatasec))) here
-      ∙ ap (λ o. if_some o (λ id. if_ok (text_at info.strings (name_off t)) (λ name. if_some (weak name) (λ is_weak. if_ok (resolved info.types id) (λ r. Ok (name, new_extern entry.btf_type t is_weak r))) (Err InvalidSymbolName))) (Err InvalidDatasec)) holds
-
-  pub one_extern : (w : Bool) (r : ℕ) → type_at info.types entry.btf_type ≡ Ok t → func_or_var_type t ≡ Some id → weak_at info weak (name_off t) ≡ Ok w → resolved info.types id ≡ Ok r
-      → IsNamed info (extern_of info weak entry) (name_off t) (new_extern entry.btf_type t w r)
-  unfolding named
-  one_extern w r here holds is to =
-      let p : (n : List ℕ) × (text_at info.strings (name_off t) ≡ Ok n) = where_read weak made (text_at info.strings (name_off t)) w is in (
-        begins here holds ∙ where_weak weak made (text_at info.strings (name_off t)) w is
-            ∙ ap (λ x. if_ok (text_at info.strings (name_off t)) (λ name. if_ok x (λ r. Ok (name, new_extern entry.btf_type t w r)))) to,
-        ap (λ x. fault_of {X = List ℕ × ExternDesc} (if_ok x (λ name. Ok (name, new_extern entry.btf_type t w r)))) p.1,
-      )
-
-  pub no_symbol : (e : BtfError) → type_at info.types entry.btf_type ≡ Ok t → func_or_var_type t ≡ Some id → weak_at info weak (name_off t) ≡ Err e → extern_of info weak entry ≡ Err e
-  no_symbol e here holds is = begins here holds ∙ where_fault weak made (text_at info.strings (name_off t)) e is
-
-  pub unresolved : (w : Bool) (e : BtfError) → type_at info.types entry.btf_type ≡ Ok t → func_or_var_type t ≡ Some id → weak_at info weak (name_off t) ≡ Ok w → resolved info.types id ≡ Err e → extern_of info weak entry ≡ Err e
-  unresolved w e here holds is to =
-      let p : (n : List ℕ) × (text_at info.strings (name_off t) ≡ Ok n) = where_read weak made (text_at info.strings (name_off t)) w is in
-      begins here holds ∙ where_weak weak made (text_at info.strings (name_off t)) w is
-      ∙ ap (λ x. if_ok x (λ n. made n w)) p.1
-      ∙ ap (λ x. if_ok x (λ r. Ok (p.0, new_extern entry.btf_type t w r))) to
 
 -- ---- one more of them
 
@@ -140,21 +113,17 @@ put_first {X = X} name d rest = same_map text_total text_exact _ _ (λ q. by_the
     by_there q None none = after q ∙ by_test (eq_by_cmp text_cmp q name) refl ∙ sym (get-insert text_total (put_all empty rest) name d q)
       where
         by_test : (b : Bool) → eq_by_cmp text_cmp q name ≡ b → or_else (get (put_all {R = text_cmp} empty rest) q) (if b then Some d else None) ≡ cond (eq_by_cmp text_cmp q name) (Some d) (get (put_all {R = text_cmp} empty rest) q)
-        by_test true at = ap (λ x. or_else x (Some d)) (ap (get (put_all {R = text_cmp} empty rest)) (text_exact q name (equal _ at)) ∙ none) ∙ sym (ap (λ b. cond b (Some d) (get (put_all {R = text_cmp} empty rest) q)) at)
+        by_test true at = ap (λ x. or_else x (Some d)) (ap (get (put_all {R = text_cmp} empty rest)) (text_exact q name (is_equal _ at)) ∙ none) ∙ sym (ap (λ b. cond b (Some d) (get (put_all {R = text_cmp} empty rest) q)) at)
         by_test false at = or_else-None (get (put_all {R = text_cmp} empty rest) q) ∙ sym (ap (λ b. cond b (Some d) (get (put_all {R = text_cmp} empty rest) q)) at)
     by_there q (Some v) some = after q ∙ by_test (eq_by_cmp text_cmp q name) refl
       where
         by_test : (b : Bool) → eq_by_cmp text_cmp q name ≡ b → or_else (get (put_all {R = text_cmp} empty rest) q) (if b then Some d else None) ≡ get (put_all {R = text_cmp} empty rest) q
         by_test true at =
-            let there : get (put_all {R = text_cmp} empty rest) q ≡ Some v = ap (get (put_all {R = text_cmp} empty rest)) (text_exact q name (equal _ at)) ∙ some in
+            let there : get (put_all {R = text_cmp} empty rest) q ≡ Some v = ap (get (put_all {R = text_cmp} empty rest)) (text_exact q name (is_equal _ at)) ∙ some in
             ap (λ x. or_else x (Some d)) there ∙ sym there
         by_test false at = or_else-None (get (put_all {R = text_cmp} empty rest) q)
 
 -- ---- what is there already
-
-copied_some : (r : Option (Bor Bool)) → is_some (option_copied r) ≡ is_some r
-copied_some None = refl
-copied_some (Some b) = refl
 
 pub already : (info : TypeInfo) (externs : FinMap text_cmp ExternDesc) (put : BTreeMap ℕ Bool) (name : ℕ) (d : ExternDesc) (r : Option (Bor Bool)) → NamesArePut info externs put
     → option_copied r ≡ at_key nat_cmp put name → is_some r ≡ true → (text : List ℕ) → text_at info.strings name ≡ Ok text → externs ≡ put_before externs text d
@@ -190,9 +159,6 @@ module _ (externs : FinMap text_cmp ExternDesc) (text : List ℕ) (d : ExternDes
       by_had : (o : Option ExternDesc) → (e : ExternDesc) × (get (if_some o (λ _. externs) (insert externs text d)) key ≡ Some e)
       by_had None = let p : (e : ExternDesc) × (cond (eq_by_cmp text_cmp key text) (Some d) (get externs key) ≡ Some e) = by_test (eq_by_cmp text_cmp key text) in (p.0, get-insert text_total externs text d key ∙ p.1)
       by_had (Some e) = (v, there)
-
-pub none_put : (info : TypeInfo) (externs : FinMap text_cmp ExternDesc) (put : BTreeMap ℕ Bool) → ((offset : ℕ) → at_key nat_cmp put offset ≡ None) → NamesArePut info externs put
-none_put info externs put none = record { at = λ offset b there. let wrong : None ≡ Some b = sym (none offset) ∙ there in absurd (cc) }
 
 pub put_more : (info : TypeInfo) (old new : FinMap text_cmp ExternDesc) (put more : BTreeMap ℕ Bool) (name : ℕ) (text : List ℕ) (d : ExternDesc) → NamesArePut info old put
     → text_at info.strings name ≡ Ok text → new ≡ put_before old text d → Updates nat_cmp put more name (Some true) → NamesArePut info new more

@@ -1,4 +1,3 @@
-pub mod Beginnings
 pub mod LaterMembers
 pub mod AllGiven
 pub mod OnlyItem

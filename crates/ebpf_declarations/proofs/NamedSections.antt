@@ -5,15 +5,14 @@ use Rattle.std.specs.Bool.{MatchBool}
 use Rattle.std.specs.Cmp.{eq_by_cmp_equiv}
 use Rattle.std.specs.FinMap.{FinMap, get, insert, empty, get-insert, get-empty}
 use Rattle.std.specs.List.{flat_map, position}
-use Rattle.std.specs.Ordering.{eq_by_cmp, is_eq}
+use Rattle.std.specs.Ordering.{eq_by_cmp}
 use Rattle.std.specs.Result.{is_err}
 use Rattle.std.specs.Str.{bytes_eq}
-use Rattle.std.specs.declared.cmp.Ordering.{Ordering}
-use Rattle.std.specs.declared.cmp.Ordering.TheVariants.{Less, Equal, Greater}
 use Rattle.std.proofs.lemmas.Grind.{flat_map-append}
 use Rattle.std.proofs.lemmas.Slice.Eq.{bytes_eq-Decides}
 use Rattle.ebpf_base.proofs.Faults.{or_else-None, or_else-assoc, first_some-append}
-use Rattle.ebpf_base.proofs.TextMaps.{text_exact}
+use Rattle.ebpf_base.proofs.TextMaps.{text_exact, same_tests}
+use Rattle.ebpf_base.proofs.Orderings.{is_equal}
 use Rattle.ebpf_base.specs.Faults.{first_some, or_else, fault_of}
 use Rattle.ebpf_base.specs.Keys.{text_cmp, text_total}
 use Rattle.ebpf_base.specs.Results.{if_ok}
@@ -34,27 +33,6 @@ use Rattle.ebpf_parts.specs.declared.error.ParseError.TheVariants as errors
 use Rattle.ebpf_parts.specs.declared.reading.Reading.{Reading}
 
 -- ---- names
-
-pub equal : (r : Ordering) → is_eq r ≡ true → r ≡ Equal
-equal Less e = cc
-equal Equal e = refl
-equal Greater e = cc
-
--- two tests of one thing
-same_tests : (q name : List ℕ) → eq_by_cmp text_cmp q name ≡ bytes_eq name q
-same_tests q name = by_both (eq_by_cmp text_cmp q name) (bytes_eq name q) refl refl
-  where
-    by_both : (a b : Bool) → eq_by_cmp text_cmp q name ≡ a → bytes_eq name q ≡ b → a ≡ b
-    by_both true true p r = refl
-    by_both false false p r = refl
-    by_both true false p r =
-        let same : name ≡ q = sym (text_exact q name (equal _ p)) in
-        let yes : bytes_eq name q ≡ true = (bytes_eq-Decides name q).1 same in
-        cc
-    by_both false true p r =
-        let same : name ≡ q = (bytes_eq-Decides name q).0 r in
-        let yes : eq_by_cmp text_cmp q name ≡ true = ap (λ n. eq_by_cmp text_cmp q n) same ∙ (eq_by_cmp_equiv text_total).refl q in
-        cc
 
 module _ (m : FinMap text_cmp (List ℕ)) (name : List ℕ) (id : ℕ) (q ids : List ℕ) where
   abbrev Found : Bool → Type 0
@@ -113,7 +91,7 @@ wanted_more longest more m n name before up here is = record { is = λ q ids at.
   where
     step : (q ids : List ℕ) (b : Bool) → eq_by_cmp text_cmp q name ≡ b → cond (eq_by_cmp text_cmp q name) (Some []) (get m q) ≡ Some ids → (ids ≡ []) × (length q ≤ more)
     step q ids true p at =
-        let same : q ≡ name = text_exact q name (equal _ p) in
+        let same : q ≡ name = text_exact q name (is_equal _ p) in
         let value : Some [] ≡ Some ids = sym (ap (λ b. cond b (Some []) (get m q)) p) ∙ at in
         (cc, omega (arith, ap length same))
     step q ids false p at =

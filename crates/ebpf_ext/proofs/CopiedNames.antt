@@ -1,7 +1,7 @@
 -- Names of sections that are copied: one more, and the sections with them.
-use Rattle.std.proofs.Common.{◌≡◌, ℕ, zero, suc, ◌+◌, ◌<◌, ◌≤◌, min, not, Bool, true, false, cond, List, [], ◌∷◌, ◌++◌, length, length-append, take, drop, nat_lt, set, get_or, Option, Some, None, Ok, refl, sym, ap, subst, ◌∙◌, arith, ⊎_elim}
+use Rattle.std.proofs.Common.{◌≡◌, ℕ, zero, suc, ◌+◌, ◌<◌, ◌≤◌, not, Bool, true, false, cond, List, [], ◌∷◌, ◌++◌, length, length-append, take, drop, nat_lt, set, get_or, Option, Some, None, Ok, refl, sym, ap, subst, ◌∙◌, arith, ⊎_elim}
 use Rattle.std.specs.Prelude.{◌==◌, option_map}
-use Rattle.std.specs.List.{position, position_or_len}
+use Rattle.std.specs.List.{position}
 use Rattle.std.specs.FinMap.{empty}
 use Rattle.std.specs.Str.Lossy.{utf8_lossy}
 use Rattle.std.proofs.Math.Seq.{drop-append_seam}
@@ -10,14 +10,12 @@ use Rattle.std.proofs.lemmas.Bool.Decides.{nat_tests}
 use Rattle.std.proofs.lemmas.Slice.Zip.{AllZip-long, all_zipped_more}
 use Rattle.std.proofs.lemmas.List.{drop_all, drop-append-le, length-take, take-append-drop, take-append-le, take_more}
 use Rattle.ebpf_base.specs.Keyed.{put_all}
+use Rattle.ebpf_base.proofs.ZeroBytes.{front, front_take}
 use Rattle.ebpf_btf.specs.Strings.{before_zero, text_at, text_or_fault}
 use Rattle.ebpf_ext.specs.CopiedNames.{with_offsets, AreCopied, IsCopied}
 use Rattle.ebpf_ext.specs.SectionNames.{by_offsets, section_with_name, sections_with_names}
 
 -- ---- the first zero byte
-
-abbrev front : List ℕ → ℕ
-front xs = position_or_len (λ b. b == 0) xs
 
 found_at : (xs : List ℕ) (n : ℕ) → position (λ b. b == 0) xs ≡ Some n → (front xs ≡ n) × (n < length xs)
 found_at xs n found = by_test (nat_lt (front xs) (length xs)) refl found
@@ -42,15 +40,6 @@ front_more (x ∷ xs) ys inside = by_first (front_more xs ys) (not (x == 0)) ins
         → cond b (1 + front (xs ++ ys)) 0 ≡ cond b (1 + front xs) 0
     by_first rest true less = ap (λ n. 1 + n) (rest (omega arith))
     by_first rest false less = refl
-
-front_take : (k : ℕ) (xs : List ℕ) → front (take k xs) ≡ min k (front xs)
-front_take zero xs = omega arith
-front_take (suc k) [] = omega arith
-front_take (suc k) (x ∷ xs) = by_first (not (x == 0)) (front_take k xs)
-  where
-    by_first : (b : Bool) → front (take k xs) ≡ min k (front xs) → cond b (1 + front (take k xs)) 0 ≡ min (suc k) (cond b (1 + front xs) 0)
-    by_first true rest = omega arith
-    by_first false rest = omega arith
 
 -- ---- the bytes before it, and the text
 

@@ -50,16 +50,6 @@ section_advances {S} o bytes least size end records offset found is = by_fault (
     by_fault (Some e) fault same = cc
     by_fault None clear same = by_records (records offset) clear same
 
--- the fault of a section's head is that of reading it
-pub head_cut : {S : Type 0} (o : Endianness) (bytes : List ℕ) (least size end offset : ℕ) (records : ℕ → Result S BtfError) (e : BtfError)
-    → Some e ≡ info_sec_fault o bytes least size offset end → MatchBool (is_btf_memory e) ⊤ (checked_section o bytes least size end records offset ≡ Err e)
-unfolding checked_section
-head_cut {S} o bytes least size end offset records e is = by_memory (is_btf_memory e) (rw (sym is) refl)
-  where
-    by_memory : (b : Bool) → checked_section o bytes least size end records offset ≡ Err e → MatchBool b ⊤ (checked_section o bytes least size end records offset ≡ Err e)
-    by_memory true cut = tt
-    by_memory false cut = cut
-
 -- a higher bound on how many they are changes nothing
 enough : {S : Type 0} (m n : ℕ) (read : ℕ → Result (S × ℕ) BtfError) (offset end : ℕ) → Advances read end → offset ≤ end → end - offset ≤ m → end - offset ≤ n
     → sections_from m read offset end ≡ sections_from n read offset end

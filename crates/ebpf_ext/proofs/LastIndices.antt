@@ -7,7 +7,8 @@ use Rattle.std.specs.List.{position}
 use Rattle.std.specs.Ordering.{eq_by_cmp}
 use Rattle.std.specs.Str.{bytes_eq}
 use Rattle.std.proofs.lemmas.Slice.Eq.{bytes_eq-Decides}
-use Rattle.ebpf_base.proofs.TextMaps.{text_exact}
+use Rattle.ebpf_base.proofs.TextMaps.{text_exact, same_tests}
+use Rattle.ebpf_base.proofs.Orderings.{is_equal}
 use Rattle.ebpf_base.specs.Faults.{fault_of}
 use Rattle.ebpf_base.specs.Keyed.{last_at}
 use Rattle.ebpf_base.specs.Keys.{text_cmp, text_total}
@@ -18,7 +19,7 @@ use Rattle.ebpf_btf.specs.Strings.{is_text, text_at}
 use Rattle.ebpf_btf.specs.declared.error.BtfError.{BtfError}
 use Rattle.ebpf_ext.specs.SectionNames.{by_offsets, sections_with_names}
 use Rattle.ebpf_ext.specs.PrivateContracts.{with_index, section_at, IsIndexSet, AreLastIndices, AreUnset, NoneLonger}
-use Rattle.ebpf_ext.proofs.SectionNames.{equal, from_all, one_last, same_tests}
+use Rattle.ebpf_ext.proofs.SectionNames.{from_all, one_last}
 
 -- ---- names that are wanted
 
@@ -32,7 +33,7 @@ unset_more longest more m n name before up here is = record { is = λ q p at. st
   where
     step : (q : List ℕ) (p : Option ℕ) (b : Bool) → eq_by_cmp text_cmp q name ≡ b → cond (eq_by_cmp text_cmp q name) (Some None) (get m q) ≡ Some p → (p ≡ None) × (length q ≤ more)
     step q p true t at =
-        let same : q ≡ name = text_exact q name (equal _ t) in
+        let same : q ≡ name = text_exact q name (is_equal _ t) in
         let value : Some None ≡ Some p = sym (ap (λ b. cond b (Some None) (get m q)) t) ∙ at in
         (cc, omega (arith, ap length same))
     step q p false t at =

@@ -1,44 +1,17 @@
 -- Sections by the names at their offsets: one more, and the last of a name.
-use Rattle.std.proofs.Common.{◌≡◌, ℕ, ◌+◌, ◌<◌, ◌≤◌, Bool, true, false, List, [], ◌∷◌, ◌++◌, length, drop, append_assoc, Option, Some, None, Result, Ok, Err, refl, sym, ap, ◌∙◌}
+use Rattle.std.proofs.Common.{◌≡◌, ℕ, ◌+◌, ◌<◌, ◌≤◌, List, [], ◌∷◌, ◌++◌, length, drop, append_assoc, Option, Some, None, Result, Ok, Err, refl, sym, ap, ◌∙◌}
 use Rattle.std.specs.Prelude.{if◌then◌else◌, slice_index_or}
-use Rattle.std.specs.Cmp.{eq_by_cmp_equiv}
 use Rattle.std.specs.FinMap.{empty, get, get-empty, insert}
-use Rattle.std.specs.Ordering.{eq_by_cmp, is_eq}
-use Rattle.std.specs.Str.{bytes_eq}
-use Rattle.std.specs.declared.cmp.Ordering.{Ordering}
-use Rattle.std.specs.declared.cmp.Ordering.TheVariants.{Less, Equal, Greater}
-use Rattle.std.proofs.lemmas.Slice.Eq.{bytes_eq-Decides}
 use Rattle.ebpf_base.proofs.Keyed.{later_text_stands, put_all-append}
-use Rattle.ebpf_base.proofs.TextMaps.{text_exact}
+use Rattle.ebpf_base.proofs.TextMaps.{same_tests}
 use Rattle.ebpf_base.proofs.Walks.{rest_more, rest_none}
 use Rattle.ebpf_base.specs.Keyed.{last_at, put_all}
-use Rattle.ebpf_base.specs.Keys.{text_cmp, text_total}
+use Rattle.ebpf_base.specs.Keys.{text_cmp}
 use Rattle.ebpf_btf.specs.Strings.{is_text, text_at}
 use Rattle.ebpf_btf.specs.declared.error.BtfError.{BtfError}
 use Rattle.ebpf_ext.specs.SectionNames.{by_offsets, section_with_name, sections_with_names}
 
 -- ---- names
-
-pub equal : (r : Ordering) → is_eq r ≡ true → r ≡ Equal
-equal Less e = cc
-equal Equal e = refl
-equal Greater e = cc
-
--- two tests of one thing
-pub same_tests : (q name : List ℕ) → eq_by_cmp text_cmp q name ≡ bytes_eq name q
-same_tests q name = by_both (eq_by_cmp text_cmp q name) (bytes_eq name q) refl refl
-  where
-    by_both : (a b : Bool) → eq_by_cmp text_cmp q name ≡ a → bytes_eq name q ≡ b → a ≡ b
-    by_both true true p r = refl
-    by_both false false p r = refl
-    by_both true false p r =
-        let same : name ≡ q = sym (text_exact q name (equal _ p)) in
-        let yes : bytes_eq name q ≡ true = (bytes_eq-Decides name q).1 same in
-        cc
-    by_both false true p r =
-        let same : name ≡ q = (bytes_eq-Decides name q).0 r in
-        let yes : eq_by_cmp text_cmp q name ≡ true = ap (λ n. eq_by_cmp text_cmp q n) same ∙ (eq_by_cmp_equiv text_total).refl q in
-        cc
 
 -- ---- what is left from an index on
 

@@ -9,12 +9,11 @@ ghost use Rattle.ebpf_initial_slots.specs.InitialSlotMemory.{is_initial_slot_mem
 ghost use Rattle.ebpf_initial_slots.specs.InitialSlots.{by_map_and_index, holds_slot, index_from, initial_slot, slot_index, slots_fault, slots_in_order, slots_put};
 ghost use Rattle.ebpf_initial_slots.specs.PrivateContracts.{with_slot_in};
 
-use crate::by_number::ByNumber;
 use crate::error::InitialSlotError;
 use crate::slot::InitialSlot;
 use crate::target::initial_target;
 use crate::variables::MapVariable;
-use ebpf_base::{ByName, Items};
+use ebpf_base::{ByName, ByNumber, Items};
 use ebpf_elf::{ElfRelocation, Relocations};
 use ebpf_object::Object;
 use std::alloc::{AllocError, Global};

@@ -1,7 +1,6 @@
 //! The initial values of maps of maps and of arrays of programs: which maps and programs stand in them before anything runs.
 #![tactic(auto)]
 
-mod by_number;
 mod error;
 mod gather;
 pub mod laws;

@@ -1,7 +1,7 @@
 -- The reports of programs, from their maps and the linked object.
-use Rattle.std.proofs.Common.{◌≡◌, ◌⊎◌, inl, inr, ℕ, Bool, true, false, ◌||◌, List, [], ◌∷◌, ◌++◌, map, All, refl, sym, ap, ◌∙◌, subst, Some, None, Option}
+use Rattle.std.proofs.Common.{◌≡◌, ◌⊎◌, inl, inr, ℕ, true, List, [], ◌∷◌, ◌++◌, map, All, refl, sym, ap, ◌∙◌, subst, Some, None, Option}
 use Rattle.std.proofs.lemmas.List.{append_assoc}
-use Rattle.std.specs.Prelude.{MatchBool}
+use Rattle.std.proofs.lemmas.Bool.{or_left, or_right, MatchBool-at_true}
 use Rattle.std.specs.Cmp.{eq_by_cmp_equiv}
 use Rattle.std.specs.FinMap.{FinMap, get}
 use Rattle.std.specs.List.{list_any}
@@ -29,27 +29,16 @@ abbrev pub EachLinked : Object → Object → List ProgramValue → Type 0
 EachLinked o linked [] = Unit {0}
 EachLinked o linked (p ∷ ps) = ((g : Function) × (get linked.functions (key_of p) ≡ Some g) × IsLinked (linkable o) (key_of p) g) × EachLinked o linked ps
 
-any_later : (b more : Bool) → more ≡ true → (b || more) ≡ true
-any_later true more is = refl
-any_later false more is = is
-
-any_first : (b more : Bool) → b ≡ true → (b || more) ≡ true
-any_first b more is = ap (λ (x : Bool). x || more) is
-
 among : (before : List ProgramValue) (p : ProgramValue) (behind : List ProgramValue) → is_program_key (before ++ p ∷ behind) (key_of p) ≡ true
-among [] p behind = any_first (eq_by_cmp key_cmp (key_of p) (key_of p)) (is_program_key behind (key_of p)) ((eq_by_cmp_equiv key_total).refl (key_of p))
-among (q ∷ before) p behind = any_later (eq_by_cmp key_cmp (key_of p) (key_of q)) (is_program_key (before ++ p ∷ behind) (key_of p)) (among before p behind)
-
-linked_at : (b : Bool) (A B : Type 0) → b ≡ true → MatchBool b A B → A
-linked_at true A B is is_linked = is_linked
-linked_at false A B is is_linked = cc
+among [] p behind = or_left (eq_by_cmp key_cmp (key_of p) (key_of p)) (is_program_key behind (key_of p)) ((eq_by_cmp_equiv key_total).refl (key_of p))
+among (q ∷ before) p behind = or_right (eq_by_cmp key_cmp (key_of p) (key_of q)) (is_program_key (before ++ p ∷ behind) (key_of p)) (among before p behind)
 
 module _ (o linked : Object) (links : LinksPrograms true o linked) where
   linked_from : (before ps : List ProgramValue) → (before ++ ps) ≡ programs_in_order o.programs → EachLinked o linked ps
   linked_from before [] is = tt
   linked_from before (p ∷ ps) is =
       let key : is_program_key (programs_in_order o.programs) (key_of p) ≡ true = subst (λ all. is_program_key all (key_of p) ≡ true) is (among before p ps) in
-      let g = linked_at (is_program_key (programs_in_order o.programs) (key_of p)) _ _ key (links.0 (key_of p)) in
+      let g = MatchBool-at_true _ _ key (links.0 (key_of p)) in
       ((g.0, g.1, g.2), linked_from (before ++ p ∷ []) ps (append_assoc before (p ∷ []) ps ∙ is))
 
   pub each_linked : EachLinked o linked (programs_in_order o.programs)

@@ -11,21 +11,7 @@ use ebpf_report::table::{Column, Table};
 use ebpf_report::type_names::program_type_name;
 use std::alloc::{AllocError, Global};
 use std::collections::BTreeSet;
-use std::io::{self, Write};
-
-/// Writes a table under its name and the number of its rows; nothing where it has none.
-fn write_table<W: Write>(
-    out: &mut W,
-    name: &str,
-    rows: usize,
-    table: &Table<'_>,
-) -> io::Result<()> {
-    if rows == 0 {
-        return Ok(());
-    }
-    writeln!(out, "{name} {rows}")?;
-    table.write(out)
-}
+use std::io::Write;
 
 /// The columns of programs.
 const PROGRAM_COLUMNS: [Column; 7] = [
@@ -71,7 +57,7 @@ fn write_programs<W: Write>(
     if programs.is_empty() {
         writeln!(out, "PROGRAMS 0")?;
     }
-    Ok(write_table(out, "PROGRAMS", programs.len(), &table)?)
+    Ok(table.write_under(out, "PROGRAMS", programs.len())?)
 }
 
 /// The columns of copies of functions.
@@ -101,7 +87,7 @@ fn write_copies<W: Write>(alloc: Global, out: &mut W, copies: &[CodeCopy]) -> Re
     for copy in copies {
         push_copy(&mut table, copy)?;
     }
-    Ok(write_table(out, "COPIES", copies.len(), &table)?)
+    Ok(table.write_under(out, "COPIES", copies.len())?)
 }
 
 /// The columns of references.
@@ -152,7 +138,7 @@ fn write_references<W: Write>(
     for (reference, edge) in references.iter().zip(parts.edges.iter()) {
         push_reference(&mut table, copies, reference, *edge)?;
     }
-    Ok(write_table(out, "REFERENCES", references.len(), &table)?)
+    Ok(table.write_under(out, "REFERENCES", references.len())?)
 }
 
 /// The columns of maps.
@@ -178,7 +164,7 @@ fn write_maps<W: Write>(
     for name in names.iter() {
         push_map(&mut table, object, name)?;
     }
-    Ok(write_table(out, "MAPS", names.len(), &table)?)
+    Ok(table.write_under(out, "MAPS", names.len())?)
 }
 
 /// The columns of helper functions.
@@ -195,7 +181,7 @@ fn write_helpers<W: Write>(
         table.push_number(*helper as usize)?;
         table.push_helper(*helper)?;
     }
-    Ok(write_table(out, "HELPERS", helpers.len(), &table)?)
+    Ok(table.write_under(out, "HELPERS", helpers.len())?)
 }
 
 /// The columns of functions of the kernel.
@@ -211,7 +197,7 @@ fn write_kernel_functions<W: Write>(
     for name in names.iter() {
         table.push_text(name)?;
     }
-    Ok(write_table(out, "KERNEL FUNCTIONS", names.len(), &table)?)
+    Ok(table.write_under(out, "KERNEL FUNCTIONS", names.len())?)
 }
 
 /// Writes what a program is made of, below its name and its size.

@@ -1,21 +1,19 @@
 -- The linkages of FUNCs in the bytes that the kernel is handed are the ones that are stated.
-use Rattle.std.proofs.Common.{◌≡◌, ◌+◌, ◌*◌, ◌-◌, ◌^◌, ◌<◌, ℕ, zero, suc, List, [], ◌∷◌, ◌++◌, length, take, drop, get_or, Some, Result, Ok, subst, refl, sym, ap, ◌∙◌, arith, append_assoc}
-use Rattle.std.specs.Prelude.{slice_get, slice_range}
-use Rattle.std.proofs.Math.Seq.{drop-append_seam, take-append_seam}
-use Rattle.std.proofs.lemmas.List.{length-append}
+use Rattle.std.proofs.Common.{◌≡◌, ◌+◌, ◌^◌, ◌<◌, ℕ, zero, suc, List, [], ◌∷◌, ◌++◌, length, Some, Result, Ok, subst, refl, sym, ap, ◌∙◌, arith}
+use Rattle.std.specs.Prelude.{slice_get}
 use Rattle.ebpf_base.specs.declared.endianness.Endianness.{Endianness}
 use Rattle.ebpf_btf.specs.declared.error.BtfError.{BtfError}
 use Rattle.ebpf_btf.specs.declared.types.BtfType.{BtfType}
 use Rattle.ebpf_btf.specs.declared.types.BtfType.TheVariants.{Func, Unknown}
 use Rattle.ebpf_btf.specs.Format.{info_vlen, word}
-use Rattle.ebpf_btf.specs.Header.{first_word, header_bytes}
+use Rattle.ebpf_btf.specs.Header.{header_bytes}
 use Rattle.ebpf_btf.specs.Reading.{header_length, type_info_of, types_end, types_part, types_start}
 use Rattle.ebpf_btf.specs.TypeInfo.{TypeInfo}
 use Rattle.ebpf_btf.specs.Types.{kind_of, kind_number}
-use Rattle.ebpf_btf.specs.Words.{type_length, words_bytes}
+use Rattle.ebpf_btf.specs.Words.{type_length}
 use Rattle.ebpf_btf.proofs.Lengths.{at_least}
-use Rattle.ebpf_btf.proofs.ReadBack.{length_words, word_again}
 use Rattle.ebpf_btf.proofs.WordsBehind.{word_front}
+use Rattle.ebpf_btf.proofs.Header.{header_word, length_header, middle}
 use Rattle.ebpf_elf.specs.File.{ei_data}
 use Rattle.ebpf_kernel_types.specs.FunctionLinkages.{linkage_by, linkage_in, linkages_of}
 use Rattle.ebpf_kernel_types.specs.KernelTypeLaws.{FunctionLinkagesAreStated, btf_bytes, sources_in}
@@ -33,32 +31,8 @@ use Rattle.ebpf_kernel_types.proofs.WordsOver.{length_words_over}
 
 -- ---- the part of the types behind a header
 
-words : Endianness → ℕ → ℕ → List ℕ
-words o m n = first_word o ∷ 24 ∷ 0 ∷ m ∷ m ∷ n ∷ []
-
-header_word : (o : Endianness) (m n : ℕ) (part strings : List ℕ) (i : ℕ) → i < 6 → get_or (words o m n) i 0 < 2 ^ 32
-    → word o (header_bytes o m n ++ part ++ strings) (4 * i) ≡ get_or (words o m n) i 0
-unfolding header_bytes words
-header_word o m n part strings i below fits =
-    let h = words_bytes o (first_word o ∷ 24 ∷ 0 ∷ m ∷ m ∷ n ∷ []) in
-    let long : length h ≡ 24 = length_words o (first_word o ∷ 24 ∷ 0 ∷ m ∷ m ∷ n ∷ []) in
-    let longer = length-append h part in
-    word_front o (h ++ part) strings (4 * i) (omega arith) ∙ word_front o h part (4 * i) (omega arith)
-    ∙ word_again o (first_word o ∷ 24 ∷ 0 ∷ m ∷ m ∷ n ∷ []) i below fits
-
-length_header : (o : Endianness) (m n : ℕ) → length (header_bytes o m n) ≡ 24
-unfolding header_bytes
-length_header o m n = length_words o (first_word o ∷ 24 ∷ 0 ∷ m ∷ m ∷ n ∷ [])
-
-middle : (h part strings : List ℕ) (a b : ℕ) → a ≡ length h → b ≡ a + length part → slice_range (h ++ part ++ strings) a b ≡ part
-middle h part strings a b at to =
-    let long : b - a ≡ length part = omega arith in
-    let behind : drop a (h ++ part ++ strings) ≡ part ++ strings =
-    ap (λ n. drop n (h ++ part ++ strings)) at ∙ ap (drop (length h)) (append_assoc h part strings) ∙ drop-append_seam h (part ++ strings) in
-    (λ i. take (long i) (behind i)) ∙ take-append_seam part strings
-
 part_again : (o : Endianness) (part strings : List ℕ) → length part < 2 ^ 32 → types_part o (header_bytes o (length part) (length strings) ++ part ++ strings) ≡ part
-unfolding types_part types_start types_end header_length words
+unfolding types_part types_start types_end header_length
 part_again o part strings small =
     let m = length part in
     let n = length strings in

@@ -3,6 +3,7 @@ use Rattle.std.proofs.Common.{◌≡◌, ◌+◌, ◌^◌, ◌<◌, ◌≤◌, �
 use Rattle.std.specs.Prelude.{slice_get}
 use Rattle.std.proofs.lemmas.Bool.Decides.{nat_tests}
 use Rattle.std.proofs.lemmas.List.Sums.{fold-append}
+use Rattle.std.proofs.lemmas.Bool.{cases_order}
 use Rattle.ebpf_base.specs.declared.endianness.Endianness.{Endianness}
 use Rattle.ebpf_btf.specs.declared.types.BtfType.{BtfType}
 use Rattle.ebpf_btf.specs.declared.types.BtfType.TheVariants.{Func, Unknown}
@@ -63,17 +64,6 @@ module _ (o : Endianness) (first : List BtfType) (n : ℕ) where
           let long = at_least u in
           inl (omega arith)
 
-  ordered : (j k : ℕ) → (j ≡ k) ⊎ ((j < k) ⊎ (k < j))
-  ordered zero zero = inl refl
-  ordered zero (suc k) = inr (inl (omega arith))
-  ordered (suc j) zero = inr (inr (omega arith))
-  ordered (suc j) (suc k) = one_more (ordered j k)
-    where
-      one_more : (j ≡ k) ⊎ ((j < k) ⊎ (k < j)) → (suc j ≡ suc k) ⊎ ((suc j < suc k) ⊎ (suc k < suc j))
-      one_more (inl same) = inl (ap suc same)
-      one_more (inr (inl less)) = inr (inl (omega arith))
-      one_more (inr (inr more)) = inr (inr (omega arith))
-
   is_other : (t : BtfType) (name proto : ℕ) → (kind_number (kind_of t) == 12) ≡ false → t ≡ Func name proto → ⊥
   unfolding kind_of kind_number
   is_other t name proto other same =
@@ -82,7 +72,7 @@ module _ (o : Endianness) (first : List BtfType) (n : ℕ) where
 
   sets_apart : (j : ℕ) (t : BtfType) (ws : List WrittenWord) → slice_get first j ≡ Some t → (kind_number (kind_of t) == 12) ≡ false
       → AreBetween (place 0 first j) (place 0 first j + type_length t) ws → Sets o first n ws []
-  sets_apart j t ws at other between part long k name proto is = by_order (ordered j k)
+  sets_apart j t ws at other between part long k name proto is = by_order (cases_order j k)
     where
       by_order : (j ≡ k) ⊎ ((j < k) ⊎ (k < j)) → info_vlen (word o (words_over o part ws) (place 0 first k + 4)) ≡ info_vlen (word o part (place 0 first k + 4))
       by_order (inl same) =
@@ -92,7 +82,7 @@ module _ (o : Endianness) (first : List BtfType) (n : ℕ) where
 
   sets_info : (j name proto info : ℕ) → slice_get first j ≡ Some (Func name proto) → info < 2 ^ 32 → place 0 first j + type_length (Func name proto) ≤ n
       → Sets o first n (at_word (place 0 first j + 4) info ∷ []) (record { id = suc j; linkage = info_vlen info } ∷ [])
-  sets_info j name proto info at small inside part long k name' proto' is = by_order (ordered j k)
+  sets_info j name proto info at small inside part long k name' proto' is = by_order (cases_order j k)
     where
       by_order : (j ≡ k) ⊎ ((j < k) ⊎ (k < j))
           → info_vlen (word o (words_over o part (at_word (place 0 first j + 4) info ∷ [])) (place 0 first k + 4))

@@ -1,28 +1,15 @@
 -- Words of bytes, others of which are written.
-use Rattle.std.proofs.Common.{◌≡◌, ◌+◌, ◌-◌, ◌^◌, ◌<◌, ◌≤◌, ◌⊎◌, inl, inr, ℕ, Bool, true, false, cond, List, [], ◌∷◌, ◌++◌, length, take, drop, refl, sym, ap, ◌∙◌, arith, append-nil, nat_le}
+use Rattle.std.proofs.Common.{◌≡◌, ◌+◌, ◌-◌, ◌^◌, ◌<◌, ◌≤◌, ◌⊎◌, inl, inr, ℕ, Bool, true, false, cond, List, [], ◌∷◌, ◌++◌, length, take, drop, refl, sym, ap, ◌∙◌, arith, nat_le}
 use Rattle.std.proofs.lemmas.Bool.Decides.{nat_tests}
 use Rattle.std.proofs.lemmas.List.{length-append, length-drop, length-take-le, take-append-drop}
 use Rattle.std.proofs.lemmas.List.Sums.{fold-append}
 use Rattle.ebpf_base.specs.declared.endianness.Endianness.{Endianness}
 use Rattle.ebpf_btf.specs.Format.{word}
-use Rattle.ebpf_btf.specs.Words.{word_bytes, words_bytes}
-use Rattle.ebpf_btf.proofs.ReadBack.{length_words, word_again}
+use Rattle.ebpf_btf.specs.Words.{word_bytes}
+use Rattle.ebpf_btf.proofs.ReadBack.{length_word, first_word}
 use Rattle.ebpf_btf.proofs.WordsBehind.{word_front, word_behind}
 use Rattle.ebpf_kernel_types.specs.WrittenWords.{bytes_over, word_over, words_over}
 use Rattle.ebpf_kernel_types.specs.declared.words.WrittenWord.{WrittenWord}
-
-one_word : (o : Endianness) (w : ℕ) → words_bytes o (w ∷ []) ≡ word_bytes o w
-unfolding words_bytes
-one_word o w = append-nil (word_bytes o w)
-
-pub length_word : (o : Endianness) (w : ℕ) → length (word_bytes o w) ≡ 4
-length_word o w = ap length (sym (one_word o w)) ∙ length_words o (w ∷ [])
-
-first_word : (o : Endianness) (w : ℕ) (rest : List ℕ) → w < 2 ^ 32 → word o (word_bytes o w ++ rest) 0 ≡ w
-first_word o w rest fits =
-    let long = length_word o w in
-    word_front o (word_bytes o w) rest 0 (omega arith)
-    ∙ ap (λ xs. word o xs 0) (sym (one_word o w)) ∙ word_again o (w ∷ []) 0 (omega arith) fits
 
 -- ---- one word
 

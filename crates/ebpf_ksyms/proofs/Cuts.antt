@@ -1,5 +1,5 @@
 -- The words of a line, one after the other.
-use Rattle.std.proofs.Common.{◌≡◌, ℕ, ◌<◌, ◌≤◌, ◌+◌, zero, suc, Bool, true, false, cond, List, [], ◌∷◌, ◌++◌, length, Option, Some, None, refl, ap, sym, subst, ◌∙◌, arith, append-nil, get_or, ltb}
+use Rattle.std.proofs.Common.{◌≡◌, ℕ, ◌<◌, ◌≤◌, ◌+◌, Bool, true, false, cond, List, [], ◌∷◌, ◌++◌, length, Option, Some, None, refl, ap, sym, subst, ◌∙◌, arith, append-nil, get_or, ltb}
 use Rattle.std.specs.Prelude.{filter, nat_lt, MatchOption}
 use Rattle.std.specs.Char.{is_ascii_whitespace}
 use Rattle.std.specs.List.{All, AllPass, slice_split}
@@ -9,6 +9,7 @@ use Rattle.std.proofs.lemmas.Bool.Decides.{nat_tests}
 use Rattle.std.proofs.lemmas.List.Elements.{All-tail}
 use Rattle.std.proofs.lemmas.List.Splits.{slice_split-cons_yes, slice_split_none, slice_split_at}
 use Rattle.std.proofs.lemmas.Str.{NoCharPasses-byte}
+use Rattle.std.proofs.lemmas.Grind.{get_or_default_zero}
 use denote.Ref.{Bor}
 use Rattle.ebpf_ksyms.specs.Lines.{words, first_and_third, address_and_name}
 
@@ -60,14 +61,9 @@ module _ (p : ℕ → Bool) where
 not_above : (b : ℕ) → 128 ≤ b → is_ascii_whitespace b ≡ false
 not_above b h = grind (arith, nat_tests)
 
-same_read : (x : List ℕ) (k d : ℕ) → k < length x → get_or x k d ≡ get_or x k 0
-same_read [] k d h = absurd (omega arith)
-same_read (b ∷ x) zero d h = refl
-same_read (b ∷ x) (suc k) d h = same_read x k d (omega arith)
-
 bytes_apart : (x : List ℕ) → NoCharPasses is_ascii_whitespace x → All (λ b. is_ascii_whitespace b ≡ false) x
 bytes_apart x none k d inside =
-    rw (same_read x k d inside) (
+    rw (get_or_default_zero x k d inside) (
     elim (ltb (get_or x k 0) 128) as (λ b. ltb (get_or x k 0) 128 ≡ b → is_ascii_whitespace (get_or x k 0) ≡ false) [
       | true ↦ λ e. NoCharPasses-byte is_ascii_whitespace x k none inside (grind (arith, nat_tests))
       | false ↦ λ e. not_above (get_or x k 0) (grind (arith, nat_tests))

@@ -1,9 +1,8 @@
 -- The lowest ids of a name, type by type.
-use Rattle.std.proofs.Common.{◌≡◌, ℕ, ◌+◌, Bool, true, false, cond, ◌&&◌, List, [], ◌∷◌, Option, Some, None, refl, ap, sym, ◌∙◌}
+use Rattle.std.proofs.Common.{◌≡◌, ℕ, ◌+◌, Bool, true, false, cond, ◌&&◌, List, ◌∷◌, Option, Some, None, refl, ap, sym, ◌∙◌}
 use Rattle.std.specs.Prelude.{option_map}
 use Rattle.std.specs.List.{position_from}
 use Rattle.ebpf_base.specs.Faults.{or_else}
-use Rattle.ebpf_base.proofs.Faults.{or_else-None}
 use Rattle.ebpf_btf.specs.Strings.{is_named, is_text, type_name}
 use Rattle.ebpf_btf.specs.TypeInfo.{TypeInfo}
 use Rattle.ebpf_btf.specs.Types.{is_kind, kind_number, kind_of, name_off}
@@ -14,9 +13,8 @@ use Rattle.ebpf_btf.specs.declared.types.BtfType.TheVariants.{Func, Var}
 use Rattle.ebpf_ksyms.specs.declared.ids.Ids.{Ids}
 use Rattle.ebpf_ksyms.specs.declared.lookup_key.Sort.{Sort}
 use Rattle.ebpf_ksyms.specs.declared.lookup_key.Sort.TheVariants.{Function, Variable}
-use Rattle.ebpf_ksyms.specs.Ids.{finished, ids_in, sort_of, with_sort, with_type_ids}
-use Rattle.ebpf_ksyms.specs.Named.{is_one_of}
-use Rattle.ebpf_ksyms.specs.PrivateContracts.{only_at, sort_of_kind, with_head_ids}
+use Rattle.ebpf_ksyms.specs.Ids.{finished, sort_of, with_sort, with_type_ids}
+use Rattle.ebpf_ksyms.specs.PrivateContracts.{sort_of_kind, with_head_ids}
 
 is_function : Option Sort → Bool
 is_function (Some Function) = true
@@ -60,33 +58,15 @@ finished-cons kernel name id t types ids =
     rw (kind_Func t, kind_Var t) (
     one_more (sort_of t) (is_text name (type_name kernel t)) ids id (position_from (is_named kernel name kinds.Func) (id + 1) types) (position_from (is_named kernel name kinds.Var) (id + 1) types))
 
--- no type more
-pub finished-nil : (kernel : TypeInfo) (name : List ℕ) (id : ℕ) (ids : Ids) → finished kernel name id [] ids ≡ ids
-finished-nil kernel name id ids = λ i. record { function = or_else-None ids.function i; variable = or_else-None ids.variable i }
-
 option-step : {A B C : Type 0} (f : B → C) (g : A → B) (h : A → C) (o : Option A) → ((x : A) → h x ≡ f (g x)) → option_map h o ≡ option_map f (option_map g o)
 option-step f g h None e = refl
 option-step f g h (Some x) e = ap Some (e x)
-
-option-same : {A : Type 0} (f : A → A) (o : Option A) → ((x : A) → f x ≡ x) → option_map f o ≡ o
-option-same f None e = refl
-option-same f (Some x) e = ap Some (e x)
 
 -- a pass with one more type
 pub more-types : (kernel : TypeInfo) (name : List ℕ) (id : ℕ) (t : BtfType) (types : List BtfType) (before after : Option Ids) → after ≡ option_map (with_type_ids kernel name id t) before → option_map (finished kernel name id (t ∷ types)) before ≡ option_map (finished kernel name (id + 1) types) after
 more-types kernel name id t types before after e =
     option-step (finished kernel name (id + 1) types) (with_type_ids kernel name id t) (finished kernel name id (t ∷ types)) before (finished-cons kernel name id t types)
     ∙ ap (option_map (finished kernel name (id + 1) types)) (sym e)
-
--- a pass at its end
-pub no-types : (kernel : TypeInfo) (name : List ℕ) (id : ℕ) (ids : Option Ids) → option_map (finished kernel name id []) ids ≡ ids
-no-types kernel name id ids = option-same (finished kernel name id []) ids (finished-nil kernel name id)
-
--- a pass at its start
-pub all-types : (kernel : TypeInfo) (names : List (List ℕ)) (name : List ℕ) (known : Option Ids) → known ≡ only_at names (λ _. record { function = None; variable = None }) name → option_map (finished kernel name 0 kernel.types) known ≡ only_at names (ids_in kernel) name
-all-types kernel names name known e =
-    ap (option_map (finished kernel name 0 kernel.types)) e
-    ∙ elim (is_one_of names name) as (λ b. option_map (finished kernel name 0 kernel.types) (cond b (Some (record { function = None; variable = None })) None) ≡ cond b (Some (ids_in kernel name)) None) [ true ↦ refl | false ↦ refl ]
 
 -- a type by its kind and the offset of its name
 sort_by_kind : (t : BtfType) → sort_of t ≡ sort_of_kind (kind_of t)

@@ -1,7 +1,6 @@
 -- The entries of a map by their names, and the map of some entries.
 use Rattle.std.proofs.Common.{◌≡◌, ℕ, Bool, true, false, cond, ◌&&◌, T, List, [], ◌∷◌, ◌++◌, map, Option, Some, None, refl, ap, sym, subst, ◌∙◌}
-use Rattle.std.specs.declared.cmp.Ordering.TheVariants.{Less, Equal, Greater}
-use Rattle.std.specs.declared.cmp.Ordering.{Ordering}
+use Rattle.std.specs.declared.cmp.Ordering.TheVariants.{Less}
 use Rattle.std.specs.Cmp.{eq_by_cmp_equiv}
 use Rattle.std.specs.FinMap.{FinMap, empty, entries, entries_sorted, find, from_sorted, get, get-empty, get-entries, get-from_sorted, is_sorted, same_map}
 use Rattle.std.specs.FinMap.Entries.{below_all}
@@ -14,6 +13,7 @@ use Rattle.ebpf_base.specs.Keys.{text_cmp, text_total}
 use Rattle.ebpf_base.proofs.Keyed.{later_text_stands}
 use Rattle.ebpf_base.proofs.Sorted.{entries_rise}
 use Rattle.ebpf_base.proofs.TextMaps.{text_exact}
+use Rattle.ebpf_base.proofs.Orderings.{is_equal}
 use Rattle.ebpf_model.specs.declared.extern_desc.ExternDesc.{ExternDesc}
 use Rattle.ebpf_ksyms.specs.Entries.{entry_named, externs_from}
 use Rattle.ebpf_ksyms.specs.Externs.{NamedExtern, Externs, renew, renewed}
@@ -64,18 +64,13 @@ all_apart : (k : List ℕ) (es : List NamedExtern) → AllByRecursion (λ y. tex
 all_apart k [] h = tt
 all_apart k (e ∷ es) h = (ap is_eq h.0, all_apart k es h.1)
 
-equal_from : (r : Ordering) → is_eq r ≡ true → r ≡ Equal
-equal_from Less e = cc
-equal_from Equal e = refl
-equal_from Greater e = cc
-
 last-find : (q : List ℕ) (es : List NamedExtern) → IsStrictlySortedBy text_cmp (keys_of es) → last_at text_cmp q None es ≡ find text_cmp q es
 unfolding IsStrictlySortedBy
 last-find q [] up = refl
 last-find q (e ∷ es) up =
     elim (eq_by_cmp text_cmp q e.0) as (λ b. eq_by_cmp text_cmp q e.0 ≡ b → last_at text_cmp q (cond b (Some e.1) None) es ≡ cond b (Some e.1) (find text_cmp q es)) [
       | true ↦ λ tied.
-          let same : q ≡ e.0 = text_exact q e.0 (equal_from (text_cmp q e.0) tied) in
+          let same : q ≡ e.0 = text_exact q e.0 (is_equal (text_cmp q e.0) tied) in
           last-none q (Some e.1) es (subst (λ k. AllByRecursion (λ y. eq_by_cmp text_cmp k y ≡ false) (keys_of es)) (sym same) (all_apart e.0 es up.0))
       | false ↦ λ other. last-find q es up.1
     ] refl

@@ -6,6 +6,7 @@ use Rattle.std.specs.Option.{option_and_then}
 use Rattle.std.specs.Result.{result_ok}
 use Rattle.std.specs.Str.{bytes_eq}
 use Rattle.std.proofs.lemmas.Slice.Eq.{bytes_eq-Decides}
+use Rattle.std.proofs.lemmas.Bool.{or_right}
 use Rattle.ebpf_base.specs.Faults.{fault_of, first_some, or_else}
 use Rattle.ebpf_btf.specs.Steps.{type_at}
 use Rattle.ebpf_btf.specs.TypeInfo.{TypeInfo}
@@ -26,14 +27,10 @@ use Rattle.ebpf_ksyms.specs.Typed.{lookup_name, lookup_names, typed_as, typed_re
 IsListed : List (List ℕ) → Option (List ℕ) → Type 0
 IsListed names o = MatchOption o ⊤ (λ n. is_one_of names n ≡ true)
 
-or_true : (b : Bool) → (b || true) ≡ true
-or_true true = refl
-or_true false = refl
-
 listed_more : (n : List ℕ) (names : List (List ℕ)) (o : Option (List ℕ)) → IsListed names o → IsListed (n ∷ names) o
 unfolding IsListed
 listed_more n names None h = tt
-listed_more n names (Some m) h = ap (λ b. bytes_eq n m || b) h ∙ or_true (bytes_eq n m)
+listed_more n names (Some m) h = ap (λ b. bytes_eq n m || b) h ∙ or_right (bytes_eq n m) true refl
 
 all_more : (f : NamedExtern → Option (List ℕ)) (n : List ℕ) (names : List (List ℕ)) (es : List NamedExtern) → AllByRecursion (λ e. IsListed names (f e)) es → AllByRecursion (λ e. IsListed (n ∷ names) (f e)) es
 all_more f n names [] h = tt

@@ -5,6 +5,7 @@ use Rattle.std.specs.FinMap.{entries}
 use Rattle.std.specs.List.{AllByRecursion, cons_option}
 use Rattle.std.specs.Str.{bytes_eq}
 use Rattle.std.proofs.lemmas.Slice.Eq.{bytes_eq-Decides}
+use Rattle.std.proofs.lemmas.Bool.{or_right}
 use Rattle.ebpf_base.specs.Faults.{first_some, or_else}
 use Rattle.ebpf_btf.specs.TypeInfo.{TypeInfo}
 use Rattle.ebpf_model.specs.declared.extern_desc.ExternDesc.{ExternDesc}
@@ -38,14 +39,10 @@ typed_stays d (Err f) e = not_both (not d.is_resolved) d.is_typed e
 IsWanted : List (List ℕ) → NamedExtern → Type 0
 IsWanted names e = is_typeless e.1 ≡ true → is_one_of names e.0 ≡ true
 
-or_true : (b : Bool) → (b || true) ≡ true
-or_true true = refl
-or_true false = refl
-
 wanted_more : (n : List ℕ) (names : List (List ℕ)) (es : List NamedExtern) → AllByRecursion (IsWanted names) es → AllByRecursion (IsWanted (n ∷ names)) es
 unfolding IsWanted
 wanted_more n names [] h = tt
-wanted_more n names (e ∷ es) h = (λ t. ap (λ b. bytes_eq n e.0 || b) (h.0 t) ∙ or_true (bytes_eq n e.0), wanted_more n names es h.1)
+wanted_more n names (e ∷ es) h = (λ t. ap (λ b. bytes_eq n e.0 || b) (h.0 t) ∙ or_right (bytes_eq n e.0) true refl, wanted_more n names es h.1)
 
 is_same : (n : List ℕ) → bytes_eq n n ≡ true
 is_same n = (bytes_eq-Decides n n).1 refl

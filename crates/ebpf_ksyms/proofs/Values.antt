@@ -11,12 +11,6 @@ use Rattle.std.proofs.lemmas.Slice.Eq.{bytes_eq-Decides}
 use denote.Ref.{Bor}
 use Rattle.ebpf_base.specs.Keys.{lent_bytes, text_cmp}
 use Rattle.ebpf_ksyms.specs.Named.{is_one_of}
-use Rattle.ebpf_ksyms.specs.PrivateContracts.{only_at}
-
--- one more name in front
-pub only_at-cons : {V : Type 0} (name : List ℕ) (names : List (List ℕ)) (value : List ℕ → V) (q : List ℕ) → only_at (name ∷ names) value q ≡ (if bytes_eq name q then Some (value q) else only_at names value q)
-only_at-cons name names value q =
-    elim (bytes_eq name q) as (λ b. cond (b || is_one_of names q) (Some (value q)) None ≡ cond b (Some (value q)) (only_at names value q)) [ true ↦ refl | false ↦ refl ]
 
 module _ {V : Type 0} where
   -- a value put where one is, and none put where none is

@@ -5,14 +5,8 @@ use Rattle.std.specs.Cmp.{both_ways}
 use Rattle.std.specs.List.Sorted.{IsNonDecreasingBy}
 use Rattle.std.proofs.lemmas.Bool.Decides.{nat_tests}
 use Rattle.std.proofs.lemmas.List.Elements.{filter_agree}
-use Rattle.ebpf_limits.specs.MadeBytes.{rises_from}
 use Rattle.ebpf_parsing.specs.RecordsBySlot.{RowsBeginAt, is_among_slots}
 use Rattle.ebpf_parsing.proofs.RecordIndices.{begin_in_order, part_among}
-
-pub both_hold : (a b : Bool) → (a && b) ≡ true → (a ≡ true) × (b ≡ true)
-both_hold true b e = (refl, e)
-both_hold false false e = (e, e)
-both_hold false true e = (e, refl)
 
 length_part : {X : Type 0} (n k : ℕ) (xs : List X) → n + k ≤ length xs → length (take k (drop n xs)) ≡ k
 length_part zero zero xs within = refl
@@ -22,24 +16,6 @@ length_part (suc n) k [] within = absurd (omega arith)
 length_part (suc n) k (x ∷ xs) within = length_part n k xs (omega arith)
 
 module _ {X : Type 0} (slot : X → ℕ) where
-  -- where they rise from a slot on, none is below it
-  above : (least : ℕ) (xs : List X) → rises_from slot least xs ≡ true → (j : ℕ) (d : X) → j < length xs → least ≤ slot (get_or xs j d)
-  above least [] rises j d below = absurd (omega arith)
-  above least (x ∷ xs) rises zero d below = let first = (both_hold (nat_le least (slot x)) (rises_from slot (slot x) xs) rises).0 in grind (arith, nat_tests, first)
-  above least (x ∷ xs) rises (suc j) d below =
-      let both = both_hold (nat_le least (slot x)) (rises_from slot (slot x) xs) rises in
-      let first : least ≤ slot x = grind (arith, nat_tests, both.0) in
-      let rest : slot x ≤ slot (get_or xs j d) = above (slot x) xs both.1 j d (omega arith) in
-      omega (arith, first, rest)
-
-  -- and they are in order
-  pub in_order : (least : ℕ) (xs : List X) → rises_from slot least xs ≡ true → IsNonDecreasingBy slot xs
-  in_order least [] rises i j d up below = absurd (omega arith)
-  in_order least (x ∷ xs) rises zero zero d up below = omega arith
-  in_order least (x ∷ xs) rises zero (suc j) d up below = above (slot x) xs (both_hold (nat_le least (slot x)) (rises_from slot (slot x) xs) rises).1 j d (omega arith)
-  in_order least (x ∷ xs) rises (suc i) zero d up below = absurd (omega arith)
-  in_order least (x ∷ xs) rises (suc i) (suc j) d up below = in_order (slot x) xs (both_hold (nat_le least (slot x)) (rises_from slot (slot x) xs) rises).1 i j d (omega arith) (omega arith)
-
   -- those of some slots stand between where their first slot's begin and where the next slot's begin
   pub between : (first count : ℕ) (xs : List X) (i j : ℕ) → RowsBeginAt slot first xs i → RowsBeginAt slot (first + count) xs j → i ≤ length xs → j ≤ length xs → i ≤ j
   between first count xs i j low high a b = begin_in_order slot first (first + count) xs i j low high (omega arith) a

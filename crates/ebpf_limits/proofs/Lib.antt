@@ -14,4 +14,3 @@ pub mod OwnedRelocations
 pub mod OwnedRecords
 pub mod OwnedExt
 pub mod OwnedObjects
-pub mod PlainFaults

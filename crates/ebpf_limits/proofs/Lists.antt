@@ -47,10 +47,6 @@ found_among p (y ∷ xs) x e = elim (p y) as (λ b. p y ≡ b → cond b (Some y
 
 -- ---- sums
 
-pub two_parts : {A : Type 0} (f g h : A → ℕ) → ((x : A) → f x + g x ≤ h x) → (xs : List A) → total f xs + total g xs ≤ total h xs
-two_parts f g h each [] = omega arith
-two_parts f g h each (x ∷ xs) = let first = each x in let rest = two_parts f g h each xs in omega (arith, first, rest)
-
 pub no_more : {A : Type 0} (f g : A → ℕ) → ((x : A) → f x ≤ g x) → (xs : List A) → total f xs ≤ total g xs
 no_more f g each [] = omega arith
 no_more f g each (x ∷ xs) = let first = each x in let rest = no_more f g each xs in omega (arith, first, rest)

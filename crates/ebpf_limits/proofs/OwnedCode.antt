@@ -7,10 +7,11 @@ use Rattle.ebpf_elf.specs.File.{range_of}
 use Rattle.ebpf_elf.specs.Sections.{SectionOf, header, data_of}
 use Rattle.ebpf_elf.specs.declared.constants.TheConstants.{SHT_NOBITS}
 use Rattle.ebpf_elf.specs.declared.symbol_entry.SymbolEntry.{SymbolEntry}
-use Rattle.ebpf_limits.specs.MadeBytes.{SectionFacts, entry_bytes, rises_from, func_count, line_count, offset_by, first_slot, code_bytes, record_bytes, function_bytes}
+use Rattle.ebpf_limits.specs.MadeBytes.{SectionFacts, entry_bytes, func_count, line_count, offset_by, first_slot, code_bytes, record_bytes, function_bytes}
 use Rattle.ebpf_limits.proofs.Lists.{filter_short}
 use Rattle.ebpf_limits.proofs.OwnedParts.{function_in}
 use Rattle.ebpf_parsing.specs.Records.{is_func_at, is_line_in, slot_of_func, slot_of_line, slot_of}
+use Rattle.ebpf_parsing.specs.RecordsBySlot.{rises_from}
 use Rattle.ebpf_parts.specs.Slots.{slots_of, slot_at}
 use Rattle.ebpf_parts.specs.declared.section_kind.EbpfSectionKind.{EbpfSectionKind}
 use Rattle.ebpf_parts.specs.declared.section_kind.EbpfSectionKind.TheVariants.{Text, Program as Programs}

@@ -8,6 +8,7 @@ use Rattle.ebpf_base.specs.Keys.{text_cmp, text_total}
 use Rattle.ebpf_base.specs.Results.{if_ok}
 use Rattle.ebpf_base.proofs.Maps.{entries-empty}
 use Rattle.ebpf_base.proofs.TextMaps.{text_exact}
+use Rattle.ebpf_base.proofs.Orderings.{is_equal}
 use Rattle.ebpf_btf.specs.Next.{if_some}
 use Rattle.ebpf_btf.specs.Steps.{type_at, resolved}
 use Rattle.ebpf_btf.specs.Strings.{type_name}
@@ -29,7 +30,6 @@ use Rattle.ebpf_parsing.specs.FileSymbols.{file_symbols, symbol_of}
 use Rattle.ebpf_parsing.specs.FileTypes.{btf_of}
 use Rattle.ebpf_parsing.specs.SymbolNames.{weak_named}
 use Rattle.ebpf_parsing.specs.Symbols.{SymbolValue}
-use Rattle.ebpf_parsing.proofs.LastEntries.{equal}
 
 module _ (file : List ℕ) where
   abbrev name_of : SymbolOf → List ℕ
@@ -52,7 +52,7 @@ module _ (file : List ℕ) where
       let each : AllByRecursion (λ y. eq_by_cmp text_cmp name y.name ≡ true → IsExtern (name, x)) (file_symbols file) =
       all_map (λ y. eq_by_cmp text_cmp name y.name ≡ true → IsExtern (name, x)) symbol_of (symbols file)
       (all_of (λ y. eq_by_cmp text_cmp name (symbol_of y).name ≡ true → IsExtern (name, x)) (symbols file) (λ y here same.
-      let one : name ≡ name_of y = text_exact name (name_of y) (equal _ same) in
+      let one : name ≡ name_of y = text_exact name (name_of y) (is_equal _ same) in
       let short = name_within file (symbol_name y) in
       let long : length name ≡ length (name_of y) = ap length one in
       (y, here, sym one, omega (arith, short, long)))) in

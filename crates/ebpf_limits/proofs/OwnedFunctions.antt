@@ -5,6 +5,7 @@ use Rattle.std.specs.FinMap.{entries}
 use Rattle.std.specs.List.{AllByRecursion}
 use Rattle.std.proofs.lemmas.Bool.Decides.{nat_tests}
 use Rattle.std.proofs.lemmas.List.{length-map}
+use Rattle.std.proofs.lemmas.Bool.{and_parts}
 use Rattle.ebpf_base.specs.Keys.{key_total}
 use Rattle.ebpf_base.proofs.Maps.{key_exact}
 use Rattle.ebpf_elf.specs.Sections.{SectionOf, header, data_of, sections}
@@ -13,7 +14,6 @@ use Rattle.ebpf_ext.specs.ExtReading.{ExtInfo}
 use Rattle.ebpf_limits.specs.MadeBytes.{SectionFacts, facts_of, facts_at, func_count, line_count, first_slot, function_bytes}
 use Rattle.ebpf_limits.specs.OwnedBytes.{function_row}
 use Rattle.ebpf_limits.specs.Sums.{total}
-use Rattle.ebpf_limits.proofs.Counts.{both_hold}
 use Rattle.ebpf_limits.proofs.Covered.{Among, Counted, covered}
 use Rattle.ebpf_limits.proofs.Lists.{all_map, all_flat_map, all_filter, each_at, found_among, name_within}
 use Rattle.ebpf_limits.proofs.OwnedCode.{data_short, data_within, code_within, funcs_within, lines_within, place_in_code, place_in_text, row_within, function_here, text_here}
@@ -90,8 +90,8 @@ module _ (file : List ℕ) (license : ℕ) (ext : Option ExtInfo) where
     one_text short offset below y here inside code found =
         let f = facts_of ext s in
         let e = entry y in
-        let tests = both_hold _ _ found in
-        let is_text : is_text_symbol (symbol_kind e) ≡ true = (both_hold _ _ tests.0).0 in
+        let tests = and_parts _ _ found in
+        let is_text : is_text_symbol (symbol_kind e) ≡ true = (and_parts _ _ tests.0).0 in
         let at : e.st_value ≡ (f.address + offset) % 2 ^ 64 = eqb-true e.st_value _ tests.1 in
         let facts : its_facts file license all y ≡ Some f = ap (facts_at all) inside ∙ facts_here file ext s of_file in
         let counts : its_function file license all y ≡ function_bytes (its_name file license all y) f e = text_here (its_facts file license all y) f _ (its_name file license all y) e facts is_text code in
@@ -113,7 +113,7 @@ module _ (file : List ℕ) (license : ℕ) (ext : Option ExtInfo) where
         let row : SymbolValue → Function = program_function infos (section_of s) in
         all_map IsFunction with_key (map row (filter is_program_symbol own)) (all_map (λ g. IsFunction (with_key g)) row (filter is_program_symbol own)
         (all_filter (λ y. IsFunction (with_key (row y))) is_program_symbol own
-        (symbols_all file (λ y. is_program_symbol y ≡ true → IsFunction (with_key (row y))) s.index (λ y here inside passes. one_program y here inside code (both_hold _ _ passes).0))))
+        (symbols_all file (λ y. is_program_symbol y ≡ true → IsFunction (with_key (row y))) s.index (λ y here inside passes. one_program y here inside code (and_parts _ _ passes).0))))
 
     text_found : length file < 2 ^ 64 → (section_of s).kind ≡ Text → (offset : ℕ) → offset < length (data_of s) → (o : Option SymbolValue) → symbol_at_offset (section_of s) own offset ≡ o
         → AllByRecursion (λ g. IsFunction (with_key g)) (text_function_of infos (section_of s) offset o)

@@ -1,5 +1,6 @@
 -- The programs of a file, by its symbols.
 use Rattle.std.proofs.Common.{◌≡◌, ℕ, ◌+◌, ◌≤◌, Bool, true, false, List, [], map, filter, length, Option, Some, None, refl, ap, ◌∙◌, arith}
+use Rattle.std.proofs.lemmas.Bool.{and_parts}
 use Rattle.std.specs.Prelude.{unwrap_or}
 use Rattle.std.specs.FinMap.{entries}
 use Rattle.std.specs.List.{AllByRecursion}
@@ -11,7 +12,6 @@ use Rattle.ebpf_ext.specs.ExtReading.{ExtInfo}
 use Rattle.ebpf_limits.specs.MadeBytes.{SectionFacts, facts_of, facts_at}
 use Rattle.ebpf_limits.specs.OwnedBytes.{program_row}
 use Rattle.ebpf_limits.specs.Sums.{total}
-use Rattle.ebpf_limits.proofs.Counts.{both_hold}
 use Rattle.ebpf_limits.proofs.Covered.{Among, Counted, covered}
 use Rattle.ebpf_limits.proofs.Lists.{all_map, all_flat_map, all_filter, name_within}
 use Rattle.ebpf_limits.proofs.OwnedParts.{program_in, its_facts, its_name, its_program}
@@ -60,7 +60,7 @@ module _ (reading : Reading) (file : List ℕ) (license : ℕ) (ext : Option Ext
         let row : SymbolValue → List ℕ × Program = program_of words version (section_of s) kind in
         all_map IsProgram row (filter is_program_symbol (own_symbols file (section_of s)))
         (all_filter (λ y. IsProgram (row y)) is_program_symbol (own_symbols file (section_of s))
-        (symbols_all file (λ y. is_program_symbol y ≡ true → IsProgram (row y)) s.index (λ y here inside passes. one_program kind y here inside code (both_hold _ _ passes).0)))
+        (symbols_all file (λ y. is_program_symbol y ≡ true → IsProgram (row y)) s.index (λ y here inside passes. one_program kind y here inside code (and_parts _ _ passes).0)))
 
     of_kind : (kind : EbpfSectionKind) → (section_of s).kind ≡ kind → AllByRecursion IsProgram (programs_by kind reading words version (section_of s) (own_symbols file (section_of s)))
     of_kind Programs code = each_program (section_as reading (section_of s).name) code

@@ -21,6 +21,7 @@ use Rattle.ebpf_parsing.specs.CodeOrder.{is_kind_of_code}
 use Rattle.ebpf_parsing.specs.FileTypes.{types_section, ext_section}
 use Rattle.ebpf_parsing.specs.LicenseAndVersion.{first_section_named}
 use Rattle.ebpf_parsing.specs.Records.{func_info_of, line_info_of, is_func_at, is_line_in, slot_of_func, slot_of_line, slot_of}
+use Rattle.ebpf_parsing.specs.RecordsBySlot.{rises_from}
 use Rattle.ebpf_parsing.specs.Symbols.{is_text_symbol}
 use Rattle.ebpf_parts.specs.SectionKinds.{kind_of_section}
 use Rattle.ebpf_parts.specs.Sections.{name_or_empty}
@@ -113,11 +114,6 @@ unfoldable pub contents_bytes : List ℕ → Option ExtInfo → SectionOf → �
 contents_bytes file ext s = contents_by (facts_of ext s).kind (named_bytes file (section_name s)) (facts_of ext s)
 
 -- ---- symbols
-
--- whether the slots of records never fall
-abbrev pub rises_from : {X : Type 0} → (X → ℕ) → ℕ → List X → Bool
-rises_from slot least [] = true
-rises_from slot least (x ∷ xs) = nat_le least (slot x) && rises_from slot (slot x) xs
 
 -- how many func records a function has that begins at a slot: those at its slot, where the section's are in order
 abbrev pub func_count : SectionFacts → ℕ → ℕ

@@ -3,13 +3,15 @@
 ghost use Rattle.std.specs.Prelude.{◌≡◌, ◌<◌, ◌^◌};
 ghost use Rattle.ebpf_elf.specs.Sections.{header};
 ghost use Rattle.ebpf_elf.specs.Symbols.{entry, symbol_kind};
-ghost use Rattle.ebpf_limits.specs.MadeBytes.{contents_by, func_count, line_count, first_slot, offset_by, code_bytes, function_bytes, placed_by, record_bytes, rises_from};
+ghost use Rattle.ebpf_limits.specs.MadeBytes.{contents_by, func_count, line_count, first_slot, offset_by, code_bytes, function_bytes, placed_by, record_bytes};
 ghost use Rattle.ebpf_parsing.specs.Records.{slot_of_func, slot_of_line};
+ghost use Rattle.ebpf_parsing.specs.RecordsBySlot.{rises_from};
 ghost use Rattle.ebpf_parsing.specs.Symbols.{is_text_symbol};
 
-use crate::by_slot::{count_among, is_in_order};
+use crate::by_slot::count_among;
 use ebpf_elf::{ElfSection, ElfSymbol, SymbolKind};
 use ebpf_ext::{bpf_func_info, bpf_line_info};
+use ebpf_parsing::is_in_order;
 use ebpf_parts::EbpfSectionKind;
 use std::marker::Model;
 

@@ -1,31 +1,41 @@
 //! Programs as bytes.
 
-ghost use Rattle.std.specs.Prelude.{◌≡◌, ℕ, List, map, OnOk};
+ghost use Rattle.std.specs.Prelude.{ℕ, List, map, OnOk};
 ghost use Rattle.std.specs.Io.KnownBytes.{Appends};
 ghost use Rattle.std.specs.List.{flat_map};
-ghost use Rattle.std.specs.Option.{option_copied};
 ghost use Rattle.ebpf_commands.specs.Linked.{default_passes};
-ghost use Rattle.ebpf_commands.specs.Printed.{function_named};
+ghost use Rattle.ebpf_commands.specs.Printed.{head_line, program_text};
 ghost use Rattle.ebpf_ksyms.specs.Sources.{Text};
 ghost use Rattle.ebpf_link_command.specs.Written.{shown_lines, program_name, WritesFinished, HasWritten};
 ghost use Rattle.ebpf_object.specs.Prepared.{IsParsed};
 ghost use Rattle.ebpf_parts.specs.declared.reading.Reading.TheVariants.{Broad};
+ghost use Rattle.ebpf_report.specs.Shown.{shown};
 
 use crate::failure::BytesFailure;
-use crate::program_bytes::write_program;
-use ebpf_model::Function;
+use ebpf_commands::{function_named, write_slots};
 use ebpf_object::Object;
+use ebpf_parts::insn::bpf_insn;
 use ebpf_prepared::{Kernel, finished_object};
+use ebpf_report::names::Shown;
 use ebpf_report::programs::ObjectProgram;
 use std::alloc::Global;
 use std::io::{self, Write};
 
-/// The function of the program of a name; none where no program has the name, or it has no function.
-fn function_named<'a>(object: &'a Object, name: &str) -> Option<&'a Function>
-    ensures { option_copied result ≡ function_named object.now name.now }
+/// Writes the line of a program: its name as it is shown, and the number of its slots.
+fn write_head<W: Write>(out: &mut W, name: &str, slots: &[bpf_insn]) -> io::Result<()>
+    ensures { OnOk result (Appends (W.contents out.old) (W.contents out.new) (head_line (shown name.now) slots.now)) }
 {
-    let program = object.programs.get(name)?;
-    object.functions.get(program.function_key())
+    let name = Shown(name);
+    let count = slots.len();
+    writeln!(out, "program {name} slots {count}")
+}
+
+/// Writes a program: its name as it is shown and the number of its slots, then each slot.
+fn write_program<W: Write>(out: &mut W, name: &str, slots: &[bpf_insn]) -> io::Result<()>
+    ensures { OnOk result (Appends (W.contents out.old) (W.contents out.new) (program_text (shown name.now) slots.now)) }
+{
+    write_head(out, name, slots)?;
+    write_slots(out, slots)
 }
 
 /// Writes the program of a name: its name as it is shown and the number of its slots, then each slot.

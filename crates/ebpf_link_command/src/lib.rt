@@ -8,7 +8,6 @@ mod linked;
 mod names;
 mod notes;
 mod origins;
-mod program_bytes;
 mod record_words;
 mod run;
 mod words;

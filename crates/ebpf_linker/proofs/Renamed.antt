@@ -1,5 +1,5 @@
 -- Walks and paths of functions, from their numbers to their keys and back.
-use Rattle.std.proofs.Common.{◌≡◌, ◌≢◌, ℕ, zero, suc, List, [], ◌∷◌, map, Some, refl, sym, ap, ◌∙◌, subst, inl, inr}
+use Rattle.std.proofs.Common.{◌≡◌, ℕ, zero, suc, List, [], ◌∷◌, map, Some, refl, sym, ap, ◌∙◌, subst, inl, inr}
 use Rattle.std.specs.Prelude.{slice_get}
 use Rattle.ebpf_linker.specs.Functions.{SlotReference, Nothing, Faulty, Names, References, Among, Distinct, Walk, last_key_or, Reached}
 use Rattle.ebpf_linker.specs.Order.{Simple, KeyPath, InKeyPathOrder}
@@ -72,9 +72,6 @@ module _ {M D K E : Type 0} (key : M → K) (name : D → E) where
   faulty_from Nothing e h = cc
   faulty_from (Faulty d) e h = (d, refl, cc)
   faulty_from (Names m) e h = cc
-
-  pub renamed_some : (r : SlotReference M D) → renamed key name r ≢ Nothing → r ≢ Nothing
-  renamed_some r ne e = ne (ap (renamed key name) e)
 
 module _ {M D K E : Type 0} (R : References M D) (S : References K E) (IsNumber : M → Type 0) (key : M → K) (name : D → E) (same : SameReferences R S IsNumber key name) where
   pub distinct_to : (ms : List M) → AllNumbers IsNumber ms → Distinct ms → Distinct (map key ms)

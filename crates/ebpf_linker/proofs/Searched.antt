@@ -143,9 +143,6 @@ module _ (N : ℕ) (C : ℕ → List Call) (p : ℕ) where
   top_held : (o : List ℕ) (s : List Open) (top : Open) → Held C o (length o) (top ∷ reverse s) → Held C o (length o) (reverse (s ++ top ∷ []))
   top_held o s top h = subst (Held C o (length o)) (sym (reverse-append s (top ∷ []))) h
 
-  pub top_within : (o : List ℕ) (f : List Bool) (s : List Open) (top : Open) → State N C p o f (s ++ top ∷ []) → top.function < N
-  top_within o f s top h = h.within top.copy top.function (held_entry C o (length o) top (reverse s) (held_top o s top h.held)).function
-
   step_over : (o : List ℕ) (f : List Bool) (s : List Open) (top : Open) → State N C p o f (s ++ top ∷ []) → length (C top.function) ≤ top.next → State N C p o f s
   step_over o f s top h over =
       record { held = held_pop C o (length o) top (reverse s) over (held_top o s top h.held); start = h.start; flags = h.flags; marked = h.marked; unmarked = h.unmarked; apart = h.apart; firsts = h.firsts; within = h.within }

@@ -6,10 +6,9 @@ ghost use Rattle.std.specs.Option.{option_copied};
 ghost use Rattle.ebpf_list.specs.PrivateContracts.{helpers_at, helpers_of, keys_or_none, users_from, with_user_beside, with_users};
 ghost use Rattle.ebpf_list.specs.Users.{AreUsers, calls};
 
-use crate::by_number::ByNumber;
 use crate::layout::Layout;
 use crate::numbers::{note, one_number};
-use ebpf_base::{ByKey, Items};
+use ebpf_base::{ByKey, ByNumber, Items};
 use ebpf_object::Object;
 use ebpf_report::helper_calls::helpers_by_function;
 use std::alloc::{AllocError, Global};

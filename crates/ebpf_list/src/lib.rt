@@ -1,7 +1,6 @@
 //! `ebpf list`: what an object has.
 #![tactic(auto)]
 
-mod by_number;
 mod helpers;
 mod json;
 mod layout;

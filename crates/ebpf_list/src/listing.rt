@@ -6,14 +6,13 @@ ghost use Rattle.ebpf_list.specs.ExternRows.{extern_row, extern_rows, is_func, i
 ghost use Rattle.ebpf_list.specs.Listings.{AreObjectLayouts, IsListed, IsListing, IsWanted};
 ghost use Rattle.ebpf_object.specs.declared.object.Object.{Object};
 
-use crate::by_number::ByNumber;
 use crate::helpers::helper_users;
 use crate::layout::{Layout, layouts_if};
 use crate::maps::map_users;
 use crate::reaching::unreached;
 use crate::records::{Asked, counted_records};
 use crate::written_externs::write_externs;
-use ebpf_base::{ByKey, ByName, Items, Text};
+use ebpf_base::{ByKey, ByName, ByNumber, Items, Text};
 use ebpf_btf::{Btf, BtfError, BtfType};
 use ebpf_elf::ElfFile;
 use ebpf_model::ExternDesc;

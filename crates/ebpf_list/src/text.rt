@@ -13,20 +13,6 @@ use ebpf_report::type_names::program_type_name;
 use std::alloc::{AllocError, Global};
 use std::io::{self, Write};
 
-/// Writes a table under its name and the number of its rows; nothing where it has none.
-fn write_table<W: Write>(
-    out: &mut W,
-    name: &str,
-    rows: usize,
-    table: &Table<'_>,
-) -> io::Result<()> {
-    if rows == 0 {
-        return Ok(());
-    }
-    writeln!(out, "{name} {rows}")?;
-    table.write(out)
-}
-
 /// Writes the license.
 fn write_license<W: Write>(out: &mut W, license: Option<&[u8]>) -> io::Result<()> {
     let Some(license) = license else {
@@ -121,7 +107,7 @@ fn write_programs<W: Write>(alloc: Global, out: &mut W, listing: &Listing<'_>) -
         let own = listing.slots_of(program.key);
         push_program(&mut table, own, program, layout)?;
     }
-    Ok(write_table(out, "PROGRAMS", programs.len(), &table)?)
+    Ok(table.write_under(out, "PROGRAMS", programs.len())?)
 }
 
 /// Which columns of maps something stands in.
@@ -231,7 +217,7 @@ fn write_maps<W: Write>(alloc: Global, out: &mut W, listing: &Listing<'_>) -> Re
     for (name, map) in listing.object.maps.iter() {
         push_map(&mut table, listing, columns, name.as_str(), map)?;
     }
-    Ok(write_table(out, "MAPS", listing.object.maps.len(), &table)?)
+    Ok(table.write_under(out, "MAPS", listing.object.maps.len())?)
 }
 
 /// Adds the name of a program, behind a comma where it isn't the first.
@@ -287,7 +273,7 @@ fn write_helpers<W: Write>(alloc: Global, out: &mut W, listing: &Listing<'_>) ->
         table.push_helper(*helper)?;
         push_names(alloc, &mut table, listing, programs.as_slice())?;
     }
-    Ok(write_table(out, "HELPERS", listing.helper_users.len(), &table)?)
+    Ok(table.write_under(out, "HELPERS", listing.helper_users.len())?)
 }
 
 /// The columns of externs.
@@ -323,7 +309,7 @@ fn write_externs<W: Write>(alloc: Global, out: &mut W, listing: &Listing<'_>) ->
         push_extern(&mut table, known)?;
     }
     let rows = listing.wanted.externs.len();
-    Ok(write_table(out, "EXTERNS", rows, &table)?)
+    Ok(table.write_under(out, "EXTERNS", rows)?)
 }
 
 /// The columns of what is wanted of the kernel's configuration.
@@ -336,7 +322,7 @@ fn write_settings<W: Write>(alloc: Global, out: &mut W, listing: &Listing<'_>) -
         table.push_text(name.as_str())?;
     }
     let rows = listing.wanted.settings.len();
-    Ok(write_table(out, "KCONFIG VALUES", rows, &table)?)
+    Ok(table.write_under(out, "KCONFIG VALUES", rows)?)
 }
 
 /// The columns of records.
@@ -355,7 +341,7 @@ fn write_records<W: Write>(alloc: Global, out: &mut W, listing: &Listing<'_>) ->
         table.push_text(asked.name.as_str())?;
     }
     let rows = listing.record_count();
-    Ok(write_table(out, "CO-RE RECORDS", rows, &table)?)
+    Ok(table.write_under(out, "CO-RE RECORDS", rows)?)
 }
 
 /// The columns of functions that no program reaches.
@@ -376,7 +362,7 @@ fn write_unreached<W: Write>(
         table.push_text(function.name.as_str())?;
     }
     let rows = listing.unreached.len();
-    Ok(write_table(out, "FUNCTIONS THAT NO PROGRAM REACHES", rows, &table)?)
+    Ok(table.write_under(out, "FUNCTIONS THAT NO PROGRAM REACHES", rows)?)
 }
 
 /// Writes what an object has: the line of its file, and each table that isn't empty.

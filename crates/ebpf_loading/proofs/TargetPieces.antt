@@ -1,40 +1,17 @@
 -- The first piece of a name, and the rows of program kinds that the name fits.
-use Rattle.std.proofs.Common.{◌⊎◌, inl, inr, arith, ◌+◌, ◌≡◌, ℕ, suc, Bool, true, false, not, ◌&&◌, ◌||◌, List, [], ◌∷◌, length, refl, ap, ◌∙◌, sym, eq-eqb}
-use Rattle.std.specs.Prelude.{◌==◌, nat_eq, slice_index}
-use Rattle.std.specs.List.{list_any, position_or_len, starts_with}
+use Rattle.std.proofs.Common.{◌⊎◌, inl, inr, arith, ◌+◌, ◌≡◌, ℕ, suc, true, false, not, ◌&&◌, ◌||◌, List, [], ◌∷◌, refl, ap, ◌∙◌, sym, eq-eqb}
+use Rattle.std.specs.Prelude.{◌==◌, nat_eq}
+use Rattle.std.specs.List.{position_or_len, starts_with}
 use Rattle.std.specs.Str.{bytes_eq}
-use Rattle.std.proofs.lemmas.Bool.{and_parts, cases_Bool, eqb-true, not-true, or_cases, or_parts}
+use Rattle.std.proofs.lemmas.Bool.{and_parts, cases_Bool, eqb-true, not-true, or_cases}
 use Rattle.std.proofs.lemmas.Slice.Eq.{bytes_eq-Decides}
 use Rattle.ebpf_parts.specs.ProgramKinds.{name_fits, has_target, row_name}
 use Rattle.ebpf_parts.specs.ProgramSections.{first_piece}
 use Rattle.ebpf_parts.specs.declared.programs.kind.NamedKind.{NamedKind}
-
-abbrev pub has_slash : List ℕ → Bool
-has_slash name = list_any (λ b. b == 47) name
+use Rattle.ebpf_parts.proofs.KindTypes.{has_slash, own_piece, target_piece}
 
 abbrev length_before : List ℕ → ℕ
 length_before name = position_or_len (λ b. b == 47) name
-
--- a name without a slash is one piece
-own_piece : (own : List ℕ) → has_slash own ≡ false → first_piece own ≡ own
-own_piece [] none = refl
-own_piece (b ∷ own) none =
-    let parts = or_parts (b == 47) (has_slash own) none in
-    let on : 1 + length_before own ≡ suc (length_before own) = omega arith in
-    rw (parts.0, on) (ap (λ rest. b ∷ rest) (own_piece own parts.1))
-
--- a name that goes on with a slash behind another has that as its first piece
-target_piece : (name own : List ℕ) → has_slash own ≡ false → starts_with nat_eq name own ≡ true
-    → slice_index name (length own) ≡ 47 → first_piece name ≡ own
-target_piece [] [] none begins slash = absurd (omega arith)
-target_piece (b ∷ name) [] none begins slash = rw slash refl
-target_piece [] (o ∷ own) none begins slash = absurd (cc)
-target_piece (b ∷ name) (o ∷ own) none begins slash =
-    let same = and_parts (nat_eq o b) _ begins in
-    let parts = or_parts (o == 47) (has_slash own) none in
-    let is : o ≡ b = eqb-true o b same.0 in
-    let on : 1 + length_before name ≡ suc (length_before name) = omega arith in
-    rw (← is, parts.0, on) (ap (λ rest. o ∷ rest) (target_piece name own parts.1 same.1 slash))
 
 -- a name that a row fits has the first piece of the row's own, where no row with a slash takes a target
 pub piece_of_fit : (name : List ℕ) (row : NamedKind) → not (row.takes_target && has_slash (row_name row)) ≡ true → name_fits name row ≡ true

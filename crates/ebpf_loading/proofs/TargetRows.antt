@@ -7,6 +7,7 @@ use Rattle.std.specs.Str.{bytes_eq}
 use Rattle.std.proofs.lemmas.Bool.{and_parts, cases_Bool}
 use Rattle.std.proofs.lemmas.Slice.Eq.{bytes_eq-Decides}
 use Rattle.ebpf_parts.proofs.KindRows.{of_longest}
+use Rattle.ebpf_parts.proofs.KindTypes.{has_slash}
 use Rattle.ebpf_parts.specs.ProgramKinds.{name_fits, is_marked, longer, longest_fit, row_name, program_kind, unmarked}
 use Rattle.ebpf_parts.specs.ProgramSections.{first_piece, lookup_piece}
 use Rattle.ebpf_parts.specs.declared.programs.kind.NamedKind.{NamedKind}
@@ -15,7 +16,7 @@ use Rattle.ebpf_parts.specs.declared.programs.named_kinds.TheConstants.{NAMED_KI
 use Rattle.ebpf_loading.specs.AttachTargets.{targets}
 use Rattle.ebpf_loading.specs.TargetLaws.{WantedAsKinds}
 use Rattle.ebpf_loading.specs.declared.target.TargetKind.{TargetKind}
-use Rattle.ebpf_loading.proofs.TargetPieces.{fit_of_piece, has_slash, piece_of_fit}
+use Rattle.ebpf_loading.proofs.TargetPieces.{fit_of_piece, piece_of_fit}
 
 -- ---- each row says of its own name what the table of targets says
 

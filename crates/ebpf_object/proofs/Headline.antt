@@ -1,6 +1,7 @@
 -- What the passes make of an object, from what each leaves.
 use Rattle.std.proofs.Common.{◌≡◌, ℕ, Bool, true, false, cond, ◌||◌, List, [], ◌∷◌, map, Option, Some, None, refl, sym, ap, ◌∙◌, subst, inl, inr}
 use Rattle.std.proofs.lemmas.Option.{none-some}
+use Rattle.std.proofs.lemmas.Bool.{MatchBool-at_true, MatchBool-at_false}
 use Rattle.std.specs.Prelude.{MatchBool, Ok, option_map, if◌then◌else◌, slice_get, unwrap_or}
 use Rattle.std.specs.Cmp.{eq_by_cmp_equiv}
 use Rattle.std.specs.FinMap.{FinMap, get, entries, find, get-entries}
@@ -72,19 +73,10 @@ module _ (program : Program) where
   program_key : (programs : FinMap text_cmp Program) (name : List ℕ) → get programs name ≡ Some program → is_program_key (programs_in_order programs) (key_of_program program) ≡ true
   program_key programs name is = found_among (entries programs) name (sym (get-entries programs name) ∙ is)
 
--- what linking says of the key of a program, and of another
-linked_at : (b : Bool) (A B : Type 0) → b ≡ true → MatchBool b A B → A
-linked_at true A B is linked = linked
-linked_at false A B is linked = cc
-
-left_at : (b : Bool) (A B : Type 0) → b ≡ false → MatchBool b A B → B
-left_at true A B is left = cc
-left_at false A B is left = left
-
 whole_programs : (text_sections : TextSections) (d o : Object) → Links (Some text_sections) d o → ProgramsAreWhole (linkable_of d text_sections) o
 whole_programs text_sections d o links name program is =
     let same : get d.programs name ≡ Some program = sym (ap (λ (x : Object). get x.programs name) links.1) ∙ is in
-    linked_at (is_program_key (programs_in_order d.programs) (key_of_program program)) _ _ (program_key program d.programs name same) (links.0 (key_of_program program))
+    MatchBool-at_true _ _ (program_key program d.programs name same) (links.0 (key_of_program program))
 
 whole_by : (calls : Option TextSections) (text_sections : TextSections) (d o : Object) → calls ≡ Some text_sections → Links calls d o → ProgramsAreWhole (linkable_of d text_sections) o
 whole_by calls text_sections d o is links = whole_programs text_sections d o (subst (λ (c : Option TextSections). Links c d o) is links)
@@ -122,7 +114,7 @@ module _ (unlinked o : Object) (key : FunctionKey) (i : ℕ) (carrying : bpf_ins
   by_program : (text_sections : TextSections) → Links (Some text_sections) unlinked o → (b : Bool) → is_program_key (programs_in_order unlinked.programs) at ≡ b
       → MatchBool b (IsCopiedTo text_sections unlinked o key i at place) ((at ≡ key) × (place ≡ i)) → slot_in o at place ≡ Some carrying
   by_program text_sections links true e copied = in_copy text_sections copied
-  by_program text_sections links false e own = in_place (left_at (is_program_key (programs_in_order unlinked.programs) at) _ _ e (links.0 at)) own
+  by_program text_sections links false e own = in_place (MatchBool-at_false _ _ e (links.0 at)) own
 
   finished_slot : (calls : Option TextSections) → Links calls unlinked o → StandsAt calls unlinked o key i at place → slot_in o at place ≡ Some carrying
   finished_slot None links own = in_place (ap (λ (x : Object). get x.functions at) links) own
@@ -171,7 +163,7 @@ passes_finish passes parsed o c = record {
 
 -- ---- a prepared file
 
-fds_written_by : (descriptors : Option (List Descriptor)) (a b : Object) → b ≡ fds_written descriptors a
+pub fds_written_by : (descriptors : Option (List Descriptor)) (a b : Object) → b ≡ fds_written descriptors a
     → b ≡ with_descriptors (option_map (λ ds. (has_function_in a.functions, own_maps a.maps ds)) descriptors) a
 fds_written_by None a b is = is
 fds_written_by (Some descriptors) a b is = is
@@ -179,15 +171,15 @@ fds_written_by (Some descriptors) a b is = is
 same_externs : (b : Object) → b ≡ record b { externs = b.externs }
 same_externs b = refl
 
-resolved_by : (kernel : Option (Option TypeInfo)) (lines : Source) (b c : Object) → Resolves kernel lines b c → c ≡ record b { externs = c.externs }
+pub resolved_by : (kernel : Option (Option TypeInfo)) (lines : Source) (b c : Object) → Resolves kernel lines b c → c ≡ record b { externs = c.externs }
 resolved_by None lines b c is = subst (λ (x : Object). x ≡ record b { externs = x.externs }) (sym is) (same_externs b)
 resolved_by (Some kernel) lines b c resolves = resolves.1
 
-externs_if_by : (written : Bool) (c d : Object) → d ≡ with_externs_if written c → d ≡ (if written then with_externs c else c)
+pub externs_if_by : (written : Bool) (c d : Object) → d ≡ with_externs_if written c → d ≡ (if written then with_externs c else c)
 externs_if_by false c d is = is
 externs_if_by true c d is = is
 
-linked_by : (calls : Bool) (d o : Object) → LinksPrograms calls d o → Links (if calls then Some (has_function_in d.functions) else None) d o
+pub linked_by : (calls : Bool) (d o : Object) → LinksPrograms calls d o → Links (if calls then Some (has_function_in d.functions) else None) d o
 linked_by true d o links = links
 linked_by false d o links = links
 

@@ -1,6 +1,7 @@
 -- Preparing has one result, where the bytes of the kernel's symbols are known.
 use Rattle.std.proofs.Common.{◌≡◌, ◌⊎◌, inl, inr, ℕ, Bool, true, false, List, Option, Some, None, Result, Ok, Err, refl, sym, ap, subst, ◌∙◌}
-use Rattle.std.specs.Prelude.{MatchBool, ◌||◌}
+use Rattle.std.proofs.lemmas.Bool.{or_parts, MatchBool-at_true, MatchBool-at_false}
+use Rattle.std.specs.Prelude.{◌||◌}
 use Rattle.std.specs.Cmp.{eq_by_cmp_equiv}
 use Rattle.std.specs.FinMap.{FinMap, get, same_map}
 use Rattle.std.specs.Ordering.{eq_by_cmp}
@@ -96,10 +97,6 @@ one_linked false o a b h g = h ∙ sym g
 one_linked true o a b h g =
     with_functions o a b h.1 g.1 (one_linking (linkable_of o (has_function_in o.functions)) (programs_in_order o.programs) a.functions b.functions h.0 g.0)
 
-linked_from : (b : Bool) (A B : Type 0) → b ≡ true → MatchBool b A B → A
-linked_from true A B is h = h
-linked_from false A B is h = cc
-
 -- programs that are linked have no first fault
 no_fault_linked : (parts : LinkableValue) (programs : List ProgramValue) (after : FinMap key_cmp Function) (e : EbpfRelocationError) → ProgramsAreLinked parts programs after → IsFirstProgram parts programs e → ⊥
 no_fault_linked parts programs after e are_linked f =
@@ -107,7 +104,7 @@ no_fault_linked parts programs after e are_linked f =
     let among : is_program_key programs key ≡ true =
     any_at (λ (p : ProgramValue). eq_by_cmp key_cmp key (key_of p)) programs f.index f.program f.at ((eq_by_cmp_equiv key_total).refl key)
     in
-    let linked = linked_from (is_program_key programs key) _ _ among (are_linked key) in
+    let linked = MatchBool-at_true _ _ among (are_linked key) in
     not_refused parts key linked.0 e.error linked.2 f.refused.1
 
 not_linked : (calls : Bool) (o a : Object) (e : EbpfRelocationError) → LinksPrograms calls o a → LinkingFault calls o e → ⊥
@@ -249,20 +246,12 @@ module _ (lines : List ℕ) (o : Object) where
 
 -- ---- answers that exclude others
 
-same_answer : (memory access : Bool) → (memory || access) ≡ false → (memory ≡ false) × (access ≡ false)
-same_answer true access is = cc
-same_answer false access is = (refl, is)
-
-stated : (b : Bool) (N F : Type 0) → b ≡ false → MatchBool b N F → F
-stated true N F is m = cc
-stated false N F is m = m
-
 module _ (Fault : PrepareError → Type 0) (e : PrepareError) (is : (is_prepare_memory e || is_access e) ≡ false) where
   refusal_stated : RefusesPreparing Fault e → Fault e
-  refusal_stated r = stated (is_prepare_memory e) (NamesNothing e) (Fault e) (same_answer (is_prepare_memory e) (is_access e) is).0 r
+  refusal_stated r = MatchBool-at_false (NamesNothing e) (Fault e) (or_parts (is_prepare_memory e) (is_access e) is).0 r
 
   no_access : is_access e ≡ false
-  no_access = (same_answer (is_prepare_memory e) (is_access e) is).1
+  no_access = (or_parts (is_prepare_memory e) (is_access e) is).1
 
 pub one_staging : OneStaging
 one_staging steps lines o (Ok a) (Ok b) h g hs gs = ap Ok (one_staged lines o steps a b h g)

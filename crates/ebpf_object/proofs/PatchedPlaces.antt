@@ -1,12 +1,11 @@
 -- What patches make of the bytes of map data.
 use Rattle.std.proofs.Common.{◌≡◌, ℕ, ◌+◌, ◌-◌, ◌<◌, ◌≤◌, true, false, cond, List, [], ◌∷◌, length, Option, Some, None, option_map, refl, sym, ap, subst, ◌∙◌, arith, slice_get, ◌⊎◌, inl, inr, ⊎_elim}
 use Rattle.std.specs.FinMap.{FinMap, get, get-insert, nat_cmp-IsAntisymmetric, slice_cmp-IsAntisymmetric}
-use Rattle.std.specs.declared.cmp.Ordering.{Ordering}
-use Rattle.std.specs.declared.cmp.Ordering.TheVariants.{Less, Equal, Greater}
-use Rattle.std.specs.Ordering.{is_eq, eq_by_cmp}
+use Rattle.std.specs.Ordering.{eq_by_cmp}
 use Rattle.std.specs.Cmp.{eq_by_cmp_equiv}
 use Rattle.std.proofs.lemmas.Bool.{cases_lt}
 use Rattle.ebpf_base.specs.Keys.{text_cmp, text_total}
+use Rattle.ebpf_base.proofs.Orderings.{is_equal}
 use Rattle.ebpf_parts.specs.Maps.{bytes_of, with_bytes}
 use Rattle.ebpf_parts.specs.declared.maps.either.Map.{Map}
 use Rattle.ebpf_parts.specs.declared.maps.either.Map.TheVariants.{Legacy, Btf}
@@ -14,15 +13,10 @@ use Rattle.ebpf_object.specs.Patches.{PatchValue, overwritten, with_patch, patch
 use Rattle.ebpf_object.specs.PatchedBytes.{Covers, byte_at}
 use Rattle.ebpf_object.proofs.Overwrites.{overwritten_long, overwritten_beside, overwritten_within}
 
-equal : (r : Ordering) → is_eq r ≡ true → r ≡ Equal
-equal Less e = cc
-equal Equal e = refl
-equal Greater e = cc
-
 -- texts are one or differ
 pub one_or_other : (a b : List ℕ) → (a ≡ b) ⊎ (eq_by_cmp text_cmp a b ≡ false)
 one_or_other a b = elim (eq_by_cmp text_cmp a b) as (λ t. eq_by_cmp text_cmp a b ≡ t → (a ≡ b) ⊎ (eq_by_cmp text_cmp a b ≡ false)) [
-  | true ↦ λ e. inl (slice_cmp-IsAntisymmetric nat_cmp-IsAntisymmetric a b (equal _ e))
+  | true ↦ λ e. inl (slice_cmp-IsAntisymmetric nat_cmp-IsAntisymmetric a b (is_equal _ e))
   | false ↦ λ e. inr e
 ] refl
 

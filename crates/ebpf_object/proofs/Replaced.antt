@@ -91,8 +91,3 @@ are_linked parts programs linked after are h key = by_place (get linked key) ref
 -- the entries of a map are what is there
 pub all_found : (m : FinMap key_cmp Function) (es : List (FunctionKey × Function)) → from_entries {R = key_cmp} es ≡ m → (q : FunctionKey) → find key_cmp q es ≡ get m q
 all_found m es is q = sym (get-from_entries key_total es q) ∙ ap (λ x. get x q) is
-
--- what stands where nothing takes its place
-pub stays_there : (o : Option Function) → replaced o None ≡ o
-stays_there None = refl
-stays_there (Some x) = refl

@@ -40,3 +40,4 @@ mod text_sections;
 pub use ebpf_model::Program;
 pub use ebpf_parts::{insn, maps, programs};
 pub use object::Object;
+pub use patch::symbol_indices;

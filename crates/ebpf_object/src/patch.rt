@@ -86,6 +86,10 @@ fn put_indices(
 }
 
 /// The indices of the symbols by their names: of equal names the greatest.
+///
+/// # Errors
+///
+/// `AllocError` where no memory is found.
 pub fn symbol_indices(alloc: Global, symbols: &ByIndex<Symbol>) -> Result<ByName<usize>, AllocError>
     ensures { IfOk result (λ numbers. numbers ≡ symbol_indices symbols.now) }
 {

@@ -1,6 +1,7 @@
 //! What people choose of the passes.
 
 ghost use Rattle.std.specs.Prelude.{◌≡◌, map, false, true, None, Some};
+ghost use Rattle.std.specs.Option.{option_copied};
 ghost use Rattle.ebpf_object.specs.Steps.{chosen, descriptor_of};
 
 use crate::prepare::Steps;
@@ -25,8 +26,20 @@ impl<'a> Steps<'a> {
     pub fn all(kernel: &'a Btf, descriptors: &'a [(&'a str, i32)]) -> Steps<'a>
         ensures { chosen result ≡ record { target = Some kernel.now; descriptors = Some (map descriptor_of descriptors.now); kernel = Some (Some kernel.now); externs = true; calls = true } }
     {
-        let kernels = Steps::none().with_types(kernel).with_externs(kernel);
-        kernels.with_descriptors(descriptors).with_calls()
+        Steps::all_with(Some(kernel), descriptors)
+    }
+
+    /// All passes, as `all` says, but that functions are relocated to a kernel's types only where these are given, and that
+    /// externs are resolved by its symbols alone where they aren't.
+    pub fn all_with(kernel: Option<&'a Btf>, descriptors: &'a [(&'a str, i32)]) -> Steps<'a>
+        ensures { chosen result ≡ record { target = option_copied kernel.entry; descriptors = Some (map descriptor_of descriptors.now); kernel = Some (option_copied kernel.entry); externs = true; calls = true } }
+    {
+        Steps {
+            target_btf: kernel,
+            map_fds: Some(descriptors),
+            externs: Some(kernel),
+            calls: true,
+        }
     }
 
     /// The passes that need nothing of a kernel but descriptors: these are written as `all` says, and programs are linked.
@@ -52,10 +65,8 @@ impl<'a> Steps<'a> {
     pub fn with_descriptors(self, descriptors: &'a [(&'a str, i32)]) -> Steps<'a>
         ensures { chosen result ≡ record (chosen self.entry) { descriptors = Some (map descriptor_of descriptors.now) } }
     {
-        Steps {
-            map_fds: Some(descriptors),
-            ..self
-        }
+        let map_fds = Some(descriptors);
+        Steps { map_fds, ..self }
     }
 
     /// These steps, with externs resolved by a kernel's types and symbols, and written.
@@ -91,9 +102,7 @@ impl<'a> Steps<'a> {
     pub fn with_calls(self) -> Steps<'a>
         ensures { chosen result ≡ record (chosen self.entry) { calls = true } }
     {
-        Steps {
-            calls: true,
-            ..self
-        }
+        let calls = true;
+        Steps { calls, ..self }
     }
 }

@@ -30,10 +30,6 @@ all_more metadata p symbols s rest = λ i. record {
   section_infos = put_all-flat_map section_info_entry p.section_infos s rest i;
 }
 
--- a section that holds type information is none of them
-pub passed : (s : SectionOf) (rest : List SectionOf) → is_type_information s ≡ true → others (s ∷ rest) ≡ others rest
-passed s rest e = ap (λ b. cond (not b) (s ∷ others rest) (others rest)) e
-
 -- another is the first of them
 pub kept : (s : SectionOf) (rest : List SectionOf) → is_type_information s ≡ false → others (s ∷ rest) ≡ s ∷ others rest
 kept s rest e = ap (λ b. cond (not b) (s ∷ others rest) (others rest)) e

@@ -2,7 +2,7 @@
 use Rattle.std.proofs.Common.{◌≡◌, ◌≢◌, ℕ, suc, ◌+◌, ◌-◌, Bool, true, false, List, [], ◌∷◌, ◌++◌, length, map, filter, take, Option, Some, None, option_map, refl, sym, ap, ◌∙◌, arith}
 use Rattle.std.specs.Prelude.{◌==◌, ◌&&◌, ◌||◌, not, nat_lt, if◌then◌else◌}
 use Rattle.std.specs.List.{before_first, flat_map, list_any, position_or_len, AllByRecursion}
-use Rattle.std.proofs.lemmas.Bool.{or_parts}
+use Rattle.std.proofs.lemmas.Bool.{or_parts, not-false}
 use Rattle.ebpf_base.proofs.Faults.{both_None}
 use Rattle.ebpf_base.proofs.Keyed.{later_text_stands}
 use Rattle.ebpf_base.proofs.TextMaps.{text_exact}
@@ -75,10 +75,6 @@ before_last (b ∷ c ∷ bytes) some none =
     let step : before_first (λ b. b == 0) (b ∷ c ∷ bytes) ≡ b ∷ front_of (c ∷ bytes) = rw (object_tables.0, on) (ap (λ rest. b ∷ rest) (before_last (c ∷ bytes) later object_tables.1)) in
     step ∙ sym (front_step b c bytes)
 
-not_true : (b : Bool) → not b ≡ false → b ≡ true
-not_true true is = refl
-not_true false is = absurd (cc)
-
 passed_by : (b : Bool) (o : Option ParseError) → o ≡ None → (if b then None else o) ≡ None
 passed_by true o none = refl
 passed_by false o none = none
@@ -89,7 +85,7 @@ text_alike bytes clear =
     let long = some_never (nat_lt (length bytes) 2) _ _ clear in
     let ended = some_never (not (has_zero bytes)) _ _ long.1 in
     let alone = some_never (has_zero (front_of bytes)) _ _ ended.1 in
-    (before_last bytes (not_true (has_zero bytes) ended.0) alone.0, passed_by _ _ clear)
+    (before_last bytes (not-false (has_zero bytes) ended.0) alone.0, passed_by _ _ clear)
 
 license_alike : (s : Option SectionOf) → license_fault_in Stated s ≡ None → (license_in Broad s ≡ license_in Stated s) × (license_fault_in Broad s ≡ None)
 license_alike None clear = (refl, refl)

@@ -1,9 +1,10 @@
 -- The tables of relocations are those of sections of code, and name symbols.
-use Rattle.std.proofs.Common.{◌≡◌, ◌≢◌, ◌⊎◌, inl, inr, ◌==◌, ◌||◌, ℕ, Bool, true, false, List, [], ◌∷◌, map, Some, None, refl, sym, ap, ◌∙◌, slice_get, if◌then◌else◌}
+use Rattle.std.proofs.Common.{◌≡◌, ◌≢◌, ◌⊎◌, inl, inr, ◌==◌, ℕ, Bool, true, false, List, [], ◌∷◌, map, Some, None, refl, sym, ap, ◌∙◌, slice_get, if◌then◌else◌}
 use Rattle.std.specs.FinMap.{get}
 use Rattle.std.specs.List.{AllByRecursion, list_any}
 use Rattle.std.specs.Ordering.{nat_cmp}
 use Rattle.std.proofs.lemmas.Map.Lookups.{exact_unsigned}
+use Rattle.std.proofs.lemmas.Bool.{or_parts}
 use Rattle.ebpf_base.proofs.Keyed.{later_number_stands}
 use Rattle.ebpf_elf.specs.declared.entries.ElfRelocation.{ElfRelocation}
 use Rattle.ebpf_parsing.specs.FileContents.{relocation_tables, object_sections, relocation_entries}
@@ -41,17 +42,13 @@ clear_test : (b : Bool) → (if b then Some UnsupportedRelocationTarget else Non
 clear_test true e = cc
 clear_test false e = refl
 
-neither : (a b : Bool) → (a || b) ≡ false → (a ≡ false) × (b ≡ false)
-neither true b e = absurd (let no : ⊥ = cc in no)
-neither false b e = (refl, e)
-
 not_zero : (n : ℕ) → (n == 0) ≡ false → n ≢ 0
 not_zero n test is = let no : true ≡ false = sym (ap (λ k. k == 0) is) ∙ test in cc
 
 all_named : (rs : List ElfRelocation) → list_any (λ r. r.symbol_index == 0) rs ≡ false → AllByRecursion (λ e. e.1.symbol_index ≢ 0) (map offset_of rs)
 all_named [] h = tt
 all_named (r ∷ rs) h =
-    let both = neither (r.symbol_index == 0) (list_any (λ x. x.symbol_index == 0) rs) h in
+    let both = or_parts (r.symbol_index == 0) (list_any (λ x. x.symbol_index == 0) rs) h in
     (not_zero r.symbol_index both.0, all_named rs both.1)
 
 pub relocations_name_symbols : RelocationsNameSymbols

@@ -7,7 +7,7 @@ use Rattle.std.specs.FinMap.{get, empty, get-empty}
 use Rattle.std.specs.List.{AllByRecursion, flat_map}
 use Rattle.std.specs.Ordering.{eq_by_cmp}
 use Rattle.ebpf_base.specs.Keyed.{LaterStands, put_all, last_at}
-use Rattle.ebpf_parsing.proofs.LastEntries.{equal}
+use Rattle.ebpf_base.proofs.Orderings.{is_equal}
 
 -- ---- of all entries
 
@@ -16,7 +16,7 @@ module _ {K X : Type 0} (R : K → K → Ordering) (exact : (x y : K) → R x y 
   stands_from z before [] every x e = before x e
   stands_from z before (h ∷ es) every x e = stands_from (if eq_by_cmp R q h.0 then Some h.1 else z)
       (elim (eq_by_cmp R q h.0) as (λ b. eq_by_cmp R q h.0 ≡ b → (y : X) → (if b then Some h.1 else z) ≡ Some y → P q y) [
-        | true ↦ λ t y f. let same : h.1 ≡ y = cc in subst (P q) same (subst (λ k. P k h.1) (sym (exact q h.0 (equal _ t))) every.0)
+        | true ↦ λ t y f. let same : h.1 ≡ y = cc in subst (P q) same (subst (λ k. P k h.1) (sym (exact q h.0 (is_equal _ t))) every.0)
         | false ↦ λ t y f. before y f
       ] refl)
       es every.1 x e

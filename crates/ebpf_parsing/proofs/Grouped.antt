@@ -43,9 +43,6 @@ target_more group group' r rest q e = ap (λ g. g ++ filter (λ s. relocated_sec
     by_case true = append_assoc group (r ∷ []) (filter (λ s. relocated_section s == q) rest)
     by_case false = refl
 
-pub target_all : (group : List SectionOf) (q : ℕ) → group ++ filter (λ s. relocated_section s == q) [] ≡ group
-target_all group q = append-nil group
-
 -- those of a section of the file
 pub tables_of_section : (file : List ℕ) (groups : BTreeMap ℕ (Vec SectionOf)) (s : SectionOf) (found : List SectionOf) → AreTablesOf file groups → s.file ≡ file → found ≡ group_at groups s.index
     → found ≡ filter (λ r. relocated_section r == s.index) (relocation_sections s.file)

@@ -1,5 +1,6 @@
 -- The maps of sections of data, of which only the last of a name is put.
 use Rattle.std.proofs.Common.{◌≡◌, ℕ, Bool, true, false, ◌||◌, List, [], ◌∷◌, Option, refl, sym, ap, ◌∙◌}
+use Rattle.std.proofs.lemmas.List.Folds.{list_any-append}
 use Rattle.std.specs.Prelude.{if◌then◌else◌}
 use Rattle.std.specs.FinMap.{FinMap, get}
 use Rattle.std.specs.List.{flat_map}
@@ -8,7 +9,7 @@ use Rattle.ebpf_base.proofs.TextMaps.{text_exact}
 use Rattle.ebpf_base.specs.Keyed.{put_all}
 use Rattle.ebpf_base.specs.Keys.{text_cmp, text_total}
 use Rattle.ebpf_btf.specs.TypeInfo.{TypeInfo}
-use Rattle.ebpf_parsing.proofs.Lasts.{has, false_is_not, any-append, put_again, Lasts, another}
+use Rattle.ebpf_parsing.proofs.Lasts.{has, false_is_not, put_again, Lasts, another}
 use Rattle.ebpf_parsing.specs.FileContents.{symbols_at}
 use Rattle.ebpf_parsing.specs.DataMaps.{data_maps}
 use Rattle.ebpf_parsing.specs.LastData.{is_data_kind, data_row, is_index, last_maps, put_by, added_last}
@@ -50,9 +51,9 @@ module _ (reading : Reading) (types : Option TypeInfo) where
     unfolding maps_in
     all_give q [] h = false_is_not h
     all_give q (s ∷ rest) h =
-        any-append (λ e. eq_by_cmp text_cmp q e.0) (maps_in reading types s (symbols_at ys s)) (maps_of rest)
+        list_any-append (λ e. eq_by_cmp text_cmp q e.0) (maps_in reading types s (symbols_at ys s)) (maps_of rest)
         ∙ either (has text_cmp q (data_row s)) (has text_cmp q (flat_map data_row rest)) (has text_cmp q (maps_in reading types s (symbols_at ys s))) (has text_cmp q (maps_of rest))
-        (data_gives q s (symbols_at ys s) s.kind) (all_give q rest) (sym (any-append (λ e. eq_by_cmp text_cmp q e.0) (data_row s) (flat_map data_row rest)) ∙ h)
+        (data_gives q s (symbols_at ys s) s.kind) (all_give q rest) (sym (list_any-append (λ e. eq_by_cmp text_cmp q e.0) (data_row s) (flat_map data_row rest)) ∙ h)
       where
         either : (a b c d : Bool) → (a ≡ true → c ≡ true) → (b ≡ true → d ≡ true) → (a || b) ≡ true → (c || d) ≡ true
         either a b true d f g h = refl

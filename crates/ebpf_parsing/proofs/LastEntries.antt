@@ -1,21 +1,13 @@
 -- The last entry with a key, and the one that is found.
-use Rattle.std.proofs.Common.{◌≡◌, Bool, true, false, ◌&&◌, T, cond, List, [], ◌∷◌, ◌++◌, Option, Some, None, refl, ap, ◌∙◌, if◌then◌else◌}
+use Rattle.std.proofs.Common.{◌≡◌, true, false, cond, List, [], ◌∷◌, ◌++◌, Option, Some, None, refl, ap, ◌∙◌, if◌then◌else◌}
 use Rattle.std.specs.declared.cmp.Ordering.{Ordering}
-use Rattle.std.specs.declared.cmp.Ordering.TheVariants.{Less, Equal, Greater}
+use Rattle.std.specs.declared.cmp.Ordering.TheVariants.{Equal}
 use Rattle.std.specs.Cmp.{IsTotalOrder}
 use Rattle.std.specs.FinMap.{find}
 use Rattle.std.specs.List.{AllByRecursion}
 use Rattle.std.specs.Ordering.{is_eq, eq_by_cmp}
 use Rattle.ebpf_base.specs.Keyed.{last_at}
-
-pub both_so : (a b : Bool) → T a → T b → T (a && b)
-both_so true b p q = q
-both_so false b p q = p
-
-pub equal : (r : Ordering) → is_eq r ≡ true → r ≡ Equal
-equal Less e = cc
-equal Equal e = refl
-equal Greater e = cc
+use Rattle.ebpf_base.proofs.Orderings.{is_equal}
 
 -- no two keys are equal
 abbrev pub KeysDiffer : {K X : Type 0} → (K → K → Ordering) → List (K × X) → Type 0
@@ -32,10 +24,6 @@ module _ {K X : Type 0} (R : K → K → Ordering) (q : K) where
   last_at-apart before [] h = refl
   last_at-apart before (e ∷ es) h = ap (λ b. last_at R q (if b then Some e.1 else before) es) h.0 ∙ last_at-apart before es h.1
 
-  pub find-apart : (es : List (K × X)) → AllByRecursion (λ e. eq_by_cmp R q e.0 ≡ false) es → find R q es ≡ None
-  find-apart [] h = refl
-  find-apart (e ∷ es) h = ap (λ b. cond b (Some e.1) (find R q es)) h.0 ∙ find-apart es h.1
-
   module _ (o : IsTotalOrder R) where
     tied_apart : (k : K) (es : List (K × X)) → R q k ≡ Equal → AllByRecursion (λ e. eq_by_cmp R k e.0 ≡ false) es → AllByRecursion (λ e. eq_by_cmp R q e.0 ≡ false) es
     tied_apart k [] t h = tt
@@ -46,6 +34,6 @@ module _ {K X : Type 0} (R : K → K → Ordering) (q : K) where
     last_at-differ [] h = refl
     last_at-differ (e ∷ es) h =
         elim (eq_by_cmp R q e.0) as (λ b. eq_by_cmp R q e.0 ≡ b → last_at R q (if b then Some e.1 else None) es ≡ cond b (Some e.1) (find R q es)) [
-          | true ↦ λ t. last_at-apart (Some e.1) es (tied_apart e.0 es (equal _ t) h.0)
+          | true ↦ λ t. last_at-apart (Some e.1) es (tied_apart e.0 es (is_equal _ t) h.0)
           | false ↦ λ t. last_at-differ es h.1
         ] refl

@@ -9,7 +9,6 @@ use Rattle.ebpf_base.proofs.Maps.{key_exact}
 use Rattle.ebpf_base.specs.Faults.{or_else, first_some}
 use Rattle.ebpf_base.specs.Keyed.{put_all}
 use Rattle.ebpf_base.specs.Keys.{key_cmp, key_total}
-use Rattle.ebpf_parsing.proofs.LastEntries.{equal}
 use Rattle.ebpf_parsing.proofs.Lasts.{has, false_is_not, put_again, Lasts, another, fewer_lasts}
 use Rattle.ebpf_parsing.specs.LastData.{is_index}
 use Rattle.ebpf_parsing.specs.Programs.{is_program_symbol, program_function, program_fault, program_functions, programs_fault, with_key}
@@ -17,6 +16,7 @@ use Rattle.ebpf_parsing.specs.PrivateContracts.{program_symbol_row}
 use Rattle.ebpf_parsing.specs.Records.{FuncAndLineInfo}
 use Rattle.ebpf_parsing.specs.Symbols.{SymbolValue}
 use Rattle.ebpf_base.proofs.Walks.{rest_more, kept_more, passed_more, fault_here}
+use Rattle.ebpf_base.proofs.Orderings.{is_equal}
 use Rattle.ebpf_parts.specs.Sections.{SectionValue}
 use Rattle.ebpf_model.specs.declared.function.Function.{Function}
 
@@ -40,7 +40,7 @@ module _ (infos : FuncAndLineInfo) (s : SectionValue) where
   entries_of symbols = map with_key (program_functions infos s symbols)
 
   same_section : (q a : ℕ) → eq_by_cmp key_cmp (s.index.0, q) (s.index.0, a) ≡ eq_by_cmp nat_cmp q a
-  same_section q a = ap (λ r. is_eq (ordering_then r (nat_cmp q a))) (equal (nat_cmp s.index.0 s.index.0) ((eq_by_cmp_equiv nat_cmp_total).refl s.index.0))
+  same_section q a = ap (λ r. is_eq (ordering_then r (nat_cmp q a))) (is_equal (nat_cmp s.index.0 s.index.0) ((eq_by_cmp_equiv nat_cmp_total).refl s.index.0))
 
   either : (a b c d : Bool) → c ≡ a → (b ≡ true → d ≡ true) → (a || b) ≡ true → (c || d) ≡ true
   either true b c d e g h = ap (λ x. x || d) e

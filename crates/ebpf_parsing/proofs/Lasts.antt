@@ -1,5 +1,5 @@
 -- An entry that is put again later need not be put before.
-use Rattle.std.proofs.Common.{◌≡◌, ℕ, Bool, true, false, cond, ◌||◌, List, [], ◌∷◌, ◌++◌, Option, Some, None, refl, sym, ap, ◌∙◌, arith}
+use Rattle.std.proofs.Common.{◌≡◌, ℕ, Bool, true, false, cond, ◌||◌, List, [], ◌∷◌, Option, Some, None, refl, sym, ap, ◌∙◌, arith}
 use Rattle.std.specs.Prelude.{if◌then◌else◌}
 use Rattle.std.specs.declared.cmp.Ordering.{Ordering}
 use Rattle.std.specs.Cmp.{IsTotalOrder, eq_by_cmp_equiv}
@@ -7,9 +7,11 @@ use Rattle.std.specs.FinMap.{FinMap, IsAntisymmetric, get, insert, empty, get-in
 use Rattle.std.specs.List.{list_any, flat_map}
 use Rattle.std.specs.Ordering.{eq_by_cmp}
 use Rattle.std.proofs.lemmas.Bool.Decides.{nat_tests}
+use Rattle.std.proofs.lemmas.List.Folds.{list_any-append}
 use Rattle.ebpf_base.proofs.Keyed.{later_stands}
+use Rattle.ebpf_base.proofs.Orderings.{is_equal}
 use Rattle.ebpf_base.specs.Keyed.{put_all, last_at}
-use Rattle.ebpf_parsing.proofs.LastEntries.{equal, last_at-append}
+use Rattle.ebpf_parsing.proofs.LastEntries.{last_at-append}
 use Rattle.ebpf_parsing.specs.LastData.{is_index}
 
 -- whether a key is among entries
@@ -18,14 +20,6 @@ has R q es = list_any (λ e. eq_by_cmp R q e.0) es
 
 pub false_is_not : {P : Type 0} → false ≡ true → P
 false_is_not e = cc
-
-pub any-append : {A : Type 0} (p : A → Bool) (xs ys : List A) → list_any p (xs ++ ys) ≡ (list_any p xs || list_any p ys)
-any-append p [] ys = refl
-any-append p (x ∷ xs) ys = ap (λ b. p x || b) (any-append p xs ys) ∙ grouped (p x) (list_any p xs) (list_any p ys)
-  where
-    grouped : (a b c : Bool) → (a || (b || c)) ≡ ((a || b) || c)
-    grouped true b c = refl
-    grouped false b c = refl
 
 module _ {K X : Type 0} (R : K → K → Ordering) (q : K) where
   -- where a key is among entries, the last of them does not rest on what was before
@@ -57,7 +51,7 @@ put_again {K = K} {R = R} o exact m k v es h = same_map o exact _ _ (λ q.
   where
     step : (q : K) (t : Bool) → eq_by_cmp R q k ≡ t → last_at R q (cond t (Some v) (get m q)) es ≡ last_at R q (get m q) es
     step q true at =
-        let same : q ≡ k = exact q k (equal _ at) in
+        let same : q ≡ k = exact q k (is_equal _ at) in
         whatever R q es (ap (λ x. has R x es) same ∙ h) _ _
     step q false at = refl
 
@@ -77,7 +71,7 @@ module _ {K A : Type 0} {R : K → K → Ordering} (o : IsTotalOrder R) (row : A
     both q = last_at-append R q None (row s) (flat_map row rest)
 
     later : (q : K) → has R q (flat_map row rest) ≡ true → has R q (flat_map row (s ∷ rest)) ≡ true
-    later q h = any-append (λ e. eq_by_cmp R q e.0) (row s) (flat_map row rest) ∙ second (has R q (row s)) (has R q (flat_map row rest)) h
+    later q h = list_any-append (λ e. eq_by_cmp R q e.0) (row s) (flat_map row rest) ∙ second (has R q (row s)) (has R q (flat_map row rest)) h
       where
         second : (a b : Bool) → b ≡ true → (a || b) ≡ true
         second true b h = refl
@@ -94,7 +88,7 @@ module _ {K A : Type 0} {R : K → K → Ordering} (o : IsTotalOrder R) (row : A
         itself = (eq_by_cmp_equiv o).refl k
 
         here : has R k (flat_map row (s ∷ rest)) ≡ true
-        here = any-append (λ e. eq_by_cmp R k e.0) (row s) (flat_map row rest) ∙ ap (λ r. has R k r || has R k (flat_map row rest)) is ∙ ap (λ b. (b || false) || has R k (flat_map row rest)) itself
+        here = list_any-append (λ e. eq_by_cmp R k e.0) (row s) (flat_map row rest) ∙ ap (λ r. has R k r || has R k (flat_map row rest)) is ∙ ap (λ b. (b || false) || has R k (flat_map row rest)) itself
 
         is_itself : is_index i (Some i) ≡ true
         is_itself = grind (arith, nat_tests)

@@ -7,6 +7,7 @@ pub mod Offsets
 pub mod ExtTables
 pub mod TextLemmas
 pub mod RecordIndices
+pub mod Rising
 pub mod Tiles
 pub mod TypeErrors
 pub mod Walked

@@ -1,4 +1,5 @@
--- Which faults of a file the two readings have not in common: a name that says no kind, and big-endian code.
+-- Which faults of a file the two readings have not in common: a name that says no kind, and big-endian code. None is that
+-- of a limit.
 use Rattle.std.proofs.Common.{◌≡◌, ◌≢◌, ℕ, Bool, true, false, List, [], ◌∷◌, length, filter, Option, Some, None, Result, Ok, Err, option_map, refl, sym, ap, ◌∙◌}
 use Rattle.std.specs.Prelude.{◌+◌, ◌^◌, ◌||◌, ◌==◌, not, nat_lt, is_some, if◌then◌else◌}
 use Rattle.std.specs.List.{list_any, AllByRecursion}
@@ -18,7 +19,7 @@ use Rattle.ebpf_elf.specs.Relocations.{relocations}
 use Rattle.ebpf_elf.specs.declared.error.ElfReadError.TheVariants.{BadStringTable}
 use Rattle.ebpf_elf.specs.Sections.{SectionOf, section_name, data_faults}
 use Rattle.ebpf_elf.specs.Symbols.{SymbolOf, symbol_name, symbols}
-use Rattle.ebpf_parsing.specs.CodeOrder.{has_big_endian_code}
+use Rattle.ebpf_parsing.specs.CodeOrder.{has_big_endian_code, order_fault_as}
 use Rattle.ebpf_parsing.specs.FileContents.{read_fault, sections_fault, parse_fault_as, other_sections}
 use Rattle.ebpf_parsing.specs.DataMaps.{data_map_fault}
 use Rattle.ebpf_parsing.specs.BtfDefinedMaps.{btf_defined_maps_fault}
@@ -37,7 +38,7 @@ use Rattle.ebpf_parts.specs.ProgramSections.{no_section}
 use Rattle.ebpf_parts.specs.Sections.{SectionValue, section_of, section_name_fault, data_fault, section_fault, section_fault_with}
 use Rattle.ebpf_parts.specs.Slots.{code_faults}
 use Rattle.ebpf_parts.specs.declared.error.ParseError.{ParseError}
-use Rattle.ebpf_parts.specs.declared.error.ParseError.TheVariants.{ElfError, BtfError, MissingLicenseNullTerminator, InvalidLicense, InvalidKernelVersion, SectionError, UnsupportedRelocationTarget, InvalidProgramSection, InvalidMapDefinition, InvalidSymbol, SymbolNotFound, NoSymbolsForSection, BigEndianCode}
+use Rattle.ebpf_parts.specs.declared.error.ParseError.TheVariants.{ElfError, BtfError, MissingLicenseNullTerminator, InvalidLicense, InvalidKernelVersion, SectionError, UnsupportedRelocationTarget, InvalidProgramSection, InvalidMapDefinition, InvalidSymbol, SymbolNotFound, NoSymbolsForSection, BigEndianCode, TooLarge}
 use Rattle.ebpf_parts.specs.declared.maps.either.Map.{Map}
 use Rattle.ebpf_parts.specs.declared.program_section.ProgramSection.{ProgramSection}
 use Rattle.ebpf_parts.specs.declared.reading.Reading.{Reading}
@@ -45,10 +46,11 @@ use Rattle.ebpf_parts.specs.declared.reading.Reading.TheVariants.{Stated, Broad}
 use Rattle.ebpf_parts.specs.declared.section_kind.EbpfSectionKind.{EbpfSectionKind}
 use Rattle.ebpf_parts.specs.declared.section_kind.EbpfSectionKind.TheVariants.{Maps, BtfMaps, Data, Rodata, Bss, Text, Program as Programs}
 
--- a fault that only one of the readings has
+-- a fault that only one of the readings has, or that of a limit
 is_told : ParseError → Bool
 is_told (InvalidProgramSection _) = true
 is_told BigEndianCode = true
+is_told (TooLarge _) = true
 is_told _ = false
 
 told : Option ParseError → Bool
@@ -241,46 +243,46 @@ unfolding btf_defined_maps_fault told is_told
 declared_plain None s ys = refl
 declared_plain (Some d) s ys = either told _ _ (rows_plain ((length ys == 0, NoSymbolsForSection s.name) ∷ []) (refl, tt)) (types_plain _ s.index.0 d.reading d.types s.name)
 
--- no other kind of section has a fault that only one reading has
-other_plain : (reading : Reading) (types : Option TypeInfo) (s : SectionValue) (ys : List SymbolValue) (kind : EbpfSectionKind)
-    → Plain (program_section_faults reading s ys) → Plain (fault_by kind reading types s ys)
-unfolding told
-other_plain reading types s ys Programs is = is
-other_plain reading types s ys Text is = text_plain s ys
-other_plain reading types s ys Data is = data_plain s
-other_plain reading types s ys Rodata is = data_plain s
-other_plain reading types s ys Bss is = data_plain s
-other_plain reading types s ys Maps is = structs_plain s ys
-other_plain reading types s ys BtfMaps is = declared_plain (types_in_reading reading types) s ys
-other_plain reading types s ys _ is = refl
+-- ---- a test that says no of every other fault
 
--- ---- the broad reading
+module _ (test : Option ParseError → Bool) (plain : (o : Option ParseError) → Plain o → test o ≡ false) (reading : Reading)
+    (named : (name : List ℕ) → test (no_section name (section_as reading name)) ≡ false) where
+  name_passes : (s : SectionValue) (ys : List SymbolValue) → test (program_section_faults reading s ys) ≡ false
+  unfolding program_section_faults
+  name_passes s ys = either test _ _ (named s.name) (plain _ (behind_name s ys))
 
-broad_name : (s : SectionValue) (ys : List SymbolValue) → Plain (program_section_faults Broad s ys)
-unfolding program_section_faults section_as
-broad_name s ys = behind_name s ys
+  kind_passes : (types : Option TypeInfo) (s : SectionValue) (ys : List SymbolValue) (kind : EbpfSectionKind) → test (fault_by kind reading types s ys) ≡ false
+  unfolding told
+  kind_passes types s ys Programs = name_passes s ys
+  kind_passes types s ys Text = plain _ (text_plain s ys)
+  kind_passes types s ys Data = plain _ (data_plain s)
+  kind_passes types s ys Rodata = plain _ (data_plain s)
+  kind_passes types s ys Bss = plain _ (data_plain s)
+  kind_passes types s ys Maps = plain _ (structs_plain s ys)
+  kind_passes types s ys BtfMaps = plain _ (declared_plain (types_in_reading reading types) s ys)
+  kind_passes types s ys _ = plain None refl
 
-broad_sections : (types : Option TypeInfo) (bytes : List ℕ) → Plain (sections_fault Broad types bytes)
-unfolding sections_fault fault_in
-broad_sections types bytes = plain_all (read_fault Broad types bytes)
-    (λ s. either told (section_fault s) _ (section_plain s)
-    (other_plain Broad types (section_of s) (section_symbols (file_symbols bytes) s.index) (section_of s).kind (broad_name (section_of s) (section_symbols (file_symbols bytes) s.index))))
-    (other_sections bytes)
+  sections_pass : (types : Option TypeInfo) (bytes : List ℕ) → test (sections_fault reading types bytes) ≡ false
+  unfolding sections_fault fault_in told
+  sections_pass types bytes = all_of test (plain None refl) (read_fault reading types bytes)
+      (λ s. either test (section_fault s) _ (plain _ (section_plain s)) (kind_passes types (section_of s) (section_symbols (file_symbols bytes) s.index) (section_of s).kind))
+      (other_sections bytes)
 
--- what follows the order of code
-behind_order : (reading : Reading) (bytes : List ℕ) (rest : Option ParseError) (test : Option ParseError → Bool)
-    → ((o : Option ParseError) → Plain o → test o ≡ false) → test rest ≡ false
-    → test (or_else (license_fault_as reading bytes) (or_else (version_fault bytes) (or_else (symbols_fault bytes) (or_else (file_types_fault bytes) (or_else (file_externs_fault bytes) rest))))) ≡ false
-behind_order reading bytes rest test plain last =
-    either test _ _ (plain _ (license_plain reading bytes))
-    (either test _ _ (plain _ (version_plain bytes))
-    (either test _ _ (plain _ (plain_all symbol_fault symbol_plain (symbols bytes)))
-    (either test _ _ (plain _ (file_types_plain bytes))
-    (either test _ _ (plain _ (externs_plain bytes)) last))))
+  -- what follows the order of code
+  behind_order : (bytes : List ℕ)
+      → test (or_else (license_fault_as reading bytes) (or_else (version_fault bytes) (or_else (symbols_fault bytes) (or_else (file_types_fault bytes) (or_else (file_externs_fault bytes) (sections_fault reading (types_of_file bytes) bytes)))))) ≡ false
+  behind_order bytes =
+      either test _ _ (plain _ (license_plain reading bytes))
+      (either test _ _ (plain _ (version_plain bytes))
+      (either test _ _ (plain _ (plain_all symbol_fault symbol_plain (symbols bytes)))
+      (either test _ _ (plain _ (file_types_plain bytes))
+      (either test _ _ (plain _ (externs_plain bytes)) (sections_pass (types_of_file bytes) bytes)))))
 
 file_plain : (bytes : List ℕ) → Plain (option_map ElfError (first_in (faults bytes)))
 unfolding is_told told
 file_plain bytes = made_plain ElfError (λ e. refl) _
+
+-- ---- the broad reading
 
 no_name : (name : List ℕ) (o : Option ParseError) → Plain o → o ≢ Some (InvalidProgramSection name)
 unfolding told is_told
@@ -292,9 +294,12 @@ in_order name (Some e) ordered rest first later is = no_name name (Some e) first
 in_order name None true rest first later is = cc
 in_order name None false rest first later is = no_name name rest later is
 
+broad_name : (name : List ℕ) → Plain (no_section name (section_as Broad name))
+unfolding told section_as
+broad_name name = refl
+
 pub broad_refuses_no_name : BroadRefusesNoName
-broad_refuses_no_name bytes name =
-    in_order name _ (has_big_endian_code bytes) _ (file_plain bytes) (behind_order Broad bytes (sections_fault Broad (types_of_file bytes) bytes) told (λ o plain. plain) (broad_sections (types_of_file bytes) bytes))
+broad_refuses_no_name bytes name = in_order name _ (has_big_endian_code bytes) _ (file_plain bytes) (behind_order told (λ o plain. plain) Broad broad_name bytes)
 
 -- ---- the stated reading
 
@@ -309,31 +314,48 @@ unfolding big is_big_endian_code
 unnamed name None = refl
 unnamed name (Some kind) = refl
 
-stated_name : (s : SectionValue) (ys : List SymbolValue) → big (program_section_faults Stated s ys) ≡ false
-unfolding program_section_faults
-stated_name s ys = either big _ _ (unnamed s.name (section_as Stated s.name)) (from_plain _ (behind_name s ys))
-
-stated_kind : (types : Option TypeInfo) (s : SectionValue) (ys : List SymbolValue) (kind : EbpfSectionKind) → big (fault_by kind Stated types s ys) ≡ false
-unfolding big
-stated_kind types s ys Programs = stated_name s ys
-stated_kind types s ys Text = from_plain _ (text_plain s ys)
-stated_kind types s ys Data = from_plain _ (data_plain s)
-stated_kind types s ys Rodata = from_plain _ (data_plain s)
-stated_kind types s ys Bss = from_plain _ (data_plain s)
-stated_kind types s ys Maps = from_plain _ (structs_plain s ys)
-stated_kind types s ys BtfMaps = from_plain _ (declared_plain (types_in_reading Stated types) s ys)
-stated_kind types s ys _ = refl
-
-stated_sections : (types : Option TypeInfo) (bytes : List ℕ) → big (sections_fault Stated types bytes) ≡ false
-unfolding sections_fault fault_in big
-stated_sections types bytes = all_of big refl (read_fault Stated types bytes)
-    (λ s. either big (section_fault s) _ (from_plain _ (section_plain s)) (stated_kind types (section_of s) (section_symbols (file_symbols bytes) s.index) (section_of s).kind))
-    (other_sections bytes)
-
 pub stated_takes_both_orders : StatedTakesBothOrders
 unfolding big is_big_endian_code
 stated_takes_both_orders bytes is =
     let never : big (parse_fault_as Stated bytes) ≡ false =
-    either big _ _ (from_plain _ (file_plain bytes)) (behind_order Stated bytes (sections_fault Stated (types_of_file bytes) bytes) big from_plain (stated_sections (types_of_file bytes) bytes)) in
+    either big _ _ (from_plain _ (file_plain bytes)) (behind_order big from_plain Stated (λ name. unnamed name (section_as Stated name)) bytes) in
     let no : true ≡ false = sym (ap big is) ∙ never in
+    cc
+
+-- ---- the fault of a limit
+
+is_too_large : ParseError → Bool
+is_too_large (TooLarge _) = true
+is_too_large _ = false
+
+large : Option ParseError → Bool
+large None = false
+large (Some e) = is_too_large e
+
+small : (o : Option ParseError) → Plain o → large o ≡ false
+unfolding told is_told large is_too_large
+small None plain = refl
+small (Some (TooLarge _)) plain = absurd (cc)
+small (Some _) plain = refl
+
+small_name : (name : List ℕ) (kind : Option ProgramSection) → large (no_section name kind) ≡ false
+unfolding large is_too_large
+small_name name None = refl
+small_name name (Some kind) = refl
+
+small_order : (reading : Reading) (bytes : List ℕ) → large (order_fault_as reading bytes) ≡ false
+unfolding large is_too_large
+small_order Stated bytes = refl
+small_order Broad bytes = elim (has_big_endian_code bytes) as (λ b. large (if b then Some BigEndianCode else None) ≡ false) [
+  | true ↦ refl
+  | false ↦ refl
+]
+
+pub never_too_large : (reading : Reading) (bytes : List ℕ) (most : ℕ) → parse_fault_as reading bytes ≢ Some (TooLarge most)
+unfolding large is_too_large
+never_too_large reading bytes most is =
+    let never : large (parse_fault_as reading bytes) ≡ false =
+    either large _ _ (small _ (file_plain bytes))
+    (either large _ _ (small_order reading bytes) (behind_order large small reading (λ name. small_name name (section_as reading name)) bytes)) in
+    let no : true ≡ false = sym (ap large is) ∙ never in
     cc

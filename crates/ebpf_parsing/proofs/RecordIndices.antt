@@ -139,20 +139,6 @@ module _ {X : Type 0} (slot : X → ℕ) where
     λ k d low high. let first = after d (omega arith) in let up : slot (get_or xs n d) ≤ slot (get_or xs k d) = rising n k d low high in omega (arith, first, up),
   )
 
-  -- one more row that isn't below the one before it
-  pub adjacent_more : (xs : List X) (i last : ℕ) (x : X) → AllAdjacentBelow (λ y z. slot y ≤ slot z) xs i → ((d : X) → 0 < i → slot (get_or xs (i - 1) d) ≤ last)
-      → ((d : X) → slot (get_or xs i d) ≡ slot x) → last ≤ slot x → AllAdjacentBelow (λ y z. slot y ≤ slot z) xs (i + 1)
-  adjacent_more xs i last x before end here up = λ k d below. by_case k d below (cases_lt (k + 1) i)
-    where
-      by_case : (k : ℕ) (d : X) → k + 1 < i + 1 → (k + 1 < i) ⊎ (i ≤ k + 1) → slot (get_or xs k d) ≤ slot (get_or xs (k + 1) d)
-      by_case k d below (inl earlier) = before k d earlier
-      by_case k d below (inr at) =
-          let same : i ≡ k + 1 = omega arith in
-          let prior : i - 1 ≡ k = omega arith in
-          let lower : slot (get_or xs k d) ≤ last = subst (λ n. slot (get_or xs n d) ≤ last) prior (end d (omega arith)) in
-          let next : slot (get_or xs (k + 1) d) ≡ slot x = subst (λ n. slot (get_or xs n d) ≡ slot x) same (here d) in
-          omega (arith, lower, next, up)
-
   one_slot : (s : ℕ) (x : X) → is_among_slots slot s 1 x ≡ (slot x == s)
   one_slot s x = bool_same _ _ (λ e. grind (arith, nat_tests)) (λ e. grind (arith, nat_tests))
 

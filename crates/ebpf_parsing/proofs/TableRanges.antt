@@ -3,6 +3,8 @@ use Rattle.std.proofs.Common.{◌≡◌, ℕ, ◌+◌, ◌<◌, ◌≤◌, Bool,
 use Rattle.std.proofs.lemmas.List.{map-append}
 use Rattle.std.proofs.lemmas.Option.{none-some}
 use Rattle.std.proofs.lemmas.Map.Lookups.{exact_pairs, exact_unsigned}
+use Rattle.std.proofs.lemmas.Bool.{or_left, or_right}
+use Rattle.std.proofs.lemmas.List.Folds.{list_any-append}
 use Rattle.std.specs.Cmp.{IsTotalOrder, nat_cmp_total}
 use Rattle.std.specs.FinMap.{FinMap, IsAntisymmetric, get, insert, empty, get-empty, get-insert, same_map, nat_cmp-IsAntisymmetric}
 use Rattle.std.specs.List.{flat_map}
@@ -17,14 +19,15 @@ use Rattle.ebpf_elf.specs.Relocations.{table_entry, table_entries}
 use Rattle.ebpf_elf.specs.Sections.{SectionOf}
 use Rattle.ebpf_elf.specs.declared.entries.ElfRelocation.{ElfRelocation}
 use Rattle.ebpf_parsing.proofs.FromFile.{some_same}
-use Rattle.ebpf_parsing.proofs.LastEntries.{equal, last_at-append}
-use Rattle.ebpf_parsing.proofs.Lasts.{has, false_is_not, any-append, whatever, none_last, Lasts, another, fewer_lasts}
+use Rattle.ebpf_parsing.proofs.LastEntries.{last_at-append}
+use Rattle.ebpf_parsing.proofs.Lasts.{has, false_is_not, whatever, none_last, Lasts, another, fewer_lasts}
 use Rattle.ebpf_parsing.specs.EntryRanges.{entry_range_cmp}
 use Rattle.ebpf_parsing.specs.PrivateContracts.{entry_range_total, entry_range_of, entries_at, lacks_symbol, EntryRangesAreCached, AreOf, table_row}
 use Rattle.ebpf_parsing.specs.LastData.{is_index}
 use Rattle.ebpf_parsing.specs.Relocations.{offset_of}
 use Rattle.ebpf_parts.proofs.Tables.{tables_more, tables_none, target_append}
 use Rattle.ebpf_base.proofs.Walks.{rest_more}
+use Rattle.ebpf_base.proofs.Orderings.{is_equal}
 use Rattle.ebpf_parts.specs.Sections.{target_fault}
 
 pub places_exact : IsAntisymmetric entry_range_cmp
@@ -42,7 +45,7 @@ pub cached_more : (s : SectionOf) (cached : FinMap entry_range_cmp Bool) (lacks 
 cached_more s cached lacks so is p other at = step (eq_by_cmp entry_range_cmp p (entry_range_of s)) refl (sym (get-insert entry_range_total cached (entry_range_of s) lacks p) ∙ at)
   where
     step : (b : Bool) → eq_by_cmp entry_range_cmp p (entry_range_of s) ≡ b → cond b (Some lacks) (get cached p) ≡ Some other → other ≡ lacks_symbol (entries_at s.file p)
-    step true same found = sym (some_same lacks other found) ∙ is ∙ ap lacks_symbol (at_places s) ∙ sym (ap (λ q. lacks_symbol (entries_at s.file q)) (places_exact p (entry_range_of s) (equal _ same)))
+    step true same found = sym (some_same lacks other found) ∙ is ∙ ap lacks_symbol (at_places s) ∙ sym (ap (λ q. lacks_symbol (entries_at s.file q)) (places_exact p (entry_range_of s) (is_equal _ same)))
     step false same found = so p other found
 
 -- nothing is cached at the start
@@ -80,14 +83,6 @@ put_all_again {K = K} {R = R} o exact m es fs come = same_map o exact _ _ (λ q.
 abbrev offsets : List ElfRelocation → List (ℕ × ElfRelocation)
 offsets = map offset_of
 
-either : (a b : Bool) → a ≡ true → (a || b) ≡ true
-either true b e = refl
-either false b e = cc
-
-second : (a b : Bool) → b ≡ true → (a || b) ≡ true
-second true b e = refl
-second false b e = e
-
 module _ (file : List ℕ) (t : SectionOf) (own : t.file ≡ file) where
   same_entries : (x : SectionOf) → x.file ≡ file → entry_range_of t ≡ entry_range_of x → table_entries t ≡ table_entries x
   same_entries x of_file same =
@@ -97,11 +92,11 @@ module _ (file : List ℕ) (t : SectionOf) (own : t.file ≡ file) where
   come_again : (q : ℕ) (rest : List SectionOf) → AreOf file rest → has entry_range_cmp (entry_range_of t) (flat_map table_row rest) ≡ true
       → has nat_cmp q (offsets (table_entries t)) ≡ true → has nat_cmp q (offsets (flat_map table_entries rest)) ≡ true
   come_again q [] of_file there h = false_is_not there
-  come_again q (x ∷ rest) of_file there h = ap (has nat_cmp q) (map-append offset_of (table_entries x) (flat_map table_entries rest)) ∙ any-append _ (offsets (table_entries x)) (offsets (flat_map table_entries rest)) ∙ step (λ behind. come_again q rest of_file.1 behind h) (eq_by_cmp entry_range_cmp (entry_range_of t) (entry_range_of x)) refl
+  come_again q (x ∷ rest) of_file there h = ap (has nat_cmp q) (map-append offset_of (table_entries x) (flat_map table_entries rest)) ∙ list_any-append _ (offsets (table_entries x)) (offsets (flat_map table_entries rest)) ∙ step (λ behind. come_again q rest of_file.1 behind h) (eq_by_cmp entry_range_cmp (entry_range_of t) (entry_range_of x)) refl
     where
       step : (has entry_range_cmp (entry_range_of t) (flat_map table_row rest) ≡ true → has nat_cmp q (offsets (flat_map table_entries rest)) ≡ true) → (b : Bool) → eq_by_cmp entry_range_cmp (entry_range_of t) (entry_range_of x) ≡ b → (has nat_cmp q (offsets (table_entries x)) || has nat_cmp q (offsets (flat_map table_entries rest))) ≡ true
-      step again true same = either _ _ (sym (ap (λ es. has nat_cmp q (offsets es)) (same_entries x of_file.0 (places_exact _ _ (equal _ same)))) ∙ h)
-      step again false differ = second _ _ (again (sym (ap (λ b. b || has entry_range_cmp (entry_range_of t) (flat_map table_row rest)) differ) ∙ there))
+      step again true same = or_left _ _ (sym (ap (λ es. has nat_cmp q (offsets es)) (same_entries x of_file.0 (places_exact _ _ (is_equal _ same)))) ∙ h)
+      step again false differ = or_right _ _ (again (sym (ap (λ b. b || has entry_range_cmp (entry_range_of t) (flat_map table_row rest)) differ) ∙ there))
 
 -- one more section whose entries are put
 pub put_more : (m n : FinMap nat_cmp ElfRelocation) (xs : List SectionOf) (i : ℕ) (x : SectionOf) → i < length xs → x ≡ slice_index_or xs i x

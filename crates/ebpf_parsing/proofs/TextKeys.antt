@@ -9,13 +9,14 @@ use Rattle.std.proofs.lemmas.Map.Lookups.{exact_pairs, exact_unsigned}
 use Rattle.ebpf_base.specs.Faults.{first_some}
 use Rattle.ebpf_base.specs.Keys.{key_cmp, key_total}
 use Rattle.ebpf_base.proofs.Faults.{both_None}
+use Rattle.ebpf_base.proofs.Orderings.{is_equal}
 use Rattle.ebpf_ext.specs.ExtReading.{ExtInfo}
 use Rattle.ebpf_parsing.specs.Programs.{with_key, program_function, is_program_symbol}
 use Rattle.ebpf_parsing.specs.OfSection.{functions_by, functions_in}
 use Rattle.ebpf_parsing.specs.Records.{FuncAndLineInfo, func_and_line_info_of}
 use Rattle.ebpf_parsing.specs.Symbols.{SymbolValue}
 use Rattle.ebpf_parsing.specs.Texts.{is_text_at, is_defined_text, address_at, symbol_at_offset, text_function, text_function_of, function_at, text_fault_at, size_at, symbol_size_of, offsets_from}
-use Rattle.ebpf_parsing.proofs.LastEntries.{KeysDiffer, equal}
+use Rattle.ebpf_parsing.proofs.LastEntries.{KeysDiffer}
 use Rattle.ebpf_parsing.proofs.OffsetOrder.{rise_cons}
 use Rattle.ebpf_parsing.proofs.Tiles.{Stands, stands}
 use Rattle.ebpf_parsing.specs.TiledSections.{OffsetsRise}
@@ -36,20 +37,20 @@ key_exact = exact_pairs nat_cmp nat_cmp exact_unsigned exact_unsigned
 -- keys of two sections differ
 pub keys_apart : (p q : Key) → (p.0 ≡ q.0 → ⊥) → eq_by_cmp key_cmp p q ≡ false
 keys_apart p q differ = elim (eq_by_cmp key_cmp p q) as (λ b. eq_by_cmp key_cmp p q ≡ b → eq_by_cmp key_cmp p q ≡ false) [
-  | true ↦ λ t. absurd (differ (ap (λ k. k.0) (key_exact p q (equal _ t))))
+  | true ↦ λ t. absurd (differ (ap (λ k. k.0) (key_exact p q (is_equal _ t))))
   | false ↦ λ t. t
 ] refl
 
 -- and so do those of two addresses
 address_apart : (number a b : ℕ) → (a ≡ b → ⊥) → eq_by_cmp key_cmp (number, a) (number, b) ≡ false
 address_apart number a b differ = elim (eq_by_cmp key_cmp (number, a) (number, b)) as (λ t. eq_by_cmp key_cmp (number, a) (number, b) ≡ t → eq_by_cmp key_cmp (number, a) (number, b) ≡ false) [
-  | true ↦ λ t. absurd (differ (ap (λ k. k.1) (key_exact (number, a) (number, b) (equal _ t))))
+  | true ↦ λ t. absurd (differ (ap (λ k. k.1) (key_exact (number, a) (number, b) (is_equal _ t))))
   | false ↦ λ t. t
 ] refl
 
 pub flipped : (p q : Key) → eq_by_cmp key_cmp p q ≡ false → eq_by_cmp key_cmp q p ≡ false
 flipped p q apart = elim (eq_by_cmp key_cmp q p) as (λ b. eq_by_cmp key_cmp q p ≡ b → eq_by_cmp key_cmp q p ≡ false) [
-  | true ↦ λ t. ap (λ k. eq_by_cmp key_cmp k p) (key_exact q p (equal _ t)) ∙ (sym (ap (eq_by_cmp key_cmp p) (key_exact q p (equal _ t))) ∙ apart)
+  | true ↦ λ t. ap (λ k. eq_by_cmp key_cmp k p) (key_exact q p (is_equal _ t)) ∙ (sym (ap (eq_by_cmp key_cmp p) (key_exact q p (is_equal _ t))) ∙ apart)
   | false ↦ λ t. t
 ] refl
 

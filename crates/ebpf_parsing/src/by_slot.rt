@@ -6,7 +6,7 @@
 ghost use Rattle.std.specs.Prelude.{◌≡◌, ◌+◌, ◌-◌, ◌<◌, ◌≤◌, ℕ, filter, length, slice_index_or};
 ghost use Rattle.std.specs.Bool.{OnTrue};
 ghost use Rattle.std.specs.List.Sorted.{IsNonDecreasingBy};
-ghost use Rattle.ebpf_parsing.specs.RecordsBySlot.{RowsBeginAt, is_among_slots};
+ghost use Rattle.ebpf_parsing.specs.RecordsBySlot.{RowsBeginAt, is_among_slots, rises_from};
 
 use std::cell::Cell;
 
@@ -22,7 +22,7 @@ pub trait NamesSlot {
 
 /// Whether rows stand in the order of their slots.
 pub fn is_in_order<R: NamesSlot>(rows: &[R]) -> bool
-    ensures { OnTrue result (IsNonDecreasingBy R.slot_of rows.now) }
+    ensures { result ≡ rises_from R.slot_of 0 rows.now }
 {
     let mut last = 0;
     for row in rows {
@@ -35,12 +35,12 @@ pub fn is_in_order<R: NamesSlot>(rows: &[R]) -> bool
 }
 
 /// How many rows stand before those of a slot, found by a search.
-fn lower_bound<R: NamesSlot>(rows: &[R], slot: usize) -> usize
+pub fn lower_bound<R: NamesSlot>(rows: &[R], slot: u128) -> usize
     requires { IsNonDecreasingBy R.slot_of rows.now }
     ensures within { result ≤ length rows.now }
     ensures cut { RowsBeginAt R.slot_of slot rows.now result }
 {
-    rows.partition_point(|row| (row.slot() as usize) < slot)
+    rows.partition_point(|row| u128::from(row.slot()) < slot)
 }
 
 /// Whether the row before an index names a lower slot than one, where there is a row.
@@ -91,7 +91,7 @@ fn start_of<R: NamesSlot>(rows: &[R], guess: usize, slot: usize) -> usize
     if begins_at(rows, guess, slot) {
         return guess;
     }
-    lower_bound(rows, slot)
+    lower_bound(rows, slot as u128)
 }
 
 /// How many rows stand before those of a slot, from the index on where those of a slot before it begin.

@@ -30,6 +30,7 @@ mod text;
 mod text_symbols;
 mod version;
 
+pub use by_slot::{NamesSlot, is_in_order, lower_bound};
 pub use ebpf_model::Program;
 pub use file_contents::FileContents;
 pub use metadata::FileMetadata;

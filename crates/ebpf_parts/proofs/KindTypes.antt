@@ -34,7 +34,7 @@ pieces first second = or_else (one_piece first) (two_pieces first second)
 abbrev length_before : List ℕ → ℕ
 length_before name = position_or_len (λ b. b == 47) name
 
-abbrev has_slash : List ℕ → Bool
+abbrev pub has_slash : List ℕ → Bool
 has_slash name = list_any (λ b. b == 47) name
 
 -- a row alone: its own name, or its own as the first piece of a name
@@ -50,7 +50,7 @@ all_agree second = refl
 -- ---- the first piece of a name that a row fits
 
 -- a name without a slash is one piece
-own_piece : (own : List ℕ) → has_slash own ≡ false → first_piece own ≡ own
+pub own_piece : (own : List ℕ) → has_slash own ≡ false → first_piece own ≡ own
 own_piece [] none = refl
 own_piece (b ∷ own) none =
     let parts = or_parts (b == 47) (has_slash own) none in
@@ -58,7 +58,7 @@ own_piece (b ∷ own) none =
     rw (parts.0, on) (ap (λ rest. b ∷ rest) (own_piece own parts.1))
 
 -- a name that goes on with a slash behind another has that as its first piece
-target_piece : (name own : List ℕ) → has_slash own ≡ false → starts_with nat_eq name own ≡ true
+pub target_piece : (name own : List ℕ) → has_slash own ≡ false → starts_with nat_eq name own ≡ true
     → slice_index name (length own) ≡ 47 → first_piece name ≡ own
 target_piece [] [] none begins slash = absurd (omega arith)
 target_piece (b ∷ name) [] none begins slash = rw slash refl

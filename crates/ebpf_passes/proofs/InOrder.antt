@@ -27,9 +27,6 @@ is_below x y h = elim (nat_cmp x y) as (λ r. nat_cmp x y ≡ r → T (is_lt r) 
   | Greater ↦ λ e g. absurd g
 ] refl h
 
-abbrev pub Entries : Type 0
-Entries = List (ℕ × ElfRelocation)
-
 -- all offsets are above one
 abbrev pub Above : ℕ → List (ℕ × ElfRelocation) → Type 0
 Above o [] = Unit {0}

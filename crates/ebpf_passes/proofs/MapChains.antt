@@ -4,12 +4,11 @@ use Rattle.std.proofs.lemmas.Bool.Decides.{nat_tests}
 use Rattle.std.proofs.lemmas.Int.{ints}
 use Rattle.std.proofs.lemmas.List.FromFn.{sum_by-map-range_with_len_more}
 use Rattle.std.specs.Prelude.{ℤ, pos, ◌+ℤ◌, ◌==◌, ◌||◌, sum, unwrap_or}
-use Rattle.std.specs.declared.cmp.Ordering.{Ordering}
-use Rattle.std.specs.declared.cmp.Ordering.TheVariants.{Less, Equal, Greater}
 use Rattle.std.specs.FinMap.{get, get-entries, find, entries, nat_cmp-IsAntisymmetric}
 use Rattle.std.specs.List.{range_with_len}
-use Rattle.std.specs.Ordering.{nat_cmp, is_eq, eq_by_cmp}
+use Rattle.std.specs.Ordering.{nat_cmp, eq_by_cmp}
 use Rattle.ebpf_base.specs.Faults.{first_some, or_else}
+use Rattle.ebpf_base.proofs.Orderings.{is_equal}
 use Rattle.ebpf_elf.specs.declared.entries.ElfRelocation.{ElfRelocation}
 use Rattle.ebpf_parts.specs.Slots.{is_pseudo_call}
 use Rattle.ebpf_parts.specs.declared.insn.bpf_insn.{bpf_insn}
@@ -26,11 +25,6 @@ use Rattle.ebpf_passes.specs.Relocated.{SectionRelocations, edit_of, edit_by, ed
 
 -- ---- no relocation is refused: the one at an offset isn't
 
-equal : (r : Ordering) → is_eq r ≡ true → r ≡ Equal
-equal Equal e = refl
-equal Less e = cc
-equal Greater e = cc
-
 none_first : {A E : Type 0} (f : A → Option E) (x : A) (xs : List A) → first_some f (x ∷ xs) ≡ None → (f x ≡ None) × (first_some f xs ≡ None)
 none_first f x xs h = by (f x) refl h
   where
@@ -46,7 +40,7 @@ at_offset f q r (e ∷ es) none there = by (eq_by_cmp nat_cmp q e.0) refl there 
         → (first_some f es ≡ None → find nat_cmp q es ≡ Some r → f (q, r) ≡ None) → f (q, r) ≡ None
     by false is at both rest = rest both.1 at
     by true is at both rest =
-        let same : q ≡ e.0 = nat_cmp-IsAntisymmetric q e.0 (equal _ is) in
+        let same : q ≡ e.0 = nat_cmp-IsAntisymmetric q e.0 (is_equal _ is) in
         let value : e.1 ≡ r = cc in
         rw (same, ← value) both.0
 

@@ -1,32 +1,17 @@
 //! An object after all passes.
 
-ghost use Rattle.std.specs.Prelude.{◌≡◌, ℕ, List, true, map, Some, IfOk, IfErr};
-ghost use Rattle.std.specs.Option.{option_copied};
+ghost use Rattle.std.specs.Prelude.{ℕ, List, IfOk, IfErr};
 ghost use Rattle.ebpf_commands.specs.Linked.{default_passes};
 ghost use Rattle.ebpf_ksyms.specs.Sources.{Text};
 ghost use Rattle.ebpf_object.specs.Headline.{Headline};
 ghost use Rattle.ebpf_object.specs.Prepared.{IsParsed, IsFirstPrepareFault, RefusesPreparing, Stages};
-ghost use Rattle.ebpf_object.specs.Steps.{chosen, descriptor_of};
 ghost use Rattle.ebpf_parts.specs.declared.reading.Reading.{Reading};
 
 use crate::kernel::Kernel;
-use ebpf_btf::Btf;
 use ebpf_commands::{map_names, numbered_descriptors};
 use ebpf_object::Object;
 use ebpf_object::prepare::{PrepareError, Steps, SymbolText, prepare_copy};
 use std::alloc::Global;
-
-/// All passes: types where the kernel's are known, these descriptors of maps, externs, calls.
-fn all_passes<'a>(types: Option<&'a Btf>, descriptors: &'a [(&'a str, i32)]) -> Steps<'a>
-    ensures { chosen result ≡ record { target = option_copied types.entry; descriptors = Some (map descriptor_of descriptors.now); kernel = Some (option_copied types.entry); externs = true; calls = true } }
-{
-    Steps {
-        target_btf: types,
-        map_fds: Some(descriptors),
-        externs: Some(types),
-        calls: true,
-    }
-}
 
 /// A copy of an object after all passes: types where the kernel's are known, descriptors of its maps, 1 and on in byte order
 /// of their names, externs, calls.
@@ -53,7 +38,7 @@ pub fn finished_object(
     prepare_copy(
         alloc,
         object,
-        &all_passes(types, &descriptors),
+        &Steps::all_with(types, &descriptors),
         SymbolText(&kernel.symbols),
     )
 }

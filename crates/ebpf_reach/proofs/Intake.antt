@@ -28,17 +28,6 @@ among_split [] i j (inr m) = absurd m
 among_split (x ∷ xs) i j (inl e) = inl (inl e)
 among_split (x ∷ xs) i j (inr m) = elim (among_split xs i j m) [ inl within ↦ inl (inr within) | inr last ↦ inr last ]
 
-pub none_taken : (A : Assignment) (old : List ℕ) → TakesIn [] A A old old
-none_taken A old = record {
-  as_many = refl;
-  holds = tt;
-  above = λ i. state_below_itself (state_at A i);
-  least = λ C h _. h;
-  changed = λ i. inl refl;
-  kept = λ i h. h;
-  less = omega arith;
-}
-
 taken_changed : (A B C : Assignment) (mid new : List ℕ) (i : ℕ) → (state_at B i ≡ state_at A i) ⊎ Among mid i → (state_at C i ≡ state_at B i) ⊎ Among new i → (Among mid i → Among new i) → (state_at C i ≡ state_at A i) ⊎ Among new i
 taken_changed A B C mid new i (inl p) (inl q) k = inl (q ∙ p)
 taken_changed A B C mid new i (inr m) (inl q) k = inr (k m)

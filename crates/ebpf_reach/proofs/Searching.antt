@@ -1,15 +1,14 @@
 -- What the search keeps from slot to slot.
-use Rattle.std.proofs.Common.{◌≡◌, ℕ, ◌<◌, ◌⊎◌, List, [], ◌∷◌, ◌++◌, length, Option, Some, None, refl, sym, ◌∙◌, subst, inl, inr, arith, get_or, length-append, pos, replicate}
+use Rattle.std.proofs.Common.{◌≡◌, ℕ, ◌⊎◌, List, [], ◌∷◌, ◌++◌, length, Option, Some, None, refl, sym, ◌∙◌, subst, inl, inr, arith, get_or, pos, replicate}
 use Rattle.std.proofs.lemmas.List.{get_or-replicate, get_or_past, length-replicate}
 use Rattle.std.proofs.lemmas.Bool.Decides.{leb_tells}
 use Rattle.ebpf_linker.specs.Functions.{Among}
 use Rattle.ebpf_parts.specs.declared.insn.bpf_insn.{bpf_insn}
 use Rattle.ebpf_reach.specs.declared.registers.Registers.{Registers}
-use Rattle.ebpf_reach.specs.declared.steps.SlotState.{SlotState}
 use Rattle.ebpf_reach.specs.Registers.{unknown}
 use Rattle.ebpf_reach.specs.Steps.{steps_to, steps}
-use Rattle.ebpf_reach.specs.Reached.{Assignment, Holds, IsClosed, IsLeast, IsStateBelow, state_at}
-use Rattle.ebpf_reach.specs.Searched.{Searched, TakesIn, steps_if_reached, work_left}
+use Rattle.ebpf_reach.specs.Reached.{Assignment, Holds, IsClosed, IsStateBelow, state_at}
+use Rattle.ebpf_reach.specs.Searched.{Searched, TakesIn, steps_if_reached}
 use Rattle.ebpf_reach.proofs.Upward.{holds_above, steps_below}
 use Rattle.ebpf_reach.proofs.Intake.{among_split}
 
@@ -41,12 +40,6 @@ searched_on slots A B rest new i s t = record {
   held = λ j. held_on slots A B rest new i j t (t.changed j) (s.held j);
 }
 
-pub searched_less : (slots : List bpf_insn) (A B : Assignment) (rest new : List ℕ) (i : ℕ) (s : List SlotState) → TakesIn s A B rest new → work_left B new < work_left A (rest ++ i ∷ [])
-searched_less slots A B rest new i s t =
-    let less = t.less in
-    let longer = length-append rest (i ∷ []) in
-    omega arith
-
 length_nothing : (X : Type 0) (n : ℕ) → length {A = Option X} (replicate n None) ≡ n
 length_nothing X n = length-replicate n None
 
@@ -57,30 +50,3 @@ nothing_there X n i =
       | inl past ↦ get_or_past (replicate n None) i None (let as_many = length_nothing X n in let above = past.1 in omega arith)
       | inr within ↦ get_or-replicate n i None None within.1
     ]
-
--- before the first step no slot is reached
-pub searched_first : (slots : List bpf_insn) (B : Assignment) (new : List ℕ) → TakesIn (steps_to slots (pos 0) unknown) (replicate (length slots) None) B [] new → Searched slots B new
-searched_first slots B new t = record {
-  as_many = t.as_many ∙ length_nothing Registers (length slots);
-  first = t.holds;
-  least = λ C closed. t.least C (λ i. let P : Option Registers → Type 0 = λ x. IsStateBelow x (state_at C i) in subst P (sym (nothing_there Registers (length slots) i)) tt) closed.first;
-  held = λ i. elim (t.changed i) [
-    | inl same ↦ inr (let P : Option Registers → Type 0 = λ x. Holds B (steps_if_reached slots i x) in subst P (sym (same ∙ nothing_there Registers (length slots) i)) tt)
-    | inr m ↦ inl m
-  ];
-}
-
--- where no slot is pending the assignment is the least one that is closed
-pub searched_all : (slots : List bpf_insn) (A : Assignment) (pending : List ℕ) → Searched slots A pending → length pending ≡ 0 → IsLeast slots A
-searched_all slots A (i ∷ pending) s empty = absurd (omega arith)
-searched_all slots A [] s empty = record {
-  closed = record {
-    as_many = s.as_many;
-    first = s.first;
-    steps = λ i a is. elim (s.held i) [
-      | inl m ↦ absurd m
-      | inr h ↦ let P : Option Registers → Type 0 = λ x. Holds A (steps_if_reached slots i x) in subst P is h
-    ];
-  };
-  least = s.least;
-}

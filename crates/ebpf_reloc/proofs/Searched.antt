@@ -16,9 +16,6 @@ module _ {K : Type 0} {R : K → K → Ordering} (o : IsTotalOrder R) where
   pub flipped : (a b : K) (r : Ordering) → R a b ≡ r → R b a ≡ ordering_reverse r
   flipped a b r h = o.antisymm b a ∙ ap ordering_reverse h
 
-  index_at : (r s : Ordering) → r ≡ s → ordering_index r ≡ ordering_index s
-  index_at r s e = ap ordering_index e
-
   top : (r : Ordering) → ordering_index r ≤ 2
   top Less = omega arith
   top Equal = omega arith

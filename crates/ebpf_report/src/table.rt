@@ -189,4 +189,12 @@ impl<'a> Table<'a> {
         }
         Ok(())
     }
+    /// Writes them under a name and a number, that of the rows or of what these count; nothing where it is 0.
+    pub fn write_under<W: Write>(&self, out: &mut W, name: &str, number: usize) -> io::Result<()> {
+        if number == 0 {
+            return Ok(());
+        }
+        writeln!(out, "{name} {number}")?;
+        self.write(out)
+    }
 }

@@ -18,7 +18,6 @@ pub mod programs;
 pub mod reads;
 pub mod record_rows;
 pub mod slot_rows;
-pub mod symbol_names;
 pub mod target_types;
 pub mod types_refusal;
 pub mod value_rows;

@@ -11,14 +11,13 @@ ghost use Rattle.ebpf_parts.specs.Maps.{section_index_of};
 ghost use Rattle.ebpf_rows.specs.Variables.{map_if_inside, map_of_section, read_value, symbol_by_bytes, symbol_bytes, variable_map};
 
 use crate::descriptors::text_of;
-use crate::symbol_names::symbol_indices;
 use crate::value_rows::bytes_in;
 use ebpf_answers::buffers::write_list;
 use ebpf_answers::codes::{MEMORY, NO_VARIABLE};
 use ebpf_answers::entries::Entry;
 use ebpf_base::ByName;
 use ebpf_model::Symbol;
-use ebpf_object::Object;
+use ebpf_object::{Object, symbol_indices};
 use ebpf_parts::maps::Map;
 use std::alloc::{AllocError, Global};
 

@@ -12,7 +12,7 @@ returns-in-Ok-prepare_in_place-clause-ok c =
     let named : have_names c.args.text.now c.args.rows.now ≡ true = search rules in
     let kernel : option_copied c.as_ref.result ≡ c.in-Ok.kernel = search rules in
     let given : map descriptor_of c.deref.result.now ≡ descriptors_in c.args.text.now c.args.rows.now = search rules in
-    let all : chosen c.all_passes-steps.result ≡ all_passes inputs c.in-Ok.kernel =
-    c.all_passes-steps.ensures ∙ (λ i. record { target = kernel i; descriptors = Some (given i); kernel = Some (kernel i); externs = true; calls = true }) in
-    held inputs c.in-Ok.kernel (chosen c.all_passes-steps.result) c.args.object.now c.prepare_in_place.new.object c.in-Ok.ensures.types named all
+    let all : chosen c.all_with-steps.result ≡ all_passes inputs c.in-Ok.kernel =
+    c.all_with-steps.ensures ∙ (λ i. record { target = kernel i; descriptors = Some (given i); kernel = Some (kernel i); externs = true; calls = true }) in
+    held inputs c.in-Ok.kernel (chosen c.all_with-steps.result) c.args.object.now c.prepare_in_place.new.object c.in-Ok.ensures.types named all
     c.in-Ok-prepare_in_place.ensures.stages c.in-Ok-prepare_in_place.ensures.headline c.in-Ok-prepare_in_place.ensures.others_stay

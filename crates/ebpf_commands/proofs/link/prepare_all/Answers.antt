@@ -10,7 +10,7 @@ use Rattle.ebpf_parts.specs.declared.reading.Reading.TheVariants.{Stated}
 
 pub returns-in-Ok-prepare_object-clause-headline : goal.returns-in-Ok-prepare_object-clause-headline
 returns-in-Ok-prepare_object-clause-headline g c file parsed =
-    let all = all_default_passes (option_copied c.args.types) c.args.object.maps (chosen c.all_passes.result) (map descriptor_of c.deref.result.now) c.all_passes.ensures
+    let all = all_default_passes (option_copied c.args.types) c.args.object.maps (chosen c.all_with.result) (map descriptor_of c.deref.result.now) c.all_with.ensures
     (ap (map descriptor_of) c.deref.ensures.value ∙ c.in-Ok-numbered_descriptors.ensures ∙ ap (numbered_descriptors (pos 0)) (c.as_slice.ensures ∙ c.in-Ok.ensures))
     in
     subst (λ steps. Headline steps (g.K.SymbolSource.source c.args.kallsyms) Stated file c.in-Ok-prepare_object.object) all (c.in-Ok-prepare_object.ensures.headline Stated file parsed)

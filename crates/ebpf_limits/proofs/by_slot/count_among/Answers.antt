@@ -1,6 +1,7 @@
 use Rattle.std.proofs.Common.{◌≡◌, ◌+◌, ◌≤◌, length, subst, arith}
 use Rattle.ebpf_parsing.specs.RecordsBySlot.{RowsBeginAt}
-use Rattle.ebpf_limits.proofs.Counts.{in_order, between, count_between}
+use Rattle.ebpf_parsing.proofs.Rising.{in_order}
+use Rattle.ebpf_limits.proofs.Counts.{between, count_between}
 use Rattle.ebpf_limits.proofs.by_slot.count_among.Goals as goal
 
 pub lower_bound-start-requires : goal.lower_bound-start-requires

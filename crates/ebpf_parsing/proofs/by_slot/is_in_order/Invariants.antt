@@ -1,10 +1,7 @@
-use Rattle.std.proofs.Common.{◌-◌, ◌<◌, ◌≤◌, get_or}
-use Rattle.std.specs.List.{AllAdjacentBelow}
+use Rattle.std.proofs.Common.{◌≡◌, drop}
+use Rattle.ebpf_parsing.specs.RecordsBySlot.{rises_from}
 use Rattle.ebpf_parsing.proofs.by_slot.is_in_order.Given as goal
 
--- the rows so far are in order, and the last one's slot is known
+-- whether the rows that are left rise from the last one on is whether all rise
 abbrev pub invariant-loop-row : goal.invariant-loop-row
-invariant-loop-row g l = record {
-  adjacent : AllAdjacentBelow (λ x y. g.R.NamesSlot.slot_of x ≤ g.R.NamesSlot.slot_of y) l.rows l.row-index;
-  last : (d : g.row.R.Denot) → 0 < l.row-index → g.R.NamesSlot.slot_of (get_or l.rows (l.row-index - 1) d) ≤ l.last;
-}
+invariant-loop-row g l = rises_from g.R.NamesSlot.slot_of l.last (drop l.row-index l.rows) ≡ rises_from g.R.NamesSlot.slot_of 0 l.rows

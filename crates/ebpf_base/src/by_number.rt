@@ -1,7 +1,10 @@
 //! Values by number, in order, seen as a finite map.
 
-ghost use Rattle.std.specs.Prelude.{◌≡◌, ◌<◌, ◌^◌, length, IfOk, OnOk, OnErr};
+ghost use Rattle.std.specs.Prelude.{◌≡◌, ◌<◌, ◌^◌, length, OnOk, OnErr, OnSome};
+ghost use Rattle.std.specs.Option.{option_copied_mut};
+ghost use Rattle.std.specs.Borrow.{LendsSo, sem};
 ghost use Rattle.std.specs.FinMap as map;
+ghost use Rattle.ebpf_base.specs.contracts.by_number.ByNumber.{the_row};
 
 use std::alloc::{AllocError, Global};
 use std::collections::{BTreeMap, btree_map};
@@ -33,6 +36,21 @@ impl<V> ByNumber<V> {
         ByNumber {
             entries: BTreeMap::new(alloc),
         }
+    }
+
+    /// How many numbers there are.
+    pub fn len(&self) -> usize
+        ensures { result ≡ map.len self.now }
+    {
+        self.entries.len()
+    }
+
+    /// The value at a number, to be written. What is left there when the borrow ends is the value at the number.
+    pub fn get_mut(&mut self, number: u32) -> Option<&mut V>
+        ensures* writes_back { sem 𝓛 (LendsSo (the_row V.row) V.row self.entry result (λ n w. OnSome result (n ≡ map.insert self.old number w)) (λ n. n ≡ self.old)) }
+        ensures value { option_copied_mut result ≡ map.get self.old number }
+    {
+        self.entries.get_mut(&number)
     }
 
     /// The entries in the order of the numbers.

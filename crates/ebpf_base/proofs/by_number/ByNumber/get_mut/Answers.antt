@@ -2,7 +2,7 @@ use Rattle.std.proofs.Common.{refl, sym, ap, ◌∙◌}
 use Rattle.std.specs.Cmp.{nat_cmp_total}
 use Rattle.std.specs.FinMap.{get, insert, from_entries, nat_cmp-IsAntisymmetric}
 use Rattle.ebpf_base.proofs.Maps.{get-view, one_set, where_some}
-use Rattle.ebpf_list.proofs.by_number.ByNumber.get_mut.Goals as goal
+use Rattle.ebpf_base.proofs.by_number.ByNumber.get_mut.Goals as goal
 
 pub returns : goal.returns
 returns g c = (

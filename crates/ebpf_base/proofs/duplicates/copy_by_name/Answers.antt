@@ -1,5 +1,0 @@
-use Rattle.ebpf_base.proofs.Copies.{exact_clone}
-use Rattle.ebpf_base.proofs.duplicates.copy_by_name.Goals as goal
-
-pub returns : goal.returns
-returns c = exact_clone _ (λ v w same. same) c.args.map.now c.clone.result _ c.clone.ensures.cases
